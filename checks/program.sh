@@ -1,0 +1,359 @@
+#!/usr/bin/env bash
+# Runs the real program on real files, in a fresh folder: checks/program.sh PROGRAM
+# Each check prints `ok NAME` or `FAILED NAME`. The last line is `N passed, M failed`; the status is 1 where M isn't 0.
+set -u
+
+if [ $# -ne 1 ] || [ ! -x "$1" ]; then
+    echo 'usage: checks/program.sh PROGRAM' >&2
+    exit 2
+fi
+
+here=$(cd "$(dirname "${BASH_SOURCE[0]}")/.." && pwd)
+examples=$here/examples
+folder=$(mktemp -d)
+trap 'rm -rf "$folder"' EXIT
+chmod 755 "$folder"
+cp "$1" "$folder/ode"
+chmod 755 "$folder/ode"
+cd "$folder" || exit 2
+
+passed=0
+failed=0
+skipped=0
+status=0
+as=() # the words that run a command as somebody else
+
+# ok NAME, failed NAME: count one check.
+ok() {
+    passed=$((passed + 1))
+    echo "ok $1"
+}
+
+failed() {
+    failed=$((failed + 1))
+    echo "FAILED $1"
+}
+
+skip() {
+    skipped=$((skipped + 1))
+    echo "skipped $1"
+}
+
+# is NAME COMMAND..: the command succeeds.
+is() {
+    local name=$1
+    shift
+    if "$@"; then ok "$name"; else failed "$name"; fi
+}
+
+# run WORD..: the program with these words. It leaves `status`, and what was printed in the file `text`.
+run() {
+    "${as[@]}" timeout -k 5 60 ./ode "$@" > text 2> errors
+    status=$?
+}
+
+# complain STATUS: what the last run did in place of ending with this status.
+complain() {
+    echo "  status $status, expected $1"
+    if [ -s errors ]; then
+        echo "  on standard error: $(head -c 1000 errors)"
+    fi
+}
+
+# ended NAME STATUS: the last run ended with this status, with nothing on standard error.
+ended() {
+    if [ "$status" -eq "$2" ] && [ ! -s errors ]; then
+        ok "$1"
+    else
+        failed "$1"
+        complain "$2"
+    fi
+}
+
+# printed NAME STATUS FILE: it ended so, and printed these bytes.
+printed() {
+    if [ "$status" -eq "$2" ] && cmp -s text "$3" && [ ! -s errors ]; then
+        ok "$1"
+    else
+        failed "$1"
+        complain "$2"
+        diff -u --label expected --label printed "$3" text | head -n 20
+    fi
+}
+
+# said NAME STATUS TEXT: the same, with the text as a word.
+said() {
+    printf '%s' "$3" > said
+    printed "$1" "$2" said
+}
+
+# fresh FILE: a new database.
+fresh() {
+    run init "$1" < /dev/null
+    if [ "$status" -ne 0 ]; then failed "a new file: $1 (status $status)"; fi
+}
+
+# zeros COUNT
+zeros() {
+    head -c "$1" /dev/zero
+}
+
+printf 'class P { int n; };\n' > declare.ode
+usage=$'usage: ode (init|run|check|dump) FILE | ode gen FILE N\n'
+
+# --- a new file
+
+run init new.db < /dev/null
+said 'init prints ready' 0 $'ready\n'
+
+# the first slot: its gate, the name, format 1, layout 1, generation 1; the body at 4,096 has 64 bytes, the journal
+# begins at 4,160 and ends at 33,558,528
+{
+    printf '\xA5ODEBASE1'
+    printf '\0\0\0\1\0\0\0\1\0\0\0\0\0\0\0\1'
+    printf '\0\0\0\0\0\0\x10\0\0\0\0\0\0\0\0\x40'
+    printf '\0\0\0\0\0\0\x10\x40\0\0\0\0\2\0\x10\0'
+} > slot
+# the counters' record: its key, the length 45, three numbers that are 1, a clock that isn't set
+{
+    printf '\1'
+    zeros 16
+    printf '\0\x2D\0\0\0\0\0\0\0\1\0\0\0\0\0\0\0\1\0\0\0\0\0\0\0\1'
+    zeros 21
+} > counters
+{
+    cat slot
+    zeros $((4096 - 57))
+    cat counters
+    zeros 1
+} > expected.db
+is 'a new file has 4,161 bytes' [ "$(stat -c %s new.db)" -eq 4161 ]
+is 'a new file has its header, its record and a shut gate' cmp new.db expected.db
+
+run run new.db < /dev/null
+said 'an empty script prints nothing' 0 ''
+is 'an empty script leaves the file as it was' cmp new.db expected.db
+
+run init new.db < /dev/null
+said 'a second init is refused' 3 $'file exists\n'
+is 'a second init leaves the file as it was' cmp new.db expected.db
+
+head -c 5000 /dev/zero | tr '\0' x > short.db
+run init short.db < /dev/null
+said 'init takes a file of other bytes' 0 $'ready\n'
+{
+    cat slot
+    zeros $((2048 - 57)) | tr '\0' x
+    zeros 1
+    zeros 2047 | tr '\0' x
+    cat counters
+    zeros 1
+    zeros $((5000 - 4161)) | tr '\0' x
+} > expected_short.db
+is 'init leaves the other bytes as they were' cmp short.db expected_short.db
+
+zeros 8193 > long.db
+run init long.db < /dev/null
+said 'init refuses a file of 8,193 bytes' 3 $'file exists\n'
+is 'the long file is as it was' cmp long.db <(zeros 8193)
+
+# --- the examples
+
+# example NAME FILE: the script on this file prints NAME.out; the status is 1 where a statement of it was refused.
+example() {
+    local wanted=0
+    if grep -q '^refused ' "$examples/$1.out"; then wanted=1; fi
+    run run "$2" < "$examples/$1.ode"
+    printed "example $1" "$wanted" "$examples/$1.out"
+}
+
+for script in "$examples"/*.ode; do
+    name=$(basename "$script" .ode)
+    if [ "$name" = again ]; then continue; fi
+    fresh "$name.db"
+    example "$name" "$name.db"
+    if [ "$name" = first ]; then example again first.db; fi
+done
+
+# --- files that hold no database
+
+run run missing.db < "$examples/first.ode"
+said 'a missing file holds no database' 3 $'no database\n'
+is 'a run makes no file' [ ! -e missing.db ]
+
+cp "$examples/first.ode" script.db
+run run script.db < "$examples/first.ode"
+said 'a file of text holds no database' 3 $'no database\n'
+is 'the file of text is as it was' cmp script.db "$examples/first.ode"
+
+# an open slot with format 2; and a file without its last gate
+{ head -c 12 new.db; printf '\2'; tail -c +14 new.db; } > format.db
+cp format.db format.before
+run run format.db < "$examples/first.ode"
+said 'a broken header is refused' 3 $'bad file\n'
+is 'the file with a broken header is as it was' cmp format.db format.before
+
+head -c 4160 new.db > cut.db
+cp cut.db cut.before
+run run cut.db < "$examples/first.ode"
+said 'a file that is cut short is refused' 3 $'bad file\n'
+is 'the file that is cut short is as it was' cmp cut.db cut.before
+
+# --- wrong words
+
+for words in '' 'run' 'run -x' 'fly f' 'check f' 'dump f' 'gen f 1' 'init' 'init -f' 'init f f' 'run f f' 'run f -x'; do
+    # shellcheck disable=SC2086 # the words are cut at blanks
+    run $words < /dev/null
+    said "wrong words: ode $words" 2 "$usage"
+done
+run init '' < /dev/null
+said "wrong words: ode init ''" 2 "$usage"
+run run '' < /dev/null
+said "wrong words: ode run ''" 2 "$usage"
+is 'wrong words make no file' [ ! -e f ]
+
+# --- a disk that fails
+
+mkdir directory.db
+run run directory.db < "$examples/first.ode"
+said 'run on a directory' 4 ''
+run init directory.db < /dev/null
+said 'init on a directory' 4 ''
+run init missing/new.db < /dev/null
+said 'init in a directory that is missing' 4 ''
+
+# No write may go past 4,096 bytes; for init past 2,048.
+fresh small.db
+cp small.db small.before
+(
+    trap '' XFSZ
+    ulimit -f 4
+    run run small.db < "$examples/first.ode"
+    exit "$status"
+)
+status=$?
+said 'a write that the system refuses' 4 ''
+is 'the file is as it was where no write was made' cmp small.db small.before
+(
+    trap '' XFSZ
+    ulimit -f 2
+    run init grown.db < /dev/null
+    exit "$status"
+)
+status=$?
+said 'an init that the system refuses' 4 ''
+run init grown.db < /dev/null
+said 'init again after one that failed' 0 $'ready\n'
+
+# Permissions don't bind root, so these run as nobody there.
+echo kept > probe
+chmod 444 probe
+bound=none
+for way in '' 'setpriv --reuid=65534 --regid=65534 --clear-groups' 'runuser -u nobody --'; do
+    # shellcheck disable=SC2086 # the words are cut at blanks
+    if $way sh -c 'test -r probe && test -x ode && ! test -w probe' 2> /dev/null; then
+        bound=$way
+        break
+    fi
+done
+if [ "$bound" = none ]; then
+    skip 'a file that may only be read: nobody can be run here whom permissions bind'
+else
+    fresh kept.db
+    cp kept.db kept.before
+    chmod 444 kept.db
+    read -ra as <<< "$bound"
+    run run kept.db < declare.ode
+    said 'run on a file that may only be read' 4 ''
+    chmod 000 kept.db
+    run run kept.db < declare.ode
+    said 'run on a file that may not be read' 4 ''
+    as=()
+    chmod 644 kept.db
+    is 'the file that may only be read is as it was' cmp kept.db kept.before
+fi
+
+# --- a script that can't be read
+
+fresh source.db
+cp source.db source.before
+run run source.db < directory.db
+said 'a script that is a directory' 5 ''
+is 'the file is as it was where the script failed' cmp source.db source.before
+
+# --- an output that fails
+
+# A pipe whose reader is gone.
+fresh pipe.db
+mkfifo pipe
+exec 8<> pipe
+exec 9> pipe 8<&-
+timeout -k 5 60 ./ode run pipe.db < declare.ode >&9 2> errors
+status=$?
+ended 'a pipe without a reader' 6
+exec 9>&-
+run run pipe.db < declare.ode
+said 'what was settled before the print failed is kept' 1 $'refused 1 duplicate P\n'
+
+# A pipe that is full, and whose reader then goes. The refusals change nothing.
+fresh full.db
+cp full.db full.before
+yes 'x;' | head -n 8000 > refused.ode
+timeout -k 5 60 ./ode run full.db < refused.ode 2> errors | { sleep 1; head -c 1 > front; }
+status=${PIPESTATUS[0]}
+ended 'a full pipe that is closed early' 6
+is 'something was printed into the full pipe' [ -s front ]
+is 'the file is as it was behind the full pipe' cmp full.db full.before
+
+# A closed output: nothing that is printed gets into the file.
+fresh closed.db
+timeout -k 5 60 ./ode run closed.db < declare.ode >&- 2> errors
+status=$?
+ended 'run with a closed output' 6
+run run closed.db < declare.ode
+said 'the file is whole after a closed output' 1 $'refused 1 duplicate P\n'
+timeout -k 5 60 ./ode init silent.db < /dev/null >&- 2> errors
+status=$?
+ended 'init with a closed output' 6
+
+# A device that is full.
+if [ -c /dev/full ]; then
+    fresh device.db
+    timeout -k 5 60 ./ode run device.db < declare.ode > /dev/full 2> errors
+    status=$?
+    ended 'run onto a full device' 6
+    timeout -k 5 60 ./ode > /dev/full 2> errors
+    status=$?
+    ended 'the usage line onto a full device' 6
+    timeout -k 5 60 ./ode run missing.db < /dev/null > /dev/full 2> errors
+    status=$?
+    ended 'the line of a missing file onto a full device' 6
+    timeout -k 5 60 ./ode init ready.db < /dev/null > /dev/full 2> errors
+    status=$?
+    ended 'ready onto a full device' 6
+    run run ready.db < "$examples/first.ode"
+    printed 'a file whose ready was not printed is whole' 0 "$examples/first.out"
+else
+    skip 'a full device: there is no /dev/full'
+fi
+
+# --- a long script
+
+fresh many.db
+{
+    cat "$examples/first.ode"
+    yes 'show #1.n;' | head -n 1000
+} > many.ode
+{
+    cat "$examples/first.out"
+    for ((k = 4; k < 1004; k++)); do printf 'value 5\ntx %d committed\n' "$k"; done
+} > many.out
+start=$(date +%s%N)
+run run many.db < many.ode
+end=$(date +%s%N)
+printed 'a script of 1,000 shows ends within 60 seconds' 0 many.out
+echo "  1,000 shows took $(((end - start) / 1000000)) ms"
+
+if [ "$skipped" -gt 0 ]; then echo "$skipped skipped"; fi
+echo "$passed passed, $failed failed"
+[ "$failed" -eq 0 ]

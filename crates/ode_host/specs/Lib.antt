@@ -1,0 +1,16 @@
+pub mod Causes
+pub mod Codes
+pub mod Disk
+pub mod Fields
+pub mod FirstSync
+pub mod Host
+pub mod Mem
+pub mod MemLaws
+pub mod MemReads
+pub mod Noted
+pub mod Pending
+pub mod Replay
+pub mod Tears
+pub mod Untold
+pub mod View
+pub mod Writing

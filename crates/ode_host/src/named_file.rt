@@ -1,0 +1,126 @@
+//! A file that is opened at its first use.
+ghost use Rattle.std.specs.Prelude.{◌≤◌, length, IfOk};
+
+use crate::retry::read_again;
+use std::fs::{File, OpenFile, OpenOptions};
+use std::io;
+use std::io::{ErrorKind, Read, Seek, SeekFrom, Write};
+use std::rt::Files;
+
+/// A file, where it was found, and what keeps it from the places of the standard streams.
+#[derive(Drop)]
+pub struct Opened<F: Drop> {
+    streams: Option<(F, F, F)>,
+    file: Option<F>,
+}
+
+impl<F: Drop> Opened<F> {
+    /// Nothing is opened yet.
+    pub fn new() -> Opened<F> {
+        Opened {
+            streams: None,
+            file: None,
+        }
+    }
+}
+
+fn nothing<R: Files>(rt: &R) -> io::Result<R::File> {
+    OpenOptions::new().read(true).open(rt, "/dev/null")
+}
+
+// Takes the places of the standard streams that are closed, for a file at such a place would get what is printed.
+fn take_places<R: Files>(rt: &R) -> io::Result<(R::File, R::File, R::File)> {
+    Ok((nothing(rt)?, nothing(rt)?, nothing(rt)?))
+}
+
+// The file, and none where there is none. One that may only be read is opened for that, and fails at each write.
+fn found<R: Files>(rt: &R, name: &str) -> io::Result<Option<R::File>> {
+    match OpenOptions::new().read(true).write(true).open(rt, name) {
+        Ok(file) => Ok(Some(file)),
+        Err(error) if error.kind() == ErrorKind::NotFound => Ok(None),
+        Err(_) => Ok(Some(OpenOptions::new().read(true).open(rt, name)?)),
+    }
+}
+
+fn created<R: Files>(rt: &R, name: &str) -> io::Result<R::File> {
+    OpenOptions::new()
+        .read(true)
+        .write(true)
+        .create(true)
+        .open(rt, name)
+}
+
+fn open_once<R: Files>(rt: &R, name: &str, opened: &mut Opened<R::File>) -> io::Result<()> {
+    if opened.streams.is_none() {
+        opened.streams = take_places(rt).ok();
+    }
+    if opened.file.is_none() {
+        opened.file = found(rt, name)?;
+    }
+    Ok(())
+}
+
+fn read_from<F: Read + Seek>(file: &mut F, at: u64, to: &mut [u8]) -> io::Result<usize>
+    ensures { IfOk result (λ count. count ≤ length to.new) }
+{
+    file.seek(SeekFrom::Start(at))?;
+    read_again(file, to)
+}
+
+fn write_to<F: Write + Seek>(file: &mut F, at: u64, from: &[u8]) -> io::Result<()> {
+    file.seek(SeekFrom::Start(at))?;
+    file.write_all(from)
+}
+
+/// Reads at an offset. A missing file has nothing there.
+pub fn read_named<R: Files>(
+    rt: &R,
+    name: &str,
+    opened: &mut Opened<R::File>,
+    at: u64,
+    to: &mut [u8],
+) -> io::Result<usize>
+    ensures { IfOk result (λ count. count ≤ length to.new) }
+{
+    open_once(rt, name, opened)?;
+    match &mut opened.file {
+        Some(file) => read_from(file, at, to),
+        None => Ok(0),
+    }
+}
+
+/// Writes at an offset. A missing file is made.
+pub fn write_named<R: Files>(
+    rt: &R,
+    name: &str,
+    opened: &mut Opened<R::File>,
+    at: u64,
+    from: &[u8],
+) -> io::Result<()> {
+    open_once(rt, name, opened)?;
+    if opened.file.is_none() {
+        opened.file = Some(created(rt, name)?);
+    }
+    match &mut opened.file {
+        Some(file) => write_to(file, at, from),
+        None => Ok(()),
+    }
+}
+
+/// Makes what was written durable.
+pub fn sync_named<R: Files>(rt: &R, name: &str, opened: &mut Opened<R::File>) -> io::Result<()> {
+    open_once(rt, name, opened)?;
+    match &opened.file {
+        Some(file) => file.sync_all(),
+        None => Ok(()),
+    }
+}
+
+/// How many bytes the file has. A missing one has none.
+pub fn size_named<R: Files>(rt: &R, name: &str, opened: &mut Opened<R::File>) -> io::Result<u64> {
+    open_once(rt, name, opened)?;
+    match &opened.file {
+        Some(file) => Ok(file.metadata()?.len()),
+        None => Ok(0),
+    }
+}

@@ -1,0 +1,37 @@
+use Rattle.std.proofs.Common.{◌≡◌, ◌∙◌, List, ℕ, Err, ap, inl, inr, refl, subst}
+use Rattle.std.specs.Prelude.{codes}
+use Rattle.ode_host.proofs.Moments.{tells_looks}
+use Rattle.ode_host.specs.declared.status.Status.TheVariants as status
+use Rattle.ode_value.specs.Texts.{line}
+use Rattle.ode_top.specs.Decoding.{OpensAs}
+use Rattle.ode_top.specs.State.{world_of}
+use Rattle.ode_top.proofs.Calling.{machine_run, opened_serves, tells_same}
+use Rattle.ode_top.proofs.top.run.Goals as goal
+
+pub returns-in-Ok-clause-ran : goal.returns-in-Ok-clause-ran
+returns-in-Ok-clause-ran g c bytes image text w left tells said holds ending =
+    let same : world_of c.in-Ok.database.state ≡ w = c.in-Ok.ensures.found image w tells holds in
+    machine_run bytes text w (world_of c.in-Ok.database.state) _ _ _ same
+      (c.run_script.ensures.ran bytes text left (opened_serves image text w (world_of c.in-Ok.database.state) _ _ c.open_database.ensures.looks tells said holds same) ending)
+
+pub returns-in-Err-NoDatabase-clause-answers : goal.returns-in-Err-NoDatabase-clause-answers
+returns-in-Err-NoDatabase-clause-answers g c image w tells holds = absurd (rw c.in-Err-NoDatabase.field-0-is at (c.in-Err-NoDatabase.ensures.found image w tells holds))
+
+pub returns-in-Err-Bad-clause-answers : goal.returns-in-Err-Bad-clause-answers
+returns-in-Err-Bad-clause-answers g c image w tells holds = absurd (rw c.in-Err-Bad.field-0-is at (c.in-Err-Bad.ensures.found image w tells holds))
+
+pub returns-in-Err-NoDatabase-clause-bad_file : goal.returns-in-Err-NoDatabase-clause-bad_file
+returns-in-Err-NoDatabase-clause-bad_file g c is image text tells said = record {
+  tells = tells_same image _ _ c.end_with.ensures.keeps c.end_with.ensures.image (tells_looks image _ _ c.open_database.ensures.looks tells);
+  said = line (codes "no database");
+  reason = inl (c.in-Err-NoDatabase.ensures.none (ap Err c.in-Err-NoDatabase.field-0-is) image tells, refl);
+  printed = c.end_with.ensures.printed (λ (cut : c.end_with.result ≡ status.WriteFault). cc) text (c.open_database.ensures.looks.text ∙ said);
+}
+
+pub returns-in-Err-Bad-clause-bad_file : goal.returns-in-Err-Bad-clause-bad_file
+returns-in-Err-Bad-clause-bad_file g c is image text tells said = record {
+  tells = tells_same image _ _ c.end_with-in-Err-Bad.ensures.keeps c.end_with-in-Err-Bad.ensures.image (tells_looks image _ _ c.open_database.ensures.looks tells);
+  said = line (codes "bad file");
+  reason = inr (λ w holds. rw c.in-Err-Bad.field-0-is at (c.in-Err-Bad.ensures.found image w tells holds), refl);
+  printed = c.end_with-in-Err-Bad.ensures.printed (λ (cut : c.end_with-in-Err-Bad.result ≡ status.WriteFault). cc) text (c.open_database.ensures.looks.text ∙ said);
+}

@@ -1,0 +1,18 @@
+use Rattle.std.proofs.Common.{◌≡◌}
+use Rattle.ode_host.specs.declared.status.Status.TheVariants as status
+use Rattle.ode_top.proofs.top.run_ode.Goals as goal
+
+pub returns-in-Init-clause-exists : goal.returns-in-Init-clause-exists
+returns-in-Init-clause-exists g c is asks file text tells said = c.init.ensures.exists is file text tells said
+
+pub returns-in-Init-clause-in_use : goal.returns-in-Init-clause-in_use
+returns-in-Init-clause-in_use g c file asks tells in_use = c.init.ensures.in_use file tells in_use
+
+pub returns-in-Run-clause-run : goal.returns-in-Run-clause-run
+returns-in-Run-clause-run g c bytes image text w asks left tells said holds ending = c.run.ensures.ran bytes image text w left tells said holds ending
+
+pub returns-in-Run-clause-bad_file : goal.returns-in-Run-clause-bad_file
+returns-in-Run-clause-bad_file g c is asks image text tells said = c.run.ensures.bad_file is image text tells said
+
+pub returns-in-None-clause-said : goal.returns-in-None-clause-said
+returns-in-None-clause-said g c is text said = c.end_with.ensures.printed (λ (cut : c.end_with.result ≡ status.WriteFault). cc) text said

@@ -1,0 +1,31 @@
+use Rattle.std.proofs.Common.{◌≡◌, arith}
+use Rattle.ode_host.proofs.Moments.{looks_joined, tells_looks}
+use Rattle.ode_top.proofs.Filling.{took_more, is_all, at_end}
+use Rattle.ode_top.proofs.whole.read_whole.Goals as goal
+
+pub returns-then-count-eq0-clause-count : goal.returns-then-count-eq0-clause-count
+returns-then-count-eq0-clause-count g c file tells =
+    let view = g.H.Host.view in
+    let so_far = c.loop-filled.invariant in
+    let some = is_all c.args.at c.loop-filled.filled c.loop-filled.to file so_far.within (so_far.bytes file tells) in
+    let none : c.in_ok-count.count ≡ 0 = c.if-count-eq0.true in
+    let end = at_end (view c.loop-filled.host) c.args.at c.loop-filled.filled c.read_more.new.to file c.in_ok-count.count c.in_ok-count.ensures.gives (tells_looks file _ _ so_far.looks tells) (omega (arith, c.read_more.auto.to)) none in
+    omega (arith, some, end, c.loop-filled.auto.to)
+
+pub loop-filled-preserved : goal.loop-filled-preserved
+loop-filled-preserved g c =
+    let view = g.H.Host.view in
+    let so_far = c.loop-filled.invariant in
+    record {
+      within = omega (arith, c.read_more.auto.to, c.in_ok-count.ensures.bound);
+      looks = looks_joined (view c.args.host.now) (view c.loop-filled.host) (view c.read_more.new.host) so_far.looks c.read_more.ensures.looks;
+      bytes = λ file tells.
+          took_more c.args.at c.loop-filled.filled c.in_ok-count.count c.loop-filled.to c.read_more.new.to file (so_far.bytes file tells) c.read_more.ensures.before
+          (c.in_ok-count.ensures.gives.bytes file (tells_looks file _ _ so_far.looks tells));
+    }
+
+pub returns-clause-count : goal.returns-clause-count
+returns-clause-count g c file tells =
+    let so_far = c.loop-filled.invariant in
+    let some = is_all c.args.at c.loop-filled.filled c.loop-filled.to file so_far.within (so_far.bytes file tells) in
+    omega (arith, some, c.loop-filled.auto.to)

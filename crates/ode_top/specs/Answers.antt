@@ -1,0 +1,70 @@
+-- What a call of the program is answered with.
+use Rattle.std.specs.Prelude.{◌≡◌, ◌⊎◌, ℕ, List, [], ◌∷◌, ◌++◌, Option, Some, None, codes}
+use Rattle.ode_host.specs.Host.{Tells}
+use Rattle.ode_host.specs.View.{View}
+use Rattle.ode_host.specs.declared.status.Status.{Status}
+use Rattle.ode_host.specs.declared.status.Status.TheVariants as status
+use Rattle.ode_value.specs.Records.{snapshot, rows}
+use Rattle.ode_value.specs.Texts.{line}
+use Rattle.ode_value.specs.World.{World, empty_world}
+use Rattle.ode_top.specs.Calls.{call_of}
+use Rattle.ode_top.specs.File.{HasOpenSlot, IsInUse, IsInitialised}
+use Rattle.ode_top.specs.Holds.{Holds}
+use Rattle.ode_top.specs.Serves.{LeavesNothing, Serves}
+use Rattle.ode_top.specs.Trace.{run_status, run_text, run_world}
+use Rattle.ode_top.specs.declared.call.Mode.{Mode}
+
+-- the words are `init FILE`, or `run FILE`
+abbrev pub Asks : Mode → List (List ℕ) → Type 0
+Asks mode words = (file : List ℕ) × (call_of words ≡ Some (mode, file))
+
+abbrev pub usage_line : List ℕ
+usage_line = line (codes "usage: ode (init|run|check|dump) FILE | ode gen FILE N")
+
+-- The run of a whole script from a world, behind this text, is the machine's: its status, its text, and the world that
+-- the file then holds. Nothing of the script is left where it was read to its end.
+pub record IsMachineRun (script : List ℕ) (w : World) (text : List ℕ) (left : Option (List ℕ)) (view : View) (status : Status) : Type 0 where
+  pub stated : status ≡ run_status w script
+  pub serves : Serves view (run_world w script) (text ++ run_text w script)
+  pub nothing : LeavesNothing status left
+
+-- A new file was made of this one: the parts of an empty database stand at their places, every other byte of the file
+-- stayed, and it was said.
+pub record IsMade (file text : List ℕ) (view : View) : Type 0 where
+  pub image : List ℕ
+  pub tells : Tells view image
+  pub made : IsInitialised (snapshot (rows empty_world)) file image
+  pub holds : Holds image empty_world
+  pub printed : view.text ≡ Some (text ++ line (codes "ready"))
+
+-- The file was in use, stayed as it was, and it was said.
+pub record IsRefused (file text : List ℕ) (view : View) : Type 0 where
+  pub in_use : IsInUse file
+  pub tells : Tells view file
+  pub printed : view.text ≡ Some (text ++ line (codes "file exists"))
+
+-- what is said of a file that holds no world
+abbrev pub SaysWhy : List ℕ → List ℕ → Type 0
+SaysWhy image said =
+    ((¬ HasOpenSlot image) × (said ≡ line (codes "no database")))
+    ⊎ (((w : World) → ¬ Holds image w) × (said ≡ line (codes "bad file")))
+
+-- The file holds no world, stayed as it was, and it was said.
+pub record IsBadFile (image text : List ℕ) (view : View) : Type 0 where
+  pub tells : Tells view image
+  pub said : List ℕ
+  pub reason : SaysWhy image said
+  pub printed : view.text ≡ Some (text ++ said)
+
+-- the statuses that `init` may end with
+abbrev pub IsInitStatus : Status → Type 0
+IsInitStatus status.Ok = Unit {0}
+IsInitStatus status.BadFile = Unit {0}
+IsInitStatus status.DiskFault = Unit {0}
+IsInitStatus status.WriteFault = Unit {0}
+IsInitStatus status.Refused = ⊥
+IsInitStatus status.Usage = ⊥
+IsInitStatus status.ReadFault = ⊥
+IsInitStatus status.Memory = ⊥
+IsInitStatus status.LongStatement = ⊥
+IsInitStatus status.LongScript = ⊥

@@ -1,0 +1,55 @@
+-- Which worlds the built forms make, and which of them are good.
+use Rattle.std.specs.Prelude.{◌≡◌, ◌<◌, ◌≤◌, ◌^◌, ◌+◌, ℕ, ℤ, List, [], ◌∷◌, Bool, true, Option, Some, None, IsSome, FitsSigned}
+use Rattle.std.specs.Int.{w64}
+use Rattle.ode_value.specs.declared.class.Class.{Class}
+use Rattle.ode_value.specs.declared.class.Field.{Field}
+use Rattle.ode_value.specs.declared.statement.Sort.TheVariants as sort
+use Rattle.ode_value.specs.declared.value.Value.TheVariants as value
+use Rattle.ode_value.specs.Records.{weight}
+use Rattle.ode_value.specs.Words.{is_free}
+use Rattle.ode_value.specs.World.{World, Object, Version, class_named, class_numbered}
+
+-- a class with one int field, and no parent
+pub record IsBuiltClass (c : Class) : Type 0 where
+  pub field : List ℕ
+  pub fields : c.fields ≡ record { name = field; sort = sort.Int } ∷ []
+  pub no_parent : c.parent ≡ None
+  pub names : (is_free c.name ≡ true) × (is_free field ≡ true)
+
+-- an object with its first version alone
+pub record IsBuiltObject (o : Object) : Type 0 where
+  pub held : ℤ
+  pub versions : o.versions ≡ record { number = 1; parent = None; fields = value.Int held ∷ [] } ∷ []
+  pub fits : FitsSigned w64 held
+  pub last : o.last ≡ 1
+  pub live : o.live ≡ true
+
+-- the classes are numbered from here on, within 32 bits, and no two have one name
+abbrev pub AreClasses : ℕ → List Class → Type 0
+AreClasses number [] = Unit {0}
+AreClasses number (c ∷ cs) = (c.number ≡ number) × (number < 2 ^ 32) × (class_named c.name cs ≡ None) × IsBuiltClass c × AreClasses (number + 1) cs
+
+-- the objects' numbers rise from here on and stay below the next one, and each object has a class
+abbrev pub AreObjects : List Class → ℕ → ℕ → List Object → Type 0
+AreObjects classes low next [] = low ≤ next
+AreObjects classes low next (o ∷ os) = (low ≤ o.id) × IsSome (class_numbered o.class classes) × IsBuiltObject o × AreObjects classes (o.id + 1) next os
+
+-- the next number lies in its range
+abbrev pub IsCounter : ℕ → ℕ → Type 0
+IsCounter most n = (1 ≤ n) × (n ≤ most)
+
+abbrev pub number_limit : ℕ
+number_limit = 2 ^ 62
+
+abbrev pub weight_limit : ℕ
+weight_limit = 8388608
+
+pub record IsGood (w : World) : Type 0 where
+  pub classes : AreClasses 1 w.classes
+  pub objects : AreObjects w.classes 0 w.next w.objects
+  pub next : IsCounter number_limit w.next
+  pub transaction : IsCounter (number_limit + 65536) w.transaction
+  pub next_entry : IsCounter number_limit w.next_entry
+  pub queue : w.queue ≡ []
+  pub clock : w.clock ≡ None
+  pub small : weight w ≤ weight_limit

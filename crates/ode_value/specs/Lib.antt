@@ -1,0 +1,11 @@
+pub mod formers
+pub mod Commands
+pub mod Decimal
+pub mod Good
+pub mod Machine
+pub mod Records
+pub mod References
+pub mod Text
+pub mod Texts
+pub mod Words
+pub mod World
