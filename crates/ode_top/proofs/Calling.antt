@@ -1,5 +1,5 @@
 -- What an opened file and a made one are to a call.
-use Rattle.std.proofs.Common.{◌≡◌, ◌⊎◌, ⊎_elim, List, ℕ, Result, Ok, Err, Option, Some, IsTrue, refl, sym, ◌∙◌, subst}
+use Rattle.std.proofs.Common.{◌≡◌, ◌⊎◌, ⊎_elim, List, ℕ, Result, Ok, Err, Option, Some, IsTrue, sym, ◌∙◌, subst}
 use Rattle.ode_host.specs.Host.{Keeps, Looks, Tells}
 use Rattle.ode_host.specs.declared.status.Status.{Status}
 use Rattle.ode_host.proofs.Moments.{tells_looks}

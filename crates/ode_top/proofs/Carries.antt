@@ -1,26 +1,17 @@
 -- What one piece makes of what is served.
-use Rattle.std.proofs.Common.{◌≡◌, ◌≤◌, ◌<◌, ℕ, ◌+◌, ◌*◌, List, [], ◌∷◌, ◌++◌, length, Bool, true, false, Some, refl, sym, ◌∙◌, ap, subst, arith, length-append, append-nil}
+use Rattle.std.proofs.Common.{◌≡◌, ◌≤◌, ◌<◌, ℕ, ◌+◌, ◌*◌, List, [], ◌∷◌, ◌++◌, length, sym, ap, subst, arith, length-append}
 use Rattle.std.specs.Prelude.{Result, Ok, Err, IfOk, OnOk}
 use Rattle.std.specs.declared.alloc.AllocError.{AllocError}
-use Rattle.std.specs.Int.{w16, w64, to_be_bytes}
-use Rattle.std.specs.List.{flat_map}
-use Rattle.ode_host.specs.Host.{Tells}
-use Rattle.ode_host.specs.View.{View}
-use Rattle.ode_value.specs.Commands.{Outcome, command}
-use Rattle.ode_value.specs.Good.{IsGood, weight_limit}
-use Rattle.ode_value.specs.Records.{Row, row_bytes, key_bytes, row_weight, total_weight, snapshot, rows, weight}
-use Rattle.ode_value.specs.Texts.{refused_line}
+use Rattle.std.specs.Int.{w16, to_be_bytes}
+use Rattle.ode_value.specs.Commands.{command}
+use Rattle.ode_value.specs.Good.{IsGood}
+use Rattle.ode_value.specs.Records.{Row, row_bytes, key_bytes, total_weight, snapshot, rows}
 use Rattle.ode_value.specs.World.{World}
-use Rattle.ode_value.specs.declared.reason.Refusal.{Refusal}
 use Rattle.ode_value.specs.declared.statement.Statement.{Statement}
 use Rattle.ode_top.specs.declared.machine.Item.{Item}
 use Rattle.ode_top.specs.declared.machine.Item.TheVariants.{Refused, Settled}
-use Rattle.ode_top.specs.declared.machine.Settled.{Settled as Transaction}
 use Rattle.ode_top.specs.Carried.{outcome_of, Keeps}
-use Rattle.ode_top.specs.File.{HoldsBody}
 use Rattle.ode_top.specs.Proper.{IsProper}
-use Rattle.ode_top.specs.Serves.{Serves}
-use Rattle.ode_top.specs.Trace.{items_of, final, text_of, any_refused}
 use Rattle.ode_top.proofs.Goods.{command_good}
 
 -- the world after a statement is good

@@ -10,9 +10,8 @@ use Rattle.ode_value.specs.World.{World}
 use Rattle.ode_value.specs.declared.reason.Refusal.{Refusal}
 use Rattle.ode_top.specs.File.{HoldsBody}
 use Rattle.ode_top.specs.Holds.{Holds}
-use Rattle.ode_top.specs.Serves.{Carries, Serves}
+use Rattle.ode_top.specs.Serves.{Carries}
 use Rattle.ode_top.specs.Trace.{Item, items_of, piece_items, piece_outcome}
-use Rattle.ode_top.specs.Trace as trace
 
 -- a refusal leaves the file and prints its line
 pub refused_carries : (refusal : Refusal) (line : ℕ) (piece : List ℕ) (old new : World) (before now : View) → Refused refusal ≡ piece_outcome old piece → new ≡ old → HostKeeps before now → now.image ≡ before.image
@@ -40,11 +39,11 @@ settled_carries said bytes line piece old new before now outcome is good held pr
       world = refl;
       stated = refl;
       serves = λ text was.
-        let kept = held was.image was.tells in
-        record {
-          image = kept.0;
-          tells = kept.1;
-          holds = record { good = good; body = subst (λ (b : List ℕ). HoldsBody kept.0 b) is kept.2 };
-          printed = printed text was.printed ∙ ap (λ (l : List ℕ). Some (text ++ l)) (sym (append-nil said));
-        };
+          let kept = held was.image was.tells in
+          record {
+            image = kept.0;
+            tells = kept.1;
+            holds = record { good = good; body = subst (λ (b : List ℕ). HoldsBody kept.0 b) is kept.2 };
+            printed = printed text was.printed ∙ ap (λ (l : List ℕ). Some (text ++ l)) (sym (append-nil said));
+          };
     })

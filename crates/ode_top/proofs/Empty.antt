@@ -1,8 +1,7 @@
 -- The empty database.
-use Rattle.std.proofs.Common.{◌≡◌, ◌≤◌, List, ℕ, None, Some, refl, sym, subst, arith, lit≤}
+use Rattle.std.proofs.Common.{refl, arith, lit≤}
 use Rattle.ode_value.specs.Good.{IsGood}
-use Rattle.ode_value.specs.Records.{snapshot, rows}
-use Rattle.ode_value.specs.World.{World, empty_world}
+use Rattle.ode_value.specs.World.{empty_world}
 
 pub good_empty : IsGood empty_world
 good_empty = record {

@@ -7,10 +7,9 @@ use Rattle.std.specs.Str.{bytes_eq}
 use Rattle.std.proofs.lemmas.Bool.{ltb-false, ltb-true, eq-eqb}
 use Rattle.std.proofs.lemmas.Slice.Eq.{bytes_eq-Decides}
 use Rattle.ode_value.specs.declared.class.Class.{Class}
-use Rattle.ode_value.specs.declared.class.Field.{Field}
 use Rattle.ode_value.specs.declared.reason.Reason.{Reason}
 use Rattle.ode_value.specs.declared.reason.Reason.TheVariants.{Space}
-use Rattle.ode_value.specs.Good.{IsGood, AreClasses, AreObjects, IsBuiltClass, IsBuiltObject, IsCounter, number_limit, weight_limit}
+use Rattle.ode_value.specs.Good.{IsGood, AreClasses, AreObjects, IsBuiltClass, IsBuiltObject, number_limit, weight_limit}
 use Rattle.ode_value.specs.Machine.{Settled, commit, abort, settle, int_class, int_object, declaring, creating, showing}
 use Rattle.ode_value.specs.Commands.{Outcome, Refused, Settles, one, built, declare, create, create_of, create_in, show, show_of, show_value, field_of, shown_path, assignments, declared_field, carried, command}
 use Rattle.ode_value.specs.Records.{Row, total_weight, weight, head_row, text_row, object_row, version_rows}
@@ -66,9 +65,9 @@ pub good_settle : (first now : World) (text : List ℕ) → IsGood first → (we
     → IsGood (settle first now text).0
 good_settle first now text g here same later within left =
     ⊎_elim
-      (λ heavy. subst (λ (s : Settled). IsGood s.0) (sym (ap (λ b. cond b (abort first now Space text) (commit first now text)) heavy)) (good_abort first now Space text g later within left))
-      (λ light. subst (λ (s : Settled). IsGood s.0) (sym (ap (λ b. cond b (abort first now Space text) (commit first now text)) light)) (good_commit first now text (here (ltb-false weight_limit (weight now) light)) same left))
-      (by_test (nat_lt weight_limit (weight now)))
+    (λ heavy. subst (λ (s : Settled). IsGood s.0) (sym (ap (λ b. cond b (abort first now Space text) (commit first now text)) heavy)) (good_abort first now Space text g later within left))
+    (λ light. subst (λ (s : Settled). IsGood s.0) (sym (ap (λ b. cond b (abort first now Space text) (commit first now text)) light)) (good_commit first now text (here (ltb-false weight_limit (weight now) light)) same left))
+    (by_test (nat_lt weight_limit (weight now)))
 
 -- two names that are tested either way round
 apart : (a b : List ℕ) → bytes_eq a b ≡ false → bytes_eq b a ≡ false
@@ -120,7 +119,7 @@ numbered_tail k d ds false is known = subst (λ (t : Bool). IsSome (cond t (Some
 numbered_head : (d c : Class) (ds : List Class) → d ≡ c → IsSome (class_numbered c.number (d ∷ ds))
 numbered_head d c ds same =
     subst (λ (e : Class). IsSome (class_numbered e.number (d ∷ ds))) same
-      (subst (λ (t : Bool). IsSome (cond t (Some d) (class_numbered d.number ds))) (sym (eq-eqb d.number d.number refl)) refl)
+    (subst (λ (t : Bool). IsSome (cond t (Some d) (class_numbered d.number ds))) (sym (eq-eqb d.number d.number refl)) refl)
 
 named_split : (name : List ℕ) (d c : Class) (ds : List Class) (b : Bool) → bytes_eq d.name name ≡ b → class_named name (d ∷ ds) ≡ Some c → (d ≡ c) ⊎ (class_named name ds ≡ Some c)
 named_split name d c ds true is found = inl (let e : Some d ≡ Some c = sym (ap (λ t. cond t (Some d) (class_named name ds)) is) ∙ found in cc)
@@ -130,8 +129,8 @@ pub named_numbered : (name : List ℕ) (cs : List Class) (c : Class) → class_n
 named_numbered name [] c found = absurd (cc)
 named_numbered name (d ∷ ds) c found =
     ⊎_elim (λ same. numbered_head d c ds same)
-      (λ later. numbered_tail c.number d ds (d.number == c.number) refl (named_numbered name ds c later))
-      (named_split name d c ds (bytes_eq d.name name) refl found)
+    (λ later. numbered_tail c.number d ds (d.number == c.number) refl (named_numbered name ds c later))
+    (named_split name d c ds (bytes_eq d.name name) refl found)
 
 -- each class weighs something
 heavy_append : (xs ys : List Row) → total_weight (xs ++ ys) ≡ total_weight xs + total_weight ys
@@ -155,35 +154,43 @@ good_declaring w name field g left new free free_field =
     let c = int_class (length w.classes + 1) name field in
     let now = record w { classes = w.classes ++ c ∷ [] } in
     good_settle w now (class_line name) g
-      (λ light. record {
-        classes = classes_push 1 w.classes c g.classes (omega arith) (omega (arith, classes_weigh now, light, length-append w.classes (c ∷ []))) new
+    (λ light. record {
+      classes = classes_push 1 w.classes c g.classes (omega arith) (omega (arith, classes_weigh now, light, length-append w.classes (c ∷ []))) new
           (record { field = field; fields = refl; no_parent = refl; names = (free, free_field) });
-        objects = objects_more w.classes (c ∷ []) 0 w.next w.objects g.objects;
-        next = g.next; transaction = g.transaction; next_entry = g.next_entry; queue = g.queue; clock = g.clock;
-        small = light;
-      })
-      refl (omega arith) g.next.1 left
+      objects = objects_more w.classes (c ∷ []) 0 w.next w.objects g.objects;
+      next = g.next;
+      transaction = g.transaction;
+      next_entry = g.next_entry;
+      queue = g.queue;
+      clock = g.clock;
+      small = light;
+    })
+    refl (omega arith) g.next.1 left
 
 pub good_creating : (w : World) (class : ℕ) (n : ℤ) → IsGood w → w.transaction < number_limit → IsSome (class_numbered class w.classes) → FitsSigned w64 n → IsGood (creating w class n).0
 good_creating w class n g left known fits =
     let o = int_object w.next class n in
     let now = record w { objects = w.objects ++ o ∷ []; next = w.next + 1 } in
     ⊎_elim
-      (λ below.
-        let within : w.next < number_limit = ltb-true w.next number_limit below in
-        subst (λ (s : Settled). IsGood s.0) (sym (ap (λ b. cond b (settle w now (new_line w.next)) (abort w w Space [])) below))
-          (good_settle w now (new_line w.next) g
-            (λ light. record {
-              classes = g.classes;
-              objects = objects_push w.classes 0 w.next w.objects o g.objects refl known (record { held = n; versions = refl; fits = fits; last = refl; live = refl });
-              next = (omega arith, omega arith); transaction = g.transaction; next_entry = g.next_entry; queue = g.queue; clock = g.clock;
-              small = light;
-            })
-            refl (omega arith) (omega arith) left))
-      (λ spent.
-        subst (λ (s : Settled). IsGood s.0) (sym (ap (λ b. cond b (settle w now (new_line w.next)) (abort w w Space [])) spent))
-          (good_abort w w Space [] g (omega arith) g.next.1 left))
-      (by_test (nat_lt w.next number_limit))
+    (λ below.
+    let within : w.next < number_limit = ltb-true w.next number_limit below in
+    subst (λ (s : Settled). IsGood s.0) (sym (ap (λ b. cond b (settle w now (new_line w.next)) (abort w w Space [])) below))
+    (good_settle w now (new_line w.next) g
+    (λ light. record {
+      classes = g.classes;
+      objects = objects_push w.classes 0 w.next w.objects o g.objects refl known (record { held = n; versions = refl; fits = fits; last = refl; live = refl });
+      next = (omega arith, omega arith);
+      transaction = g.transaction;
+      next_entry = g.next_entry;
+      queue = g.queue;
+      clock = g.clock;
+      small = light;
+    })
+    refl (omega arith) (omega arith) left))
+    (λ spent.
+    subst (λ (s : Settled). IsGood s.0) (sym (ap (λ b. cond b (settle w now (new_line w.next)) (abort w w Space [])) spent))
+    (good_abort w w Space [] g (omega arith) g.next.1 left))
+    (by_test (nat_lt w.next number_limit))
 
 pub good_showing : (w : World) (v : Value) → IsGood w → w.transaction < number_limit → IsGood (showing w v).0
 good_showing w v g left = good_settle w w (value_line v) g (λ light. g) refl (omega arith) g.next.1 left
@@ -216,14 +223,14 @@ module _ (w : World) (t : Settled) (g : IsGood w) where
 
   declare_good : (name field : List ℕ) → w.transaction < number_limit → is_free name ≡ true → is_free field ≡ true → Settling (declare w name field)
   declare_good name field left free free_field = choice (is_some (class_named name w.classes)) (Refused (Check (Duplicate name))) (one (declaring w name field))
-    (λ taken. refuses (Check (Duplicate name)))
-    (λ new. settles (declaring w name field) (good_declaring w name field g left (none_of (class_named name w.classes) new) free free_field))
+      (λ taken. refuses (Check (Duplicate name)))
+      (λ new. settles (declaring w name field) (good_declaring w name field g left (none_of (class_named name w.classes) new) free free_field))
 
   in_good : (c : Class) (assigned : Option (List ℕ × ℤ)) → w.transaction < number_limit → IsSome (class_numbered c.number w.classes) → ((field : List ℕ) (n : ℤ) → assigned ≡ Some (field, n) → FitsSigned w64 n) → Settling (create_in w c assigned)
   in_good c None left known fits = settles (creating w c.number (pos 0)) (good_creating w c.number (pos 0) g left known zero_fits)
   in_good c (Some a) left known fits = choice (is_some (slot_of a.0 c.fields)) (one (creating w c.number a.1)) (Refused (Check (UnknownName a.0)))
-    (λ there. settles (creating w c.number a.1) (good_creating w c.number a.1 g left known (fits a.0 a.1 refl)))
-    (λ missing. refuses (Check (UnknownName a.0)))
+      (λ there. settles (creating w c.number a.1) (good_creating w c.number a.1 g left known (fits a.0 a.1 refl)))
+      (λ missing. refuses (Check (UnknownName a.0)))
 
   of_good : (name : List ℕ) (assigned : Option (List ℕ × ℤ)) → w.transaction < number_limit → ((field : List ℕ) (n : ℤ) → assigned ≡ Some (field, n) → FitsSigned w64 n) → (found : Option Class) → class_named name w.classes ≡ found → Settling (create_of w name assigned found)
   of_good name assigned left fits None is = refuses (Check (UnknownName name))
@@ -239,7 +246,7 @@ module _ (w : World) (t : Settled) (g : IsGood w) where
 
   carried_good : (s : Stmt) → IsProperStmt s → Settling (carried w s)
   carried_good (Do (New name fields)) proper = built_good (assignments fields) (λ assigned. create w name assigned)
-    (λ assigned is left. of_good name assigned left (λ field n same. proper field n (is ∙ ap Some same)) (class_named name w.classes) refl)
+      (λ assigned is left. of_good name assigned left (λ field n same. proper field n (is ∙ ap Some same)) (class_named name w.classes) refl)
   carried_good (Do (Plain x)) proper = refuses NotBuilt
   carried_good (Show (Plain x)) proper = built_good (shown_path x) (λ (path : ℕ × List ℕ). show w path.0 path.1) (λ path is left. show_good path.0 path.1 (object_at path.0 w.objects) left)
   carried_good (Show (New name fields)) proper = refuses NotBuilt

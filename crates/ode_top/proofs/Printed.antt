@@ -1,5 +1,5 @@
 -- A print leaves the disk as it reads.
-use Rattle.std.proofs.Common.{◌≡◌, ℕ, List, IsTrue, sym, ◌∙◌, subst}
+use Rattle.std.proofs.Common.{ℕ, List, IsTrue, sym, ◌∙◌, subst}
 use Rattle.ode_host.specs.Host.{Prints, Tells}
 use Rattle.ode_host.specs.View.{View}
 

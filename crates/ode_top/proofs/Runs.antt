@@ -1,5 +1,5 @@
 -- What is left of a run.
-use Rattle.std.proofs.Common.{◌≡◌, ℕ, List, [], ◌∷◌, ◌++◌, Bool, true, false, cond, Option, Some, refl, sym, ap, ◌∙◌, subst, append_assoc, append-nil}
+use Rattle.std.proofs.Common.{◌≡◌, ℕ, List, [], ◌∷◌, ◌++◌, Bool, true, false, Option, Some, refl, sym, ap, ◌∙◌, subst, append_assoc, append-nil}
 use Rattle.std.specs.Prelude.{◌||◌}
 use Rattle.ode_host.specs.View.{View}
 use Rattle.ode_value.specs.World.{World}
@@ -39,12 +39,12 @@ same_next whole w0 text0 line piece rest ps w v text refused again before now is
     let behind = trace (final w items) rest in
     record {
       told = same.told ∙ ap (λ (p : Pieces). text ++ text_of (trace w p)) is ∙ ap (λ (l : List ℕ). text ++ l) (text_of-append items behind) ∙ sym (append_assoc text (text_of items) (text_of behind))
-        ∙ ap (λ (u : World). (text ++ text_of items) ++ text_of (trace u rest)) (sym carries.world);
+          ∙ ap (λ (u : World). (text ++ text_of items) ++ text_of (trace u rest)) (sym carries.world);
       held = same.held ∙ ap (λ (p : Pieces). final w (trace w p)) is ∙ final-append w items behind ∙ ap (λ (u : World). final u (trace u rest)) (sym carries.world);
       stated = same.stated ∙ ap (λ (p : Pieces). status_at (ending p) (refused || any_refused (trace w p))) is
-        ∙ ap (λ (b : Bool). status_at (ending rest) (refused || b)) (any_refused-append items behind ∙ ap (λ (b : Bool). b || any_refused behind) (sym carries.stated))
-        ∙ ap (status_at (ending rest)) (or_assoc refused again (any_refused behind))
-        ∙ ap (λ (u : World). status_at (ending rest) ((refused || again) || any_refused (trace u rest))) (sym carries.world);
+          ∙ ap (λ (b : Bool). status_at (ending rest) (refused || b)) (any_refused-append items behind ∙ ap (λ (b : Bool). b || any_refused behind) (sym carries.stated))
+          ∙ ap (status_at (ending rest)) (or_assoc refused again (any_refused behind))
+          ∙ ap (λ (u : World). status_at (ending rest) ((refused || again) || any_refused (trace u rest))) (sym carries.world);
     }
 
 pub same_start : (ps : Pieces) (w : World) (text : List ℕ) → SameRun ps w text ps w text false

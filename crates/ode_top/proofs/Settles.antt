@@ -1,12 +1,12 @@
 -- How a declaration and a new object settle, on a state in memory.
-use Rattle.std.proofs.Common.{◌≡◌, ◌≤◌, ◌<◌, ℕ, ℤ, ◌+◌, List, [], ◌∷◌, ◌++◌, cond, nat_lt, length, map, Result, Ok, Err, IfOk, refl, sym, ◌∙◌, ap, arith}
+use Rattle.std.proofs.Common.{◌≡◌, ◌≤◌, ◌<◌, ℕ, ℤ, ◌+◌, List, [], ◌∷◌, ◌++◌, cond, length, map, Result, Ok, Err, IfOk, sym, ◌∙◌, ap, arith}
 use Rattle.std.proofs.lemmas.Bool.{lt-ltb, le-ltb}
 use Rattle.std.specs.declared.alloc.AllocError.{AllocError}
 use Rattle.ode_value.specs.Commands.{Outcome, Refused}
 use Rattle.ode_value.specs.declared.reason.Refusal.{Refusal}
 use Rattle.ode_top.specs.declared.machine.Item.TheVariants as item
 use Rattle.ode_value.specs.Good.{number_limit, weight_limit}
-use Rattle.ode_value.specs.Machine.{Settled, commit, abort, settle, declaring, creating, int_class, int_object}
+use Rattle.ode_value.specs.Machine.{commit, abort, settle, declaring, creating, int_class, int_object}
 use Rattle.ode_value.specs.Records.{weight}
 use Rattle.ode_value.specs.Texts.{class_line, new_line}
 use Rattle.ode_value.specs.World.{World}
@@ -48,7 +48,7 @@ module _ (s : State) (class : ℕ) (held : ℤ) (left : s.next < number_limit) w
   created_light text objects is more light =
       ap (λ t. commit (world_of (record s { objects = objects; next = s.next + 1 })) (world_of (record s { objects = objects; next = s.next + 1 })) t) is
       ∙ ap (λ os. commit (record (world_of s) { objects = os; next = s.next + 1 }) (record (world_of s) { objects = os; next = s.next + 1 }) (new_line s.next))
-        (ap (map object_of) more ∙ map_push object_of s.objects (record { id = s.next; class = class; held = held }))
+      (ap (map object_of) more ∙ map_push object_of s.objects (record { id = s.next; class = class; held = held }))
       ∙ sym (begun ∙ settles_light (world_of s) with_object (new_line s.next) (omega (arith, weighs, light)))
 
 module _ (s : State) (name field : List ℕ) where
@@ -70,8 +70,8 @@ module _ (s : State) (name field : List ℕ) where
   declared_light text classes is more light =
       ap (λ t. commit (world_of (record s { classes = classes })) (world_of (record s { classes = classes })) t) is
       ∙ ap (λ cs. commit (record (world_of s) { classes = cs }) (record (world_of s) { classes = cs }) (class_line name))
-        (ap (map class_of) more ∙ map_push class_of s.classes (record { number = length s.classes + 1; name = name; field = field })
-         ∙ ap (λ n. map class_of s.classes ++ int_class (n + 1) name field ∷ []) (sym (length_map class_of s.classes)))
+      (ap (map class_of) more ∙ map_push class_of s.classes (record { number = length s.classes + 1; name = name; field = field })
+      ∙ ap (λ n. map class_of s.classes ++ int_class (n + 1) name field ∷ []) (sym (length_map class_of s.classes)))
       ∙ sym (settles_light (world_of s) with_class (class_line name) (omega (arith, heavier, light)))
 
 -- another form of the outcome

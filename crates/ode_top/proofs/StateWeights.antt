@@ -1,10 +1,9 @@
 -- The weight of a world in memory is a sum over its classes and objects.
-use Rattle.std.proofs.Common.{◌≡◌, ◌≤◌, ◌<◌, ℕ, suc, ◌+◌, ◌*◌, List, [], ◌∷◌, ◌++◌, length, map, refl, sym, ◌∙◌, ap, arith, length-append}
+use Rattle.std.proofs.Common.{◌≡◌, ◌≤◌, ℕ, suc, ◌+◌, ◌*◌, List, [], ◌∷◌, ◌++◌, length, map, refl, sym, ◌∙◌, ap, arith, length-append}
 use Rattle.std.specs.Prelude.{codes}
 use Rattle.std.specs.Int.{w16, w32, to_be_bytes}
 use Rattle.std.specs.List.{flat_map}
-use Rattle.ode_value.specs.Records.{Row, byte, member_text, total_weight, row_weight, weight, rows, head_row, text_row, object_row, version_rows, class_text}
-use Rattle.ode_value.specs.World.{World, Object}
+use Rattle.ode_value.specs.Records.{Row, byte, member_text, total_weight, row_weight, weight, head_row, text_row, object_row, version_rows, class_text}
 use Rattle.ode_top.specs.declared.state.ClassRow.{ClassRow}
 use Rattle.ode_top.specs.declared.state.ObjectRow.{ObjectRow}
 use Rattle.ode_top.specs.declared.state.State.{State}

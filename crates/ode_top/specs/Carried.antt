@@ -1,5 +1,5 @@
 -- What an item says of an outcome of the machine.
-use Rattle.std.specs.Prelude.{◌≡◌, ℕ, List, [], ◌∷◌}
+use Rattle.std.specs.Prelude.{◌≡◌, [], ◌∷◌}
 use Rattle.ode_value.specs.Commands.{Outcome, Refused, Settles}
 use Rattle.ode_value.specs.Records.{snapshot, rows}
 use Rattle.ode_value.specs.World.{World}

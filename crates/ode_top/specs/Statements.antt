@@ -1,5 +1,5 @@
 -- The statement that a piece of a script is, where it has one of the built forms.
-use Rattle.std.specs.Prelude.{◌-◌, ℕ, ℤ, List, [], ◌∷◌, map, Bool, false, cond, ◌&&◌, Option, Some, None, take, drop, codes, is_some}
+use Rattle.std.specs.Prelude.{◌-◌, ℕ, ℤ, List, [], ◌∷◌, Bool, cond, Option, Some, None, take, drop, codes}
 use Rattle.std.specs.List.{list_all}
 use Rattle.std.specs.Option.{option_and_then, option_map}
 use Rattle.std.specs.Str.{bytes_eq}

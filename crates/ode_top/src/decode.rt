@@ -1,5 +1,5 @@
 //! The state whose snapshot some bytes are.
-ghost use Rattle.std.specs.Prelude.{◌≡◌, ◌+◌, ◌-◌, ◌<◌, ◌^◌, ◌==◌, List, ℕ, ◌++◌, length, map, true, false, IfOk, IfSome, IsSomeAnd};
+ghost use Rattle.std.specs.Prelude.{◌≡◌, ◌==◌, List, ℕ, ◌++◌, length, map, true, false, IfOk, IfSome, IsSomeAnd};
 ghost use Rattle.std.specs.List.{AllByRecursion, list_all, list_any, prefix_len};
 ghost use Rattle.ode_value.specs.Records.{Row, counters_row, rows, snapshot};
 ghost use Rattle.ode_value.specs.Good.{IsGood};
@@ -8,7 +8,8 @@ ghost use Rattle.ode_value.specs.World.{World};
 ghost use Rattle.ode_top.specs.declared.state.ClassRow.{ClassRow};
 ghost use Rattle.ode_top.specs.declared.state.ObjectRow.{ObjectRow};
 ghost use Rattle.ode_top.specs.declared.state.State.{State};
-ghost use Rattle.ode_top.specs.Reading.{FitsClass, FitClasses, FitsCounters, FitsObject, FitsState, head_of, row_of, text_of, version_of, whole_of};
+ghost use Rattle.ode_top.specs.Reading.{FitClasses, FitsClass, FitsCounters, FitsObject, FitsState};
+ghost use Rattle.ode_top.specs.Reading.{head_of, row_of, text_of, version_of, whole_of};
 ghost use Rattle.ode_top.specs.State.{world_of};
 
 use crate::check::is_good;
@@ -21,7 +22,8 @@ use std::alloc::{AllocError, Global};
 
 // What stands between a front and a back of these lengths.
 fn middle(bytes: &[u8], front: usize, back: usize) -> Option<&[u8]>
-    ensures { (a b c : List ℕ) → length a ≡ front → length c ≡ back → bytes.now ≡ a ++ (b ++ c) → IsSomeAnd result (λ m. m.now ≡ b) }
+    ensures { (a b c : List ℕ) → length a ≡ front → length c ≡ back → bytes.now ≡ a ++ (b ++ c)
+        → IsSomeAnd result (λ m. m.now ≡ b) }
 {
     if bytes.len() < front || bytes.len() - front < back {
         return None;
@@ -106,7 +108,8 @@ fn front_length(records: &[Record], kind: u8) -> usize
 
 // The records of a kind that stand in front, and those behind them.
 fn split_kind<'a, 'b>(records: &'b [Record<'a>], kind: u8) -> (&'b [Record<'a>], &'b [Record<'a>])
-    ensures { (front back : List Row) → list_all (λ r. r.0.kind == kind) front ≡ true → list_any (λ r. r.0.kind == kind) back ≡ false
+    ensures { (front back : List Row)
+        → list_all (λ r. r.0.kind == kind) front ≡ true → list_any (λ r. r.0.kind == kind) back ≡ false
         → map row_of records.now ≡ front ++ back → (map row_of result.0.now ≡ front) × (map row_of result.1.now ≡ back) }
 {
     let count = front_length(records, kind);
@@ -164,7 +167,8 @@ fn object_rows(
 
 // The next numbers of an object, a transaction and an entry.
 fn next_numbers(counters: &[u8]) -> Option<(u64, u64, u64)>
-    ensures { (w : World) → FitsCounters w → counters.now ≡ (counters_row w).1 → IsSomeAnd result (λ n. n ≡ (w.next, w.transaction, w.next_entry)) }
+    ensures { (w : World) → FitsCounters w → counters.now ≡ (counters_row w).1
+        → IsSomeAnd result (λ n. n ≡ (w.next, w.transaction, w.next_entry)) }
 {
     let next = take_u64(counters, 0)?;
     let transaction = take_u64(counters, 8)?;
@@ -174,7 +178,8 @@ fn next_numbers(counters: &[u8]) -> Option<(u64, u64, u64)>
 
 // The state of the records of a snapshot.
 fn state_of(alloc: Global, records: &[Record]) -> Result<Option<State>, AllocError>
-    ensures { (s : State) → FitsState s → map row_of records.now ≡ rows (world_of s) → IfOk result (λ o. IsSomeAnd o (λ t. t ≡ s)) }
+    ensures { (s : State) → FitsState s → map row_of records.now ≡ rows (world_of s)
+        → IfOk result (λ o. IsSomeAnd o (λ t. t ≡ s)) }
 {
     let Some((counters, rest)) = records.split_first() else {
         return Ok(None);
@@ -202,7 +207,8 @@ fn state_of(alloc: Global, records: &[Record]) -> Result<Option<State>, AllocErr
 
 // The state that the bytes hold, wherever they are the snapshot of one.
 fn read_state(alloc: Global, bytes: &[u8]) -> Result<Option<State>, AllocError>
-    ensures { (s : State) → FitsState s → bytes.now ≡ snapshot (rows (world_of s)) → IfOk result (λ o. IsSomeAnd o (λ t. t ≡ s)) }
+    ensures { (s : State) → FitsState s → bytes.now ≡ snapshot (rows (world_of s))
+        → IfOk result (λ o. IsSomeAnd o (λ t. t ≡ s)) }
 {
     let Some(records) = split_records(alloc, bytes)? else {
         return Ok(None);
@@ -212,13 +218,14 @@ fn read_state(alloc: Global, bytes: &[u8]) -> Result<Option<State>, AllocError>
 
 /// The state whose snapshot the bytes are, where they are the snapshot of a good one.
 pub fn decode(alloc: Global, bytes: &[u8]) -> Result<Option<State>, AllocError>
-    ensures found { (w : World) → IsGood w → bytes.now ≡ snapshot (rows w) → IfOk result (λ o. IsSomeAnd o (λ s. world_of s ≡ w)) }
+    ensures found { (w : World) → IsGood w → bytes.now ≡ snapshot (rows w)
+        → IfOk result (λ o. IsSomeAnd o (λ s. world_of s ≡ w)) }
     ensures sound { IfOk result (λ o. IfSome o (λ s. IsGood (world_of s) × (bytes.now ≡ snapshot (rows (world_of s))))) }
 {
     let Some(state) = read_state(alloc, bytes)? else {
         return Ok(None);
     };
-    // Reading is lenient: what it gives has to have these very bytes.
+    // Reading tests little, so what it gives has to have these very bytes.
     let snapshot = encode(alloc, &state)?;
     if snapshot.bytes.as_slice() != bytes || !is_good(&state, snapshot.weight) {
         return Ok(None);

@@ -1,8 +1,9 @@
 //! The bytes of a snapshot: each record's key, the length of its value, and its value.
-ghost use Rattle.std.specs.Prelude.{◌≡◌, ◌+◌, ◌*◌, ◌≤◌, ◌++◌, length, map, IfOk, OnOk};
+ghost use Rattle.std.specs.Prelude.{◌≡◌, ◌*◌, ◌≤◌, ◌++◌, length, map, IfOk, OnOk};
 ghost use Rattle.std.specs.Int.{w16, w32, to_be_bytes};
 ghost use Rattle.std.specs.List.{flat_map};
-ghost use Rattle.ode_value.specs.Records.{class_text, counters_row, head_row, key_bytes, object_row, row_bytes, rows, snapshot, spelled_value, text_row, version_rows, weight};
+ghost use Rattle.ode_value.specs.Records.{counters_row, head_row, object_row, rows, text_row, version_rows};
+ghost use Rattle.ode_value.specs.Records.{class_text, key_bytes, row_bytes, snapshot, spelled_value, weight};
 ghost use Rattle.ode_top.specs.State.{class_of, object_of, world_of};
 
 use crate::state::{ClassRow, ObjectRow, State};
@@ -93,7 +94,8 @@ fn put_object(out: &mut Vec<u8>, object: &ObjectRow) -> Result<(), AllocError>
 
 // No parent, and one field, an int.
 fn put_version_value(out: &mut Vec<u8>, held: i64) -> Result<(), AllocError>
-    ensures { OnOk result (out.new.items ≡ out.old.items ++ (to_be_bytes w32 0 ++ to_be_bytes w16 1 ++ spelled_value (Value.Int held))) }
+    ensures { OnOk result
+        (out.new.items ≡ out.old.items ++ (to_be_bytes w32 0 ++ to_be_bytes w16 1 ++ spelled_value (Value.Int held))) }
 {
     put_u32(out, 0)?;
     put_u16(out, 1)?;

@@ -81,7 +81,10 @@ pub fn assignments(fields: &[(Name, Expr)]) -> Option<Option<Assignment<'_>>>
     match fields {
         [] => Some(None),
         [one] => match assigned_int(&one.1) {
-            Some(held) => Some(Some(Assignment { field: &one.0, held })),
+            Some(held) => Some(Some(Assignment {
+                field: &one.0,
+                held,
+            })),
             None => None,
         },
         _ => None,

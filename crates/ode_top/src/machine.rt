@@ -40,7 +40,9 @@ pub struct Settled {
 }
 
 const NUMBER_LIMIT: u64 = 1 << 62;
+
 const WEIGHT_LIMIT: u64 = 8_388_608;
+
 const OBJECT_WEIGHT: u64 = 57;
 
 // What the records of a class weigh.
@@ -91,12 +93,7 @@ impl State {
     }
 
     // A class whose name is new.
-    fn declare_new(
-        &mut self,
-        alloc: Global,
-        name: &Name,
-        field: &Name,
-    ) -> Result<Item, AllocError>
+    fn declare_new(&mut self, alloc: Global, name: &Name, field: &Name) -> Result<Item, AllocError>
         requires light { weight (world_of self.old) ≤ weight_limit }
         requires left { self.old.transaction < number_limit }
         ensures outcome { IfOk result (λ item. outcome_of item (world_of self.new) ≡ one (declaring (world_of self.old) name.now field.now)) }
@@ -223,7 +220,11 @@ impl State {
     {
         match statement {
             Statement::Class(decl) => self.command_class(alloc, decl),
-            Statement::Simple(Stmt::Do(Rhs::New { class, fields })) => self.command_new(alloc, class, fields.as_slice()),
+            Statement::Simple(Stmt::Do(Rhs::New { class, fields })) => self.command_new(
+                alloc,
+                class,
+                fields.as_slice(),
+            ),
             Statement::Simple(Stmt::Show(Rhs::Plain(expr))) => self.command_show(alloc, expr),
             Statement::Simple(_) => Ok(Item::Refused(Refusal::NotBuilt)),
         }

@@ -174,11 +174,7 @@ fn new_at(alloc: Global, name: &[u8]) -> Result<Option<Statement>, AllocError>
 }
 
 // `pnew NAME();`
-fn parse_new(
-    alloc: Global,
-    text: &[u8],
-    tokens: &[Token],
-) -> Result<Option<Statement>, AllocError>
+fn parse_new(alloc: Global, text: &[u8], tokens: &[Token]) -> Result<Option<Statement>, AllocError>
     ensures statement { IfOk result (λ s. s ≡ new_in text.now tokens.now) }
     ensures proper { IfOk result (λ s. IfSome s IsProper) }
 {
@@ -245,11 +241,7 @@ fn assigned_in<'a>(text: &'a [u8], tokens: &[Token]) -> Option<Set<'a>>
 }
 
 // `pnew NAME(NAME = NUMBER);`
-fn parse_set(
-    alloc: Global,
-    text: &[u8],
-    tokens: &[Token],
-) -> Result<Option<Statement>, AllocError>
+fn parse_set(alloc: Global, text: &[u8], tokens: &[Token]) -> Result<Option<Statement>, AllocError>
     ensures statement { IfOk result (λ s. s ≡ set_in text.now tokens.now) }
     ensures proper { IfOk result (λ s. IfSome s IsProper) }
 {
@@ -263,11 +255,7 @@ fn parse_set(
     set_at(alloc, slice_of(text, *name), assigned_in(text, rest))
 }
 
-fn show_at(
-    alloc: Global,
-    of: Option<Ref>,
-    field: &[u8],
-) -> Result<Option<Statement>, AllocError>
+fn show_at(alloc: Global, of: Option<Ref>, field: &[u8]) -> Result<Option<Statement>, AllocError>
     ensures statement { IfOk result (λ s. s ≡ show_at of field.now) }
     ensures proper { IfOk result (λ s. IfSome s IsProper) }
 {
@@ -281,11 +269,7 @@ fn show_at(
 }
 
 // `show #N.NAME;`
-fn parse_show(
-    alloc: Global,
-    text: &[u8],
-    tokens: &[Token],
-) -> Result<Option<Statement>, AllocError>
+fn parse_show(alloc: Global, text: &[u8], tokens: &[Token]) -> Result<Option<Statement>, AllocError>
     ensures statement { IfOk result (λ s. s ≡ show_in text.now tokens.now) }
     ensures proper { IfOk result (λ s. IfSome s IsProper) }
 {

@@ -26,7 +26,8 @@ fn key_at(bytes: &[u8]) -> Option<Key>
 
 // The first record, and the bytes behind it.
 fn record_at(bytes: &[u8]) -> Option<(Record<'_>, &[u8])>
-    ensures found { (r : Row) (rest : List ℕ) → IsRow r → bytes.now ≡ row_bytes r ++ rest → IsSomeAnd result (λ x. (row_of x.0 ≡ r) × (x.1.now ≡ rest)) }
+    ensures found { (r : Row) (rest : List ℕ) → IsRow r → bytes.now ≡ row_bytes r ++ rest
+        → IsSomeAnd result (λ x. (row_of x.0 ≡ r) × (x.1.now ≡ rest)) }
     ensures shorter { IfSome result (λ x. length x.1.now < length bytes.now) }
 {
     let key = key_at(bytes)?;
@@ -41,7 +42,8 @@ fn record_at(bytes: &[u8]) -> Option<(Record<'_>, &[u8])>
 
 /// The records that these bytes are, or none where the last one is cut short.
 pub fn split_records(alloc: Global, bytes: &[u8]) -> Result<Option<Vec<Record<'_>>>, AllocError>
-    ensures { (rs : List Row) → AllByRecursion IsRow rs → bytes.now ≡ snapshot rs → IfOk result (λ o. IsSomeAnd o (λ v. map row_of v.items ≡ rs)) }
+    ensures { (rs : List Row) → AllByRecursion IsRow rs → bytes.now ≡ snapshot rs
+        → IfOk result (λ o. IsSomeAnd o (λ v. map row_of v.items ≡ rs)) }
 {
     let mut all = Vec::new(alloc);
     let mut rest = bytes;

@@ -49,11 +49,7 @@ impl From<AllocError> for Halt {
 }
 
 // The file has the snapshot before any of the text is printed.
-fn keep_and_print<H: Host>(
-    host: &mut H,
-    generation: u64,
-    settled: &Settled,
-) -> Result<(), Halt>
+fn keep_and_print<H: Host>(host: &mut H, generation: u64, settled: &Settled) -> Result<(), Halt>
     requires generation { (1 ≤ generation) × (generation ≤ 3) }
     requires room { length settled.now.bytes.items < 33554432 }
     ensures held { OnOk result ((image : Items ℕ) → Tells (H.view host.old) image

@@ -1,5 +1,4 @@
 use Rattle.std.proofs.Common.{◌≡◌, map, drop}
-use Rattle.std.specs.List.{list_all}
 use Rattle.ode_top.specs.Statements.{are}
 use Rattle.ode_top.proofs.parse.are.Given as goal
 

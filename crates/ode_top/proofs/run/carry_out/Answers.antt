@@ -1,6 +1,3 @@
-use Rattle.std.proofs.Common.{sym}
-use Rattle.ode_top.specs.Carried.{outcome_of, Keeps}
-use Rattle.ode_top.specs.State.{world_of}
 use Rattle.ode_top.proofs.Carries.{has_room}
 use Rattle.ode_top.proofs.CarriesPieces.{refused_carries, settled_carries}
 use Rattle.ode_top.proofs.run.carry_out.Goals as goal

@@ -1,5 +1,4 @@
-use Rattle.std.proofs.Common.{◌≡◌, ◌∙◌, List, ℕ, IsErr, subst, sym}
-use Rattle.ode_host.specs.declared.status.Status.{Status}
+use Rattle.std.proofs.Common.{◌≡◌, ◌∙◌, IsErr, subst}
 use Rattle.ode_host.specs.declared.status.Status.TheVariants as status
 use Rattle.ode_top.proofs.Calling.{tells_same}
 use Rattle.ode_top.proofs.Empty.{good_empty}

@@ -1,9 +1,8 @@
-use Rattle.std.proofs.Common.{◌≡◌, ◌∙◌, List, ℕ, Err, ap, inl, inr, refl, subst}
+use Rattle.std.proofs.Common.{◌≡◌, ◌∙◌, Err, ap, inl, inr, refl}
 use Rattle.std.specs.Prelude.{codes}
 use Rattle.ode_host.proofs.Moments.{tells_looks}
 use Rattle.ode_host.specs.declared.status.Status.TheVariants as status
 use Rattle.ode_value.specs.Texts.{line}
-use Rattle.ode_top.specs.Decoding.{OpensAs}
 use Rattle.ode_top.specs.State.{world_of}
 use Rattle.ode_top.proofs.Calling.{machine_run, opened_serves, tells_same}
 use Rattle.ode_top.proofs.top.run.Goals as goal
@@ -12,7 +11,7 @@ pub returns-in-Ok-clause-ran : goal.returns-in-Ok-clause-ran
 returns-in-Ok-clause-ran g c bytes image text w left tells said holds ending =
     let same : world_of c.in-Ok.database.state ≡ w = c.in-Ok.ensures.found image w tells holds in
     machine_run bytes text w (world_of c.in-Ok.database.state) _ _ _ same
-      (c.run_script.ensures.ran bytes text left (opened_serves image text w (world_of c.in-Ok.database.state) _ _ c.open_database.ensures.looks tells said holds same) ending)
+    (c.run_script.ensures.ran bytes text left (opened_serves image text w (world_of c.in-Ok.database.state) _ _ c.open_database.ensures.looks tells said holds same) ending)
 
 pub returns-in-Err-NoDatabase-clause-answers : goal.returns-in-Err-NoDatabase-clause-answers
 returns-in-Err-NoDatabase-clause-answers g c image w tells holds = absurd (rw c.in-Err-NoDatabase.field-0-is at (c.in-Err-NoDatabase.ensures.found image w tells holds))

@@ -1,4 +1,4 @@
-use Rattle.std.proofs.Common.{map, ap, sym, ◌∙◌}
+use Rattle.std.proofs.Common.{map, ap, sym}
 use Rattle.ode_top.specs.State.{class_of, world_of}
 use Rattle.ode_top.proofs.Settles.{comes_to, refused_as}
 use Rattle.ode_top.proofs.state.State.create.Goals as goal
