@@ -11,7 +11,9 @@ use std::{env, io};
 fn words_of(rt: &HostRuntime) -> io::Result<Vec<String>> {
     let mut words = Vec::new(rt.alloc());
     for word in env::args(rt)?.skip(1) {
-        words.push(word).map_err(|_| Error::from(ErrorKind::OutOfMemory))?;
+        words
+            .push(word)
+            .map_err(|_| Error::from(ErrorKind::OutOfMemory))?;
     }
     Ok(words)
 }

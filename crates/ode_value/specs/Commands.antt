@@ -1,7 +1,6 @@
 -- What a statement of a built form comes to: one refusal, or the transactions that it settles.
-use Rattle.std.specs.Prelude.{◌≡◌, ℕ, ◌+◌, ℤ, pos, List, [], ◌∷◌, Bool, cond, nat_lt, is_some, Option, Some, None, slice_get}
+use Rattle.std.specs.Prelude.{ℕ, ℤ, pos, List, [], ◌∷◌, cond, nat_lt, is_some, Option, Some, None, slice_get}
 use Rattle.std.specs.Option.{option_and_then, option_map}
-use Rattle.std.specs.Str.{bytes_eq}
 use Rattle.ode_value.specs.declared.class.Class.{Class}
 use Rattle.ode_value.specs.declared.reason.CheckError.TheVariants.{UnknownName, Duplicate}
 use Rattle.ode_value.specs.declared.reason.Refusal.{Refusal}
@@ -11,7 +10,6 @@ use Rattle.ode_value.specs.declared.statement.Expr.{Expr, out-Expr}
 use Rattle.ode_value.specs.declared.statement.Expr.TheOpen as e
 use Rattle.ode_value.specs.declared.statement.Member.{Member}
 use Rattle.ode_value.specs.declared.statement.Member.TheVariants as member
-use Rattle.ode_value.specs.declared.statement.Rhs.{Rhs}
 use Rattle.ode_value.specs.declared.statement.Rhs.TheVariants as rhs
 use Rattle.ode_value.specs.declared.statement.Sort.TheVariants as sort
 use Rattle.ode_value.specs.declared.statement.Statement.{Statement}
@@ -22,7 +20,7 @@ use Rattle.ode_value.specs.declared.value.Value.{Value}
 use Rattle.ode_value.specs.declared.value.Value.TheVariants as value
 use Rattle.ode_value.specs.Good.{number_limit}
 use Rattle.ode_value.specs.Machine.{Settled, declaring, creating, showing}
-use Rattle.ode_value.specs.World.{World, Object, Version, class_named, class_numbered, slot_of, object_at, version_of, denotes}
+use Rattle.ode_value.specs.World.{World, Object, Version, class_named, class_numbered, slot_of, object_at, version_of}
 
 -- one refusal, and nothing changed; or the settled transactions, in order
 pub data Outcome : Type 0 where
@@ -102,7 +100,7 @@ create w name assigned = create_of w name assigned (class_named name w.classes)
 abbrev pub field_of : World → Object → List ℕ → Option Value
 field_of w o name =
     option_and_then (λ (c : Class). option_and_then (λ (at : ℕ). option_and_then (λ (v : Version). slice_get v.fields at) (version_of None o.versions)) (slot_of name c.fields))
-      (class_numbered o.class w.classes)
+    (class_numbered o.class w.classes)
 
 abbrev pub show_value : World → List ℕ → Option Value → Outcome
 show_value w name None = Refused (Check (UnknownName name))

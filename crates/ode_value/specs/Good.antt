@@ -1,13 +1,12 @@
 -- Which worlds the built forms make, and which of them are good.
-use Rattle.std.specs.Prelude.{◌≡◌, ◌<◌, ◌≤◌, ◌^◌, ◌+◌, ℕ, ℤ, List, [], ◌∷◌, Bool, true, Option, Some, None, IsSome, FitsSigned}
+use Rattle.std.specs.Prelude.{◌≡◌, ◌<◌, ◌≤◌, ◌^◌, ◌+◌, ℕ, ℤ, List, [], ◌∷◌, true, None, IsSome, FitsSigned}
 use Rattle.std.specs.Int.{w64}
 use Rattle.ode_value.specs.declared.class.Class.{Class}
-use Rattle.ode_value.specs.declared.class.Field.{Field}
 use Rattle.ode_value.specs.declared.statement.Sort.TheVariants as sort
 use Rattle.ode_value.specs.declared.value.Value.TheVariants as value
 use Rattle.ode_value.specs.Records.{weight}
 use Rattle.ode_value.specs.Words.{is_free}
-use Rattle.ode_value.specs.World.{World, Object, Version, class_named, class_numbered}
+use Rattle.ode_value.specs.World.{World, Object, class_named, class_numbered}
 
 -- a class with one int field, and no parent
 pub record IsBuiltClass (c : Class) : Type 0 where

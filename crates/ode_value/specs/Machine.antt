@@ -1,7 +1,6 @@
 -- What a transaction of a built form does, and how it settles.
-use Rattle.std.specs.Prelude.{◌≡◌, ℕ, ◌+◌, ℤ, List, [], ◌∷◌, ◌++◌, length, Bool, true, cond, nat_lt, Option, Some, None, codes}
+use Rattle.std.specs.Prelude.{ℕ, ◌+◌, ℤ, List, [], ◌∷◌, ◌++◌, length, true, cond, nat_lt, None}
 use Rattle.ode_value.specs.declared.class.Class.{Class}
-use Rattle.ode_value.specs.declared.class.Field.{Field}
 use Rattle.ode_value.specs.declared.reason.Reason.{Reason}
 use Rattle.ode_value.specs.declared.reason.Reason.TheVariants.{Space}
 use Rattle.ode_value.specs.declared.statement.Sort.TheVariants as sort
@@ -10,7 +9,7 @@ use Rattle.ode_value.specs.declared.value.Value.TheVariants as value
 use Rattle.ode_value.specs.Good.{number_limit, weight_limit}
 use Rattle.ode_value.specs.Records.{weight}
 use Rattle.ode_value.specs.Texts.{class_line, new_line, value_line, committed_line, aborted_line}
-use Rattle.ode_value.specs.World.{World, Object, Version}
+use Rattle.ode_value.specs.World.{World, Object}
 
 -- a settled transaction: the world after it, and all that it prints
 abbrev pub Settled : Type 0

@@ -1,5 +1,5 @@
 -- What a run prints.
-use Rattle.std.specs.Prelude.{ℕ, List, [], ◌∷◌, ◌++◌, codes, Bool, cond, ◌==◌, ◌||◌, Option, Some, None}
+use Rattle.std.specs.Prelude.{ℕ, List, [], ◌∷◌, ◌++◌, codes, cond, ◌==◌, ◌||◌}
 use Rattle.std.specs.List.{flat_map}
 use Rattle.ode_value.specs.Decimal.{digits_of, int_digits}
 use Rattle.ode_value.specs.References.{spelled_ref}

@@ -1,6 +1,6 @@
 -- The world of the machine, and what a reference denotes in it.
-use Rattle.std.specs.Prelude.{◌≡◌, ◌<◌, ◌≤◌, ◌^◌, ◌+◌, ℕ, ℤ, List, [], ◌∷◌, length, Bool, true, cond, ◌==◌, ◌&&◌, Option, Some, None, position, slice_get}
-use Rattle.std.specs.Option.{option_and_then, option_map}
+use Rattle.std.specs.Prelude.{ℕ, ℤ, List, [], ◌∷◌, Bool, cond, ◌==◌, ◌&&◌, Option, Some, None, position}
+use Rattle.std.specs.Option.{option_and_then}
 use Rattle.std.specs.Str.{bytes_eq}
 use Rattle.ode_value.specs.declared.class.Class.{Class}
 use Rattle.ode_value.specs.declared.class.Field.{Field}
