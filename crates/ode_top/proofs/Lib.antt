@@ -5,6 +5,7 @@ pub mod Checking
 pub mod Chunks
 pub mod Counting
 pub mod Cuts
+pub mod Cutting
 pub mod Division
 pub mod Empty
 pub mod Examples

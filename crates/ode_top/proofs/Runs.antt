@@ -9,7 +9,7 @@ use Rattle.ode_top.specs.declared.reader.ScriptError.TheVariants as error
 use Rattle.ode_top.specs.Halts.{status_of_error}
 use Rattle.ode_top.specs.Left.{EndsBy}
 use Rattle.ode_top.specs.Pieces.{Ending, End, LongScript, Pieces, Then, Ended}
-use Rattle.ode_top.specs.Serves.{Carries, IsEnding, LeavesNothing, RanAs, SameRun, Serves}
+use Rattle.ode_top.specs.Serves.{Carries, IsEnding, LeavesNothing, RanAs, SoFar, Serves}
 use Rattle.ode_top.specs.Trace.{Item, Settled, Refusal, piece_items, trace, final, text_of, any_refused, ending, status_at}
 
 pub text_of-append : (xs ys : List Item) → text_of (xs ++ ys) ≡ text_of xs ++ text_of ys
@@ -27,50 +27,35 @@ any_refused-append [] ys = refl
 any_refused-append (Settled v text ∷ xs) ys = any_refused-append xs ys
 any_refused-append (Refusal line ∷ xs) ys = refl
 
-or_assoc : (a b c : Bool) → (a || (b || c)) ≡ ((a || b) || c)
-or_assoc true b c = refl
-or_assoc false b c = refl
-
 -- one piece further
 pub same_next : (whole : Pieces) (w0 : World) (text0 : List ℕ) (line : ℕ) (piece : List ℕ) (rest ps : Pieces) (w v : World) (text : List ℕ) (refused again : Bool) (before now : View)
-    → ps ≡ Then line piece rest → Carries (piece_items w line piece) again w v before now → SameRun whole w0 text0 ps w text refused → SameRun whole w0 text0 rest v (text ++ text_of (piece_items w line piece)) (refused || again)
-same_next whole w0 text0 line piece rest ps w v text refused again before now is carries same =
+    → ps ≡ Then line piece rest → Carries (piece_items w line piece) again w v before now → SoFar whole w0 text0 ps w text refused → SoFar whole w0 text0 rest v (text ++ text_of (piece_items w line piece)) (refused || again)
+same_next whole w0 text0 line piece rest ps w v text refused again before now is carries so_far =
     let items = piece_items w line piece in
-    let behind = trace (final w items) rest in
     record {
-      told = same.told ∙ ap (λ (p : Pieces). text ++ text_of (trace w p)) is ∙ ap (λ (l : List ℕ). text ++ l) (text_of-append items behind) ∙ sym (append_assoc text (text_of items) (text_of behind))
-          ∙ ap (λ (u : World). (text ++ text_of items) ++ text_of (trace u rest)) (sym carries.world);
-      held = same.held ∙ ap (λ (p : Pieces). final w (trace w p)) is ∙ final-append w items behind ∙ ap (λ (u : World). final u (trace u rest)) (sym carries.world);
-      stated = same.stated ∙ ap (λ (p : Pieces). status_at (ending p) (refused || any_refused (trace w p))) is
-          ∙ ap (λ (b : Bool). status_at (ending rest) (refused || b)) (any_refused-append items behind ∙ ap (λ (b : Bool). b || any_refused behind) (sym carries.stated))
-          ∙ ap (status_at (ending rest)) (or_assoc refused again (any_refused behind))
-          ∙ ap (λ (u : World). status_at (ending rest) ((refused || again) || any_refused (trace u rest))) (sym carries.world);
+      before = so_far.before ++ items;
+      split = so_far.split ∙ ap (λ (p : Pieces). so_far.before ++ trace w p) is ∙ ap (λ (u : World). so_far.before ++ (items ++ trace u rest)) (sym carries.world) ∙ sym (append_assoc so_far.before items (trace v rest));
+      ends = so_far.ends ∙ ap ending is;
+      world = carries.world ∙ ap (λ (u : World). final u items) so_far.world ∙ sym (final-append w0 so_far.before items);
+      printed = ap (λ (l : List ℕ). l ++ text_of items) so_far.printed ∙ append_assoc text0 (text_of so_far.before) (text_of items) ∙ ap (λ (l : List ℕ). text0 ++ l) (sym (text_of-append so_far.before items));
+      stated = ap (λ (b : Bool). b || again) so_far.stated ∙ ap (λ (b : Bool). any_refused so_far.before || b) carries.stated ∙ sym (any_refused-append so_far.before items);
     }
 
-pub same_start : (ps : Pieces) (w : World) (text : List ℕ) → SameRun ps w text ps w text false
-same_start ps w text = record { told = refl; held = refl; stated = refl }
-
-or_false : (b : Bool) → (b || false) ≡ b
-or_false true = refl
-or_false false = refl
-
--- the pieces have ended
-pub same_end : (whole : Pieces) (w0 : World) (text0 : List ℕ) (ps : Pieces) (how : Ending) (w : World) (text : List ℕ) (refused : Bool) → ps ≡ Ended how → SameRun whole w0 text0 ps w text refused
-    → (text0 ++ text_of (trace w0 whole) ≡ text) × (final w0 (trace w0 whole) ≡ w) × (status_at (ending whole) (any_refused (trace w0 whole)) ≡ status_at how refused)
-same_end whole w0 text0 ps how w text refused is same = (
-  same.told ∙ ap (λ (p : Pieces). text ++ text_of (trace w p)) is ∙ append-nil text,
-  same.held ∙ ap (λ (p : Pieces). final w (trace w p)) is,
-  same.stated ∙ ap (λ (p : Pieces). status_at (ending p) (refused || any_refused (trace w p))) is ∙ ap (status_at how) (or_false refused),
-)
+-- before the first piece
+pub same_at : (whole ps : Pieces) (w : World) (text : List ℕ) → ps ≡ whole → SoFar whole w text ps w text false
+same_at whole ps w text is = record { before = []; split = ap (trace w) (sym is); ends = ap ending (sym is); world = refl; printed = sym (append-nil text); stated = refl }
 
 -- the run has ended as the machine's
 pub ended_ran : (whole : Pieces) (w0 : World) (text0 : List ℕ) (ps : Pieces) (how : Ending) (w : World) (text : List ℕ) (refused : Bool) (left : Option (List ℕ)) (view : View) (result : Status)
-    → ps ≡ Ended how → result ≡ status_at how refused → LeavesNothing result left → Serves view w text → SameRun whole w0 text0 ps w text refused → RanAs whole w0 text0 left view result
-ended_ran whole w0 text0 ps how w text refused left view result is stated nothing serves same =
-    let all = same_end whole w0 text0 ps how w text refused is same in
+    → ps ≡ Ended how → result ≡ status_at how refused → LeavesNothing result left → Serves view w text → SoFar whole w0 text0 ps w text refused → RanAs whole w0 text0 left view result
+ended_ran whole w0 text0 ps how w text refused left view result is stated nothing serves so_far =
+    let all : trace w0 whole ≡ so_far.before = so_far.split ∙ ap (λ (p : Pieces). so_far.before ++ trace w p) is ∙ append-nil so_far.before in
+    let ends : how ≡ ending whole = sym (so_far.ends ∙ ap ending is) in
+    let held : w ≡ final w0 (trace w0 whole) = so_far.world ∙ ap (final w0) (sym all) in
+    let told : text ≡ text0 ++ text_of (trace w0 whole) = so_far.printed ∙ ap (λ (items : List Item). text0 ++ text_of items) (sym all) in
     record {
-      stated = stated ∙ sym all.2;
-      serves = subst (λ (v : World). Serves view v (text0 ++ text_of (trace w0 whole))) (sym all.1) (subst (λ (t : List ℕ). Serves view w t) (sym all.0) serves);
+      stated = stated ∙ ap (λ (e : Ending). status_at e refused) ends ∙ ap (status_at (ending whole)) (so_far.stated ∙ ap any_refused (sym all));
+      serves = subst (λ (v : World). Serves view v (text0 ++ text_of (trace w0 whole))) held (subst (λ (t : List ℕ). Serves view w t) told serves);
       nothing = nothing;
     }
 
@@ -81,12 +66,8 @@ end_leaves false left is = is
 
 -- an error that is the script's own ending
 pub error_ran : (whole : Pieces) (w0 : World) (text0 : List ℕ) (ps : Pieces) (w : World) (text : List ℕ) (refused : Bool) (left : Option (List ℕ)) (view : View) (result : Status) (e : ScriptError)
-    → EndsBy ps e → result ≡ status_of_error e → IsEnding result → Serves view w text → SameRun whole w0 text0 ps w text refused → RanAs whole w0 text0 left view result
+    → EndsBy ps e → result ≡ status_of_error e → IsEnding result → Serves view w text → SoFar whole w0 text0 ps w text refused → RanAs whole w0 text0 left view result
 error_ran whole w0 text0 ps w text refused left view result error.Memory ends is ending_status serves same = absurd (subst IsEnding is ending_status)
 error_ran whole w0 text0 ps w text refused left view result error.ReadFault ends is ending_status serves same = absurd (subst IsEnding is ending_status)
 error_ran whole w0 text0 ps w text refused left view result error.LongScript ends is ending_status serves same =
     ended_ran whole w0 text0 ps LongScript w text refused left view result ends is (subst (λ (s : Status). LeavesNothing s left) (sym is) tt) serves same
-
--- before the first piece
-pub same_at : (whole ps : Pieces) (w : World) (text : List ℕ) → ps ≡ whole → SameRun whole w text ps w text false
-same_at whole ps w text is = subst (λ (p : Pieces). SameRun whole w text p w text false) (sym is) (same_start whole w text)

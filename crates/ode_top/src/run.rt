@@ -1,16 +1,16 @@
 //! A run of a script, piece by piece.
-ghost use Rattle.std.specs.Prelude.{◌≡◌, ◌≤◌, ◌<◌, ◌^◌, ◌++◌, ℕ, List as Items, [], length, Some, OnOk, IfOk, IfErr};
+ghost use Rattle.std.specs.Prelude.{◌≡◌, ◌≢◌, ◌≤◌, ◌<◌, ◌^◌, ◌++◌, ℕ, List as Items, [], length, Some, OnOk, OnErr, IfOk, IfErr};
 ghost use Rattle.ode_host.specs.Causes.{Rose};
-ghost use Rattle.ode_host.specs.Host.{Keeps, Tells};
+ghost use Rattle.ode_host.specs.Host.{Keeps, MayHavePrinted, Tells};
 ghost use Rattle.ode_value.specs.Good.{IsGood};
 ghost use Rattle.ode_value.specs.Texts.{refused_line};
 ghost use Rattle.ode_top.specs.Carried.{outcome_of, Keeps as StateKeeps};
 ghost use Rattle.ode_top.specs.File.{HoldsBody};
 ghost use Rattle.ode_top.specs.Halts.{IsRunStatus};
 ghost use Rattle.ode_top.specs.Pieces.{pieces};
-ghost use Rattle.ode_top.specs.Serves.{Carries, Serves, IsEnding, RanAs};
+ghost use Rattle.ode_top.specs.Serves.{Carries, CutShort, IsCut, IsEnding, PrintsFront, RanAs, Serves};
 ghost use Rattle.ode_top.specs.State.{world_of};
-ghost use Rattle.ode_top.specs.Trace.{piece_items, piece_outcome};
+ghost use Rattle.ode_top.specs.Trace.{Item as Done, piece_items, piece_outcome, run_items};
 
 use crate::file::store;
 use crate::header::next_generation;
@@ -56,6 +56,11 @@ fn keep_and_print<H: Host>(host: &mut H, generation: u64, settled: &Settled) -> 
         → (next : Items ℕ) × Tells (H.view host.new) next × HoldsBody next settled.now.bytes.items) }
     ensures printed { OnOk result ((text : Items ℕ) → (H.view host.old).text ≡ Some text
         → (H.view host.new).text ≡ Some (text ++ settled.now.text.items)) }
+    ensures cut { result ≡ Err Halt.WriteFault → (image text : Items ℕ) → Tells (H.view host.old) image → (H.view host.old).text ≡ Some text
+        → (next : Items ℕ) × Tells (H.view host.new) next × HoldsBody next settled.now.bytes.items
+        × MayHavePrinted settled.now.text.items (H.view host.old) (H.view host.new) }
+    ensures silent { result ≡ Err Halt.DiskFault → (H.view host.new).text ≡ (H.view host.old).text }
+    ensures fault { result ≢ Err Halt.Memory }
     ensures keeps { Keeps (H.view host.old) (H.view host.new) }
     ensures disk { result ≡ Err Halt.DiskFault → Rose (H.view host.old).disk_faults (H.view host.new).disk_faults }
     ensures print { result ≡ Err Halt.WriteFault → Rose (H.view host.old).print_faults (H.view host.new).print_faults }
@@ -78,6 +83,7 @@ fn print_refusal<H: Host>(
 ) -> Result<(), Halt>
     ensures printed { OnOk result ((text : Items ℕ) → (H.view host.old).text ≡ Some text
         → (H.view host.new).text ≡ Some (text ++ refused_line line refusal.now)) }
+    ensures cut { OnErr result (MayHavePrinted (refused_line line refusal.now) (H.view host.old) (H.view host.new)) }
     ensures image { (H.view host.new).image ≡ (H.view host.old).image }
     ensures keeps { Keeps (H.view host.old) (H.view host.new) }
     ensures disk { result ≡ Err Halt.DiskFault → ⊥ }
@@ -117,6 +123,9 @@ pub fn carry_out<H: Host>(
     requires short { length text.now < 2 ^ 32 }
     ensures carries { IfOk result (λ refused. Carries (piece_items (world_of database.old.state) line text.now) refused
         (world_of database.old.state) (world_of database.new.state) (H.view host.old) (H.view host.new)) }
+    ensures cut { IfErr result (λ halt. halt ≢ Halt.DiskFault → (more : Items Done) (said : Items ℕ) → Serves (H.view host.old) (world_of database.old.state) said
+        → CutShort (piece_items (world_of database.old.state) line text.now ++ more) (world_of database.old.state) said (H.view host.new)) }
+    ensures silent { result ≡ Err Halt.DiskFault → (H.view host.new).text ≡ (H.view host.old).text }
     ensures good { OnOk result (IsGood (world_of database.new.state)) }
     ensures generation { OnOk result ((1 ≤ database.new.generation) × (database.new.generation ≤ 3)) }
     ensures keeps { Keeps (H.view host.old) (H.view host.new) }
@@ -178,6 +187,10 @@ pub fn run_script<H: Host, S: Source>(
     requires generation { (1 ≤ database.generation) × (database.generation ≤ 3) }
     ensures ran { (script text : Items ℕ) → S.left source.old ≡ Some script → Serves (H.view host.old) (world_of database.state) text
         → IsEnding result → RanAs (pieces script) (world_of database.state) text (S.left source.new) (H.view host.new) result }
+    ensures cut { (script text : Items ℕ) → S.left source.old ≡ Some script → Serves (H.view host.old) (world_of database.state) text
+        → IsCut result → CutShort (run_items (world_of database.state) script) (world_of database.state) text (H.view host.new) }
+    ensures front { (script text : Items ℕ) → S.left source.old ≡ Some script → Serves (H.view host.old) (world_of database.state) text
+        → result ≡ Status.DiskFault → PrintsFront (run_items (world_of database.state) script) text (H.view host.new) }
     ensures statuses { IsRunStatus result }
     ensures keeps { Keeps (H.view host.old) (H.view host.new) }
     ensures later { S.faults source.old ≤ S.faults source.new }

@@ -12,8 +12,9 @@ ghost use Rattle.ode_top.specs.Decoding.{OpensAs, ReadsAs};
 ghost use Rattle.ode_top.specs.File.{HasOpenSlot, IsInUse};
 ghost use Rattle.ode_top.specs.Halts.{IsRunStatus};
 ghost use Rattle.ode_top.specs.Holds.{Holds};
-ghost use Rattle.ode_top.specs.Serves.{IsEnding};
+ghost use Rattle.ode_top.specs.Serves.{CutShort, IsCut, IsEnding, PrintsFront};
 ghost use Rattle.ode_top.specs.State.{world_of};
+ghost use Rattle.ode_top.specs.Trace.{run_items};
 
 use crate::call::{Mode, call_of};
 use crate::decode::decode;
@@ -102,6 +103,12 @@ fn run<H: Host, S: Source>(alloc: Global, script: &mut S, host: &mut H) -> Statu
     ensures ran { (bytes image text : Items ℕ) (w : World) → S.left script.old ≡ Some bytes
         → Tells (H.view host.old) image → (H.view host.old).text ≡ Some text → Holds image w → IsEnding result
         → IsMachineRun bytes w text (S.left script.new) (H.view host.new) result }
+    ensures cut { (bytes image text : Items ℕ) (w : World) → S.left script.old ≡ Some bytes
+        → Tells (H.view host.old) image → (H.view host.old).text ≡ Some text → Holds image w → IsCut result
+        → CutShort (run_items w bytes) w text (H.view host.new) }
+    ensures front { (bytes image text : Items ℕ) (w : World) → S.left script.old ≡ Some bytes
+        → Tells (H.view host.old) image → (H.view host.old).text ≡ Some text → Holds image w → result ≡ Status.DiskFault
+        → PrintsFront (run_items w bytes) text (H.view host.new) }
     ensures answers { (image : Items ℕ) (w : World) → Tells (H.view host.old) image → Holds image w → IsRunStatus result }
     ensures bad_file { result ≡ Status.BadFile → (image text : Items ℕ) → Tells (H.view host.old) image → (H.view host.old).text ≡ Some text
         → IsBadFile image text (H.view host.new) }
@@ -133,6 +140,15 @@ pub fn run_ode<H: Host, S: Source>(
     ensures run { (bytes image text : Items ℕ) (w : World) → Asks Mode.Run (bytes_of words.now.items) → S.left script.old ≡ Some bytes
         → Tells (H.view host.old) image → (H.view host.old).text ≡ Some text → Holds image w → IsEnding result
         → IsMachineRun bytes w text (S.left script.new) (H.view host.new) result }
+    // Where the output or the script fails or memory is short, the file holds the world after some of the settled
+    // transactions, and what is printed is a front of what these print.
+    ensures cut { (bytes image text : Items ℕ) (w : World) → Asks Mode.Run (bytes_of words.now.items) → S.left script.old ≡ Some bytes
+        → Tells (H.view host.old) image → (H.view host.old).text ≡ Some text → Holds image w → IsCut result
+        → CutShort (run_items w bytes) w text (H.view host.new) }
+    // Where the disk fails, what is printed is a front of what the machine prints.
+    ensures front { (bytes image text : Items ℕ) (w : World) → Asks Mode.Run (bytes_of words.now.items) → S.left script.old ≡ Some bytes
+        → Tells (H.view host.old) image → (H.view host.old).text ≡ Some text → Holds image w → result ≡ Status.DiskFault
+        → PrintsFront (run_items w bytes) text (H.view host.new) }
     // On such a file a run ends as the machine does, by a fault whose count rose, or for want of memory.
     ensures answers { (image : Items ℕ) (w : World) → Asks Mode.Run (bytes_of words.now.items)
         → Tells (H.view host.old) image → Holds image w → IsRunStatus result }

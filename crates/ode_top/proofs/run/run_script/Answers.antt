@@ -1,12 +1,13 @@
-use Rattle.std.proofs.Common.{◌≡◌, ℕ, List, ◌++◌, Bool, arith, ap, sym, subst, ◌∙◌}
+use Rattle.std.proofs.Common.{Err, ◌≡◌, ℕ, List, ◌++◌, Bool, arith, ap, sym, subst, ◌∙◌}
 use Rattle.std.specs.Prelude.{◌||◌}
 use Rattle.ode_host.specs.declared.status.Status.{Status}
 use Rattle.ode_host.proofs.Moments.{keeps_joined, looks_none}
 use Rattle.ode_top.specs.Left.{HasLeft}
-use Rattle.ode_top.specs.Pieces.{End, Then, pieces, pieces_from, script_limit}
-use Rattle.ode_top.specs.Serves.{LeavesNothing, SameRun}
+use Rattle.ode_top.specs.Pieces.{End, Pieces, Then, pieces, pieces_from, script_limit}
+use Rattle.ode_top.specs.Serves.{CutShort, IsCut, LeavesNothing, SoFar}
 use Rattle.ode_top.specs.State.{world_of}
-use Rattle.ode_top.specs.Trace.{piece_items, status_at, text_of}
+use Rattle.ode_top.specs.Trace.{final, piece_items, status_at, text_of, trace}
+use Rattle.ode_top.proofs.Cutting.{cut_at, not_disk, only_disk, run_cut, run_prints}
 use Rattle.ode_top.proofs.Runs.{end_leaves, ended_ran, error_ran, same_at, same_next}
 use Rattle.ode_top.proofs.run.run_script.Goals as goal
 use Rattle.ode_top.proofs.run.run_script.Goals.{then-refused, else-refused, then-refused-2, else-refused-2}
@@ -59,7 +60,7 @@ pieces-preserved g c = record {
         printed,
         taken.2,
         carries.serves so_far.1 so_far.3,
-        subst (λ (b : Bool). SameRun (pieces script) (world_of c.args.database.state) text rest (world_of c.carry_out.new.database.state) printed b) both next,
+        subst (λ (b : Bool). SoFar (pieces script) (world_of c.args.database.state) text rest (world_of c.carry_out.new.database.state) printed b) both next,
       );
   good = c.in-Ok.ensures.good;
   generation = c.in-Ok.ensures.generation;
@@ -67,3 +68,32 @@ pieces-preserved g c = record {
   keeps = keeps_joined _ _ _ c.pieces.invariant.keeps c.carry_out.ensures.keeps;
   reads = omega (arith, c.pieces.invariant.reads, c.in-Ok-Statement.ensures.later);
 }
+
+pub returns-in-Err-clause-cut : goal.returns-in-Err-clause-cut
+returns-in-Err-clause-cut g c = λ script text told serves cut.
+    let so_far = c.pieces.invariant.whole script text told serves in
+    let w = world_of c.pieces.database.state in
+    let view = g.H.Host.view c.pieces.host in
+    let left = pieces_from c.pieces.reader.allowed c.pieces.reader.line so_far.0 in
+    run_cut (pieces script) (world_of c.args.database.state) text left w so_far.1 c.pieces.refused view so_far.4 (cut_at (trace w left) w so_far.1 view so_far.3)
+
+pub returns-in-Err-carry_out-clause-cut : goal.returns-in-Err-carry_out-clause-cut
+returns-in-Err-carry_out-clause-cut g c = λ script text told serves cut.
+    let so_far = c.pieces.invariant.whole script text told serves in
+    let taken = rw c.in-Ok-Statement.field-0-is at (c.in-Ok-Statement.ensures.piece so_far.0 so_far.2) in
+    let w = world_of c.pieces.database.state in
+    let view = g.H.Host.view c.carry_out.new.host in
+    let items = piece_items w c.in-Ok-Statement.line c.as_slice.result.now in
+    let left = pieces_from c.pieces.reader.allowed c.pieces.reader.line so_far.0 in
+    let rest = pieces_from c.read_statement.new.self.allowed c.read_statement.new.self.line taken.0 in
+    let is : left ≡ Then c.in-Ok-Statement.line c.as_slice.result.now rest = taken.1 ∙ ap (λ (p : List ℕ). Then c.in-Ok-Statement.line p rest) (sym c.as_slice.ensures) in
+    let disk = not_disk c.in-Err-carry_out.halt (subst IsCut c.status-in-Err-carry_out.ensures cut) in
+    let short = c.in-Err-carry_out.ensures.cut disk (trace (final w items) rest) so_far.1 so_far.3 in
+    run_cut (pieces script) (world_of c.args.database.state) text left w so_far.1 c.pieces.refused view so_far.4 (subst (λ (p : Pieces). CutShort (trace w p) w so_far.1 view) (sym is) short)
+
+pub returns-in-Err-carry_out-clause-front : goal.returns-in-Err-carry_out-clause-front
+returns-in-Err-carry_out-clause-front g c = λ script text told serves disk.
+    let so_far = c.pieces.invariant.whole script text told serves in
+    let left = pieces_from c.pieces.reader.allowed c.pieces.reader.line so_far.0 in
+    let silent = c.in-Err-carry_out.ensures.silent (ap Err (only_disk c.in-Err-carry_out.halt (sym c.status-in-Err-carry_out.ensures ∙ disk))) in
+    run_prints (pieces script) (world_of c.args.database.state) text left (world_of c.pieces.database.state) so_far.1 c.pieces.refused (g.H.Host.view c.carry_out.new.host) so_far.4 (silent ∙ so_far.3.printed)

@@ -3,7 +3,7 @@ use Rattle.ode_host.specs.Host.{Keeps}
 use Rattle.ode_value.specs.Good.{IsGood}
 use Rattle.ode_top.specs.Left.{HasLeft}
 use Rattle.ode_top.specs.Pieces.{pieces, pieces_from}
-use Rattle.ode_top.specs.Serves.{SameRun, Serves}
+use Rattle.ode_top.specs.Serves.{SoFar, Serves}
 use Rattle.ode_top.specs.State.{world_of}
 use Rattle.ode_top.proofs.run.run_script.Given as goal
 
@@ -12,7 +12,7 @@ abbrev pub invariant-pieces : goal.invariant-pieces
 invariant-pieces g l = record {
   whole : (script text : List ℕ) → g.S.Source.left l.fn.source ≡ Some script → Serves (g.H.Host.view l.fn.host) (world_of l.fn.database.state) text →
       (rest : List ℕ) × (printed : List ℕ) × HasLeft l.reader (g.S.Source.left l.source) rest × Serves (g.H.Host.view l.host) (world_of l.database.state) printed
-      × SameRun (pieces script) (world_of l.fn.database.state) text (pieces_from l.reader.allowed l.reader.line rest) (world_of l.database.state) printed l.refused;
+      × SoFar (pieces script) (world_of l.fn.database.state) text (pieces_from l.reader.allowed l.reader.line rest) (world_of l.database.state) printed l.refused;
   good : IsGood (world_of l.database.state);
   generation : (1 ≤ l.database.generation) × (l.database.generation ≤ 3);
   allowed : l.reader.allowed ≤ 67108864;

@@ -16,3 +16,9 @@ returns-in-Run-clause-bad_file g c is asks image text tells said = c.run.ensures
 
 pub returns-in-None-clause-said : goal.returns-in-None-clause-said
 returns-in-None-clause-said g c is text said = c.end_with.ensures.printed (λ (cut : c.end_with.result ≡ status.WriteFault). cc) text said
+
+pub returns-in-Run-clause-cut : goal.returns-in-Run-clause-cut
+returns-in-Run-clause-cut g c bytes image text w asks left tells said holds cut = c.run.ensures.cut bytes image text w left tells said holds cut
+
+pub returns-in-Run-clause-front : goal.returns-in-Run-clause-front
+returns-in-Run-clause-front g c bytes image text w asks left tells said holds disk = c.run.ensures.front bytes image text w left tells said holds disk
