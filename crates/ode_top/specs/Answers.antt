@@ -47,7 +47,7 @@ pub record IsRefused (file text : List ℕ) (view : View) : Type 0 where
 abbrev pub SaysWhy : List ℕ → List ℕ → Type 0
 SaysWhy image said =
     ((¬ HasOpenSlot image) × (said ≡ line (codes "no database")))
-    ⊎ (((w : World) → ¬ Holds image w) × (said ≡ line (codes "bad file")))
+    ⊎ (HasOpenSlot image × ((w : World) → ¬ Holds image w) × (said ≡ line (codes "bad file")))
 
 -- The file holds no world, stayed as it was, and it was said.
 pub record IsBadFile (image text : List ℕ) (view : View) : Type 0 where
@@ -68,3 +68,16 @@ IsInitStatus status.ReadFault = ⊥
 IsInitStatus status.Memory = ⊥
 IsInitStatus status.LongStatement = ⊥
 IsInitStatus status.LongScript = ⊥
+
+-- the statuses that a run may end with where the file holds no world
+abbrev pub IsNoRun : Status → Type 0
+IsNoRun status.BadFile = Unit {0}
+IsNoRun status.DiskFault = Unit {0}
+IsNoRun status.WriteFault = Unit {0}
+IsNoRun status.Memory = Unit {0}
+IsNoRun status.Ok = ⊥
+IsNoRun status.Refused = ⊥
+IsNoRun status.Usage = ⊥
+IsNoRun status.ReadFault = ⊥
+IsNoRun status.LongStatement = ⊥
+IsNoRun status.LongScript = ⊥

@@ -6,7 +6,7 @@ ghost use Rattle.ode_value.specs.Good.{IsGood};
 ghost use Rattle.ode_value.specs.Records.{rows, snapshot};
 ghost use Rattle.ode_value.specs.Texts.{line};
 ghost use Rattle.ode_value.specs.World.{World};
-ghost use Rattle.ode_top.specs.Answers.{Asks, IsBadFile, IsInitStatus, IsMachineRun, IsMade, IsRefused, usage_line};
+ghost use Rattle.ode_top.specs.Answers.{Asks, IsBadFile, IsInitStatus, IsMachineRun, IsMade, IsNoRun, IsRefused, usage_line};
 ghost use Rattle.ode_top.specs.Calls.{bytes_of, call_of};
 ghost use Rattle.ode_top.specs.Decoding.{OpensAs, ReadsAs};
 ghost use Rattle.ode_top.specs.File.{HasOpenSlot, IsInUse};
@@ -72,6 +72,8 @@ fn open_database<H: Host>(alloc: Global, host: &mut H) -> Result<Database, OpenE
     ensures good { IfOk result (λ database. IsGood (world_of database.state)) }
     ensures generation { IfOk result (λ database. (1 ≤ database.generation) × (database.generation ≤ 3)) }
     ensures none { IsErrOf result OpenError.NoDatabase → (image : Items ℕ) → Tells (H.view host.old) image → ¬ HasOpenSlot image }
+    ensures open_slot { IsErrOf result OpenError.Bad → (image : Items ℕ) → Tells (H.view host.old) image → HasOpenSlot image }
+    ensures no_world { IsErrOf result OpenError.Bad → (image : Items ℕ) (w : World) → Tells (H.view host.old) image → ¬ Holds image w }
     ensures looks { Looks (H.view host.old) (H.view host.new) }
     ensures cause { IsErrOf result OpenError.DiskFault → Rose (H.view host.old).disk_faults (H.view host.new).disk_faults }
 {
@@ -112,6 +114,7 @@ fn run<H: Host, S: Source>(alloc: Global, script: &mut S, host: &mut H) -> Statu
     ensures answers { (image : Items ℕ) (w : World) → Tells (H.view host.old) image → Holds image w → IsRunStatus result }
     ensures bad_file { result ≡ Status.BadFile → (image text : Items ℕ) → Tells (H.view host.old) image → (H.view host.old).text ≡ Some text
         → IsBadFile image text (H.view host.new) }
+    ensures no_world { (image : Items ℕ) → Tells (H.view host.old) image → ((w : World) → ¬ Holds image w) → IsNoRun result }
     ensures not_usage { result ≢ Status.Usage }
     ensures keeps { Keeps (H.view host.old) (H.view host.new) }
     ensures later { S.faults script.old ≤ S.faults script.new }
@@ -154,6 +157,8 @@ pub fn run_ode<H: Host, S: Source>(
         → Tells (H.view host.old) image → Holds image w → IsRunStatus result }
     ensures bad_file { result ≡ Status.BadFile → Asks Mode.Run (bytes_of words.now.items)
         → (image text : Items ℕ) → Tells (H.view host.old) image → (H.view host.old).text ≡ Some text → IsBadFile image text (H.view host.new) }
+    ensures no_world { (image : Items ℕ) → Asks Mode.Run (bytes_of words.now.items) → Tells (H.view host.old) image
+        → ((w : World) → ¬ Holds image w) → IsNoRun result }
 
     ensures made { result ≡ Status.Ok → Asks Mode.Init (bytes_of words.now.items)
         → (file text : Items ℕ) → Tells (H.view host.old) file → (H.view host.old).text ≡ Some text → IsMade file text (H.view host.new) }

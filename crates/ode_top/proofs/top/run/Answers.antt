@@ -35,7 +35,7 @@ pub returns-in-Err-Bad-clause-bad_file : goal.returns-in-Err-Bad-clause-bad_file
 returns-in-Err-Bad-clause-bad_file g c is image text tells said = record {
   tells = tells_same image _ _ c.end_with-in-Err-Bad.ensures.keeps c.end_with-in-Err-Bad.ensures.image (tells_looks image _ _ c.open_database.ensures.looks tells);
   said = line (codes "bad file");
-  reason = inr (λ w holds. rw c.in-Err-Bad.field-0-is at (c.in-Err-Bad.ensures.found image w tells holds), refl);
+  reason = inr (c.in-Err-Bad.ensures.open_slot (ap Err c.in-Err-Bad.field-0-is) image tells, λ w. c.in-Err-Bad.ensures.no_world (ap Err c.in-Err-Bad.field-0-is) image w tells, refl);
   printed = c.end_with-in-Err-Bad.ensures.printed (λ (cut : c.end_with-in-Err-Bad.result ≡ status.WriteFault). cc) text (c.open_database.ensures.looks.text ∙ said);
 }
 
@@ -66,3 +66,6 @@ returns-in-Err-NoDatabase-clause-cut g c = λ bytes image text w left tells said
 pub returns-in-Err-Bad-clause-cut : goal.returns-in-Err-Bad-clause-cut
 returns-in-Err-Bad-clause-cut g c = λ bytes image text w left tells said holds cut.
     absurd (rw c.in-Err-Bad.field-0-is at (c.in-Err-Bad.ensures.found image w tells holds))
+
+pub returns-in-Ok-clause-no_world : goal.returns-in-Ok-clause-no_world
+returns-in-Ok-clause-no_world g c image tells none = absurd (none (world_of c.in-Ok.database.state) (c.in-Ok.ensures.sound image tells))

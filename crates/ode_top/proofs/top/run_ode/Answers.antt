@@ -22,3 +22,6 @@ returns-in-Run-clause-cut g c bytes image text w asks left tells said holds cut 
 
 pub returns-in-Run-clause-front : goal.returns-in-Run-clause-front
 returns-in-Run-clause-front g c bytes image text w asks left tells said holds disk = c.run.ensures.front bytes image text w left tells said holds disk
+
+pub returns-in-Run-clause-no_world : goal.returns-in-Run-clause-no_world
+returns-in-Run-clause-no_world g c image asks tells none = c.run.ensures.no_world image tells none
