@@ -354,6 +354,22 @@ end=$(date +%s%N)
 printed 'a script of 1,000 shows ends within 60 seconds' 0 many.out
 echo "  1,000 shows took $(((end - start) / 1000000)) ms"
 
+# blanks COUNT: a class, and blanks behind it up to so many bytes.
+blanks() {
+    cat declare.ode
+    head -c $(($1 - $(wc -c < declare.ode))) /dev/zero | tr '\0' ' '
+}
+
+fresh most.db
+blanks 67108864 > long.ode
+run run most.db < long.ode
+said 'a script of 67,108,864 bytes' 0 $'class P\ntx 1 committed\n'
+fresh over.db
+blanks 67108865 > long.ode
+run run over.db < long.ode
+said 'a script of a byte more' 9 $'class P\ntx 1 committed\n'
+rm -f long.ode
+
 if [ "$skipped" -gt 0 ]; then echo "$skipped skipped"; fi
 echo "$passed passed, $failed failed"
 [ "$failed" -eq 0 ]
