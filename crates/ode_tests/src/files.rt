@@ -1,0 +1,219 @@
+//! Files that hold no database of the built forms.
+use crate::trial::{FIRST, FIRST_TEXT, new_file, run};
+use ode_host::Status;
+use std::alloc::{AllocError, Global};
+use std::process::Abort;
+use std::test::Fail;
+
+// A run on this image prints this line, ends as on a bad file, and writes nothing.
+fn is_refused(
+    rt: &impl Abort,
+    alloc: Global,
+    image: &[u8],
+    line: &str,
+    name: &str,
+) -> Result<(), AllocError> {
+    let ran = run(alloc, image, FIRST)?;
+    ran.is(rt, line, Status::BadFile, name);
+    assert_eq!(rt; ran.host.image(), image, "what {name} leaves");
+    Ok(())
+}
+
+// The image with some bits of one byte turned.
+fn turned(alloc: Global, image: &[u8], at: usize, bits: u8) -> Result<Vec<u8>, AllocError> {
+    let mut image = image.to_vec(alloc)?;
+    if let Some(byte) = image.get_mut(at) {
+        *byte ^= bits;
+    }
+    Ok(image)
+}
+
+// The image with these bytes at a place.
+fn patched(alloc: Global, image: &[u8], at: usize, bytes: &[u8]) -> Result<Vec<u8>, AllocError> {
+    let mut image = image.to_vec(alloc)?;
+    for (i, byte) in bytes.iter().enumerate() {
+        if let Some(place) = image.get_mut(at.saturating_add(i)) {
+            *place = *byte;
+        }
+    }
+    Ok(image)
+}
+
+// Where these bits are turned, the file is refused.
+fn are_bad(
+    rt: &impl Abort,
+    alloc: Global,
+    file: &[u8],
+    places: &[usize],
+    bits: u8,
+) -> Result<(), AllocError> {
+    for place in places {
+        let image = turned(alloc, file, *place, bits)?;
+        let name = format!(in alloc; "a file with the bits {bits} turned at {place}")?;
+        is_refused(rt, alloc, &image, "bad file\n", name.as_str())?;
+    }
+    Ok(())
+}
+
+#[test]
+fn a_file_without_an_open_slot_holds_no_database(rt: HostRuntime) -> Result<(), Fail> {
+    let alloc = rt.alloc();
+    is_refused(&rt, alloc, &[], "no database\n", "an empty file")?;
+    let zeros = vec![in alloc; 0; 5000]?;
+    is_refused(&rt, alloc, &zeros, "no database\n", "a file of zeros")?;
+    let shut = turned(alloc, &new_file(alloc)?, 0, 0x80)?;
+    is_refused(
+        &rt,
+        alloc,
+        &shut,
+        "no database\n",
+        "a file whose slot is shut",
+    )?;
+    Ok(())
+}
+
+#[test]
+fn a_header_with_a_wrong_byte_is_bad(rt: HostRuntime) -> Result<(), Fail> {
+    let alloc = rt.alloc();
+    let file = new_file(alloc)?;
+    let places: Vec<usize> = (1..57usize).collect(alloc)?;
+    are_bad(&rt, alloc, &file, &places, 0x80)?;
+    are_bad(
+        &rt,
+        alloc,
+        &file,
+        &[1, 8, 12, 16, 24, 31, 32, 40, 48, 56],
+        0x01,
+    )?;
+    Ok(())
+}
+
+// Of the counters' record all but the lower bytes of the three numbers.
+#[test]
+fn counters_with_a_wrong_byte_are_bad(rt: HostRuntime) -> Result<(), Fail> {
+    let alloc = rt.alloc();
+    let file = new_file(alloc)?;
+    let front: Vec<usize> = (4096..4116usize).collect(alloc)?;
+    are_bad(&rt, alloc, &file, &front, 0x80)?;
+    let back: Vec<usize> = (4139..4160usize).collect(alloc)?;
+    are_bad(&rt, alloc, &file, &back, 0x80)?;
+    // numbers above their limits, and numbers that are 0
+    are_bad(&rt, alloc, &file, &[4115, 4123, 4131], 0x80)?;
+    are_bad(&rt, alloc, &file, &[4122, 4130, 4138], 0x01)?;
+    Ok(())
+}
+
+// The head, the text, the object and the version, up to the number that the version holds.
+#[test]
+fn records_with_a_wrong_byte_are_bad(rt: HostRuntime) -> Result<(), Fail> {
+    let alloc = rt.alloc();
+    let ran = run(alloc, &new_file(alloc)?, FIRST)?;
+    let file = ran.host.image();
+    assert_eq!(rt; file.len(), 4290);
+    let places: Vec<usize> = (4160..4281usize).collect(alloc)?;
+    are_bad(&rt, alloc, file, &places, 0x80)?;
+    // the same, but for the field's name in the text, which no other record has
+    let places: Vec<usize> = (4160..4281usize).filter(|at| *at != 4224).collect(alloc)?;
+    are_bad(&rt, alloc, file, &places, 0x01)?;
+    Ok(())
+}
+
+#[test]
+fn a_file_that_is_cut_short_is_bad(rt: HostRuntime) -> Result<(), Fail> {
+    let alloc = rt.alloc();
+    let file = new_file(alloc)?;
+    for length in [1, 9, 56, 57, 4095, 4096, 4097, 4159, 4160usize] {
+        let front = file.get(..length).ok_or("a front")?;
+        is_refused(&rt, alloc, front, "bad file\n", "a file that is cut short")?;
+    }
+    Ok(())
+}
+
+#[test]
+fn an_open_gate_behind_the_snapshot_is_bad_and_any_other_is_shut(
+    rt: HostRuntime,
+) -> Result<(), Fail> {
+    let alloc = rt.alloc();
+    let file = new_file(alloc)?;
+    let image = patched(alloc, &file, 4160, &[0xA5])?;
+    is_refused(&rt, alloc, &image, "bad file\n", "a file with an open gate")?;
+    for gate in [0x01, 0x25, 0xA4, 0xFF] {
+        let image = patched(alloc, &file, 4160, &[gate])?;
+        let ran = run(alloc, &image, FIRST)?;
+        ran.is(&rt, FIRST_TEXT, Status::Ok, "a file with another gate");
+    }
+    Ok(())
+}
+
+// A file of 5,000 bytes with this generation in slot 0, and slot 1 open with the other, or shut.
+fn with_slots(alloc: Global, first: u8, second: Option<u8>) -> Result<Vec<u8>, AllocError> {
+    let mut file = new_file(alloc)?;
+    file.resize(5000, 0)?;
+    let file = patched(alloc, &file, 24, &[first])?;
+    match second {
+        Some(second) => {
+            let slot: Vec<u8> = file.iter().copied().take(57).collect(alloc)?;
+            let file = patched(alloc, &file, 2048, &slot)?;
+            patched(alloc, &file, 2048 + 24, &[second])
+        }
+        None => Ok(file),
+    }
+}
+
+#[test]
+fn of_two_open_slots_one_comes_after_the_other(rt: HostRuntime) -> Result<(), Fail> {
+    let alloc = rt.alloc();
+    for (first, second) in [(1, 2), (2, 1), (2, 3), (3, 2), (3, 1), (1, 3)] {
+        let image = with_slots(alloc, first, Some(second))?;
+        let ran = run(alloc, &image, FIRST)?;
+        ran.is(&rt, FIRST_TEXT, Status::Ok, "a file with two open slots");
+    }
+    for generation in [1, 2, 3] {
+        let image = with_slots(alloc, generation, Some(generation))?;
+        is_refused(
+            &rt,
+            alloc,
+            &image,
+            "bad file\n",
+            "two slots of one generation",
+        )?;
+    }
+    Ok(())
+}
+
+#[test]
+fn a_broken_slot_is_bad_beside_a_good_one(rt: HostRuntime) -> Result<(), Fail> {
+    let alloc = rt.alloc();
+    let image = patched(alloc, &with_slots(alloc, 1, None)?, 2048, &[0xA5])?;
+    is_refused(
+        &rt,
+        alloc,
+        &image,
+        "bad file\n",
+        "a second slot that is broken",
+    )?;
+    let image = patched(alloc, &with_slots(alloc, 1, Some(2))?, 1, b"o")?;
+    is_refused(
+        &rt,
+        alloc,
+        &image,
+        "bad file\n",
+        "a first slot that is broken",
+    )?;
+    Ok(())
+}
+
+// The generation stands in slot 0, and goes from 1 to 3 and on to 1 with each transaction.
+#[test]
+fn each_transaction_takes_the_next_generation(rt: HostRuntime) -> Result<(), Fail> {
+    let alloc = rt.alloc();
+    let mut file = new_file(alloc)?;
+    for generation in [2, 3, 1, 2u8] {
+        let script = format!(in alloc; "class C{} {{ int n; }};", file.len())?;
+        let ran = run(alloc, &file, script.as_str())?;
+        assert_eq!(rt; ran.status, Status::Ok);
+        assert_eq!(rt; ran.host.image().get(24).copied(), Some(generation));
+        file = ran.host.image().to_vec(alloc)?;
+    }
+    Ok(())
+}

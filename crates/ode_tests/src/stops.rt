@@ -1,0 +1,158 @@
+//! What a stop leaves of a disk and an output.
+use crate::trial::{FIRST, FIRST_TEXT, call, new_file, run, source};
+use ode_host::{Failed, Host, MemHost, Plan, Status, Torn};
+use std::alloc::{AllocError, Global};
+use std::test::Fail;
+
+// Seven calls, the first that fails ends them.
+fn seven_calls(host: &mut MemHost) -> Result<(), Failed> {
+    host.write_at(0, b"abcd")?;
+    host.sync()?;
+    host.write_at(1, b"XY")?;
+    later_calls(host)
+}
+
+fn later_calls(host: &mut MemHost) -> Result<(), Failed> {
+    host.print(b"p")?;
+    host.write_at(5, b"Z")?;
+    host.sync()?;
+    host.print(b"q")
+}
+
+fn stopping(alloc: Global, at: u64, torn: Torn) -> Plan {
+    Plan {
+        disk_fails: Vec::new(alloc),
+        print_fails: Vec::new(alloc),
+        stop: Some((at, torn)),
+    }
+}
+
+// The image behind a stop at this call of an empty disk, and what was printed before.
+fn left(alloc: Global, at: u64, torn: Torn) -> Result<(Vec<u8>, Vec<u8>), AllocError> {
+    let mut host = MemHost::new(alloc, Vec::new(alloc), stopping(alloc, at, torn))?;
+    let _ = seven_calls(&mut host);
+    let text = host.text().to_vec(alloc)?;
+    let after = host.after_stop(alloc)?;
+    Ok((after.image().to_vec(alloc)?, text))
+}
+
+// Of a stop at each call: the image with nothing, all, one byte, two bytes and `?` of the pending writes; the text.
+const LEFT: [([&[u8]; 5], &[u8]); 8] = [
+    ([b"", b"abcd", b"a", b"ab", b"????"], b""),
+    ([b"", b"abcd", b"a", b"ab", b"????"], b""),
+    ([b"abcd", b"aXYd", b"aXcd", b"aXYd", b"a??d"], b""),
+    ([b"abcd", b"aXYd", b"aXcd", b"aXYd", b"a??d"], b""),
+    ([b"abcd", b"aXYd\0Z", b"aXcd", b"aXYd", b"a??d\0?"], b"p"),
+    ([b"abcd", b"aXYd\0Z", b"aXcd", b"aXYd", b"a??d\0?"], b"p"),
+    (
+        [b"aXYd\0Z", b"aXYd\0Z", b"aXYd\0Z", b"aXYd\0Z", b"aXYd\0Z"],
+        b"p",
+    ),
+    (
+        [b"aXYd\0Z", b"aXYd\0Z", b"aXYd\0Z", b"aXYd\0Z", b"aXYd\0Z"],
+        b"pq",
+    ),
+];
+
+const WAYS: [Torn; 5] = [
+    Torn::Nothing,
+    Torn::Whole,
+    Torn::Front(1),
+    Torn::Front(2),
+    Torn::Fill(b'?'),
+];
+
+#[test]
+fn a_stop_tears_the_writes_behind_the_last_sync(rt: HostRuntime) -> Result<(), Fail> {
+    for (at, (images, text)) in LEFT.iter().enumerate() {
+        for (torn, expected) in WAYS.iter().zip(images) {
+            let (image, printed) = left(rt.alloc(), at as u64, *torn)?;
+            assert_eq!(rt; image.as_slice(), *expected, "a stop at {at}, {torn:?}");
+            assert_eq!(rt; printed.as_slice(), *text, "the text of a stop at {at}");
+        }
+    }
+    Ok(())
+}
+
+#[test]
+fn all_stays_without_a_stop(rt: HostRuntime) -> Result<(), Fail> {
+    let alloc = rt.alloc();
+    let plan = Plan {
+        disk_fails: Vec::new(alloc),
+        print_fails: Vec::new(alloc),
+        stop: None,
+    };
+    let mut host = MemHost::new(alloc, b"abcdef".to_vec(alloc)?, plan)?;
+    assert_eq!(rt; host.write_at(4, b"XYZ"), Ok(()));
+    assert_eq!(rt; host.image(), b"abcdXYZ".as_slice());
+    let after = host.after_stop(alloc)?;
+    assert_eq!(rt; after.image(), b"abcdXYZ".as_slice());
+    assert_eq!(rt; after.text(), b"".as_slice());
+    Ok(())
+}
+
+#[test]
+fn reads_give_what_is_there(rt: HostRuntime) -> Result<(), Fail> {
+    let alloc = rt.alloc();
+    let plan = Plan {
+        disk_fails: Vec::new(alloc),
+        print_fails: Vec::new(alloc),
+        stop: None,
+    };
+    let mut host = MemHost::new(alloc, b"abcdef".to_vec(alloc)?, plan)?;
+    assert_eq!(rt; host.size(), Ok(6));
+    for (at, expected) in [
+        (0, "abcd"),
+        (3, "def-"),
+        (5, "f---"),
+        (6, "----"),
+        (u64::MAX, "----"),
+    ] {
+        let mut to = *b"----";
+        assert!(rt; host.read_at(at, &mut to).is_ok());
+        assert_eq!(rt; to.as_slice(), expected.as_bytes(), "at {at}");
+    }
+    Ok(())
+}
+
+// From the stop on each call fails, so the run ends there, and what it printed is a front.
+#[test]
+fn a_run_that_is_stopped_has_printed_a_front(rt: HostRuntime) -> Result<(), Fail> {
+    let alloc = rt.alloc();
+    let file = new_file(alloc)?;
+    let mut stopped = 0u64;
+    for number in 0..64 {
+        let script = source(alloc, FIRST, &[], 4096)?;
+        let ran = call(
+            alloc,
+            &["run", "f"],
+            script,
+            &file,
+            stopping(alloc, number, Torn::Whole),
+        )?;
+        if ran.status != Status::Ok {
+            assert!(rt; matches!(ran.status, Status::DiskFault | Status::WriteFault));
+            ran.is_cut(&rt, FIRST_TEXT, ran.status, number);
+            assert_eq!(rt; number, stopped);
+            stopped += 1;
+        }
+    }
+    assert!(rt; stopped >= 13, "only {stopped} calls");
+    Ok(())
+}
+
+// Where all that was written stays, a run behind the last sync finds it.
+#[test]
+fn what_was_synced_is_there_behind_a_stop(rt: HostRuntime) -> Result<(), Fail> {
+    let alloc = rt.alloc();
+    let ran = run(alloc, &new_file(alloc)?, FIRST)?;
+    let after = ran.host.after_stop(alloc)?;
+    let again = run(alloc, after.image(), "show #1.n;")?;
+    again.is(
+        &rt,
+        "value 5\ntx 4 committed\n",
+        Status::Ok,
+        "a run behind a stop",
+    );
+    Ok(())
+}
