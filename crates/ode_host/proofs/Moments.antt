@@ -83,10 +83,10 @@ tells_kept : (file : List ℕ) (old new : View) → Keeps old new → Tells old 
 tells_kept file old new keeps tells next is = record { honest = subst IsTrue (sym keeps.honest) tells.honest; image = is }
 
 -- a write and a sync leave the bytes on the disk
-pub wrote_stands : (at : ℕ) (bytes file : List ℕ) (old mid new : View) → Stands file old → Writes at bytes old mid → Wrote at bytes old mid → Looks mid new
+pub wrote_stands : (at : ℕ) (bytes file : List ℕ) (old mid new : View) → Tells old file → Writes at bytes old mid → Wrote at bytes old mid → Looks mid new
     → ((f : List ℕ) → Tells mid f → Only f new) → Stands (written_over file at bytes) new
-wrote_stands at bytes file old mid new stands writes wrote looks durable =
-    let in_mid : Tells mid (written_over file at bytes) = tells_kept file old mid writes.keeps stands.tells (written_over file at bytes) (wrote file stands.tells) in
+wrote_stands at bytes file old mid new tells writes wrote looks durable =
+    let in_mid : Tells mid (written_over file at bytes) = tells_kept file old mid writes.keeps tells (written_over file at bytes) (wrote file tells) in
     record {
       tells = tells_kept (written_over file at bytes) mid new looks.keeps in_mid (written_over file at bytes) (looks.image ∙ in_mid.image);
       only = durable (written_over file at bytes) in_mid;

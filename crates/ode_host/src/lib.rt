@@ -18,8 +18,10 @@ mod source;
 mod status;
 mod std_source;
 mod stop;
+mod synced;
 mod take;
 mod tape;
+mod whole;
 
 pub use file_host::FileHost;
 pub use host::{Failed, Host};
@@ -31,4 +33,6 @@ pub use source::Source;
 pub use status::Status;
 pub use std_source::StdSource;
 pub use stop::Torn;
+pub use synced::write_synced;
 pub use take::{take_i64, take_u8, take_u16, take_u32, take_u64};
+pub use whole::{read_exact, read_whole};

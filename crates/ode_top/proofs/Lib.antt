@@ -10,7 +10,6 @@ pub mod Division
 pub mod Empty
 pub mod Examples
 pub mod Fields
-pub mod Filling
 pub mod FreeNames
 pub mod Fronts
 pub mod Good

@@ -6,8 +6,7 @@ ghost use Rattle.ode_top.specs.File.{IsHeader, next_generation, Counts, CountsAm
 ghost use Rattle.ode_top.specs.Slots.{IsSlot, IsReason};
 
 use crate::header::{AREA_0, Header, OPEN, SHUT, SLOT_0, SLOT_1, Slot, next_generation};
-use crate::whole::{read_exact, read_whole};
-use ode_host::{Failed, Host};
+use ode_host::{Failed, Host, read_exact, read_whole};
 use std::alloc::{AllocError, Global};
 
 // The longest file that may be made anew, in bytes.

@@ -17,7 +17,6 @@ mod records;
 mod run;
 mod state;
 mod top;
-mod whole;
 mod words;
 
 pub use call::file_word;

@@ -1,7 +1,7 @@
 use Rattle.std.proofs.Common.{◌≡◌, arith}
 use Rattle.ode_host.proofs.Moments.{looks_joined, tells_looks}
-use Rattle.ode_top.proofs.Filling.{took_more, is_all, at_end}
-use Rattle.ode_top.proofs.whole.read_whole.Goals as goal
+use Rattle.ode_host.proofs.Filling.{took_more, is_all, at_end}
+use Rattle.ode_host.proofs.whole.read_whole.Goals as goal
 
 pub returns-then-count-eq0-clause-count : goal.returns-then-count-eq0-clause-count
 returns-then-count-eq0-clause-count g c file tells =

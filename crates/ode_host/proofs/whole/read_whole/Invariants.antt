@@ -1,6 +1,6 @@
 use Rattle.std.proofs.Common.{length, ◌-◌, ◌≡◌, ◌≤◌, List, ℕ, take, drop}
 use Rattle.ode_host.specs.Host.{Looks, Tells}
-use Rattle.ode_top.proofs.whole.read_whole.Given as goal
+use Rattle.ode_host.proofs.whole.read_whole.Given as goal
 
 abbrev pub invariant-loop-filled : goal.invariant-loop-filled
 invariant-loop-filled g l = record {

@@ -4,7 +4,7 @@ ghost use Rattle.std.specs.Bool.{OnTrue};
 ghost use Rattle.ode_host.specs.Causes.{Rose};
 ghost use Rattle.ode_host.specs.Host.{Gives, Looks, Tells};
 
-use ode_host::{Failed, Host};
+use crate::host::{Failed, Host};
 
 // Fills some more of `to`.
 fn read_more<H: Host>(host: &mut H, at: u64, filled: usize, to: &mut [u8]) -> Result<usize, Failed>
