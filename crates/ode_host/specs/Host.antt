@@ -111,6 +111,14 @@ pub record Puts (by : ℕ) (old new : View) : Type 0 where
   pub written : IsSome old.image → new.written ≡ old.written + by
   pub fetched : IsSome old.image → new.fetched ≡ old.fetched
 
+-- some reads gave this many bytes
+abbrev pub Fetched : ℕ → View → View → Type 0
+Fetched n old new = IsSome old.image → new.fetched ≡ old.fetched + n
+
+-- some reads gave at most this many bytes
+abbrev pub FetchedAtMost : ℕ → View → View → Type 0
+FetchedAtMost n old new = IsSome old.image → (old.fetched ≤ new.fetched) × (new.fetched ≤ old.fetched + n)
+
 -- the file with a torn write of n bytes at this offset, and the text as it was
 abbrev pub LeavesTorn : ℕ → ℕ → List ℕ → View → List ℕ → List ℕ → Type 0
 LeavesTorn at n file old c o = Torn at n file c × (old.text ≡ Some o)

@@ -1,11 +1,12 @@
 -- What is to be seen of a host in memory.
-use Rattle.std.specs.Prelude.{◌≡◌, true, ℕ, ◌+◌, ◌⊎◌, List, [], length, Option, Some, None}
+use Rattle.std.specs.Prelude.{◌≡◌, ◌≤◌, true, ℕ, ◌+◌, ◌⊎◌, List, [], length, Option, Some, None}
 use Rattle.ode_host.specs.declared.mem_host.MemHost.{MemHost}
 use Rattle.ode_host.specs.declared.plan.Plan.{Plan}
 use Rattle.ode_host.specs.declared.stop.Torn.{Torn}
 use Rattle.ode_host.specs.View.{View}
 use Rattle.ode_host.specs.Causes.{Rose}
 use Rattle.ode_host.specs.Disk.{Disk, settled, written_on}
+use Rattle.ode_host.specs.Host.{Stands}
 use Rattle.ode_host.specs.Replay.{disk_after, LeftAt}
 use Rattle.ode_host.specs.Tears.{IsPlanned, IsStop}
 
@@ -53,17 +54,18 @@ mem_view host = record {
 abbrev pub IsNextStop : MemHost → Type 0
 IsNextStop host = IsStop (stop_of host) (number_of host)
 
--- a call found no memory
+-- the count of calls that found no memory rose
 abbrev pub WasRefused : MemHost → MemHost → Type 0
 WasRefused old new = Rose (refused_of old) (refused_of new)
 
--- a call fails, where these numbers are planned for its kind: by the plan, or since it found no memory
+-- a call fails, where these numbers are planned for its kind: by the plan, or since the count of refusals rose in it
 abbrev pub Fails : List ℕ → MemHost → MemHost → Type 0
 Fails planned old new = IsPlanned planned (stop_of old) (number_of old) ⊎ WasRefused old new
 
--- the next call has the next number, by the same plan
+-- the next call has the next number, by the same plan, and the count of refusals doesn't fall
 pub record GoesOn (old new : MemHost) : Type 0 where
   pub number : number_of new ≡ number_of old + 1
+  pub refused : refused_of old ≤ refused_of new
   pub disk_fails : disk_fails_of new ≡ disk_fails_of old
   pub print_fails : print_fails_of new ≡ print_fails_of old
   pub stop : stop_of new ≡ stop_of old
@@ -72,8 +74,9 @@ pub record GoesOn (old new : MemHost) : Type 0 where
 abbrev pub IsPending : ℕ → List ℕ → MemHost → MemHost → Type 0
 IsPending at bytes old new = disk_of new ≡ written_on (disk_of old) at bytes
 
--- a host on which no call was made
+-- a host on which no call was made: it holds this image, and a stop leaves nothing else
 pub record IsFresh (image : List ℕ) (host : MemHost) : Type 0 where
+  pub stands : Stands image (mem_view host)
   pub disk : disk_of host ≡ settled image
   pub reads : image_of host ≡ image
   pub text : text_of host ≡ []

@@ -13,7 +13,8 @@ pub trait Host {
     /// What is known of it now.
     ghost view: { Self → View };
 
-    /// Fills a front of `to` with the bytes at an offset.
+    /// Fills a front of `to` with the bytes at an offset, and answers how many. That is 0 exactly where `to` is empty or the
+    /// disk ends there or before.
     fn read_at(&mut self, at: u64, to: &mut [u8]) -> Result<usize, Failed>
         ensures bound { IfOk result (λ n. n ≤ length to.new) }
         ensures bytes { IfOk result (Gives (view self.old) at to.new) }
@@ -22,7 +23,8 @@ pub trait Host {
         ensures not_fetched { OnErr result (IsSome (view self.old).image → (view self.new).fetched ≡ (view self.old).fetched) }
         ensures cause { OnErr result (Rose (view self.old).disk_faults (view self.new).disk_faults) };
 
-    /// Writes over what is there, and past the end. Until a sync a stop may leave any bytes in the range.
+    /// Writes over what is there, and past the end. Until a sync a stop may leave any bytes in the range and past the old
+    /// end. A failed write may have been cut short.
     fn write_at(&mut self, at: u64, from: &[u8]) -> Result<(), Failed>
         ensures writes { Writes at from.now (view self.old) (view self.new) }
         ensures done { OnOk result (Wrote at from.now (view self.old) (view self.new)) }

@@ -14,7 +14,7 @@ use crate::tape::Tape;
 use crate::{Failed, Host};
 use std::alloc::{AllocError, Global};
 
-/// A disk and an output in memory, which tell all.
+/// A disk and an output in memory, which tell all. A call of it fails exactly where its plan says so or `refused` rises.
 #[derive(Drop)]
 pub struct MemHost {
     tape: Tape,
@@ -65,7 +65,7 @@ impl MemHost {
         &self.tape.text
     }
 
-    /// How many calls found no memory.
+    /// How many calls found no memory. Once this is at its type's end it stays there, and every call fails.
     pub fn refused(&self) -> u64
         ensures { result ≡ refused_of self.now }
     {
@@ -74,11 +74,12 @@ impl MemHost {
 
     /// The host after a stop now: its image is what the plan's stop leaves of the pending writes, its output is empty, and
     /// no call of it is planned to fail. Where the plan has no stop, all that was written stays.
-    pub fn after_stop(self, alloc: Global) -> Result<MemHost, AllocError>
+    pub fn after_stop(self) -> Result<MemHost, AllocError>
         ensures fresh { IfOk result (λ host. IsFresh (torn_image (tear_of (stop_of self)) (disk_of self).synced (disk_of self).pending) host) }
         ensures left { IfOk result (λ host. (mem_view self).left (mem_view self).moment (image_of host) (text_of self)) }
         ensures unplanned { IfOk result (λ host. IsUnplanned host) }
     {
+        let alloc = self.tape.alloc;
         let torn = match self.plan.stop {
             Some((_, torn)) => torn,
             None => Torn::Whole,
@@ -106,6 +107,7 @@ impl MemHost {
         self.plan.is_stop(&self.numbering) && self.refused < u64::MAX
     }
 
+    // The same where it is a print.
     fn fails_print(&self) -> bool
         ensures { IsTrue result ↔ (IsPlanned (print_fails_of self.now) (stop_of self.now) (number_of self.now) ⊎ (2 ^ 64 - 1 ≤ refused_of self.now)) }
     {

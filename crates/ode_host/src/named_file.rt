@@ -67,7 +67,11 @@ fn read_from<F: Read + Seek>(file: &mut F, at: u64, to: &mut [u8]) -> io::Result
     read_again(file, to)
 }
 
-fn write_to<F: Write + Seek>(file: &mut F, at: u64, from: &[u8]) -> io::Result<()> {
+// A write of no bytes makes the file as long as one of some bytes does.
+fn write_to<F: Write + Seek + OpenFile>(file: &mut F, at: u64, from: &[u8]) -> io::Result<()> {
+    if from.is_empty() && file.metadata()?.len() < at {
+        return file.set_len(at);
+    }
     file.seek(SeekFrom::Start(at))?;
     file.write_all(from)
 }

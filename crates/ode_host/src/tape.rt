@@ -12,7 +12,7 @@ use std::alloc::{AllocError, Global};
 /// An image at the start, the calls since then, and the image and the text that they lead to.
 #[derive(Drop)]
 pub struct Tape {
-    alloc: Global,
+    pub alloc: Global,
     pub start: Vec<u8>,
     pub calls: Vec<Call>,
     pub image: Vec<u8>,

@@ -2,7 +2,7 @@
 ghost use Rattle.std.specs.Prelude.{◌≡◌, ◌+◌, ◌-◌, ◌<◌, ◌≤◌, ◌^◌, min, List, ℕ, length, take, drop, IfOk, IsTrue, OnErr};
 ghost use Rattle.std.specs.Bool.{OnTrue};
 ghost use Rattle.ode_host.specs.Causes.{Rose};
-ghost use Rattle.ode_host.specs.Host.{Gives, Looks, Tells};
+ghost use Rattle.ode_host.specs.Host.{Fetched, FetchedAtMost, Gives, Looks, Tells};
 
 use crate::host::{Failed, Host};
 
@@ -14,6 +14,8 @@ fn read_more<H: Host>(host: &mut H, at: u64, filled: usize, to: &mut [u8]) -> Re
     ensures before { take filled to.new ≡ take filled to.old }
     ensures gives { IfOk result (Gives (H.view host.old) (at + filled) (drop filled to.new)) }
     ensures looks { Looks (H.view host.old) (H.view host.new) }
+    ensures fetched { IfOk result (λ n. Fetched n (H.view host.old) (H.view host.new)) }
+    ensures not_fetched { OnErr result (Fetched 0 (H.view host.old) (H.view host.new)) }
     ensures cause { OnErr result (Rose (H.view host.old).disk_faults (H.view host.new).disk_faults) }
 {
     host.read_at(at + filled as u64, &mut to[filled..])
@@ -28,6 +30,8 @@ pub fn read_whole<H: Host>(host: &mut H, at: u64, to: &mut [u8]) -> Result<usize
     ensures bytes { IfOk result (λ n.
         (file : List ℕ) → Tells (H.view host.old) file → take n to.new ≡ take n (drop at file)) }
     ensures looks { Looks (H.view host.old) (H.view host.new) }
+    ensures fetched { IfOk result (λ n. Fetched n (H.view host.old) (H.view host.new)) }
+    ensures cut { OnErr result (FetchedAtMost (length to.old) (H.view host.old) (H.view host.new)) }
     ensures cause { OnErr result (Rose (H.view host.old).disk_faults (H.view host.new).disk_faults) }
 {
     let mut filled = 0;
@@ -49,6 +53,8 @@ pub fn read_exact<H: Host>(host: &mut H, at: u64, to: &mut [u8]) -> Result<bool,
     ensures whole { IfOk result (λ b.
         (file : List ℕ) → Tells (H.view host.old) file → at + length to.old ≤ length file → IsTrue b) }
     ensures looks { Looks (H.view host.old) (H.view host.new) }
+    ensures fetched { IfOk result (λ b. OnTrue b (Fetched (length to.old) (H.view host.old) (H.view host.new))) }
+    ensures at_most { FetchedAtMost (length to.old) (H.view host.old) (H.view host.new) }
     ensures cause { OnErr result (Rose (H.view host.old).disk_faults (H.view host.new).disk_faults) }
 {
     let count = read_whole(host, at, to)?;

@@ -32,7 +32,7 @@ fn left(alloc: Global, at: u64, torn: Torn) -> Result<(Vec<u8>, Vec<u8>), AllocE
     let mut host = MemHost::new(alloc, Vec::new(alloc), stopping(alloc, at, torn))?;
     let _ = seven_calls(&mut host);
     let text = host.text().to_vec(alloc)?;
-    let after = host.after_stop(alloc)?;
+    let after = host.after_stop()?;
     Ok((after.image().to_vec(alloc)?, text))
 }
 
@@ -85,7 +85,7 @@ fn all_stays_without_a_stop(rt: HostRuntime) -> Result<(), Fail> {
     let mut host = MemHost::new(alloc, b"abcdef".to_vec(alloc)?, plan)?;
     assert_eq!(rt; host.write_at(4, b"XYZ"), Ok(()));
     assert_eq!(rt; host.image(), b"abcdXYZ".as_slice());
-    let after = host.after_stop(alloc)?;
+    let after = host.after_stop()?;
     assert_eq!(rt; after.image(), b"abcdXYZ".as_slice());
     assert_eq!(rt; after.text(), b"".as_slice());
     Ok(())
@@ -146,7 +146,7 @@ fn a_run_that_is_stopped_has_printed_a_front(rt: HostRuntime) -> Result<(), Fail
 fn what_was_synced_is_there_behind_a_stop(rt: HostRuntime) -> Result<(), Fail> {
     let alloc = rt.alloc();
     let ran = run(alloc, &new_file(alloc)?, FIRST)?;
-    let after = ran.host.after_stop(alloc)?;
+    let after = ran.host.after_stop()?;
     let again = run(alloc, after.image(), "show #1.n;")?;
     again.is(
         &rt,

@@ -1,0 +1,46 @@
+-- Records by key, and what changes make of them.
+use Rattle.std.specs.Prelude.{ℕ, List, [], ◌∷◌, not, Option, Some, None}
+use Rattle.std.specs.BTreeMap.{is_at, insert_entry}
+use Rattle.std.specs.List.{filter, find}
+use Rattle.std.specs.List.Sorted.{IsStrictlySortedBy}
+use Rattle.std.specs.Map.{lookup, keys_of}
+use Rattle.std.specs.Ordering.{nat_cmp, ordering_then, is_le}
+use Rattle.std.specs.declared.cmp.Ordering.{Ordering}
+use Rattle.ode_value.specs.declared.key.Key.{Key}
+use Rattle.ode_value.specs.Records.{Row, total_weight}
+
+-- by kind, then by the first number, then by the second
+abbrev pub key_cmp : Key → Key → Ordering
+key_cmp k l = ordering_then (nat_cmp k.kind l.kind) (ordering_then (nat_cmp k.a l.a) (nat_cmp k.b l.b))
+
+-- each key is below the next
+abbrev pub HasRisingKeys : {X : Type 0} → List (Key × X) → Type 0
+HasRisingKeys es = IsStrictlySortedBy key_cmp (keys_of es)
+
+-- a map of keys to values: its records, in rising order of their keys
+abbrev pub Entries : Type 0
+Entries = List Row
+
+abbrev pub value_under : Entries → Key → Option (List ℕ)
+value_under entries k = lookup (is_at (key_cmp k)) entries
+
+-- the least key at or above, of keys that rise
+abbrev pub least_from : Entries → Key → Option Key
+least_from entries k = find (λ q. is_le (key_cmp k q)) (keys_of entries)
+
+-- changes: the value that stands under a key from then on, or that none does
+abbrev pub Changes : Type 0
+Changes = List (Key × Option (List ℕ))
+
+abbrev pub changed : Entries → Key → Option (List ℕ) → Entries
+changed entries k None = filter (λ e. not (is_at (key_cmp k) e.0)) entries
+changed entries k (Some v) = insert_entry key_cmp entries k v
+
+-- after these changes, the first of them first
+abbrev pub applied : Changes → Entries → Entries
+applied [] entries = entries
+applied (c ∷ cs) entries = applied cs (changed entries c.0 c.1)
+
+-- the bytes of all keys, 17 each, and of all values
+abbrev pub record_bytes : Entries → ℕ
+record_bytes entries = total_weight entries
