@@ -1,1 +1,5 @@
 pub mod Gate
+pub mod Headers
+pub mod Slots
+pub mod Readings
+pub mod Changes

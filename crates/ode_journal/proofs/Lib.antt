@@ -1,0 +1,5 @@
+pub mod Appending
+pub mod Exact
+pub mod Frames
+pub mod Shapes
+pub mod Unique

@@ -1,0 +1,6 @@
+use Rattle.std.proofs.Common.{arith}
+use Rattle.std.proofs.lemmas.Nat.{be_bytes_4}
+use Rattle.ode_journal.proofs.reading.number.Goals as goal
+
+pub returns : goal.returns
+returns c = be_bytes_4 c.args.bytes.now c.from_be_bytes.result (omega arith) (λ i. omega (arith, c.type_inv.bytes i)) c.from_be_bytes.ensures

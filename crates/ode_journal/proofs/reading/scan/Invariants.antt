@@ -1,0 +1,14 @@
+use Rattle.std.proofs.Common.{◌-◌, ◌≡◌, List, ℕ}
+use Rattle.ode_host.specs.Host.{Looks, Tells}
+use Rattle.ode_journal.specs.Frames.{gate_behind, HasFrames}
+use Rattle.ode_journal.proofs.reading.scan.Given as goal
+
+abbrev pub invariant-frames : goal.invariant-frames
+invariant-frames g l = record {
+  looks : Looks (g.H.Host.view l.initial.host) (g.H.Host.view l.host);
+  place : l.at ≡ gate_behind l.start l.frames;
+  so_far : (file : List ℕ) → Tells (g.H.Host.view l.initial.host) file → HasFrames l.start l.end l.frames file;
+}
+
+abbrev pub decreases-frames : goal.decreases-frames
+decreases-frames g l = l.end - l.at

@@ -1,0 +1,72 @@
+//! A frame whose memory is taken before it is filled.
+ghost use Rattle.std.specs.Prelude.{◌≡◌, ◌+◌, ◌≤◌, ◌++◌, [], length, take, drop, IfOk};
+ghost use Rattle.ode_journal.specs.Filling.{Filling, filled_by, IsFrame};
+
+use std::alloc::{AllocError, Global};
+use std::marker::Model;
+
+/// The bytes that are to stand behind a gate: a length, a payload, and a gate that is shut.
+#[derive(Drop)]
+pub struct Frame {
+    bytes: Vec<u8>,
+    filled: usize,
+}
+
+impl Model for Frame {
+    ghost use Rattle.ode_journal.specs.Filling.{Filling, IsShaped, filling_of};
+
+    ghost Value = { Filling };
+
+    ghost view = { λ f. filling_of f.bytes.items f.filled };
+
+    ghost invariant = { λ f. IsShaped f.bytes.items f.filled };
+}
+
+fn put_over(bytes: &mut [u8], at: usize, from: &[u8])
+    requires { at + length from.now ≤ length bytes.old }
+    ensures { bytes.new ≡ take at bytes.old ++ from.now ++ drop (at + length from.now) bytes.old }
+{
+    bytes[at..at + from.len()].copy_from_slice(from);
+}
+
+fn put_in(bytes: &mut Vec<u8>, at: usize, from: &[u8])
+    requires { at + length from.now ≤ length bytes.old.items }
+    ensures { bytes.new.items ≡ take at bytes.old.items ++ from.now ++ drop (at + length from.now) bytes.old.items }
+{
+    put_over(bytes, at, from);
+}
+
+impl Frame {
+    /// A frame for a payload of this length, in bytes, of which none is there yet.
+    pub fn reserve(alloc: Global, length: u32) -> Result<Frame, AllocError>
+        ensures { IfOk result (λ frame. frame ≡ record { payload = []; spare = length }) }
+    {
+        let mut bytes = vec![in alloc; 0; length as usize + 5]?;
+        put_in(&mut bytes, 0, &length.to_be_bytes());
+        Ok(Frame { bytes, filled: 0 })
+    }
+
+    /// How many bytes of its payload aren't there yet.
+    pub fn spare(&self) -> u32
+        ensures { result ≡ self.now.spare }
+    {
+        (self.bytes.len() - 5 - self.filled) as u32
+    }
+
+    /// Adds bytes to the payload, at most as many as are spare.
+    pub fn push(&mut self, bytes: &[u8])
+        requires { length bytes.now ≤ self.old.spare }
+        ensures { self.new ≡ filled_by self.old bytes.now }
+    {
+        put_in(&mut self.bytes, 4 + self.filled, bytes);
+        self.filled += bytes.len();
+    }
+
+    // What is written behind the gate.
+    pub(crate) fn as_bytes(&self) -> &[u8]
+        requires { self.now.spare ≡ 0 }
+        ensures { IsFrame self.now.payload result.now }
+    {
+        &self.bytes
+    }
+}

@@ -1,0 +1,12 @@
+//! A journal of frames behind gates, of which a stop leaves none or a whole one.
+#![tactic(auto)]
+
+mod error;
+mod frame;
+mod journal;
+mod reading;
+
+pub use error::{AppendError, JournalError};
+pub use frame::Frame;
+pub use journal::Journal;
+pub use reading::{next_frame, scan};

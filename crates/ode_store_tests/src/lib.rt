@@ -1,0 +1,9 @@
+//! Tests of what lies in a file: gates, headers and journals, and what stops leave of them, over a disk in memory.
+#![tactic(auto)]
+
+#[cfg(test)]
+mod disk;
+#[cfg(test)]
+mod headers;
+#[cfg(test)]
+mod journals;
