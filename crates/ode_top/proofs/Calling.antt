@@ -5,7 +5,7 @@ use Rattle.ode_host.specs.declared.status.Status.{Status}
 use Rattle.ode_host.proofs.Moments.{tells_looks}
 use Rattle.ode_top.specs.Answers.{IsMachineRun}
 use Rattle.ode_top.specs.Holds.{Holds}
-use Rattle.ode_top.specs.Pieces.{pieces}
+use Rattle.ode_script.specs.Pieces.{pieces}
 use Rattle.ode_top.specs.Serves.{RanAs, Serves}
 use Rattle.ode_host.specs.View.{View}
 use Rattle.ode_value.specs.World.{World}

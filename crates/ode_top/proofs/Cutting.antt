@@ -16,7 +16,7 @@ use Rattle.ode_top.specs.Halts.{status_of_halt}
 use Rattle.ode_top.specs.declared.run.Halt.{Halt}
 use Rattle.ode_top.specs.declared.run.Halt.TheVariants as halt
 use Rattle.ode_top.specs.Holds.{Holds}
-use Rattle.ode_top.specs.Pieces.{Pieces}
+use Rattle.ode_script.specs.Pieces.{Pieces}
 use Rattle.ode_top.specs.Serves.{CutShort, IsCut, PrintsFront, Serves, SoFar}
 use Rattle.ode_top.specs.Trace.{Item, Settled, Refusal, items_of, piece_items, piece_outcome, trace, final, after, text_of, text_until}
 use Rattle.ode_top.proofs.Runs.{text_of-append}

@@ -4,11 +4,11 @@ use Rattle.std.specs.Prelude.{◌||◌}
 use Rattle.ode_host.specs.View.{View}
 use Rattle.ode_value.specs.World.{World}
 use Rattle.ode_host.specs.declared.status.Status.{Status}
-use Rattle.ode_top.specs.declared.reader.ScriptError.{ScriptError}
-use Rattle.ode_top.specs.declared.reader.ScriptError.TheVariants as error
+use Rattle.ode_script.specs.declared.reader.ScriptError.{ScriptError}
+use Rattle.ode_script.specs.declared.reader.ScriptError.TheVariants as error
 use Rattle.ode_top.specs.Halts.{status_of_error}
-use Rattle.ode_top.specs.Left.{EndsBy}
-use Rattle.ode_top.specs.Pieces.{Ending, End, LongScript, Pieces, Then, Ended}
+use Rattle.ode_script.specs.Left.{EndsBy}
+use Rattle.ode_script.specs.Pieces.{Ending, End, LongScript, Pieces, Then, Ended}
 use Rattle.ode_top.specs.Serves.{Carries, IsEnding, LeavesNothing, RanAs, SoFar, Serves}
 use Rattle.ode_top.specs.Trace.{Item, Settled, Refusal, piece_items, trace, final, text_of, any_refused, ending, status_at}
 

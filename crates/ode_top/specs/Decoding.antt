@@ -1,7 +1,7 @@
 -- What a body is read as.
 use Rattle.std.specs.Prelude.{◌≡◌, Result, Ok, Err}
 use Rattle.ode_value.specs.World.{World}
-use Rattle.ode_top.specs.State.{world_of}
+use Rattle.ode_codec.specs.State.{world_of}
 use Rattle.ode_top.specs.declared.file.OpenError.{OpenError}
 use Rattle.ode_top.specs.declared.file.OpenError.TheVariants.{Memory, DiskFault, NoDatabase, Bad}
 use Rattle.ode_top.specs.declared.run.Database.{Database}

@@ -1,8 +1,8 @@
 -- Which status a run ends with.
 use Rattle.ode_host.specs.declared.status.Status.{Status}
 use Rattle.ode_host.specs.declared.status.Status.TheVariants as status
-use Rattle.ode_top.specs.declared.reader.ScriptError.{ScriptError}
-use Rattle.ode_top.specs.declared.reader.ScriptError.TheVariants as error
+use Rattle.ode_script.specs.declared.reader.ScriptError.{ScriptError}
+use Rattle.ode_script.specs.declared.reader.ScriptError.TheVariants as error
 use Rattle.ode_top.specs.declared.run.Halt.{Halt}
 use Rattle.ode_top.specs.declared.run.Halt.TheVariants as halt
 

@@ -6,7 +6,7 @@ use Rattle.ode_host.specs.declared.status.Status.{Status}
 use Rattle.ode_host.specs.declared.status.Status.TheVariants.{Ok, Refused, Usage, BadFile, DiskFault, ReadFault, WriteFault, Memory, LongStatement, LongScript}
 use Rattle.ode_value.specs.World.{World}
 use Rattle.ode_top.specs.Holds.{Holds}
-use Rattle.ode_top.specs.Pieces.{Pieces}
+use Rattle.ode_script.specs.Pieces.{Pieces}
 use Rattle.ode_top.specs.Trace.{Item, trace, final, after, text_of, text_until, any_refused, ending, status_at}
 
 -- the host is honest, its file holds this world, and this is what was printed

@@ -4,22 +4,21 @@ ghost use Rattle.ode_host.specs.Causes.{Rose};
 ghost use Rattle.ode_host.specs.Host.{Keeps, MayHavePrinted, Tells};
 ghost use Rattle.ode_value.specs.Good.{IsGood};
 ghost use Rattle.ode_value.specs.Texts.{refused_line};
-ghost use Rattle.ode_top.specs.Carried.{outcome_of, Keeps as StateKeeps};
+ghost use Rattle.ode_engine.specs.Carried.{outcome_of, Keeps as StateKeeps};
 ghost use Rattle.ode_top.specs.File.{HoldsBody};
-ghost use Rattle.ode_top.specs.Halts.{IsRunStatus};
-ghost use Rattle.ode_top.specs.Pieces.{pieces};
+ghost use Rattle.ode_top.specs.Halts.{IsRunStatus, status_of_error};
+ghost use Rattle.ode_script.specs.Pieces.{pieces};
 ghost use Rattle.ode_top.specs.Serves.{Carries, CutShort, IsCut, IsEnding, PrintsFront, RanAs, Serves};
-ghost use Rattle.ode_top.specs.State.{world_of};
+ghost use Rattle.ode_codec.specs.State.{world_of};
 ghost use Rattle.ode_top.specs.Trace.{Item as Done, piece_items, piece_outcome, run_items};
 
 use crate::file::store;
 use crate::header::next_generation;
-use crate::lines::refused_line;
-use crate::machine::{Item, Settled};
-use crate::parse::parse_statement;
-use crate::reader::{Piece, Reader, ScriptError};
-use crate::state::State;
+use ode_classyn::parse_statement;
+use ode_codec::State;
+use ode_engine::{Item, Settled, command};
 use ode_host::{Failed, Host, Source, Status};
+use ode_script::{Piece, Reader, ScriptError, refused_line};
 use ode_value::Refusal;
 use std::alloc::{AllocError, Global};
 
@@ -105,7 +104,7 @@ fn evaluate(alloc: Global, state: &mut State, text: &[u8]) -> Result<Item, Alloc
     ensures good { OnOk result (IsGood (world_of state.new)) }
 {
     match parse_statement(alloc, text)? {
-        Some(statement) => state.command(alloc, &statement),
+        Some(statement) => command(alloc, state, &statement),
         None => Ok(Item::Refused(Refusal::NotBuilt)),
     }
 }
@@ -161,18 +160,14 @@ impl Halt {
     }
 }
 
-impl ScriptError {
-    ghost use Rattle.ode_top.specs.Halts.{status_of_error};
-
-    // The status that the run ends with.
-    fn status(self) -> Status
-        ensures { result ≡ status_of_error self }
-    {
-        match self {
-            ScriptError::Memory => Status::Memory,
-            ScriptError::ReadFault => Status::ReadFault,
-            ScriptError::LongScript => Status::LongScript,
-        }
+// The status that the run ends with.
+fn status_of_error(error: ScriptError) -> Status
+    ensures { result ≡ status_of_error error }
+{
+    match error {
+        ScriptError::Memory => Status::Memory,
+        ScriptError::ReadFault => Status::ReadFault,
+        ScriptError::LongScript => Status::LongScript,
     }
 }
 
@@ -204,7 +199,7 @@ pub fn run_script<H: Host, S: Source>(
         let (text, line) = match reader.read_statement(source) {
             Ok(Piece::Statement { text, line }) => (text, line),
             Ok(Piece::End) => return if refused { Status::Refused } else { Status::Ok },
-            Err(error) => return error.status(),
+            Err(error) => return status_of_error(error),
         };
         match carry_out(alloc, host, &mut database, line, text.as_slice()) {
             Ok(again) => refused = refused || again,

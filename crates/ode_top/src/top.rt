@@ -13,13 +13,13 @@ ghost use Rattle.ode_top.specs.File.{HasOpenSlot, IsInUse};
 ghost use Rattle.ode_top.specs.Halts.{IsRunStatus};
 ghost use Rattle.ode_top.specs.Holds.{Holds};
 ghost use Rattle.ode_top.specs.Serves.{CutShort, IsCut, IsEnding, PrintsFront};
-ghost use Rattle.ode_top.specs.State.{world_of};
+ghost use Rattle.ode_codec.specs.State.{world_of};
 ghost use Rattle.ode_top.specs.Trace.{run_items};
 
 use crate::call::{Mode, call_of};
-use crate::decode::decode;
 use crate::file::{InitError, OpenError, Opened, initialise, open};
 use crate::run::{Database, run_script};
+use ode_codec::decode;
 use ode_host::{Failed, Host, Source, Status};
 use std::alloc::{AllocError, Global};
 

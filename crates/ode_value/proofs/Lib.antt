@@ -1,2 +1,4 @@
 pub mod Decimals
+pub mod FirstBytes
+pub mod FreeNames
 pub mod ReferenceTexts

@@ -3,6 +3,7 @@ pub mod Commands
 pub mod Decimal
 pub mod Good
 pub mod Machine
+pub mod Proper
 pub mod Records
 pub mod References
 pub mod Text

@@ -12,6 +12,7 @@ mod reference;
 mod statement;
 mod text;
 mod value;
+mod words;
 
 pub use boxed::Boxed;
 pub use class::{Class, Field};
@@ -24,3 +25,4 @@ pub use reference::{parse_ref, ref_text};
 pub use statement::{ClassDecl, Expr, Member, Rhs, Sort, Statement, Stmt};
 pub use text::{OdeText, TextError};
 pub use value::{Ref, Value};
+pub use words::is_free;

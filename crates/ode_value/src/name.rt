@@ -24,8 +24,8 @@ impl Model for Name {
     ghost invariant = { λ n. IsName n.text };
 }
 
-// A letter, a digit or an underscore.
-fn is_name_byte(byte: u8) -> bool
+/// A letter, a digit or an underscore.
+pub(crate) fn is_name_byte(byte: u8) -> bool
     ensures { result ≡ is_name_byte byte }
 {
     matches!(byte, b'0'..=b'9' | b'A'..=b'Z' | b'_' | b'a'..=b'z')

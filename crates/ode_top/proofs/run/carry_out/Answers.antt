@@ -1,9 +1,9 @@
 use Rattle.std.proofs.Common.{◌++◌, refl}
 use Rattle.std.proofs.lemmas.Result.{err_from_is_err_and}
-use Rattle.ode_top.specs.State.{world_of}
+use Rattle.ode_codec.specs.State.{world_of}
 use Rattle.ode_top.specs.Trace.{piece_items}
 use Rattle.ode_top.proofs.Cutting.{cut_at, only_write, refused_cut, settled_cut}
-use Rattle.ode_top.proofs.Carries.{has_room}
+use Rattle.ode_engine.proofs.Carries.{has_room}
 use Rattle.ode_top.proofs.CarriesPieces.{refused_carries, settled_carries}
 use Rattle.ode_top.proofs.run.carry_out.Goals as goal
 

@@ -1,5 +1,5 @@
-use Rattle.ode_top.specs.Proper.{IsProper}
-use Rattle.ode_top.proofs.Carries.{good_after}
+use Rattle.ode_value.specs.Proper.{IsProper}
+use Rattle.ode_engine.proofs.Carries.{good_after}
 use Rattle.ode_top.proofs.run.evaluate.Goals as goal
 
 pub returns-in-Some-clause-good : goal.returns-in-Some-clause-good

@@ -2,10 +2,10 @@ use Rattle.std.proofs.Common.{Err, ◌≡◌, ℕ, List, ◌++◌, Bool, arith, 
 use Rattle.std.specs.Prelude.{◌||◌}
 use Rattle.ode_host.specs.declared.status.Status.{Status}
 use Rattle.ode_host.proofs.Moments.{keeps_joined, looks_none}
-use Rattle.ode_top.specs.Left.{HasLeft}
-use Rattle.ode_top.specs.Pieces.{End, Pieces, Then, pieces, pieces_from, script_limit}
+use Rattle.ode_script.specs.Left.{HasLeft}
+use Rattle.ode_script.specs.Pieces.{End, Pieces, Then, pieces, pieces_from, script_limit}
 use Rattle.ode_top.specs.Serves.{CutShort, IsCut, LeavesNothing, SoFar}
-use Rattle.ode_top.specs.State.{world_of}
+use Rattle.ode_codec.specs.State.{world_of}
 use Rattle.ode_top.specs.Trace.{final, piece_items, status_at, text_of, trace}
 use Rattle.ode_top.proofs.Cutting.{cut_at, not_disk, only_disk, run_cut, run_prints}
 use Rattle.ode_top.proofs.Runs.{end_leaves, ended_ran, error_ran, same_at, same_next}
@@ -42,8 +42,8 @@ returns-in-Ok-End-clause-ran g c = λ script text told serves is_ending.
 pub returns-in-Err-clause-ran : goal.returns-in-Err-clause-ran
 returns-in-Err-clause-ran g c = λ script text told serves is_ending.
     let so_far = c.pieces.invariant.whole script text told serves in
-    error_ran (pieces script) (world_of c.args.database.state) text _ (world_of c.pieces.database.state) so_far.1 c.pieces.refused (g.S.Source.left c.read_statement.new.source) (g.H.Host.view c.pieces.host) c.status.result c.in-Err.error
-    (c.in-Err.ensures.piece so_far.0 so_far.2) c.status.ensures is_ending so_far.3 so_far.4
+    error_ran (pieces script) (world_of c.args.database.state) text _ (world_of c.pieces.database.state) so_far.1 c.pieces.refused (g.S.Source.left c.read_statement.new.source) (g.H.Host.view c.pieces.host) c.status_of_error.result c.in-Err.error
+    (c.in-Err.ensures.piece so_far.0 so_far.2) c.status_of_error.ensures is_ending so_far.3 so_far.4
 
 pub pieces-preserved : goal.pieces-preserved
 pieces-preserved g c = record {
@@ -87,7 +87,7 @@ returns-in-Err-carry_out-clause-cut g c = λ script text told serves cut.
     let left = pieces_from c.pieces.reader.allowed c.pieces.reader.line so_far.0 in
     let rest = pieces_from c.read_statement.new.self.allowed c.read_statement.new.self.line taken.0 in
     let is : left ≡ Then c.in-Ok-Statement.line c.as_slice.result.now rest = taken.1 ∙ ap (λ (p : List ℕ). Then c.in-Ok-Statement.line p rest) (sym c.as_slice.ensures) in
-    let disk = not_disk c.in-Err-carry_out.halt (subst IsCut c.status-in-Err-carry_out.ensures cut) in
+    let disk = not_disk c.in-Err-carry_out.halt (subst IsCut c.status.ensures cut) in
     let short = c.in-Err-carry_out.ensures.cut disk (trace (final w items) rest) so_far.1 so_far.3 in
     run_cut (pieces script) (world_of c.args.database.state) text left w so_far.1 c.pieces.refused view so_far.4 (subst (λ (p : Pieces). CutShort (trace w p) w so_far.1 view) (sym is) short)
 
@@ -95,5 +95,5 @@ pub returns-in-Err-carry_out-clause-front : goal.returns-in-Err-carry_out-clause
 returns-in-Err-carry_out-clause-front g c = λ script text told serves disk.
     let so_far = c.pieces.invariant.whole script text told serves in
     let left = pieces_from c.pieces.reader.allowed c.pieces.reader.line so_far.0 in
-    let silent = c.in-Err-carry_out.ensures.silent (ap Err (only_disk c.in-Err-carry_out.halt (sym c.status-in-Err-carry_out.ensures ∙ disk))) in
+    let silent = c.in-Err-carry_out.ensures.silent (ap Err (only_disk c.in-Err-carry_out.halt (sym c.status.ensures ∙ disk))) in
     run_prints (pieces script) (world_of c.args.database.state) text left (world_of c.pieces.database.state) so_far.1 c.pieces.refused (g.H.Host.view c.carry_out.new.host) so_far.4 (silent ∙ so_far.3.printed)

@@ -1,10 +1,10 @@
 use Rattle.std.proofs.Common.{◌≡◌, ◌≤◌, ℕ, List, Some}
 use Rattle.ode_host.specs.Host.{Keeps}
 use Rattle.ode_value.specs.Good.{IsGood}
-use Rattle.ode_top.specs.Left.{HasLeft}
-use Rattle.ode_top.specs.Pieces.{pieces, pieces_from}
+use Rattle.ode_script.specs.Left.{HasLeft}
+use Rattle.ode_script.specs.Pieces.{pieces, pieces_from}
 use Rattle.ode_top.specs.Serves.{SoFar, Serves}
-use Rattle.ode_top.specs.State.{world_of}
+use Rattle.ode_codec.specs.State.{world_of}
 use Rattle.ode_top.proofs.run.run_script.Given as goal
 
 -- what is done so far and the run of what is left are the run of the whole

@@ -5,7 +5,7 @@ use Rattle.ode_host.specs.declared.status.Status.TheVariants as status
 use Rattle.ode_value.specs.Texts.{line}
 use Rattle.ode_value.specs.World.{World}
 use Rattle.ode_top.specs.Serves.{CutShort, PrintsFront}
-use Rattle.ode_top.specs.State.{world_of}
+use Rattle.ode_codec.specs.State.{world_of}
 use Rattle.ode_top.specs.Trace.{run_items}
 use Rattle.ode_top.proofs.Calling.{machine_run, opened_serves, tells_same}
 use Rattle.ode_top.proofs.Cutting.{cut_at, none_printed}

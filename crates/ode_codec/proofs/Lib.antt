@@ -1,0 +1,12 @@
+pub mod Checking
+pub mod Division
+pub mod Fields
+pub mod Fronts
+pub mod GoodStates
+pub mod Lengths
+pub mod Named
+pub mod Parts
+pub mod Places
+pub mod Rows
+pub mod Some
+pub mod Splitting

@@ -1,0 +1,4 @@
+pub mod Carries
+pub mod Settles
+pub mod StateWeights
+pub mod StaysGood

@@ -1,0 +1,32 @@
+use Rattle.std.proofs.Common.{◌++◌, ◌∷◌, [], ◌∙◌, ap, arith, ◌+◌, ◌<◌, ◌≤◌}
+use Rattle.ode_value.specs.Commands.{one}
+use Rattle.ode_value.specs.Good.{weight_limit}
+use Rattle.ode_value.specs.Records.{weight}
+use Rattle.ode_value.specs.Texts.{class_line}
+use Rattle.ode_codec.specs.declared.state.ClassRow.{ClassRow}
+use Rattle.ode_codec.specs.State.{world_of}
+use Rattle.ode_engine.specs.Weights.{class_weight}
+use Rattle.ode_engine.proofs.Settles.{comes_to, declared_heavy, declared_light}
+use Rattle.ode_engine.proofs.StateWeights.{classes_below}
+use Rattle.ode_engine.proofs.machine.declare_new.Goals as goal
+
+pub returns-then-weight-class_weight-gt-WEIGHT_LIMIT-clause-outcome : goal.returns-then-weight-class_weight-gt-WEIGHT_LIMIT-clause-outcome
+returns-then-weight-class_weight-gt-WEIGHT_LIMIT-clause-outcome c =
+    let said = c.in_ok-put_class.ensures ∙ ap (λ l. l ++ class_line c.args.name.now) c.new-text.ensures.items in
+    let heavy : weight_limit < weight (world_of c.args.state.now) + class_weight c.args.name.now c.args.field.now = omega (arith, c.weight.ensures, c.class_weight.ensures.weight, c.if-weight-class_weight-gt-WEIGHT_LIMIT.true) in
+    comes_to _ _ _ _ (ap one (declared_heavy c.args.state.now c.args.name.now c.args.field.now _ said heavy)) c.abort.ensures.outcome
+
+pub overflow_cast-row : goal.overflow_cast-row
+overflow_cast-row c = omega (arith, classes_below c.args.state.now, c.requires.light, c.len.ensures)
+
+pub overflow_add-row : goal.overflow_add-row
+overflow_add-row c = omega (arith, classes_below c.args.state.now, c.requires.light, c.len.ensures)
+
+pub returns-clause-outcome : goal.returns-clause-outcome
+returns-clause-outcome c =
+    let said = c.in_ok-put_class.ensures ∙ ap (λ l. l ++ class_line c.args.name.now) c.new-text.ensures.items in
+    let number = ap (λ n. n + 1) c.len.ensures in
+    let name = c.in_ok-copy.ensures in
+    let field = c.in_ok-copy-2.ensures in
+    let light : weight (world_of c.args.state.now) + class_weight c.args.name.now c.args.field.now ≤ weight_limit = omega (arith, c.weight.ensures, c.class_weight.ensures.weight, c.if-weight-class_weight-gt-WEIGHT_LIMIT.false) in
+    comes_to _ _ _ _ (ap one (declared_light c.args.state.now c.args.name.now c.args.field.now _ _ said (c.in_ok-push.ensures.ok ∙ ap (λ (row : ClassRow). c.args.state.now.classes ++ row ∷ []) (λ i. record { number = number i; name = name i; field = field i })) light)) c.commit.ensures.outcome

@@ -1,0 +1,85 @@
+use Rattle.std.proofs.Common.{[], ◌∷◌, Err, length, sym, ap, ◌∙◌, arith, length-append}
+use Rattle.std.specs.Prelude.{◌&&◌}
+use Rattle.std.proofs.lemmas.Result.{err_from_is_err_and}
+use Rattle.ode_script.specs.Left.{starts_blank}
+use Rattle.ode_script.specs.Pieces.{Then, cut, pieces_from, is_empty}
+use Rattle.ode_script.proofs.Cuts.{ends_by, takes_last, last_within, cut-last, cut-on, is_empty-append, depth_after-le}
+use Rattle.ode_script.proofs.reader.Reader.read_statement.Goals as goal
+
+pub returns-in_err-skip_blanks-clause-piece : goal.returns-in_err-skip_blanks-clause-piece
+returns-in_err-skip_blanks-clause-piece g c = λ rest left.
+    let p = err_from_is_err_and c.from_residual.result c.from_residual.ensures.1 in
+    rw (p.1, p.2) (c.in_err-skip_blanks.ensures.blanks rest left)
+
+pub loop-part-init : goal.loop-part-init
+loop-part-init g c = record {
+  left = λ rest left.
+      let skipped = c.in_ok-skip_blanks.ensures.blanks rest left in (
+        skipped.0,
+        skipped.1 ∙ ap (λ p. cut p c.skip_blanks.new.self.allowed c.skip_blanks.new.self.line skipped.0) (sym c.new-part.ensures),
+        ap (λ p. is_empty p.text && starts_blank skipped.0) c.new-part.ensures ∙ skipped.2,
+        skipped.3,
+      );
+  shallow = omega (arith, ap (λ p. p.depth) c.new-part.ensures, c.skip_blanks.new.self.countable);
+  fewer = omega (arith, ap (λ p. length p.text) c.new-part.ensures, c.in_ok-skip_blanks.ensures.allowed);
+  later = c.in_ok-skip_blanks.ensures.later;
+}
+
+pub returns-in_err-b-clause-piece : goal.returns-in_err-b-clause-piece
+returns-in_err-b-clause-piece g c = λ rest left.
+    let so_far = c.loop-part.invariant.left rest left in
+    let p = err_from_is_err_and c.from_residual-in_err-b.result c.from_residual-in_err-b.ensures.1 in
+    rw (p.1, p.2) (ends_by _ c.loop-part.part c.loop-part.self.allowed c.loop-part.self.line so_far.0 _ so_far.1 (c.in_err-b.ensures.byte so_far.0 so_far.3)
+    (λ is. (c.in_err-b.ensures.long (ap Err is)).0))
+
+pub returns-then-is_last-clause-piece : goal.returns-then-is_last-clause-piece
+returns-then-is_last-clause-piece g c = λ rest left.
+    let so_far = c.loop-part.invariant.left rest left in
+    let next = rw c.in-Some.is at (c.in_ok-b.ensures.byte so_far.0 so_far.3) in
+    let counts = rw c.in-Some.is at c.in_ok-b.ensures.takes in
+    let inside = ap (λ r. is_empty c.loop-part.part.text && starts_blank r) (sym next.1) ∙ so_far.2 in
+    rw c.into_statement.ensures (
+      next.0,
+      so_far.1 ∙ ap (cut c.loop-part.part c.loop-part.self.allowed c.loop-part.self.line) next.1
+          ∙ cut-last c.loop-part.self.allowed c.loop-part.self.line c.next_byte.new.self.allowed c.next_byte.new.self.line c.in-Some.b counts.some counts.allowed counts.line next.0
+          c.loop-part.part inside (sym c.if-is_last.ensures)
+          ∙ ap (λ p. Then p.line p.text (pieces_from c.next_byte.new.self.allowed c.next_byte.new.self.line next.0)) (sym c.in_ok-push.ensures),
+      next.2,
+    )
+
+pub loop-part-preserved : goal.loop-part-preserved
+loop-part-preserved g c = record {
+  left = λ rest left.
+      let so_far = c.loop-part.invariant.left rest left in
+      let next = rw c.in-Some.is at (c.in_ok-b.ensures.byte so_far.0 so_far.3) in
+      let counts = rw c.in-Some.is at c.in_ok-b.ensures.takes in
+      let inside = ap (λ r. is_empty c.loop-part.part.text && starts_blank r) (sym next.1) ∙ so_far.2 in (
+        next.0,
+        so_far.1 ∙ ap (cut c.loop-part.part c.loop-part.self.allowed c.loop-part.self.line) next.1
+            ∙ cut-on c.loop-part.self.allowed c.loop-part.self.line c.next_byte.new.self.allowed c.next_byte.new.self.line c.in-Some.b counts.some counts.allowed counts.line next.0
+            c.loop-part.part inside (sym c.if-is_last.ensures)
+            ∙ ap (λ p. cut p c.next_byte.new.self.allowed c.next_byte.new.self.line next.0) (sym c.in_ok-push.ensures),
+        ap (λ p. is_empty p.text && starts_blank next.0) c.in_ok-push.ensures ∙ ap (λ t. t && starts_blank next.0) (is_empty-append c.loop-part.part.text c.in-Some.b),
+        next.2,
+      );
+  shallow =
+      let counts = rw c.in-Some.is at c.in_ok-b.ensures.takes in
+      omega (arith, counts.some, counts.allowed, ap (λ p. p.depth) c.in_ok-push.ensures, depth_after-le c.loop-part.part.place c.loop-part.part.depth c.in-Some.b);
+  fewer =
+      let counts = rw c.in-Some.is at c.in_ok-b.ensures.takes in
+      omega (arith, counts.some, counts.allowed, ap (λ p. length p.text) c.in_ok-push.ensures, length-append c.loop-part.part.text (c.in-Some.b ∷ []));
+  later = omega (arith, c.in_ok-b.ensures.later);
+}
+
+pub returns-clause-piece : goal.returns-clause-piece
+returns-clause-piece g c = λ rest left.
+    let so_far = c.loop-part.invariant.left rest left in
+    let none = rw c.in_default.is at (c.in_ok-b.ensures.byte so_far.0 so_far.3) in
+    takes_last rest c.args.self.now c.next_byte.new.self _ c.into_last.result
+    (so_far.1 ∙ ap (cut c.loop-part.part c.loop-part.self.allowed c.loop-part.self.line) none.0 ∙ c.into_last.ensures.piece) none.1
+
+pub returns-clause-fewer : goal.returns-clause-fewer
+returns-clause-fewer g c = λ is. omega (arith, c.into_last.ensures.some is, c.in_ok-b.ensures.allowed)
+
+pub returns-clause-short : goal.returns-clause-short
+returns-clause-short g c = last_within c.loop-part.part c.args.self.now.allowed c.into_last.result (omega (arith, c.loop-part.invariant.fewer)) c.into_last.ensures.piece

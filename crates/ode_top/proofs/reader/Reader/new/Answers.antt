@@ -1,7 +1,0 @@
-use Rattle.std.proofs.Common.{refl}
-use Rattle.ode_top.specs.Pieces.{script_limit}
-use Rattle.ode_top.proofs.reader.Reader.new.Goals as goal
-
-pub returns-clause-allowed : goal.returns-clause-allowed
-unfolding script_limit
-returns-clause-allowed c = refl
