@@ -1,5 +1,5 @@
 -- What a call of the program is answered with.
-use Rattle.std.specs.Prelude.{◌≡◌, ◌⊎◌, ℕ, List, ◌++◌, Option, Some, codes}
+use Rattle.std.specs.Prelude.{◌≡◌, ◌⊎◌, ℕ, List, ◌++◌, take, Option, Some, codes}
 use Rattle.ode_host.specs.Host.{Tells}
 use Rattle.ode_host.specs.View.{View}
 use Rattle.ode_host.specs.declared.status.Status.{Status}
@@ -55,6 +55,22 @@ pub record IsBadFile (image text : List ℕ) (view : View) : Type 0 where
   pub said : List ℕ
   pub reason : SaysWhy image said
   pub printed : view.text ≡ Some (text ++ said)
+
+-- a front of this was printed behind the text, and no more
+abbrev pub SaidFront : List ℕ → List ℕ → View → Type 0
+SaidFront said text view = (n : ℕ) × (view.text ≡ Some (text ++ take n said))
+
+-- The print failed of the line that says what `init` did.
+pub record IsInitCut (file text : List ℕ) (view : View) : Type 0 where
+  pub said : List ℕ
+  pub reason : (IsInUse file × (said ≡ line (codes "file exists"))) ⊎ ((¬ IsInUse file) × (said ≡ line (codes "ready")))
+  pub front : SaidFront said text view
+
+-- The print failed of the line that says why a file holds no world.
+pub record IsBadFileCut (image text : List ℕ) (view : View) : Type 0 where
+  pub said : List ℕ
+  pub reason : SaysWhy image said
+  pub front : SaidFront said text view
 
 -- the statuses that `init` may end with
 abbrev pub IsInitStatus : Status → Type 0

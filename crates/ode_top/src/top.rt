@@ -6,7 +6,7 @@ ghost use Rattle.ode_value.specs.Good.{IsGood};
 ghost use Rattle.ode_value.specs.Records.{rows, snapshot};
 ghost use Rattle.ode_value.specs.Texts.{line};
 ghost use Rattle.ode_value.specs.World.{World};
-ghost use Rattle.ode_top.specs.Answers.{Asks, IsBadFile, IsInitStatus, IsMachineRun, IsMade, IsNoRun, IsRefused, usage_line};
+ghost use Rattle.ode_top.specs.Answers.{Asks, IsBadFile, IsBadFileCut, IsInitCut, IsInitStatus, IsMachineRun, IsMade, IsNoRun, IsRefused, SaidFront, usage_line};
 ghost use Rattle.ode_top.specs.Calls.{bytes_of, call_of};
 ghost use Rattle.ode_top.specs.Decoding.{OpensAs, ReadsAs};
 ghost use Rattle.ode_top.specs.File.{HasOpenSlot, IsInUse};
@@ -37,6 +37,8 @@ fn end_with<H: Host>(host: &mut H, line: &[u8], status: Status) -> Status
     ensures status { (result ≡ status) ⊎ (result ≡ Status.WriteFault) }
     ensures printed { result ≢ Status.WriteFault → (text : Items ℕ) → (H.view host.old).text ≡ Some text
         → (H.view host.new).text ≡ Some (text ++ line.now) }
+    ensures cut { result ≡ Status.WriteFault → status ≢ Status.WriteFault → (text : Items ℕ) → (H.view host.old).text ≡ Some text
+        → SaidFront line.now text (H.view host.new) }
     ensures image { (H.view host.new).image ≡ (H.view host.old).image }
     ensures keeps { Keeps (H.view host.old) (H.view host.new) }
     ensures print { result ≡ Status.WriteFault → (status ≡ Status.WriteFault) ⊎ Rose (H.view host.old).print_faults (H.view host.new).print_faults }
@@ -89,6 +91,8 @@ fn init<H: Host>(host: &mut H) -> Status
     ensures exists { result ≡ Status.BadFile → (file text : Items ℕ) → Tells (H.view host.old) file → (H.view host.old).text ≡ Some text
         → IsRefused file text (H.view host.new) }
     ensures in_use { (file : Items ℕ) → Tells (H.view host.old) file → IsInUse file → result ≢ Status.Ok }
+    ensures cut { result ≡ Status.WriteFault → (file text : Items ℕ) → Tells (H.view host.old) file → (H.view host.old).text ≡ Some text
+        → IsInitCut file text (H.view host.new) }
     ensures statuses { IsInitStatus result }
     ensures keeps { Keeps (H.view host.old) (H.view host.new) }
     ensures disk { result ≡ Status.DiskFault → Rose (H.view host.old).disk_faults (H.view host.new).disk_faults }
@@ -115,6 +119,8 @@ fn run<H: Host, S: Source>(alloc: Global, script: &mut S, host: &mut H) -> Statu
     ensures bad_file { result ≡ Status.BadFile → (image text : Items ℕ) → Tells (H.view host.old) image → (H.view host.old).text ≡ Some text
         → IsBadFile image text (H.view host.new) }
     ensures no_world { (image : Items ℕ) → Tells (H.view host.old) image → ((w : World) → ¬ Holds image w) → IsNoRun result }
+    ensures bad_file_cut { result ≡ Status.WriteFault → (image text : Items ℕ) → Tells (H.view host.old) image → (H.view host.old).text ≡ Some text
+        → ((w : World) → ¬ Holds image w) → IsBadFileCut image text (H.view host.new) }
     ensures not_usage { result ≢ Status.Usage }
     ensures keeps { Keeps (H.view host.old) (H.view host.new) }
     ensures later { S.faults script.old ≤ S.faults script.new }
@@ -159,6 +165,9 @@ pub fn run_ode<H: Host, S: Source>(
         → (image text : Items ℕ) → Tells (H.view host.old) image → (H.view host.old).text ≡ Some text → IsBadFile image text (H.view host.new) }
     ensures no_world { (image : Items ℕ) → Asks Mode.Run (bytes_of words.now.items) → Tells (H.view host.old) image
         → ((w : World) → ¬ Holds image w) → IsNoRun result }
+    ensures bad_file_cut { result ≡ Status.WriteFault → Asks Mode.Run (bytes_of words.now.items) → (image text : Items ℕ)
+        → Tells (H.view host.old) image → (H.view host.old).text ≡ Some text → ((w : World) → ¬ Holds image w)
+        → IsBadFileCut image text (H.view host.new) }
 
     ensures made { result ≡ Status.Ok → Asks Mode.Init (bytes_of words.now.items)
         → (file text : Items ℕ) → Tells (H.view host.old) file → (H.view host.old).text ≡ Some text → IsMade file text (H.view host.new) }
@@ -166,8 +175,12 @@ pub fn run_ode<H: Host, S: Source>(
         → (file text : Items ℕ) → Tells (H.view host.old) file → (H.view host.old).text ≡ Some text → IsRefused file text (H.view host.new) }
     ensures in_use { (file : Items ℕ) → Asks Mode.Init (bytes_of words.now.items) → Tells (H.view host.old) file → IsInUse file → result ≢ Status.Ok }
     ensures init { Asks Mode.Init (bytes_of words.now.items) → IsInitStatus result }
+    ensures init_cut { result ≡ Status.WriteFault → Asks Mode.Init (bytes_of words.now.items) → (file text : Items ℕ)
+        → Tells (H.view host.old) file → (H.view host.old).text ≡ Some text → IsInitCut file text (H.view host.new) }
 
     ensures usage { result ≡ Status.Usage ↔ ((call_of (bytes_of words.now.items) ≡ None) × (result ≢ Status.WriteFault)) }
+    ensures usage_cut { result ≡ Status.WriteFault → call_of (bytes_of words.now.items) ≡ None → (text : Items ℕ)
+        → (H.view host.old).text ≡ Some text → SaidFront usage_line text (H.view host.new) }
     ensures said { result ≡ Status.Usage → (text : Items ℕ) → (H.view host.old).text ≡ Some text → (H.view host.new).text ≡ Some (text ++ usage_line) }
 
     ensures keeps { Keeps (H.view host.old) (H.view host.new) }

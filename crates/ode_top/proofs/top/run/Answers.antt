@@ -69,3 +69,21 @@ returns-in-Err-Bad-clause-cut g c = λ bytes image text w left tells said holds 
 
 pub returns-in-Ok-clause-no_world : goal.returns-in-Ok-clause-no_world
 returns-in-Ok-clause-no_world g c image tells none = absurd (none (world_of c.in-Ok.database.state) (c.in-Ok.ensures.sound image tells))
+
+pub returns-in-Ok-clause-bad_file_cut : goal.returns-in-Ok-clause-bad_file_cut
+returns-in-Ok-clause-bad_file_cut g c is image text tells said none =
+    absurd (none (world_of c.in-Ok.database.state) (c.in-Ok.ensures.sound image tells))
+
+pub returns-in-Err-NoDatabase-clause-bad_file_cut : goal.returns-in-Err-NoDatabase-clause-bad_file_cut
+returns-in-Err-NoDatabase-clause-bad_file_cut g c is image text tells said none = record {
+  said = line (codes "no database");
+  reason = inl (c.in-Err-NoDatabase.ensures.none (ap Err c.in-Err-NoDatabase.field-0-is) image tells, refl);
+  front = c.end_with.ensures.cut is (λ (same : status.BadFile ≡ status.WriteFault). cc) text (c.open_database.ensures.looks.text ∙ said);
+}
+
+pub returns-in-Err-Bad-clause-bad_file_cut : goal.returns-in-Err-Bad-clause-bad_file_cut
+returns-in-Err-Bad-clause-bad_file_cut g c is image text tells said none = record {
+  said = line (codes "bad file");
+  reason = inr (c.in-Err-Bad.ensures.open_slot (ap Err c.in-Err-Bad.field-0-is) image tells, none, refl);
+  front = c.end_with-in-Err-Bad.ensures.cut is (λ (same : status.BadFile ≡ status.WriteFault). cc) text (c.open_database.ensures.looks.text ∙ said);
+}
