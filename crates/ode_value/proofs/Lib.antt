@@ -1,2 +1,9 @@
+pub mod Below
 pub mod Decimals
+pub mod ExampleLaws
+pub mod LeafLaws
+pub mod LocalPoints
+pub mod PointLaws
 pub mod ReferenceTexts
+pub mod Sames
+pub mod SymbolLaws
