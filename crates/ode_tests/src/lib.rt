@@ -24,6 +24,8 @@ mod stops;
 #[cfg(test)]
 mod tokens;
 #[cfg(test)]
+mod trees;
+#[cfg(test)]
 mod trial;
 #[cfg(test)]
 mod values;

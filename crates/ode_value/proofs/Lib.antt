@@ -1,4 +1,11 @@
+pub mod Below
 pub mod Decimals
+pub mod ExampleLaws
 pub mod FirstBytes
 pub mod FreeNames
+pub mod LeafLaws
+pub mod LocalPoints
+pub mod PointLaws
 pub mod ReferenceTexts
+pub mod Sames
+pub mod SymbolLaws

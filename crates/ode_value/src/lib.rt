@@ -1,28 +1,42 @@
 //! Values, names, references, syntax trees and the definitions of the machine.
 #![tactic(auto)]
 
+mod arithmetic;
+mod binding;
 mod boxed;
 mod class;
 mod digits;
+mod event;
+mod examples;
 mod key;
+mod laws;
 mod list;
 mod name;
+mod operator;
 mod reason;
 mod reference;
 mod statement;
 mod text;
+mod tree;
 mod value;
 mod words;
 
+pub use arithmetic::{Fault, int_op};
+pub use binding::{Param, Var};
 pub use boxed::Boxed;
 pub use class::{Class, Field};
 pub use digits::{decimal, int_text, parse_decimal};
+pub use event::{EventExpr, Kind, Mode, Point};
+pub use examples::{fa_examples, relative_examples, sequence_examples, symbol_examples};
 pub use key::Key;
+pub use laws::{points_are_firings, symbols_are_marks};
 pub use list::{Copied, List};
 pub use name::Name;
+pub use operator::{BinOp, UnOp};
 pub use reason::{CheckError, Reason, Refusal};
 pub use reference::{parse_ref, ref_text};
 pub use statement::{ClassDecl, Expr, Member, Rhs, Sort, Statement, Stmt};
 pub use text::{OdeText, TextError};
+pub use tree::State;
 pub use value::{Ref, Value};
 pub use words::is_free;

@@ -1,5 +1,6 @@
 //! Syntax trees, as far as their forms are built.
-ghost use Rattle.std.specs.Prelude.{◌≡◌, IfOk};
+ghost use Rattle.std.specs.Prelude.{◌≡◌, ◌↔◌, IfOk, IsTrue};
+ghost use Rattle.ode_value.specs.Same.{same_expr};
 
 use crate::boxed::Boxed;
 use crate::list::{Copied, List};
@@ -59,6 +60,26 @@ pub enum Statement {
 }
 
 impl Expr {
+    /// Whether this is the other expression.
+    #[tactic(auto, using(crate::proofs::Sames::same_exprs))]
+    pub fn same(&self, other: &Expr) -> bool
+        ensures same { IsTrue result ↔ (self.now ≡ other.now) }
+        ensures test { result ≡ same_expr self.now other.now }
+    {
+        match self {
+            Expr::Lit(value) => match other {
+                Expr::Lit(other) => value.same(other),
+                _ => false,
+            },
+            Expr::Field(of, name) => match other {
+                Expr::Field(other, other_name) => {
+                    of.get().same(other.get()) && name.same(other_name)
+                }
+                _ => false,
+            },
+        }
+    }
+
     /// The same expression again.
     pub fn copy(&self, alloc: Global) -> Result<Expr, AllocError>
         ensures { IfOk result (λ copy. copy ≡ self.now) }

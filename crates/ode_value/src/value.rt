@@ -1,4 +1,5 @@
-ghost use Rattle.std.specs.Prelude.{◌≡◌, IfOk};
+ghost use Rattle.std.specs.Prelude.{◌≡◌, ◌↔◌, IfOk, IsTrue};
+ghost use Rattle.ode_value.specs.Same.{same_value, same_version};
 
 use crate::list::Copied;
 use crate::text::OdeText;
@@ -20,7 +21,47 @@ pub enum Value {
     Reference(Ref),
 }
 
+fn same_version(m: Option<u32>, n: Option<u32>) -> bool
+    ensures { result ≡ same_version m n }
+{
+    match m {
+        None => match n {
+            None => true,
+            Some(_) => false,
+        },
+        Some(m) => match n {
+            None => false,
+            Some(n) => m == n,
+        },
+    }
+}
+
 impl Value {
+    /// Whether this is the other value.
+    pub fn same(&self, other: &Value) -> bool
+        ensures same { IsTrue result ↔ (self.now ≡ other.now) }
+        ensures test { result ≡ same_value self.now other.now }
+    {
+        match self {
+            Value::Int(m) => match other {
+                Value::Int(n) => m == n,
+                _ => false,
+            },
+            Value::Bool(b) => match other {
+                Value::Bool(c) => b == c,
+                _ => false,
+            },
+            Value::Text(s) => match other {
+                Value::Text(t) => s.as_bytes() == t.as_bytes(),
+                _ => false,
+            },
+            Value::Reference(r) => match other {
+                Value::Reference(s) => r.object == s.object && same_version(r.version, s.version),
+                _ => false,
+            },
+        }
+    }
+
     /// The same value again.
     pub fn copy(&self, alloc: Global) -> Result<Value, AllocError>
         ensures { IfOk result (λ v. v ≡ self.now) }

@@ -1,0 +1,153 @@
+-- Trees that compare as equal are equal, and what is in a set with one more member.
+use Rattle.std.proofs.Common.{◌≡◌, ℕ, Bool, true, false, List, [], ◌∷◌, refl, ap, sym, ◌∙◌, subst}
+use Rattle.std.specs.Prelude.{◌||◌, ◌&&◌, cond, filter, map}
+use Rattle.std.specs.List.{list_any}
+use Rattle.std.specs.declared.cmp.Ordering.{Ordering}
+use Rattle.std.specs.declared.cmp.Ordering.TheVariants.{Less, Equal, Greater}
+use Rattle.std.specs.Ordering.{nat_cmp, bool_cmp, ordering_then}
+use Rattle.std.specs.FinMap.{nat_cmp-IsAntisymmetric}
+use Rattle.ode_value.specs.declared.tree.State.{State, out-State, roll-State, roll-out-State, fold-roll-State, map-State, ind-State}
+use Rattle.ode_value.specs.declared.tree.State.TheOpen.{State-F, Bit, Place, Seen, Both, Flag, Count, Starts, Pairs}
+use Rattle.ode_value.specs.TreeOrder.{list_cmp, tree_cmp_of, tree_cmp, placed, joined, all_joined, pair_cmp}
+
+-- equal in two parts is equal in both
+then-equal : (a b : Ordering) → ordering_then a b ≡ Equal → (a ≡ Equal) × (b ≡ Equal)
+then-equal Less b h = cc
+then-equal Equal b h = (refl, h)
+then-equal Greater b h = cc
+
+bool-equal : (a b : Bool) → bool_cmp a b ≡ Equal → a ≡ b
+bool-equal false false h = refl
+bool-equal false true h = cc
+bool-equal true false h = cc
+bool-equal true true h = refl
+
+-- lists whose members compare as equal only where they are equal
+list-equal : {X Y A B : Type 0} (cmp : A → B → Ordering) (to : Y → A) (mid : X → Y) (view : X → B) → ((x : X) (y : B) → cmp (to (mid x)) y ≡ Equal → view x ≡ y) → (xs : List X) (ys : List B) → list_cmp cmp (map to (map mid xs)) ys ≡ Equal → map view xs ≡ ys
+list-equal cmp to mid view eq [] [] h = refl
+list-equal cmp to mid view eq [] (y ∷ ys) h = cc
+list-equal cmp to mid view eq (x ∷ xs) [] h = cc
+list-equal cmp to mid view eq (x ∷ xs) (y ∷ ys) h =
+    let both = then-equal (cmp (to (mid x)) y) (list_cmp cmp (map to (map mid xs)) ys) h in
+    ap (λ z. z ∷ map view xs) (eq x y both.0) ∙ ap (λ zs. y ∷ zs) (list-equal cmp to mid view eq xs ys both.1)
+
+-- what an induction shows of a tree
+abbrev Tells : State → Type 0
+Tells s = (t : State) → tree_cmp s t ≡ Equal → s ≡ t
+
+abbrev Told : Type 0
+Told = (s : State) × Tells s
+
+tree_cmp-roll : (d : State-F State) (t : State) → tree_cmp (roll-State d) t ≡ tree_cmp_of (map-State State (State → Ordering) tree_cmp d) (out-State t)
+unfolding tree_cmp
+tree_cmp-roll d t = ap (λ f. f t) (fold-roll-State (State → Ordering) (λ s u. tree_cmp_of s (out-State u)) d)
+
+nat-equal : (a b : ℕ) → nat_cmp a b ≡ Equal → a ≡ b
+nat-equal a b h = nat_cmp-IsAntisymmetric a b h
+
+-- the tree of a pair of a tree and what is shown of it
+abbrev tree_of : Told → State
+tree_of x = x.0
+
+abbrev trees_of : Told × Told → State × State
+trees_of x = (x.0.0, x.1.0)
+
+pair-equal : (x : Told × Told) (y : State × State) → ordering_then (tree_cmp x.0.0 y.0) (tree_cmp x.1.0 y.1) ≡ Equal → trees_of x ≡ y
+pair-equal x y h =
+    let both = then-equal (tree_cmp x.0.0 y.0) (tree_cmp x.1.0 y.1) h in
+    let first = x.0.1 y.0 both.0 in
+    let second = x.1.1 y.1 both.1 in
+    λ i. (first i, second i)
+
+level-equal : (y : State-F Told) (d : State-F State) → tree_cmp_of (map-State State (State → Ordering) tree_cmp (map-State Told State tree_of y)) d ≡ Equal → map-State Told State tree_of y ≡ d
+level-equal (Bit b) (Bit c) h = ap Bit (bool-equal b c h)
+level-equal (Place b) (Place c) h = ap Place (nat-equal b c h)
+level-equal (Seen b e) (Seen c f) h =
+    let p = then-equal (bool_cmp b c) (tree_cmp e.0 f) h in
+    ap (λ x. Seen x e.0) (bool-equal b c p.0) ∙ ap (Seen c) (e.1 f p.1)
+level-equal (Both e f) (Both g k) h =
+    let p = then-equal (tree_cmp e.0 g) (tree_cmp f.0 k) h in
+    ap (λ x. Both x f.0) (e.1 g p.0) ∙ ap (Both g) (f.1 k p.1)
+level-equal (Flag e f b) (Flag g k c) h =
+    let p = then-equal (tree_cmp e.0 g) (ordering_then (tree_cmp f.0 k) (bool_cmp b c)) h in
+    let q = then-equal (tree_cmp f.0 k) (bool_cmp b c) p.1 in
+    ap (λ x. Flag x f.0 b) (e.1 g p.0) ∙ ap (λ x. Flag g x b) (f.1 k q.0) ∙ ap (Flag g k) (bool-equal b c q.1)
+level-equal (Count e b) (Count f c) h =
+    let p = then-equal (tree_cmp e.0 f) (nat_cmp b c) h in
+    ap (λ x. Count x b) (e.1 f p.0) ∙ ap (Count f) (nat-equal b c p.1)
+level-equal (Starts e s) (Starts f t) h =
+    let p = then-equal (tree_cmp e.0 f) (list_cmp (λ x y. x y) (map tree_cmp (map tree_of s)) t) h in
+    let rest = list-equal (λ (x : (State → Ordering)) (y : State). x y) tree_cmp tree_of tree_of (λ x y q. x.1 y q) s t p.1 in
+    ap (λ x. Starts x (map tree_of s)) (e.1 f p.0) ∙ ap (Starts f) rest
+level-equal (Pairs e s) (Pairs f t) h =
+    let p = then-equal (tree_cmp e.0 f) (list_cmp (λ x y. ordering_then (x.0 y.0) (x.1 y.1)) (map (λ x. (tree_cmp x.0, tree_cmp x.1)) (map trees_of s)) t) h in
+    let rest = list-equal (λ (x : (State → Ordering) × (State → Ordering)) (y : State × State). ordering_then (x.0 y.0) (x.1 y.1)) (λ x. (tree_cmp x.0, tree_cmp x.1)) trees_of trees_of pair-equal s t p.1 in
+    ap (λ x. Pairs x (map trees_of s)) (e.1 f p.0) ∙ ap (Pairs f) rest
+level-equal _ _ h = cc
+
+pub tree-equal : (s t : State) → tree_cmp s t ≡ Equal → s ≡ t
+tree-equal = ind-State Tells (λ x y q. subst (λ d. Tells (roll-State d)) q (here y)) where
+  here : (y : State-F Told) → Tells (roll-State (map-State Told State tree_of y))
+  here y t h =
+      let d = map-State Told State tree_of y in
+      ap roll-State (level-equal y (out-State t) (sym (tree_cmp-roll d t) ∙ h)) ∙ roll-out-State t
+
+pub or_false : (a : Bool) → (a || false) ≡ a
+or_false false = refl
+or_false true = refl
+
+pub or_comm : (a b : Bool) → (a || b) ≡ (b || a)
+or_comm false false = refl
+or_comm false true = refl
+or_comm true false = refl
+or_comm true true = refl
+
+twice : (a b : Bool) → (a || b) ≡ (a || (a || b))
+twice false b = refl
+twice true b = refl
+
+swapped : (a b c : Bool) → (b || (a || c)) ≡ (a || (b || c))
+swapped false false c = refl
+swapped false true c = refl
+swapped true false c = refl
+swapped true true c = refl
+
+-- a test passes on a set with one more member where it passes on that, or on the set
+pub any-joined : {A : Type 0} (cmp : A → A → Ordering) → ((x y : A) → cmp x y ≡ Equal → x ≡ y) → (q : A → Bool) (x : A) (ys : List A) → list_any q (joined cmp x ys) ≡ (q x || list_any q ys)
+any-joined cmp eq q x [] = refl
+any-joined cmp eq q x (y ∷ ys) = by_order (any-joined cmp eq q x ys) (cmp x y) refl where
+  by_order : list_any q (joined cmp x ys) ≡ (q x || list_any q ys) → (o : Ordering) → cmp x y ≡ o → list_any q (placed o x y ys (joined cmp x ys)) ≡ (q x || (q y || list_any q ys))
+  by_order rest Less h = refl
+  by_order rest Equal h = rw (eq x y h) (twice (q y) (list_any q ys))
+  by_order rest Greater h = ap (λ b. q y || b) rest ∙ swapped (q x) (q y) (list_any q ys)
+
+regrouped : (a b c : Bool) → ((a || b) || c) ≡ (b || (a || c))
+regrouped false b c = refl
+regrouped true false c = refl
+regrouped true true c = refl
+
+pub any-all_joined : {A : Type 0} (cmp : A → A → Ordering) → ((x y : A) → cmp x y ≡ Equal → x ≡ y) → (q : A → Bool) (set xs : List A) → list_any q (all_joined cmp set xs) ≡ (list_any q set || list_any q xs)
+any-all_joined cmp eq q set [] = sym (or_false (list_any q set))
+any-all_joined cmp eq q set (x ∷ xs) =
+    any-all_joined cmp eq q (joined cmp x set) xs
+    ∙ ap (λ b. b || list_any q xs) (any-joined cmp eq q x set)
+    ∙ regrouped (q x) (list_any q set) (list_any q xs)
+
+pub any-map : {A B : Type 0} (q : B → Bool) (next : A → B) (xs : List A) → list_any q (map next xs) ≡ list_any (λ x. q (next x)) xs
+any-map q next [] = refl
+any-map q next (x ∷ xs) = ap (λ b. q (next x) || b) (any-map q next xs)
+
+kept-or : {A : Type 0} (q : A → Bool) (x : A) (t : Bool) (ys : List A) (b : Bool) → list_any q ys ≡ b → list_any q (cond t (x ∷ ys) ys) ≡ ((t && q x) || b)
+kept-or q x true ys b h = ap (λ c. q x || c) h
+kept-or q x false ys b h = h
+
+pub any-filter : {A : Type 0} (p q : A → Bool) (xs : List A) → list_any q (filter p xs) ≡ list_any (λ x. p x && q x) xs
+any-filter p q [] = refl
+any-filter p q (x ∷ xs) = kept-or q x (p x) (filter p xs) (list_any (λ y. p y && q y) xs) (any-filter p q xs)
+
+pub pairs-equal : (x y : State × State) → pair_cmp x y ≡ Equal → x ≡ y
+pairs-equal x y h =
+    let both = then-equal (tree_cmp x.0 y.0) (tree_cmp x.1 y.1) h in
+    let first = tree-equal x.0 y.0 both.0 in
+    let second = tree-equal x.1 y.1 both.1 in
+    λ i. (first i, second i)

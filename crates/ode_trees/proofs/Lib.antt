@@ -1,0 +1,11 @@
+pub mod CountLaws
+pub mod EqualTrees
+pub mod ListForms
+pub mod ListedLaws
+pub mod MachineLaws
+pub mod OrderLaws
+pub mod PairSets
+pub mod PartLaws
+pub mod Starts
+pub mod Steps
+pub mod TreeAnswers

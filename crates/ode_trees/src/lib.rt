@@ -1,0 +1,14 @@
+//! The trees of states of an event expression: the first one, a step, the answer, and how many there are.
+#![tactic(auto)]
+
+mod count;
+mod laws;
+mod machine;
+mod order;
+mod part;
+mod set;
+
+pub use count::count_trees;
+pub use laws::trees_answer_as_points;
+pub use machine::{init, out, step};
+pub use ode_value::State;

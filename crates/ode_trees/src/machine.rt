@@ -1,0 +1,423 @@
+//! The first tree of an expression, a step and the answer.
+ghost use Rattle.std.specs.Prelude.{◌≡◌, ◌+◌, ◌<◌, ◌≤◌, ◌^◌, [], IfOk, OnOk, length, map, min, true};
+ghost use Rattle.std.specs.List.{list_any};
+ghost use Rattle.ode_trees.specs.Listed.{leaf_count, next_listed, pairs_after};
+ghost use Rattle.ode_value.specs.Marks.{Mark, leaves, spelled};
+ghost use Rattle.ode_value.specs.Numbers.{has_numbers};
+ghost use Rattle.ode_value.specs.TreeOrder.{all_joined, joined, pair_cmp, tree_cmp};
+ghost use Rattle.ode_value.specs.Trees.{answers, first_tree, is_spent, left, machine, next_count, next_tree, next_turn, right, with_first};
+
+use crate::part::{bit, count, left, pairs, right, starts};
+use crate::set::join;
+use ode_value::{Boxed, EventExpr, List, State};
+use std::alloc::{AllocError, Global};
+
+// How many leaves the expression has.
+#[tactic(auto, using(crate::proofs::ListedLaws::listings))]
+fn leaf_count(e: &EventExpr) -> usize
+    requires { leaf_count e.now < 2 ^ 64 }
+    ensures { result ≡ leaf_count e.now }
+{
+    match e {
+        EventExpr::Leaf(_, _) => 1,
+        EventExpr::Any => 0,
+        EventExpr::First => 0,
+        EventExpr::Not(e) => leaf_count(e.get()),
+        EventExpr::And(e, f) => leaf_count(e.get()) + leaf_count(f.get()),
+        EventExpr::Or(e, f) => leaf_count(e.get()) + leaf_count(f.get()),
+        EventExpr::Relative(e, f) => leaf_count(e.get()) + leaf_count(f.get()),
+        EventExpr::Prior(e, f) => leaf_count(e.get()) + leaf_count(f.get()),
+        EventExpr::Sequence(e, f) => leaf_count(e.get()) + leaf_count(f.get()),
+        EventExpr::Choose(_, e) => leaf_count(e.get()),
+        EventExpr::Every(_, e) => leaf_count(e.get()),
+        EventExpr::Fa(e, f, g) => leaf_count(e.get()) + leaf_count(f.get()) + leaf_count(g.get()),
+    }
+}
+
+fn seen(alloc: Global, bit: bool, part: State) -> Result<State, AllocError>
+    ensures { IfOk result (λ t. t ≡ State.Seen bit part) }
+{
+    Ok(State::Seen(bit, Boxed::new(alloc, part)?))
+}
+
+fn both(alloc: Global, first: State, second: State) -> Result<State, AllocError>
+    ensures { IfOk result (λ t. t ≡ State.Both first second) }
+{
+    Ok(State::Both(Boxed::new(alloc, first)?, Boxed::new(alloc, second)?))
+}
+
+fn flagged(alloc: Global, first: State, second: State, flag: bool) -> Result<State, AllocError>
+    ensures { IfOk result (λ t. t ≡ State.Flag first second flag) }
+{
+    Ok(State::Flag(Boxed::new(alloc, first)?, Boxed::new(alloc, second)?, flag))
+}
+
+fn counted(alloc: Global, part: State, count: u32) -> Result<State, AllocError>
+    ensures { IfOk result (λ t. t ≡ State.Count part count) }
+{
+    Ok(State::Count(Boxed::new(alloc, part)?, count))
+}
+
+fn started(alloc: Global, part: State, set: List<State>) -> Result<State, AllocError>
+    ensures { IfOk result (λ t. t ≡ State.Starts part set) }
+{
+    Ok(State::Starts(Boxed::new(alloc, part)?, set))
+}
+
+fn paired(alloc: Global, part: State, set: List<(State, State)>) -> Result<State, AllocError>
+    ensures { IfOk result (λ t. t ≡ State.Pairs part set) }
+{
+    Ok(State::Pairs(Boxed::new(alloc, part)?, set))
+}
+
+/// The tree before the first point.
+#[tactic(auto, using(crate::proofs::MachineLaws::machines))]
+pub fn init(alloc: Global, e: &EventExpr) -> Result<State, AllocError>
+    ensures { IfOk result (λ s. s ≡ first_tree e.now) }
+{
+    match e {
+        EventExpr::Leaf(_, _) => Ok(State::Bit(false)),
+        EventExpr::Any => Ok(State::Bit(false)),
+        EventExpr::First => Ok(State::Place(0)),
+        EventExpr::Not(e) => {
+            let part = init(alloc, e.get())?;
+            seen(alloc, false, part)
+        }
+        EventExpr::And(e, f) => {
+            let first = init(alloc, e.get())?;
+            let second = init(alloc, f.get())?;
+            both(alloc, first, second)
+        }
+        EventExpr::Or(e, f) => {
+            let first = init(alloc, e.get())?;
+            let second = init(alloc, f.get())?;
+            both(alloc, first, second)
+        }
+        EventExpr::Relative(e, _) => {
+            let part = init(alloc, e.get())?;
+            started(alloc, part, List::new(alloc))
+        }
+        EventExpr::Prior(e, f) => {
+            let first = init(alloc, e.get())?;
+            let second = init(alloc, f.get())?;
+            flagged(alloc, first, second, false)
+        }
+        EventExpr::Sequence(e, f) => {
+            let first = init(alloc, e.get())?;
+            let second = init(alloc, f.get())?;
+            flagged(alloc, first, second, false)
+        }
+        EventExpr::Choose(_, e) => {
+            let part = init(alloc, e.get())?;
+            counted(alloc, part, 0)
+        }
+        EventExpr::Every(_, e) => {
+            let part = init(alloc, e.get())?;
+            counted(alloc, part, 0)
+        }
+        EventExpr::Fa(e, _, _) => {
+            let part = init(alloc, e.get())?;
+            paired(alloc, part, List::new(alloc))
+        }
+    }
+}
+
+/// Whether a tree answers.
+#[cycle(out)]
+#[tactic(auto, using(crate::proofs::MachineLaws::machines))]
+pub fn out(e: &EventExpr, s: &State) -> bool
+    ensures { result ≡ answers e.now s.now }
+{
+    match e {
+        EventExpr::Leaf(_, _) => bit(s),
+        EventExpr::Any => bit(s),
+        EventExpr::First => count(s) == 1,
+        EventExpr::Not(e) => bit(s) && !out(e.get(), left(s)),
+        EventExpr::And(e, f) => out(e.get(), left(s)) && out(f.get(), right(s)),
+        EventExpr::Or(e, f) => out(e.get(), left(s)) || out(f.get(), right(s)),
+        EventExpr::Relative(_, f) => any_out(f.get(), starts(s)),
+        EventExpr::Prior(_, f) => bit(s) && out(f.get(), right(s)),
+        EventExpr::Sequence(_, f) => bit(s) && out(f.get(), right(s)),
+        EventExpr::Choose(n, e) => out(e.get(), left(s)) && count(s) == *n,
+        EventExpr::Every(_, e) => out(e.get(), left(s)) && count(s) == 0,
+        EventExpr::Fa(_, f, _) => any_first_out(f.get(), pairs(s)),
+    }
+}
+
+#[cycle(out)]
+fn any_out(e: &EventExpr, set: &[State]) -> bool
+    ensures { result ≡ list_any (answers e.now) set.now }
+{
+    for s in set {
+        if out(e, s) {
+            return true;
+        }
+    }
+    false
+}
+
+#[cycle(out)]
+fn any_first_out(e: &EventExpr, set: &[(State, State)]) -> bool
+    ensures { result ≡ list_any (λ x. answers e.now x.0) set.now }
+{
+    for s in set {
+        if out(e, &s.0) {
+            return true;
+        }
+    }
+    false
+}
+
+fn place_after(c: u32) -> u8
+    ensures { result ≡ min (c + 1) 2 }
+{
+    if c < 2 { c as u8 + 1 } else { 2 }
+}
+
+fn count_after(n: u32, answers: bool, c: u32) -> u32
+    requires { n < 65536 }
+    ensures { result ≡ next_count n answers c }
+{
+    if answers && c <= n {
+        c + 1
+    } else if answers {
+        n + 1
+    } else {
+        c
+    }
+}
+
+fn turn_after(n: u32, answers: bool, c: u32) -> u32
+    requires { 0 < n }
+    ensures { result ≡ next_turn n answers c }
+{
+    if answers {
+        ((u64::from(c) + 1) % u64::from(n)) as u32
+    } else {
+        c
+    }
+}
+
+// The tree after one more point, of which the list says from a place on which leaves hold.
+#[cycle(step)]
+#[tactic(auto, using(crate::proofs::ListedLaws::steps))]
+fn step_at(
+    alloc: Global,
+    e: &EventExpr,
+    s: &State,
+    mark: &[bool],
+    at: usize,
+) -> Result<State, AllocError>
+    requires fits { at + leaf_count e.now ≤ length mark.now }
+    requires numbers { has_numbers e.now ≡ true }
+    ensures { IfOk result (λ t. t ≡ next_listed e.now at mark.now s.now) }
+{
+    match e {
+        EventExpr::Leaf(_, _) => Ok(State::Bit(mark[at])),
+        EventExpr::Any => Ok(State::Bit(true)),
+        EventExpr::First => Ok(State::Place(place_after(count(s)))),
+        EventExpr::Not(e) => {
+            let part = step_at(alloc, e.get(), left(s), mark, at)?;
+            seen(alloc, true, part)
+        }
+        EventExpr::And(e, f) => {
+            let (first, second) = step_two(alloc, e.get(), f.get(), s, mark, at)?;
+            both(alloc, first, second)
+        }
+        EventExpr::Or(e, f) => {
+            let (first, second) = step_two(alloc, e.get(), f.get(), s, mark, at)?;
+            both(alloc, first, second)
+        }
+        EventExpr::Relative(e, f) => step_relative(alloc, e.get(), f.get(), s, mark, at),
+        EventExpr::Prior(e, f) => {
+            let flag = bit(s) || out(e.get(), left(s));
+            let (first, second) = step_two(alloc, e.get(), f.get(), s, mark, at)?;
+            flagged(alloc, first, second, flag)
+        }
+        EventExpr::Sequence(e, f) => {
+            let flag = out(e.get(), left(s));
+            let (first, second) = step_two(alloc, e.get(), f.get(), s, mark, at)?;
+            flagged(alloc, first, second, flag)
+        }
+        EventExpr::Choose(n, e) => {
+            let part = step_at(alloc, e.get(), left(s), mark, at)?;
+            let answers = out(e.get(), &part);
+            counted(alloc, part, count_after(*n, answers, count(s)))
+        }
+        EventExpr::Every(n, e) => {
+            let part = step_at(alloc, e.get(), left(s), mark, at)?;
+            let answers = out(e.get(), &part);
+            counted(alloc, part, turn_after(*n, answers, count(s)))
+        }
+        EventExpr::Fa(e, f, g) => step_fa(alloc, e.get(), f.get(), g.get(), s, mark, at),
+    }
+}
+
+// Both parts of a tree.
+#[cycle(step)]
+fn step_two(
+    alloc: Global,
+    e: &EventExpr,
+    f: &EventExpr,
+    s: &State,
+    mark: &[bool],
+    at: usize,
+) -> Result<(State, State), AllocError>
+    requires fits { at + (leaf_count e.now + leaf_count f.now) ≤ length mark.now }
+    requires numbers { has_numbers e.now ≡ true }
+    requires numbers_too { has_numbers f.now ≡ true }
+    ensures first { IfOk result (λ t. t.0 ≡ next_listed e.now at mark.now (left s.now)) }
+    ensures second { IfOk result (λ t. t.1 ≡ next_listed f.now (at + leaf_count e.now) mark.now (right s.now)) }
+{
+    let first = step_at(alloc, e, left(s), mark, at)?;
+    let second = step_at(alloc, f, right(s), mark, at + leaf_count(e))?;
+    Ok((first, second))
+}
+
+// A first tree joins where there is an answer.
+fn begin(
+    alloc: Global,
+    answers: bool,
+    f: &EventExpr,
+    set: &mut List<State>,
+) -> Result<(), AllocError>
+    ensures { OnOk result (set.new ≡ with_first answers (joined tree_cmp (first_tree f.now)) set.old) }
+{
+    if answers {
+        let first = init(alloc, f)?;
+        join(set, first)?;
+    }
+    Ok(())
+}
+
+// The first pair joins where there is an answer.
+fn begin_pair(
+    alloc: Global,
+    answers: bool,
+    f: &EventExpr,
+    g: &EventExpr,
+    set: &mut List<(State, State)>,
+) -> Result<(), AllocError>
+    ensures { OnOk result (set.new ≡ with_first answers (joined pair_cmp (first_tree f.now, first_tree g.now)) set.old) }
+{
+    if answers {
+        let first = init(alloc, f)?;
+        let second = init(alloc, g)?;
+        join(set, (first, second))?;
+    }
+    Ok(())
+}
+
+#[cycle(step)]
+#[tactic(auto, using(crate::proofs::ListedLaws::steps))]
+fn step_relative(
+    alloc: Global,
+    e: &EventExpr,
+    f: &EventExpr,
+    s: &State,
+    mark: &[bool],
+    at: usize,
+) -> Result<State, AllocError>
+    requires fits { at + (leaf_count e.now + leaf_count f.now) ≤ length mark.now }
+    requires numbers { has_numbers e.now ≡ true }
+    requires numbers_too { has_numbers f.now ≡ true }
+    ensures { IfOk result (λ t. t ≡ next_listed (EventExpr.Relative e.now f.now) at mark.now s.now) }
+{
+    let part = step_at(alloc, e, left(s), mark, at)?;
+    let mut set = step_all(alloc, f, starts(s), mark, at + leaf_count(e))?;
+    let answers = out(e, &part);
+    begin(alloc, answers, f, &mut set)?;
+    started(alloc, part, set)
+}
+
+#[cycle(step)]
+#[tactic(auto, using(crate::proofs::ListedLaws::steps))]
+fn step_fa(
+    alloc: Global,
+    e: &EventExpr,
+    f: &EventExpr,
+    g: &EventExpr,
+    s: &State,
+    mark: &[bool],
+    at: usize,
+) -> Result<State, AllocError>
+    requires fits { at + (leaf_count e.now + leaf_count f.now + leaf_count g.now) ≤ length mark.now }
+    requires numbers { has_numbers e.now ≡ true }
+    requires numbers_too { has_numbers f.now ≡ true }
+    requires numbers_also { has_numbers g.now ≡ true }
+    ensures { IfOk result (λ t. t ≡ next_listed (EventExpr.Fa e.now f.now g.now) at mark.now s.now) }
+{
+    let part = step_at(alloc, e, left(s), mark, at)?;
+    let mut set = step_pairs(alloc, f, g, pairs(s), mark, at + leaf_count(e))?;
+    let answers = out(e, &part);
+    begin_pair(alloc, answers, f, g, &mut set)?;
+    paired(alloc, part, set)
+}
+
+#[cycle(step)]
+fn step_all(
+    alloc: Global,
+    e: &EventExpr,
+    set: &[State],
+    mark: &[bool],
+    at: usize,
+) -> Result<List<State>, AllocError>
+    requires fits { at + leaf_count e.now ≤ length mark.now }
+    requires numbers { has_numbers e.now ≡ true }
+    ensures { IfOk result (λ t. t ≡ all_joined tree_cmp [] (map (next_listed e.now at mark.now) set.now)) }
+{
+    let mut after = List::new(alloc);
+    for s in set {
+        let next = step_at(alloc, e, s, mark, at)?;
+        join(&mut after, next)?;
+    }
+    Ok(after)
+}
+
+#[cycle(step)]
+fn step_pairs(
+    alloc: Global,
+    f: &EventExpr,
+    g: &EventExpr,
+    set: &[(State, State)],
+    mark: &[bool],
+    at: usize,
+) -> Result<List<(State, State)>, AllocError>
+    requires fits { at + leaf_count f.now + leaf_count g.now ≤ length mark.now }
+    requires numbers { has_numbers f.now ≡ true }
+    requires numbers_too { has_numbers g.now ≡ true }
+    ensures { IfOk result (λ t. t ≡ pairs_after f.now g.now at mark.now [] set.now) }
+{
+    let mut after = List::new(alloc);
+    for s in set {
+        if !out(f, &s.0) && !out(g, &s.1) {
+            let first = step_at(alloc, f, &s.0, mark, at)?;
+            let second = step_at(alloc, g, &s.1, mark, at + leaf_count(f))?;
+            join(&mut after, (first, second))?;
+        }
+    }
+    Ok(after)
+}
+
+/// The tree after one more point, of which the mark says of each leaf, in the order of the text, whether it holds.
+pub fn step(alloc: Global, e: &EventExpr, s: &State, mark: &[bool]) -> Result<State, AllocError>
+    requires whole { length mark.now ≡ length (leaves e.now) }
+    requires numbers { has_numbers e.now ≡ true }
+    ensures { IfOk result (λ t. (m : Mark) → mark.now ≡ spelled e.now m → t ≡ next_tree e.now m s.now) }
+{
+    step_listed(alloc, e, s, mark)
+}
+
+/// The same, said of the list.
+pub(crate) fn step_listed(
+    alloc: Global,
+    e: &EventExpr,
+    s: &State,
+    mark: &[bool],
+) -> Result<State, AllocError>
+    requires whole { length mark.now ≡ length (leaves e.now) }
+    requires numbers { has_numbers e.now ≡ true }
+    ensures { IfOk result (λ t. t ≡ next_listed e.now 0 mark.now s.now) }
+{
+    step_at(alloc, e, s, mark, 0)
+}

@@ -1,0 +1,98 @@
+-- Kinds, values and expressions that pass for the same are the same.
+use Rattle.std.proofs.Common.{◌≡◌, ℕ, Bool, true, false, Some, None, Option, refl, ap, sym, ◌∙◌, subst}
+use Rattle.std.specs.Prelude.{◌&&◌, ◌==◌}
+use Rattle.std.specs.Str.{bytes_eq}
+use Rattle.std.proofs.lemmas.Bool.Decides.{Decides-eqb, Decides-int_eq}
+use Rattle.std.proofs.lemmas.Slice.Eq.{bytes_eq-Decides}
+use Rattle.ode_value.specs.declared.event.Kind.{Kind}
+use Rattle.ode_value.specs.declared.event.Kind.TheVariants as kind
+use Rattle.ode_value.specs.declared.statement.Expr.{Expr, out-Expr, roll-Expr, roll-out-Expr, fold-roll-Expr, fold_out-Expr, the_lemmas, map-Expr, ind-Expr}
+use Rattle.ode_value.specs.declared.statement.Expr.TheOpen as expr
+use Rattle.ode_value.specs.declared.statement.Expr.TheVariants as v
+use Rattle.ode_value.specs.declared.value.Ref.{Ref}
+use Rattle.ode_value.specs.declared.value.Value.{Value}
+use Rattle.ode_value.specs.declared.value.Value.TheVariants as value
+use Rattle.ode_value.specs.Same.{same_kind, same_bool, same_version, same_value, same_expr_of, same_expr}
+
+pub both-true : (b c : Bool) → (b && c) ≡ true → (b ≡ true) × (c ≡ true)
+both-true false c h = cc
+both-true true c h = (refl, h)
+
+pub kind-same : (k l : Kind) → same_kind k l ≡ true → k ≡ l
+kind-same kind.Create kind.Create h = refl
+kind-same kind.Delete kind.Delete h = refl
+kind-same (kind.Before m) (kind.Before n) h = ap kind.Before ((bytes_eq-Decides m n).0 h)
+kind-same (kind.After m) (kind.After n) h = ap kind.After ((bytes_eq-Decides m n).0 h)
+kind-same kind.TBegin kind.TBegin h = refl
+kind-same kind.TComplete kind.TComplete h = refl
+kind-same kind.TCommit kind.TCommit h = refl
+kind-same kind.TAbort kind.TAbort h = refl
+kind-same (kind.TimeEvery m) (kind.TimeEvery n) h = ap kind.TimeEvery ((Decides-eqb m n).0 h)
+kind-same (kind.TimeAt m) (kind.TimeAt n) h = ap kind.TimeAt ((Decides-int_eq m n).0 h)
+kind-same _ _ h = cc
+
+bool-same : (b c : Bool) → same_bool b c ≡ true → b ≡ c
+bool-same false false h = refl
+bool-same false true h = cc
+bool-same true false h = cc
+bool-same true true h = refl
+
+version-same : (m n : Option ℕ) → same_version m n ≡ true → m ≡ n
+version-same None None h = refl
+version-same (Some m) (Some n) h = ap Some ((Decides-eqb m n).0 h)
+version-same _ _ h = cc
+
+ref-same : (r s : Ref) → ((r.object == s.object) && same_version r.version s.version) ≡ true → r ≡ s
+ref-same r s h =
+    let parts = both-true (r.object == s.object) (same_version r.version s.version) h in
+    let object = (Decides-eqb r.object s.object).0 parts.0 in
+    let version = version-same r.version s.version parts.1 in
+    λ i. record { object = object i; version = version i }
+
+value-same : (v w : Value) → same_value v w ≡ true → v ≡ w
+value-same (value.Int m) (value.Int n) h = ap value.Int ((Decides-int_eq m n).0 h)
+value-same (value.Bool b) (value.Bool c) h = ap value.Bool (bool-same b c h)
+value-same (value.Text s) (value.Text t) h = ap value.Text ((bytes_eq-Decides s t).0 h)
+value-same (value.Reference r) (value.Reference s) h = ap value.Reference (ref-same r s h)
+value-same _ _ h = cc
+
+-- what an induction shows of an expression
+abbrev Tells : Expr → Type 0
+Tells e = (f : Expr) → same_expr e f ≡ true → e ≡ f
+
+abbrev Told : Type 0
+Told = (e : Expr) × Tells e
+
+abbrev expr_of : Told → Expr
+expr_of x = x.0
+
+same_expr-roll : (d : expr.Expr-F Expr) (f : Expr) → same_expr (roll-Expr d) f ≡ same_expr_of (map-Expr Expr (Expr → Bool) same_expr d) (out-Expr f)
+unfolding same_expr
+same_expr-roll d f = ap (λ g. g f) (fold-roll-Expr (Expr → Bool) (λ x y. same_expr_of x (out-Expr y)) d)
+
+level-same : (y : expr.Expr-F Told) (d : expr.Expr-F Expr) → same_expr_of (map-Expr Expr (Expr → Bool) same_expr (map-Expr Told Expr expr_of y)) d ≡ true → map-Expr Told Expr expr_of y ≡ d
+level-same (expr.Lit v) (expr.Lit w) h = ap expr.Lit (value-same v w h)
+level-same (expr.Field e m) (expr.Field f n) h =
+    let parts = both-true (same_expr e.0 f) (bytes_eq m n) h in
+    ap (λ x. expr.Field x m) (e.1 f parts.0) ∙ ap (expr.Field f) ((bytes_eq-Decides m n).0 parts.1)
+level-same _ _ h = cc
+
+pub expr-same : (e f : Expr) → same_expr e f ≡ true → e ≡ f
+expr-same = ind-Expr Tells (λ x y q. subst (λ d. Tells (roll-Expr d)) q (here y)) where
+  here : (y : expr.Expr-F Told) → Tells (roll-Expr (map-Expr Told Expr expr_of y))
+  here y f h =
+      let d = map-Expr Told Expr expr_of y in
+      ap roll-Expr (level-same y (out-Expr f) (sym (same_expr-roll d f) ∙ h)) ∙ roll-out-Expr f
+
+-- literals, as clauses name them
+pub same_lits : (x y : Value) → same_expr (v.Lit x) (v.Lit y) ≡ same_value x y
+same_lits x y =
+    ap (λ e. same_expr e (v.Lit y)) (sym (v.rolls-Lit x)) ∙ same_expr-roll (expr.Lit x) (v.Lit y)
+    ∙ ap (same_expr_of (map-Expr Expr (Expr → Bool) same_expr (expr.Lit x))) (v.outs-Lit y)
+
+-- by one level of each expression
+pub same_out : (e f : Expr) → same_expr e f ≡ same_expr_of (map-Expr Expr (Expr → Bool) same_expr (out-Expr e)) (out-Expr f)
+unfolding same_expr
+same_out e f = ap (λ g. g f) (fold_out-Expr (Expr → Bool) (λ x y. same_expr_of x (out-Expr y)) e)
+
+pub ruleset same_exprs = (the_lemmas, same_out)

@@ -1,0 +1,56 @@
+-- Examples, over calls of methods whose names are single letters.
+use Rattle.std.specs.Prelude.{ℕ, Bool, false, List, [], ◌∷◌, map, length, Some, None}
+use Rattle.std.specs.List.{range_with_len}
+use Rattle.ode_value.specs.declared.event.EventExpr.{EventExpr}
+use Rattle.ode_value.specs.declared.event.EventExpr.TheVariants as event
+use Rattle.ode_value.specs.declared.event.Kind.{Kind}
+use Rattle.ode_value.specs.declared.event.Kind.TheVariants as kind
+use Rattle.ode_value.specs.declared.event.Point.{Point}
+use Rattle.ode_value.specs.declared.statement.Expr.TheVariants as expr
+use Rattle.ode_value.specs.declared.value.Value.TheVariants as value
+use Rattle.ode_value.specs.Histories.{History}
+use Rattle.ode_value.specs.Marks.{Leaf, leaves, mark_of}
+use Rattle.ode_value.specs.Points.{Points, points}
+use Rattle.ode_value.specs.Symbols.{symbol_count_of, symbol_mark_of}
+
+-- after a call, and the kinds of these letters
+abbrev pub kind_of : ℕ → Kind
+kind_of letter = kind.After (letter ∷ [])
+
+abbrev pub kinds : List ℕ → List Kind
+kinds letters = map kind_of letters
+
+-- the leaves `after a`, `after b` and `after c`
+abbrev pub a : EventExpr
+a = event.Leaf (kind_of 97) None
+
+abbrev pub b : EventExpr
+b = event.Leaf (kind_of 98) None
+
+abbrev pub c : EventExpr
+c = event.Leaf (kind_of 99) None
+
+-- a point after each of these calls
+abbrev pub point_of : ℕ → Point
+point_of letter = record { kind = kind_of letter; args = []; fields = [] }
+
+abbrev pub calls : List ℕ → History
+calls letters = map point_of letters
+
+-- for each position of a history whether it is a point of the expression
+abbrev pub found_by : Points → List Leaf → History → List Bool
+found_by set ls history = map (set (map (mark_of ls []) history)) (range_with_len 0 (length history))
+
+abbrev pub found : EventExpr → History → List Bool
+found e = found_by (points e) (leaves e)
+
+-- for each symbol which leaves hold, in the order of the text
+abbrev pub symbol_table_of : List Leaf → List (List Bool)
+symbol_table_of ls = map (λ s. map (λ (l : Leaf). symbol_mark_of ls s l.0 l.1) ls) (range_with_len 0 (symbol_count_of ls))
+
+abbrev pub symbol_table : EventExpr → List (List Bool)
+symbol_table e = symbol_table_of (leaves e)
+
+-- `after a && false or after b`
+abbrev pub masked : EventExpr
+masked = event.Or (event.Leaf (kind_of 97) (Some (expr.Lit (value.Bool false)))) b

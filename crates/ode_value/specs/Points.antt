@@ -1,0 +1,58 @@
+-- The points of an event expression, and where it fires. That an expression denotes a subset of the points of a history is from
+-- Gehani, Jagadish and Shmueli, SIGMOD 1992 and VLDB 1992; the operators and their positions are this project's own.
+use Rattle.std.specs.Prelude.{ℕ, zero, suc, ◌+◌, ◌-◌, ◌%◌, ◌==◌, nat_lt, ◌&&◌, ◌||◌, not, if◌then◌else◌, Bool, false, List, length, drop, slice_index_or}
+use Rattle.ode_value.specs.declared.event.EventExpr.{EventExpr, fold-EventExpr}
+use Rattle.ode_value.specs.declared.event.EventExpr.TheOpen as event
+use Rattle.ode_value.specs.declared.value.Value.{Value}
+use Rattle.ode_value.specs.Histories.{History}
+use Rattle.ode_value.specs.Marks.{Mark, no_mark, marks}
+
+-- a set of positions of a history, of which the marks are known
+abbrev pub Points : Type 0
+Points = List Mark → ℕ → Bool
+
+-- some number below n passes
+abbrev pub some_below : (ℕ → Bool) → ℕ → Bool
+some_below p zero = false
+some_below p (suc n) = some_below p n || p n
+
+-- how many numbers below n pass
+abbrev pub count_below : (ℕ → Bool) → ℕ → ℕ
+count_below p zero = 0
+count_below p (suc n) = if p n then count_below p n + 1 else count_below p n
+
+-- the positions after one of E that F has on the part strictly after it
+abbrev pub after_each : Points → Points → Points
+after_each e f m i = some_below (λ p. e m p && f (drop (suc p) m) (i - suc p)) i
+
+-- the first position of F, unless one of G is before it
+abbrev pub first_unless : Points → Points → Points
+first_unless f g m i = f m i && not (some_below (λ k. f m k || g m k) i)
+
+-- by one level of the expression
+abbrev pub points_of : event.EventExpr-F Points → Points
+points_of (event.Leaf kind mask) m i = nat_lt i (length m) && slice_index_or m i no_mark kind mask
+points_of event.Any m i = nat_lt i (length m)
+points_of event.First m i = nat_lt i (length m) && (i == 0)
+points_of (event.And e f) m i = e m i && f m i
+points_of (event.Or e f) m i = e m i || f m i
+points_of (event.Not e) m i = nat_lt i (length m) && not (e m i)
+points_of (event.Prior e f) m i = some_below (e m) i && f m i
+points_of (event.Sequence e f) m zero = false
+points_of (event.Sequence e f) m (suc i) = e m i && f m (suc i)
+points_of (event.Choose n e) m i = e m i && (count_below (e m) i + 1 == n)
+points_of (event.Every n e) m i = e m i && ((count_below (e m) i + 1) % n == 0)
+points_of (event.Relative e f) m i = after_each e f m i
+points_of (event.Fa e f g) m i = after_each e (first_unless f g) m i
+
+-- the positions at which there is a point of the expression
+unfoldable pub points : EventExpr → Points
+points = fold-EventExpr Points points_of
+
+-- the last position is one of them
+abbrev pub fires : EventExpr → List Mark → Bool
+fires e m = nat_lt 0 (length m) && points e m (length m - 1)
+
+-- the same of a history, with the arguments of the trigger
+abbrev pub fires_on : EventExpr → List Value → History → Bool
+fires_on e params history = fires e (marks e params history)

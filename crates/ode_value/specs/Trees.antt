@@ -1,0 +1,151 @@
+-- The trees of states of an event expression: the first one, a step and the answer.
+use Rattle.std.specs.Prelude.{ℕ, zero, suc, ◌+◌, ◌%◌, ◌==◌, min, ◌&&◌, ◌||◌, not, Bool, true, false, cond, List, [], length, map, filter, slice_index_or}
+use Rattle.std.specs.List.{list_any}
+use Rattle.ode_value.specs.declared.event.EventExpr.{EventExpr, fold-EventExpr}
+use Rattle.ode_value.specs.declared.event.EventExpr.TheOpen as event
+use Rattle.ode_value.specs.declared.tree.State.{State, out-State}
+use Rattle.ode_value.specs.declared.tree.State.TheOpen as level
+use Rattle.ode_value.specs.declared.tree.State.TheVariants.{Bit, Place, Seen, Both, Flag, Count, Starts, Pairs}
+use Rattle.ode_value.specs.Marks.{Mark, no_mark}
+use Rattle.ode_value.specs.TreeOrder.{tree_cmp, pair_cmp, joined, all_joined}
+
+-- ---- the parts of a tree; a tree of another form has itself, false, 0 or nothing in their place
+
+abbrev pub Level : Type 0
+Level = level.State-F State
+
+abbrev pub left_of : State → Level → State
+left_of s (level.Seen b e) = e
+left_of s (level.Both e f) = e
+left_of s (level.Flag e f b) = e
+left_of s (level.Count e c) = e
+left_of s (level.Starts e set) = e
+left_of s (level.Pairs e set) = e
+left_of s _ = s
+
+abbrev pub right_of : State → Level → State
+right_of s (level.Both e f) = f
+right_of s (level.Flag e f b) = f
+right_of s _ = s
+
+abbrev pub bit_of : Level → Bool
+bit_of (level.Bit b) = b
+bit_of (level.Seen b e) = b
+bit_of (level.Flag e f b) = b
+bit_of _ = false
+
+abbrev pub count_of : Level → ℕ
+count_of (level.Place c) = c
+count_of (level.Count e c) = c
+count_of _ = 0
+
+abbrev pub starts_of : Level → List State
+starts_of (level.Starts e set) = set
+starts_of _ = []
+
+abbrev pub pairs_of : Level → List (State × State)
+pairs_of (level.Pairs e set) = set
+pairs_of _ = []
+
+unfoldable pub left : State → State
+left s = left_of s (out-State s)
+
+unfoldable pub right : State → State
+right s = right_of s (out-State s)
+
+unfoldable pub bit : State → Bool
+bit s = bit_of (out-State s)
+
+unfoldable pub count : State → ℕ
+count s = count_of (out-State s)
+
+unfoldable pub starts : State → List State
+starts s = starts_of (out-State s)
+
+unfoldable pub pairs : State → List (State × State)
+pairs s = pairs_of (out-State s)
+
+-- ---- the machines
+
+-- the first tree, the tree after one more point, and the answer
+pub record Machine : Type 0 where
+  pub first : State
+  pub next : Mark → State → State
+  pub answer : State → Bool
+
+-- one more where there is an answer: at most n + 1, and modulo n
+abbrev pub next_count : ℕ → Bool → ℕ → ℕ
+next_count n answers c = cond answers (min (c + 1) (n + 1)) c
+
+abbrev pub next_turn : ℕ → Bool → ℕ → ℕ
+next_turn n answers c = cond answers ((c + 1) % n) c
+
+-- both parts of a tree after a point
+abbrev pub next_both : Machine → Machine → Mark → State → (State → State → State) → State
+next_both e f m s make = make (e.next m (left s)) (f.next m (right s))
+
+-- where E answers after the point, a first tree joins
+abbrev pub with_first : {A : Type 0} → Bool → (List A → List A) → List A → List A
+with_first answers join set = cond answers (join set) set
+
+-- a pair is spent where one of its trees answers
+abbrev pub is_spent : Machine → Machine → State × State → Bool
+is_spent f g x = f.answer x.0 || g.answer x.1
+
+abbrev pub next_pair : Machine → Machine → Mark → State × State → State × State
+next_pair f g m x = (f.next m x.0, g.next m x.1)
+
+-- the set after a point: its members after their steps
+abbrev pub next_starts : Machine → Mark → List State → List State
+next_starts f m set = all_joined tree_cmp [] (map (f.next m) set)
+
+abbrev pub next_pairs : Machine → Machine → Mark → List (State × State) → List (State × State)
+next_pairs f g m set = all_joined pair_cmp [] (map (next_pair f g m) (filter (λ x. not (is_spent f g x)) set))
+
+abbrev pub made : State → (Mark → State → State) → (State → Bool) → Machine
+made first next answer = record { first = first; next = next; answer = answer }
+
+-- by one level of the expression: first, next, answer
+abbrev pub machine_of : event.EventExpr-F Machine → Machine
+machine_of (event.Leaf kind mask) = made (Bit false) (λ m s. Bit (m kind mask)) bit
+machine_of event.Any = made (Bit false) (λ m s. Bit true) bit
+machine_of event.First = made (Place 0) (λ m s. Place (min (count s + 1) 2)) (λ s. count s == 1)
+machine_of (event.Not e) = made (Seen false e.first) (λ m s. Seen true (e.next m (left s))) (λ s. bit s && not (e.answer (left s)))
+machine_of (event.And e f) = made (Both e.first f.first) (λ m s. next_both e f m s Both) (λ s. e.answer (left s) && f.answer (right s))
+machine_of (event.Or e f) = made (Both e.first f.first) (λ m s. next_both e f m s Both) (λ s. e.answer (left s) || f.answer (right s))
+machine_of (event.Prior e f) =
+    made (Flag e.first f.first false) (λ m s. next_both e f m s (λ x y. Flag x y (bit s || e.answer (left s)))) (λ s. bit s && f.answer (right s))
+machine_of (event.Sequence e f) =
+    made (Flag e.first f.first false) (λ m s. next_both e f m s (λ x y. Flag x y (e.answer (left s)))) (λ s. bit s && f.answer (right s))
+machine_of (event.Choose n e) =
+    made (Count e.first 0) (λ m s. let x = e.next m (left s) in Count x (next_count n (e.answer x) (count s))) (λ s. e.answer (left s) && (count s == n))
+machine_of (event.Every n e) =
+    made (Count e.first 0) (λ m s. let x = e.next m (left s) in Count x (next_turn n (e.answer x) (count s))) (λ s. e.answer (left s) && (count s == 0))
+machine_of (event.Relative e f) =
+    made (Starts e.first [])
+    (λ m s. let x = e.next m (left s) in Starts x (with_first (e.answer x) (joined tree_cmp f.first) (next_starts f m (starts s))))
+    (λ s. list_any f.answer (starts s))
+machine_of (event.Fa e f g) =
+    made (Pairs e.first [])
+    (λ m s. let x = e.next m (left s) in Pairs x (with_first (e.answer x) (joined pair_cmp (f.first, g.first)) (next_pairs f g m (pairs s))))
+    (λ s. list_any (λ x. f.answer x.0) (pairs s))
+
+unfoldable pub machine : EventExpr → Machine
+machine = fold-EventExpr Machine machine_of
+
+abbrev pub first_tree : EventExpr → State
+first_tree e = (machine e).first
+
+abbrev pub next_tree : EventExpr → Mark → State → State
+next_tree e = (machine e).next
+
+abbrev pub answers : EventExpr → State → Bool
+answers e = (machine e).answer
+
+-- the tree after the first n points of a history, and after all of them
+abbrev pub after : Machine → List Mark → ℕ → State
+after machine m zero = machine.first
+after machine m (suc n) = machine.next (slice_index_or m n no_mark) (after machine m n)
+
+abbrev pub tree_after : EventExpr → List Mark → State
+tree_after e m = after (machine e) m (length m)

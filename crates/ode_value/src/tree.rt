@@ -1,0 +1,24 @@
+//! Trees of states of event expressions.
+use crate::boxed::Boxed;
+use crate::list::List;
+
+/// A tree of states, of the form that its event expression gives it.
+#[derive(Drop)]
+pub enum State {
+    /// Of a leaf and of `any`: whether it holds at the last point.
+    Bit(bool),
+    /// Of `first`: how many points there were, at most 2.
+    Place(u8),
+    /// Of `!E`: whether there was a point.
+    Seen(bool, Boxed<State>),
+    /// Of `and` and `or`.
+    Both(Boxed<State>, Boxed<State>),
+    /// Of `prior` and `sequence`: whether a point before the last one, or the one before it, is in the first part.
+    Flag(Boxed<State>, Boxed<State>, bool),
+    /// Of `choose` and `every`: how many points there were.
+    Count(Boxed<State>, u32),
+    /// Of `relative`: a tree of the second part for each start, as a set.
+    Starts(Boxed<State>, List<State>),
+    /// Of `fa`: trees of the second and the third part for each start, as a set.
+    Pairs(Boxed<State>, List<(State, State)>),
+}
