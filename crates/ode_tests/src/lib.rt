@@ -1,10 +1,8 @@
-//! Tests of whole runs over a disk and an output in memory, and of the values that runs are made of.
+//! Tests of whole runs over a disk and an output in memory.
 #![tactic(auto)]
 
 #[cfg(test)]
 mod faults;
-#[cfg(test)]
-mod fields;
 #[cfg(test)]
 mod files;
 #[cfg(test)]
@@ -22,12 +20,6 @@ mod scripts;
 #[cfg(test)]
 mod stops;
 #[cfg(test)]
-mod tokens;
-#[cfg(test)]
-mod trees;
-#[cfg(test)]
 mod trial;
-#[cfg(test)]
-mod values;
 #[cfg(test)]
 mod words;
