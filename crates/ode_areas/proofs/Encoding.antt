@@ -1,0 +1,61 @@
+-- What is added to a frame bit by bit, and how long snapshots and payloads are.
+use Rattle.std.proofs.Common.{◌≡◌, ◌≤◌, ◌<◌, ℕ, suc, ◌+◌, ◌-◌, ◌*◌, List, [], ◌∷◌, ◌++◌, length, Option, None, refl, sym, ap, subst, ◌∙◌, arith, append_assoc, length-append}
+use Rattle.std.specs.List.{All, AllByRecursion}
+use Rattle.std.specs.Map.{values_of}
+use Rattle.std.specs.Option.{IfSome}
+use Rattle.ode_journal.specs.Filling.{Filling, filled_by}
+use Rattle.ode_value.specs.declared.key.Key.{Key}
+use Rattle.ode_value.specs.Records.{key_bytes, row_bytes, snapshot}
+use Rattle.ode_keep.specs.Entries.{Changes, Entries, record_bytes}
+use Rattle.ode_areas.specs.Rows.{FitsRow}
+
+-- two pieces that are added one after the other
+pub filled_twice : (f g h : Filling) (a b c : List ℕ) → g ≡ filled_by f a → c ≡ b → h ≡ filled_by g c → h ≡ filled_by f (a ++ b)
+filled_twice f g h a b c first is second =
+    second ∙ ap (λ (l : List ℕ). filled_by g l) is ∙ ap (λ (k : Filling). filled_by k b) first
+    ∙ (λ i. record {
+      payload = append_assoc f.payload a b i;
+      spare = (let same : f.spare - length a - length b ≡ f.spare - length (a ++ b) = omega (arith, length-append a b) in same) i;
+    })
+
+-- a frame with its first piece
+pub started_frame : (f g : Filling) (head bytes rest : List ℕ) (n : ℕ) → f ≡ record { payload = []; spare = n } → g ≡ filled_by f bytes → bytes ≡ head
+    → n ≡ length (head ++ rest) → (g.payload ++ rest ≡ head ++ rest) × (g.spare ≡ length rest)
+started_frame f g head bytes rest n first second is long =
+    let whole : g ≡ record { payload = head; spare = n - length head } =
+    second ∙ ap (λ (l : List ℕ). filled_by f l) is ∙ ap (λ (k : Filling). filled_by k head) first in
+    (ap (λ (k : Filling). k.payload ++ rest) whole, ap (λ (k : Filling). k.spare) whole ∙ (let same : n - length head ≡ length rest = omega (arith, long, length-append head rest) in same))
+
+-- a change whose value is short enough for a batch
+abbrev pub IsShortChange : Key × Option (List ℕ) → Type 0
+IsShortChange c = IfSome c.1 (λ v. length v ≤ 3968)
+
+pub short_each : (cs : Changes) → All (λ (value : Option (List ℕ)). IfSome value (λ v. length v ≤ 3968)) (values_of cs) → AllByRecursion IsShortChange cs
+short_each [] all = tt
+short_each (c ∷ cs) all = (all 0 None (omega arith), short_each cs (λ k d within. all (suc k) d (omega arith)))
+
+-- each record has two bytes more in a snapshot than it counts
+pub length-snapshot : (es : Entries) → length (snapshot es) ≡ record_bytes es + 2 * length es
+length-snapshot [] = refl
+length-snapshot (e ∷ es) = omega (arith, length-append (row_bytes e) (snapshot es), length-append (key_bytes e.0) e.1, length-snapshot es)
+
+-- and counts 17 bytes at least
+pub seventeen_each : (es : Entries) → 17 * length es ≤ record_bytes es
+seventeen_each [] = omega arith
+seventeen_each (e ∷ es) = omega (arith, seventeen_each es)
+
+-- a snapshot of records within the limit leaves room for a frame in its area
+pub frame_fits : (es : Entries) (payload : ℕ) → record_bytes es ≤ 16777216 → payload ≤ 4083716 → length (snapshot es) + payload + 6 ≤ 33554432
+frame_fits es payload within short = omega (arith, length-snapshot es, seventeen_each es)
+
+-- one record more of a snapshot
+pub row_more : (map iter next : Entries) (k : Key) (v s now new : List ℕ) → iter ≡ (k, v) ∷ next → s ≡ v → (length s < 65536 → new ≡ now ++ row_bytes (k, s))
+    → AllByRecursion FitsRow iter × (now ++ snapshot iter ≡ snapshot map) → AllByRecursion FitsRow next × (new ++ snapshot next ≡ snapshot map)
+row_more map iter next k v s now new first is put was =
+    let all : AllByRecursion FitsRow ((k, v) ∷ next) = subst (λ (l : Entries). AllByRecursion FitsRow l) first was.0 in
+    let long : length s ≡ length v = ap (λ (l : List ℕ). length l) is in
+    let grown : new ≡ now ++ row_bytes (k, v) = put (omega (arith, long, all.0.value)) ∙ ap (λ (l : List ℕ). now ++ row_bytes (k, l)) is in (
+      all.1,
+      ap (λ (l : List ℕ). l ++ snapshot next) grown ∙ append_assoc now (row_bytes (k, v)) (snapshot next)
+          ∙ ap (λ (l : Entries). now ++ snapshot l) (sym first) ∙ was.1,
+    )

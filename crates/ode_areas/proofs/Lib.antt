@@ -1,0 +1,11 @@
+pub mod InMemory
+pub mod Loading
+pub mod Replayed
+pub mod Started
+pub mod Encoding
+pub mod Splitting
+pub mod Windows
+pub mod Fitting
+pub mod Moving
+pub mod Above
+pub mod Committing

@@ -1,0 +1,237 @@
+-- The three writes that may come before a commit's end, and what a stop leaves in each.
+use Rattle.std.proofs.Common.{◌≡◌, ◌≢◌, ◌≤◌, ◌⊎◌, inl, inr, ⊎_elim, ℕ, ◌+◌, ◌-◌, List, [], ◌∷◌, ◌++◌, length, take, drop, replicate, refl, sym, ◌∙◌, ap, subst, arith, append_assoc, length-append, length-take}
+use Rattle.std.proofs.lemmas.List.{take_at, drop_at, drop-drop, length-replicate, take-take}
+use Rattle.ode_host.specs.View.{View}
+use Rattle.ode_host.specs.Host.{LeavesTorn, Stands, Torn, written_over}
+use Rattle.ode_host.proofs.Bytes.{length-written_over, written-torn}
+use Rattle.ode_gate.specs.declared.header.Header.{Header}
+use Rattle.ode_gate.specs.Changes.{IsChanged, IsSameBehind, LeavesHeader, MayFollow}
+use Rattle.ode_gate.specs.Gate.{open_gate}
+use Rattle.ode_gate.specs.Headers.{IsOfAreas}
+use Rattle.ode_gate.specs.Slots.{Counts}
+use Rattle.ode_gate.proofs.Fronts.{counts_front}
+use Rattle.ode_journal.specs.declared.journal.Journal.{Journal}
+use Rattle.ode_journal.specs.Appends.{IsBeforeOrAfter, JournalStands, SameOutside}
+use Rattle.ode_journal.specs.Frames.{IsJournal, spelled}
+use Rattle.ode_keep.specs.Entries.{Changes, Entries, applied}
+use Rattle.ode_keep.specs.Keeping.{LeavesOldOrNew}
+use Rattle.ode_value.specs.Records.{snapshot}
+use Rattle.ode_areas.specs.Image.{AreasMean, HasMap}
+use Rattle.ode_areas.specs.Payloads.{IsPayload}
+use Rattle.ode_areas.specs.Rows.{IsSnapshot}
+use Rattle.ode_areas.specs.Steps.{LeavesMap, MovesOver, StandUnder, empty_under}
+use Rattle.ode_areas.proofs.Fitting.{map_fits, payloads_more, replayed_more}
+use Rattle.ode_areas.proofs.Windows.{has_window, has_window-frames, journal_at, still_counts, still_has, wide, window}
+
+-- what stands where a write was made
+pub drop_written : (at : ℕ) (bytes old : List ℕ) → drop at (written_over old at bytes) ≡ bytes ++ drop (at + length bytes) old
+drop_written at bytes old =
+    let front = take at old ++ replicate (at - length old) 0 in
+    let long : length (take at old ++ replicate (at - length old) 0) ≡ at =
+    omega (arith, length-append (take at old) (replicate (at - length old) 0), length-take at old, length-replicate {A = ℕ} (at - length old) 0) in
+    ap (λ (l : List ℕ). drop at l) (append_assoc front bytes (drop (at + length bytes) old))
+    ∙ drop_at front (bytes ++ drop (at + length bytes) old) at long
+
+area_of : (h : Header) → IsOfAreas h → (h.body_at ≡ 4096) ⊎ (h.body_at ≡ 33558528)
+area_of h areas = ⊎_elim (λ first. inl first.0) (λ second. inr second.0) areas.area
+
+front_take : (n m : ℕ) (c file : List ℕ) → n ≤ m → take m c ≡ take m file → take n c ≡ take n file
+front_take n m c file within same = sym (take-take n m c within) ∙ ap (λ (l : List ℕ). take n l) same ∙ take-take n m file within
+
+-- A snapshot in the other area, and the header's change.
+module _ (older h : Header) (place : Journal) (entries : Entries) (bytes : List ℕ) (old : View)
+    (stand : StandUnder older place entries old) (moves : MovesOver older entries h bytes) where
+  abbrev file : List ℕ
+  file = stand.file
+
+  abbrev staged : List ℕ
+  staged = written_over file h.body_at bytes
+
+  abbrev rest : List ℕ
+  rest = drop (h.body_at + length bytes) file
+
+  size : length bytes ≡ h.body_len + 1
+  size = omega (arith, ap length moves.spelled, length-append (snapshot entries) (0 ∷ []), moves.long)
+
+  short : length bytes ≤ 33554432
+  short = omega (arith, size, moves.follows.areas.journal, moves.follows.areas.room, moves.follows.areas.area)
+
+  torn_means : (c : List ℕ) → Torn h.body_at (length bytes) file c → AreasMean c entries
+  torn_means c torn = record {
+    header = older;
+    counts = still_counts older stand.areas file c entries stand.has stand.counts h.body_at (length bytes) moves.follows.other (area_of h moves.follows.areas) short torn;
+    areas = stand.areas;
+    has = still_has older stand.areas file c entries stand.has stand.counts h.body_at (length bytes) moves.follows.other (area_of h moves.follows.areas) short torn;
+  }
+
+  -- while the snapshot is written the old header counts
+  pub snapshot_leaves : (c o : List ℕ) → LeavesTorn h.body_at (length bytes) file old c o → LeavesMap entries old c o
+  snapshot_leaves c o left = record { means = torn_means c left.0; text = left.1 }
+
+  staged_torn : Torn h.body_at (length bytes) file staged
+  staged_torn = written-torn h.body_at bytes file
+
+  pub staged_counts : Counts staged older
+  staged_counts = still_counts older stand.areas file staged entries stand.has stand.counts h.body_at (length bytes) moves.follows.other (area_of h moves.follows.areas) short staged_torn
+
+  pub staged_old : HasMap older staged entries
+  staged_old = still_has older stand.areas file staged entries stand.has stand.counts h.body_at (length bytes) moves.follows.other (area_of h moves.follows.areas) short staged_torn
+
+  staged_at : drop h.body_at staged ≡ snapshot entries ++ 0 ∷ rest
+  staged_at =
+      drop_written h.body_at bytes file ∙ ap (λ (l : List ℕ). l ++ rest) moves.spelled
+      ∙ append_assoc (snapshot entries) (0 ∷ []) rest
+
+  staged_body : take h.body_len (drop h.body_at staged) ≡ snapshot entries
+  staged_body = ap (λ (l : List ℕ). take h.body_len l) staged_at ∙ take_at (snapshot entries) (0 ∷ rest) h.body_len (sym moves.long)
+
+  staged_gate : drop h.journal_at staged ≡ 0 ∷ rest
+  staged_gate =
+      ap (λ (k : ℕ). drop k staged) moves.follows.areas.journal ∙ sym (drop-drop h.body_len h.body_at staged)
+      ∙ ap (λ (l : List ℕ). drop h.body_len l) staged_at ∙ drop_at (snapshot entries) (0 ∷ rest) h.body_len (sym moves.long)
+
+  shut_zero : 0 ≢ open_gate
+  shut_zero = omega arith
+
+  -- under the new header the snapshot has the same records
+  pub staged_new : HasMap h staged entries
+  staged_new = record {
+    body = entries;
+    snapshot = record { spelled = staged_body; fits = map_fits older file entries stand.has };
+    frames = [];
+    journal = journal_at h.journal_at h.journal_end [] 0 rest staged staged_gate tt shut_zero (omega (arith, moves.follows.areas.room));
+    batches = [];
+    payloads = tt;
+    map = refl;
+  }
+
+  long : 4096 ≤ length staged
+  long = omega (arith, length-written_over h.body_at bytes file, size, area_of h moves.follows.areas)
+
+  pub may_follow : MayFollow staged older h
+  may_follow = record {
+    long = long;
+    counts = staged_counts;
+    rules = moves.follows.rules;
+    beside = moves.follows.beside;
+    next = moves.follows.next;
+  }
+
+  same_from : (c : List ℕ) (at : ℕ) → 4096 ≤ at → IsSameBehind staged c → drop at c ≡ drop at staged
+  same_from c at behind same =
+      let is : 4096 + (at - 4096) ≡ at = omega arith in
+      ap (λ (k : ℕ). drop k c) (sym is) ∙ sym (drop-drop (at - 4096) 4096 c) ∙ ap (λ (l : List ℕ). drop (at - 4096) l) same.behind
+      ∙ drop-drop (at - 4096) 4096 staged ∙ ap (λ (k : ℕ). drop k staged) is
+
+  old_still : (c : List ℕ) → IsSameBehind staged c → HasMap older c entries
+  old_still c same =
+      has_window older stand.areas staged c entries staged_old
+      (ap (λ (l : List ℕ). take (wide older stand.areas staged c entries staged_old) l) (same_from c older.body_at (omega (arith, area_of older stand.areas)) same))
+
+  new_still : (c : List ℕ) → IsSameBehind staged c → HasMap h c entries
+  new_still c same =
+      has_window h moves.follows.areas staged c entries staged_new
+      (ap (λ (l : List ℕ). take (wide h moves.follows.areas staged c entries staged_new) l) (same_from c h.body_at (omega (arith, area_of h moves.follows.areas)) same))
+
+  no_frames : (c : List ℕ) (same : IsSameBehind staged c) → (new_still c same).frames ≡ []
+  unfolding new_still staged_new
+  no_frames c same =
+      has_window-frames h moves.follows.areas staged c entries staged_new
+      (ap (λ (l : List ℕ). take (wide h moves.follows.areas staged c entries staged_new) l) (same_from c h.body_at (omega (arith, area_of h moves.follows.areas)) same))
+
+  -- while the header is changed either counts, and both have the same records
+  pub header_leaves : (mid : View) → mid.text ≡ old.text → (c o : List ℕ) → LeavesHeader staged older h mid c o → LeavesMap entries old c o
+  header_leaves mid same c o left = record {
+    means = ⊎_elim
+        (λ (was : Counts c older). let m : AreasMean c entries = record { header = older; counts = was; areas = stand.areas; has = old_still c left.same } in m)
+        (λ (now : Counts c h). let m : AreasMean c entries = record { header = h; counts = now; areas = moves.follows.areas; has = new_still c left.same } in m)
+        left.counts;
+    text = sym same ∙ left.text;
+  }
+
+  -- and then the new one does
+  pub moved_over : (new : View) (next : List ℕ) → Stands next new → IsChanged staged h next → StandUnder h (empty_under h) entries new
+  moved_over new next stands changed = record {
+    file = next;
+    counts = changed.counts;
+    areas = moves.follows.areas;
+    has = new_still next changed.same;
+    journal = record { stands = stands; has = (new_still next changed.same).journal; place = omega (arith, ap (λ (l : List (List ℕ)). length (spelled l)) (no_frames next changed.same)) };
+    end = refl;
+  }
+
+-- A frame more.
+module _ (h : Header) (place : Journal) (entries : Entries) (changes : Changes) (payload : List ℕ) (old : View)
+    (stand : StandUnder h place entries old) (is : IsPayload changes payload) where
+  front_counts : (c : List ℕ) → take h.journal_at c ≡ take h.journal_at stand.file → Counts c h
+  front_counts c same = counts_front stand.file c h (front_take 4096 h.journal_at c stand.file (omega (arith, area_of h stand.areas, stand.areas.journal)) same) stand.counts
+
+  body_same : (c : List ℕ) → take h.journal_at c ≡ take h.journal_at stand.file → IsSnapshot stand.has.body (take h.body_len (drop h.body_at c))
+  body_same c same =
+      subst (λ (l : List ℕ). IsSnapshot stand.has.body l) (sym (window h.journal_at h.body_at h.body_len c stand.file (omega (arith, stand.areas.journal)) same)) stand.has.snapshot
+
+  before : (c : List ℕ) → take h.journal_at c ≡ take h.journal_at stand.file → IsJournal h.journal_at h.journal_end stand.has.frames c → HasMap h c entries
+  before c same journal = record {
+    body = stand.has.body;
+    snapshot = body_same c same;
+    frames = stand.has.frames;
+    journal = journal;
+    batches = stand.has.batches;
+    payloads = stand.has.payloads;
+    map = stand.has.map;
+  }
+
+  after : (c : List ℕ) → take h.journal_at c ≡ take h.journal_at stand.file → IsJournal h.journal_at h.journal_end (stand.has.frames ++ payload ∷ []) c → HasMap h c (applied changes entries)
+  after c same journal = record {
+    body = stand.has.body;
+    snapshot = body_same c same;
+    frames = stand.has.frames ++ payload ∷ [];
+    journal = journal;
+    batches = stand.has.batches ++ changes ∷ [];
+    payloads = payloads_more stand.has.batches stand.has.frames changes payload stand.has.payloads is;
+    map = ap (applied changes) stand.has.map ∙ sym (replayed_more stand.has.batches changes stand.has.body);
+  }
+
+  -- while the frame is added
+  pub frame_leaves : (c o : List ℕ) → IsBeforeOrAfter h.journal_at place.end stand.has.frames payload stand.file old c o → LeavesOldOrNew AreasMean entries changes old c o
+  frame_leaves c o left =
+      let same : take h.journal_at c ≡ take h.journal_at stand.file = left.outside.before in
+      record {
+        whole = ⊎_elim
+            (λ (was : IsJournal h.journal_at place.end stand.has.frames c).
+            let j : IsJournal h.journal_at h.journal_end stand.has.frames c = subst (λ (e : ℕ). IsJournal h.journal_at e stand.has.frames c) stand.end was in
+            let m : AreasMean c entries = record { header = h; counts = front_counts c same; areas = stand.areas; has = before c same j } in
+            inl m)
+            (λ (now : IsJournal h.journal_at place.end (stand.has.frames ++ payload ∷ []) c).
+            let j : IsJournal h.journal_at h.journal_end (stand.has.frames ++ payload ∷ []) c = subst (λ (e : ℕ). IsJournal h.journal_at e (stand.has.frames ++ payload ∷ []) c) stand.end now in
+            let m : AreasMean c (applied changes entries) = record { header = h; counts = front_counts c same; areas = stand.areas; has = after c same j } in
+            inr m)
+            left.whole;
+        text = left.text;
+      }
+
+  -- and then it is there
+  pub frame_added : (now : Journal) (new : View) (next : List ℕ) → now.end ≡ place.end → JournalStands h.journal_at (stand.has.frames ++ payload ∷ []) next now new
+      → SameOutside h.journal_at place.end stand.file next → StandUnder h now (applied changes entries) new
+  unfolding after
+  frame_added now new next end stands outside =
+      let ends : now.end ≡ h.journal_end = end ∙ stand.end in
+      let j : IsJournal h.journal_at h.journal_end (stand.has.frames ++ payload ∷ []) next =
+      subst (λ (e : ℕ). IsJournal h.journal_at e (stand.has.frames ++ payload ∷ []) next) ends stands.has in
+      record {
+        file = next;
+        counts = front_counts next outside.before;
+        areas = stand.areas;
+        has = after next outside.before j;
+        journal = stands;
+        end = ends;
+      }
+
+-- what leaves one map leaves the old or the new
+pub old_left : (entries : Entries) (changes : Changes) (old : View) (c o : List ℕ) → LeavesMap entries old c o → LeavesOldOrNew AreasMean entries changes old c o
+old_left entries changes old c o left = record { whole = inl left.means; text = left.text }
+
+-- and so it is where the text was the same before
+pub text_back : (entries : Entries) (changes : Changes) (old mid : View) → mid.text ≡ old.text → (c o : List ℕ) → LeavesOldOrNew AreasMean entries changes mid c o
+    → LeavesOldOrNew AreasMean entries changes old c o
+text_back entries changes old mid same c o left = record { whole = left.whole; text = sym same ∙ left.text }

@@ -1,0 +1,122 @@
+-- What an image stands for rests on its slots and on the bytes from the body's start to the journal's last gate.
+use Rattle.std.proofs.Common.{◌≡◌, ◌≢◌, ◌≤◌, ◌<◌, ◌⊎◌, ⊎_elim, ℕ, ◌+◌, ◌-◌, min, List, [], ◌∷◌, ◌++◌, length, take, drop, refl, sym, ◌∙◌, ap, subst, arith, append_assoc, length-append, length-take, length-drop, take-append-drop}
+use Rattle.std.proofs.lemmas.List.{take_at, drop-drop, drop-take, take-take, take_min}
+use Rattle.ode_host.specs.Host.{Torn}
+use Rattle.ode_host.proofs.Bytes.{torn_outside}
+use Rattle.ode_gate.specs.declared.header.Header.{Header}
+use Rattle.ode_gate.specs.Gate.{open_gate}
+use Rattle.ode_gate.specs.Headers.{IsOfAreas}
+use Rattle.ode_gate.specs.Slots.{Counts}
+use Rattle.ode_gate.proofs.Fronts.{counts_front, torn_front}
+use Rattle.ode_journal.specs.Frames.{AreShort, IsJournal, gate_behind, spelled}
+use Rattle.ode_journal.proofs.Appending.{is_journal}
+use Rattle.ode_keep.specs.Entries.{Entries}
+use Rattle.ode_areas.specs.Image.{HasMap}
+use Rattle.ode_areas.specs.Rows.{IsSnapshot}
+
+-- a part of a window that two files share
+pub window : (m d n : ℕ) (c file : List ℕ) → d + n ≤ m → take m c ≡ take m file → take n (drop d c) ≡ take n (drop d file)
+window m d n c file within same =
+    let of : (l : List ℕ) → drop d (take (d + n) (take m l)) ≡ take n (drop d l) =
+    λ l. ap (λ (k : List ℕ). drop d k) (take-take (d + n) m l within) ∙ drop-take d n l in
+    sym (of c) ∙ ap (λ (l : List ℕ). drop d (take (d + n) l)) same ∙ of file
+
+-- frames and a shut gate from a place on are a journal
+pub journal_at : (start end : ℕ) (frames : List (List ℕ)) (gate : ℕ) (behind c : List ℕ) → drop start c ≡ spelled frames ++ gate ∷ behind
+    → AreShort frames → gate ≢ open_gate → gate_behind start frames < end → IsJournal start end frames c
+journal_at start end frames gate behind c stand short shut within =
+    let long : length (take start c) ≡ start =
+    omega (arith, length-take start c, ap length stand, length-drop start c, length-append (spelled frames) (gate ∷ behind)) in
+    let split : c ≡ (take start c ++ spelled frames) ++ gate ∷ behind =
+    sym (take-append-drop start c) ∙ ap (λ (l : List ℕ). take start c ++ l) stand ∙ sym (append_assoc (take start c) (spelled frames) (gate ∷ behind)) in
+    is_journal start end (take start c) long frames gate behind c split short shut within
+
+-- a journal rests on its frames and its last gate
+module _ (start end : ℕ) (frames : List (List ℕ)) (file c : List ℕ) (is : IsJournal start end frames file) where
+  abbrev gate : ℕ
+  gate = is.shut.gate
+
+  abbrev size : ℕ
+  size = length (spelled frames ++ gate ∷ [])
+
+  reads : drop start file ≡ (spelled frames ++ gate ∷ []) ++ drop (gate_behind start frames + 1) file
+  reads =
+      is.has.stand ∙ ap (λ (l : List ℕ). spelled frames ++ l) is.shut.stands
+      ∙ sym (append_assoc (spelled frames) (gate ∷ []) (drop (gate_behind start frames + 1) file))
+
+  journal_window : take size (drop start c) ≡ take size (drop start file) → IsJournal start end frames c
+  journal_window same =
+      let front : take size (drop start c) ≡ spelled frames ++ gate ∷ [] =
+      same ∙ ap (λ (l : List ℕ). take size l) reads
+      ∙ take_at (spelled frames ++ gate ∷ []) (drop (gate_behind start frames + 1) file) size refl in
+      let stand : drop start c ≡ spelled frames ++ gate ∷ drop size (drop start c) =
+      sym (take-append-drop size (drop start c)) ∙ ap (λ (l : List ℕ). l ++ drop size (drop start c)) front
+      ∙ append_assoc (spelled frames) (gate ∷ []) (drop size (drop start c)) in
+      journal_at start end frames gate (drop size (drop start c)) c stand is.has.short is.shut.shut is.shut.within
+
+-- where the last gate of some records stands, and how far they reach
+abbrev pub reach : (h : Header) (file : List ℕ) (entries : Entries) → HasMap h file entries → ℕ
+reach h file entries has = gate_behind h.journal_at has.frames + 1
+
+pub gate_inside : (h : Header) (file : List ℕ) (entries : Entries) (has : HasMap h file entries) → reach h file entries has ≤ length file
+gate_inside h file entries has =
+    omega (arith, ap length has.journal.shut.stands, length-drop (gate_behind h.journal_at has.frames) file)
+
+-- records of a file are those of another, where both are the same from the body's start to the last gate
+module _ (h : Header) (areas : IsOfAreas h) (file c : List ℕ) (entries : Entries) (has : HasMap h file entries) where
+  abbrev pub wide : ℕ
+  wide = reach h file entries has - h.body_at
+
+  pub has_window : take wide (drop h.body_at c) ≡ take wide (drop h.body_at file) → HasMap h c entries
+  has_window same =
+      let body : take h.body_len (drop h.body_at c) ≡ take h.body_len (drop h.body_at file) =
+      sym (take-take h.body_len wide (drop h.body_at c) (omega (arith, areas.journal)))
+      ∙ ap (λ (l : List ℕ). take h.body_len l) same
+      ∙ take-take h.body_len wide (drop h.body_at file) (omega (arith, areas.journal)) in
+      let length_is : length (spelled has.frames ++ has.journal.shut.gate ∷ []) ≡ length (spelled has.frames) + 1 =
+      omega (arith, length-append (spelled has.frames) (has.journal.shut.gate ∷ [])) in
+      let size = length (spelled has.frames ++ has.journal.shut.gate ∷ []) in
+      let part : take size (drop h.body_len (drop h.body_at c)) ≡ take size (drop h.body_len (drop h.body_at file)) =
+      window wide h.body_len size (drop h.body_at c) (drop h.body_at file) (omega (arith, areas.journal, length_is)) same in
+      let at : (l : List ℕ) → drop h.body_len (drop h.body_at l) ≡ drop h.journal_at l =
+      λ l. drop-drop h.body_len h.body_at l ∙ ap (λ (k : ℕ). drop k l) (sym areas.journal) in
+      record {
+        body = has.body;
+        snapshot = subst (λ (l : List ℕ). IsSnapshot has.body l) (sym body) has.snapshot;
+        frames = has.frames;
+        journal =
+            journal_window h.journal_at h.journal_end has.frames file c has.journal
+            (ap (λ (l : List ℕ). take size l) (sym (at c)) ∙ part ∙ ap (λ (l : List ℕ). take size l) (at file));
+        batches = has.batches;
+        payloads = has.payloads;
+        map = has.map;
+      }
+
+  pub has_window-frames : (same : take wide (drop h.body_at c) ≡ take wide (drop h.body_at file)) → (has_window same).frames ≡ has.frames
+  unfolding has_window
+  has_window-frames same = refl
+
+-- a write into the other area leaves what a header counts and what it has
+module _ (h : Header) (areas : IsOfAreas h) (file c : List ℕ) (entries : Entries) (has : HasMap h file entries) (counts : Counts file h)
+    (at n : ℕ) (other : at ≢ h.body_at) (is_area : (at ≡ 4096) ⊎ (at ≡ 33558528)) (within : n ≤ 33554432) (torn : Torn at n file c) where
+  long : reach h file entries has ≤ length file
+  long = gate_inside h file entries has
+
+  pub still_counts : Counts c h
+  still_counts = counts_front file c h (torn_front at n file c (omega (arith, is_area)) (omega (arith, long, areas.area, areas.journal)) torn) counts
+
+  low : (h.body_at ≡ 4096) × (h.journal_end ≡ 33558528) → take (wide h areas file c entries has) (drop h.body_at c) ≡ take (wide h areas file c entries has) (drop h.body_at file)
+  low first =
+      let end = min at (length file) in
+      let there : at ≡ 33558528 = omega (arith, is_area, other, first.0) in
+      let front : take end c ≡ take end file = torn.before ∙ sym (take_min at file) in
+      window end h.body_at (wide h areas file c entries has) c file (omega (arith, long, there, first.1, has.journal.shut.within, areas.journal)) front
+
+  high : (h.body_at ≡ 33558528) × (h.journal_end ≡ 67112960) → take (wide h areas file c entries has) (drop h.body_at c) ≡ take (wide h areas file c entries has) (drop h.body_at file)
+  high second =
+      let there : at ≡ 4096 = omega (arith, is_area, other, second.0) in
+      ap (λ (l : List ℕ). take (wide h areas file c entries has) l)
+      (torn_outside at n h.body_at file c (omega (arith, there, second.0, within)) torn)
+
+  pub still_has : HasMap h c entries
+  still_has = has_window h areas file c entries has (⊎_elim low high areas.area)

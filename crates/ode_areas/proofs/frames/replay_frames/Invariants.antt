@@ -1,0 +1,13 @@
+use Rattle.std.proofs.Common.{◌-◌, List, ℕ}
+use Rattle.ode_host.specs.Host.{Looks, Tells}
+use Rattle.ode_areas.proofs.Replayed.{IsSoFar}
+use Rattle.ode_areas.proofs.frames.replay_frames.Given as goal
+
+abbrev pub invariant-frames : goal.invariant-frames
+invariant-frames g l = record {
+  looks : Looks (g.H.Host.view l.initial.host) (g.H.Host.view l.host);
+  so_far : (file : List ℕ) → Tells (g.H.Host.view l.initial.host) file → IsSoFar l.start l.end l.at l.initial.map l.map file;
+}
+
+abbrev pub decreases-frames : goal.decreases-frames
+decreases-frames g l = l.end - l.at

@@ -1,0 +1,28 @@
+use Rattle.std.proofs.Common.{◌≡◌, Some, None, sym, ap, ◌∙◌, arith}
+use Rattle.ode_keep.specs.Entries.{record_bytes, value_under}
+use Rattle.ode_keep.specs.Growth.{bytes_of}
+use Rattle.ode_keep.proofs.Growing.{put_grows}
+use Rattle.ode_areas.proofs.map.Map.put.Goals as goal
+use Rattle.ode_areas.proofs.map.Map.put.Goals.{in-Some-old, in-None}
+
+pub overflow_sub-self : goal.overflow_sub-self
+overflow_sub-self c =
+    let entries = c.self.inside.records.entries in
+    let grows = put_grows entries c.args.key c.args.value c.in_ok-old.ensures.was_ordered in
+    let found : value_under entries c.args.key ≡ Some c.in-Some-old.old = sym c.in_ok-old.ensures.old ∙ c.in-Some-old.is in
+    omega (arith, grows, ap bytes_of found, c.self.invariant.0, c.in-Some.ensures, c.len.ensures, c.len-length.ensures)
+
+pub invariant_of-self-2 : goal.invariant_of-self-2
+invariant_of-self-2 c =
+    let entries = c.self.inside.records.entries in
+    let grows = put_grows entries c.args.key c.args.value c.in_ok-old.ensures.was_ordered in
+    let now = ap record_bytes c.in_ok-old.ensures.entries in
+    let counts : c.match-old.self ≡ record_bytes c.insert.new.self.entries = elim c.match-old.branch [
+      | in-Some-old w ↦
+          let found : value_under entries c.args.key ≡ Some w.in-Some-old.old = sym c.in_ok-old.ensures.old ∙ w.in-Some-old.is in
+          omega (arith, grows, now, ap bytes_of found, c.self.invariant.0, c.in-Some.ensures, w.len.ensures, c.len-length.ensures, w.self-is)
+      | in-None w ↦
+          let found : value_under entries c.args.key ≡ None = sym c.in_ok-old.ensures.old ∙ w.in-None.is in
+          omega (arith, grows, now, ap bytes_of found, c.self.invariant.0, c.in-Some.ensures, c.len-length.ensures, w.self-is)
+    ] in
+    (counts, c.insert.ensures.ordered)

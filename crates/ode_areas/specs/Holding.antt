@@ -1,0 +1,25 @@
+-- What a keeper of two areas holds on a host.
+use Rattle.std.specs.Prelude.{◌≡◌, ◌≤◌, ℕ, List, Bool}
+use Rattle.ode_gate.specs.Headers.{IsOfAreas}
+use Rattle.ode_gate.specs.Slots.{Counts}
+use Rattle.ode_host.specs.View.{View}
+use Rattle.ode_journal.specs.Appends.{JournalStands}
+use Rattle.ode_keep.specs.Entries.{Entries, record_bytes}
+use Rattle.ode_areas.specs.declared.areas.Areas.{Areas}
+use Rattle.ode_areas.specs.Image.{HasMap}
+
+-- whether the disk never failed it
+abbrev pub is_live : Areas → Bool
+is_live keeper = keeper.is_live
+
+-- It holds these records: a file stands on the disk in which its header counts, and that has them under this header. It
+-- has them in memory too, and knows where the journal ends. They aren't above the limit.
+pub record Holds (keeper : Areas) (view : View) (entries : Entries) : Type 0 where
+  pub file : List ℕ
+  pub counts : Counts file keeper.header
+  pub areas : IsOfAreas keeper.header
+  pub has : HasMap keeper.header file entries
+  pub journal : JournalStands keeper.header.journal_at has.frames file keeper.journal view
+  pub end : keeper.journal.end ≡ keeper.header.journal_end
+  pub map : keeper.map ≡ entries
+  pub within : record_bytes entries ≤ 16777216

@@ -1,0 +1,14 @@
+pub mod Rows
+pub mod Payloads
+pub mod Image
+pub mod Replaying
+pub mod Holding
+pub mod Starting
+pub mod Pieces
+pub mod Rising
+pub mod FirstRows
+pub mod OneMap
+pub mod Puts
+pub mod Steps
+pub mod Ready
+pub mod Laws

@@ -1,0 +1,43 @@
+-- The payload of a frame: changes in rising order of their keys, behind their number.
+use Rattle.std.specs.Prelude.{◌≡◌, ◌<◌, ◌^◌, ℕ, List, [], ◌∷◌, ◌++◌, length, Option, Some, None}
+use Rattle.std.specs.Int.{w32, to_be_bytes}
+use Rattle.std.specs.List.{AllByRecursion, flat_map}
+use Rattle.std.specs.Option.{IfSome}
+use Rattle.ode_value.specs.declared.key.Key.{Key}
+use Rattle.ode_value.specs.Records.{byte, key_bytes, row_bytes}
+use Rattle.ode_keep.specs.Entries.{Changes, Entries, HasRisingKeys, applied}
+use Rattle.ode_areas.specs.Rows.{FitsKey}
+
+-- a removal: 0 and the key; a put: 1 and the record
+abbrev pub spelled_change : Key → Option (List ℕ) → List ℕ
+spelled_change k None = byte 0 ++ key_bytes k
+spelled_change k (Some v) = byte 1 ++ row_bytes (k, v)
+
+abbrev pub change_bytes : Key × Option (List ℕ) → List ℕ
+change_bytes c = spelled_change c.0 c.1
+
+abbrev pub payload_of : Changes → List ℕ
+payload_of changes = to_be_bytes w32 (length changes) ++ flat_map change_bytes changes
+
+-- a change whose key and whose value's length fit their fields
+pub record FitsChange (c : Key × Option (List ℕ)) : Type 0 where
+  pub key : FitsKey c.0
+  pub value : IfSome c.1 (λ v. length v < 2 ^ 16)
+
+-- the bytes are the payload of these changes
+pub record IsPayload (changes : Changes) (bytes : List ℕ) : Type 0 where
+  pub spelled : bytes ≡ payload_of changes
+  pub few : length changes < 2 ^ 32
+  pub each : AllByRecursion FitsChange changes
+  pub rising : HasRisingKeys changes
+
+-- the frames are the payloads of these batches, one by one
+abbrev pub ArePayloads : List Changes → List (List ℕ) → Type 0
+ArePayloads [] [] = Unit {0}
+ArePayloads (changes ∷ batches) (payload ∷ frames) = IsPayload changes payload × ArePayloads batches frames
+ArePayloads _ _ = ⊥
+
+-- after these batches, the first of them first
+abbrev pub replayed : List Changes → Entries → Entries
+replayed [] entries = entries
+replayed (changes ∷ batches) entries = replayed batches (applied changes entries)

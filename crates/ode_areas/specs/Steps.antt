@@ -1,0 +1,44 @@
+-- What the writes of a commit need and leave.
+use Rattle.std.specs.Prelude.{◌≡◌, ◌≢◌, ◌≤◌, ℕ, List, [], ◌∷◌, ◌++◌, length, Some}
+use Rattle.ode_gate.specs.declared.header.Header.{Header}
+use Rattle.ode_gate.specs.Headers.{IsHeader, IsOfAreas, next_generation}
+use Rattle.ode_gate.specs.Slots.{Counts}
+use Rattle.ode_host.specs.View.{View}
+use Rattle.ode_journal.specs.declared.journal.Journal.{Journal}
+use Rattle.ode_journal.specs.Appends.{JournalStands}
+use Rattle.ode_keep.specs.Entries.{Entries}
+use Rattle.ode_value.specs.Records.{snapshot}
+use Rattle.ode_areas.specs.Image.{AreasMean, HasMap}
+
+-- on the disk these records stand, under this header and up to this place of its journal
+pub record StandUnder (header : Header) (place : Journal) (entries : Entries) (view : View) : Type 0 where
+  pub file : List ℕ
+  pub counts : Counts file header
+  pub areas : IsOfAreas header
+  pub has : HasMap header file entries
+  pub journal : JournalStands header.journal_at has.frames file place view
+  pub end : place.end ≡ header.journal_end
+
+-- the image stands for these records, and the text is as it was
+pub record LeavesMap (entries : Entries) (old : View) (image out : List ℕ) : Type 0 where
+  pub means : AreasMean image entries
+  pub text : old.text ≡ Some out
+
+-- a header that may follow another: of the other area, and in the other slot
+pub record IsNext (older h : Header) : Type 0 where
+  pub rules : IsHeader h
+  pub areas : IsOfAreas h
+  pub other : h.body_at ≢ older.body_at
+  pub slot : h.slot ≤ 1
+  pub beside : h.slot ≢ older.slot
+  pub next : h.generation ≡ next_generation older.generation
+
+-- a header that may follow, and what is written under it: a snapshot of these records and a shut gate
+pub record MovesOver (older : Header) (entries : Entries) (h : Header) (bytes : List ℕ) : Type 0 where
+  pub follows : IsNext older h
+  pub long : h.body_len ≡ length (snapshot entries)
+  pub spelled : bytes ≡ snapshot entries ++ 0 ∷ []
+
+-- the journal of a header, where it is empty
+abbrev pub empty_under : Header → Journal
+empty_under h = record { at = h.journal_at; end = h.journal_end }

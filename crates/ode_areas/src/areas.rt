@@ -1,0 +1,16 @@
+//! The keeper: its records in memory, over a header, a snapshot and a journal.
+
+use crate::map::Map;
+use ode_gate::Header;
+use ode_journal::Journal;
+use std::alloc::Global;
+
+/// Records that stand in two areas of a file: the last snapshot, and a journal of what changed since.
+#[derive(Drop)]
+pub struct Areas {
+    pub(crate) header: Header,
+    pub(crate) journal: Journal,
+    pub(crate) map: Map,
+    pub(crate) is_live: bool,
+    pub(crate) alloc: Global,
+}

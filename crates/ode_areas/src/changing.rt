@@ -1,0 +1,160 @@
+//! A batch is made in the records in memory, or not at all.
+ghost use Rattle.std.specs.Prelude.{◌≡◌, ◌+◌, ◌≤◌, ◌<◌, ◌^◌, ◌-◌, ◌++◌, [], ◌∷◌, length, min, reverse, None, IsSome, OnErr, OnOk};
+ghost use Rattle.std.specs.BTreeMap.{insert_entry};
+ghost use Rattle.std.specs.List.{All};
+ghost use Rattle.std.specs.Map.{values_of};
+ghost use Rattle.std.specs.Option.{IfSome, option_copied};
+ghost use Rattle.ode_keep.specs.Entries.{Entries, HasRisingKeys, applied, changed, key_cmp, record_bytes, value_under};
+ghost use Rattle.ode_keep.specs.Growth.{bytes_of};
+ghost use Rattle.ode_areas.specs.Puts.{LeadBack, NeedNoRoom, puts, removals};
+
+use crate::map::Map;
+use ode_keep::{Batch, MAX_CHANGES, MAX_VALUE};
+use ode_value::{Key, List};
+use std::alloc::{AllocError, Global};
+use std::collections::BTreeMap;
+
+// What stood under a key before a value was put there.
+type Note = (Key, Option<List<u8>>);
+
+// The bytes that the key of a record counts.
+const KEY_BYTES: u64 = 17;
+
+// The bytes that a record counts, if there is one.
+fn counted(value: Option<&List<u8>>) -> u64
+    requires { bytes_of (option_copied value) < 2 ^ 64 }
+    ensures { result ≡ bytes_of (option_copied value.entry) }
+{
+    match value {
+        None => 0,
+        Some(value) => KEY_BYTES + value.len() as u64,
+    }
+}
+
+// Takes the record under a key out. It takes no memory.
+fn take_out(records: &mut BTreeMap<Key, List<u8>>, key: Key)
+    ensures { records.new.entries ≡ changed records.old.entries key None }
+{
+    // The keys rise, as this call tells.
+    let _ = records.len();
+    let _ = records.remove(&key);
+}
+
+// What stood under a key stands there again. It takes no memory, since a value is put back only over another.
+fn put_back(records: &mut BTreeMap<Key, List<u8>>, key: Key, old: Option<List<u8>>)
+    requires { IfSome old (λ v. IsSome (value_under records.old.entries key)) }
+    ensures { records.new.entries ≡ changed records.old.entries key old }
+{
+    match old {
+        None => take_out(records, key),
+        Some(value) => match records.insert(key, value) {
+            Ok(_) => {}
+            Err(_) => unreachable!(),
+        },
+    }
+}
+
+// Puts a value, and notes what stood there. Where there is no memory nothing changed.
+fn put_noted(
+    records: &mut BTreeMap<Key, List<u8>>,
+    notes: &mut Vec<Note>,
+    key: Key,
+    value: List<u8>,
+) -> Result<(), AllocError>
+    ensures put { OnOk result (records.new.entries ≡ insert_entry key_cmp records.old.entries key value) }
+    ensures noted { OnOk result (notes.new.items ≡ notes.old.items ++ (key, value_under records.old.entries key) ∷ []) }
+    ensures same { OnErr result (records.new.entries ≡ records.old.entries) }
+    ensures no_note { OnErr result (notes.new.items ≡ notes.old.items) }
+    ensures rising { HasRisingKeys records.old.entries }
+{
+    let old = records.insert(key, value)?;
+    if let Err(failed) = notes.push((key, old)) {
+        let (key, old) = failed.value;
+        put_back(records, key, old);
+        return Err(AllocError);
+    }
+    Ok(())
+}
+
+// Puts the values of a batch, and notes what stood there.
+fn put_all(
+    alloc: Global,
+    records: &mut BTreeMap<Key, List<u8>>,
+    notes: &mut Vec<Note>,
+    batch: &Batch,
+) -> Result<(), AllocError>
+    ensures put { OnOk result (records.new.entries ≡ applied (puts batch.now) records.old.entries) }
+    ensures back { (old : Entries) → LeadBack (reverse notes.old.items) records.old.entries old
+        → LeadBack (reverse notes.new.items) records.new.entries old }
+{
+    for (key, value) in batch.iter() {
+        if let Some(value) = value {
+            let copy = List::from_slice(alloc, value.as_slice())?;
+            put_noted(records, notes, *key, copy)?;
+        }
+    }
+    Ok(())
+}
+
+// Goes back through the notes, the last first.
+fn undo_all(records: &mut BTreeMap<Key, List<u8>>, notes: &mut Vec<Note>)
+    requires { NeedNoRoom (reverse notes.old.items) records.old.entries }
+    ensures { records.new.entries ≡ applied (reverse notes.old.items) records.old.entries }
+{
+    while let Some((key, old)) = notes.pop() {
+        put_back(records, key, old);
+    }
+}
+
+// Takes out the records that a batch removes.
+fn remove_all(records: &mut BTreeMap<Key, List<u8>>, batch: &Batch)
+    ensures removed { records.new.entries ≡ applied (removals batch.now) records.old.entries }
+    ensures rising { HasRisingKeys batch.now }
+{
+    for (key, value) in batch.iter() {
+        if value.is_none() {
+            take_out(records, *key);
+        }
+    }
+}
+
+impl Map {
+    /// How many bytes the records count after a batch, or the greatest number where that is less.
+    pub(crate) fn bytes_after(&self, batch: &Batch) -> u64
+        requires few { length batch.now ≤ MAX_CHANGES }
+        requires short { All (λ value. IfSome value (λ bytes. length bytes ≤ MAX_VALUE)) (values_of batch.now) }
+        ensures exact { result ≡ min (record_bytes (applied batch.now self.now)) (2 ^ 64 - 1) }
+        ensures grows { record_bytes (applied batch.now self.now) ≤ record_bytes self.now + 4080640 }
+    {
+        let bytes = self.bytes();
+        let mut put = 0;
+        let mut taken = 0;
+        for (key, value) in batch.iter() {
+            put += counted(value.as_ref());
+            taken += counted(self.get(*key));
+        }
+        (bytes - taken).saturating_add(put)
+    }
+
+    /// Makes the changes of a batch. Where there is no memory the map stays as it was. The total is how many bytes the
+    /// records count then.
+    pub(crate) fn apply(
+        &mut self,
+        alloc: Global,
+        batch: &Batch,
+        total: u64,
+    ) -> Result<(), AllocError>
+        requires { total ≡ record_bytes (applied batch.now self.old) }
+        ensures ok { OnOk result (self.new ≡ applied batch.now self.old) }
+        ensures err { OnErr result (self.new ≡ self.old) }
+    {
+        let mut notes = Vec::new(alloc);
+        if let Err(error) = put_all(alloc, &mut self.records, &mut notes, batch) {
+            undo_all(&mut self.records, &mut notes);
+            return Err(error);
+        }
+        remove_all(&mut self.records, batch);
+        self.bytes = total;
+        Ok(())
+    }
+}

@@ -1,0 +1,98 @@
+//! The keeper of two areas keeps records: their changes are written before they are answered.
+ghost use Rattle.std.specs.Prelude.{◌≡◌, ◌≤◌, ◌<◌, length, IfOk, OnErr, OnOk};
+ghost use Rattle.std.specs.List.{All};
+ghost use Rattle.std.specs.Map.{values_of};
+ghost use Rattle.std.specs.Option.{IfSome};
+ghost use Rattle.ode_keep.specs.Entries.{applied, record_bytes};
+ghost use Rattle.ode_keep.specs.Keeping.{OnDamaged, OnDiskFault, OnTooLarge};
+
+use crate::areas::Areas;
+use crate::encode::{frame_of, payload_length};
+use crate::plan::{Checkpoint, checkpoint_for};
+use crate::steps::write_changes;
+use ode_host::Host;
+use ode_journal::Frame;
+use ode_keep::{Batch, Keep, KeepError, MAX_CHANGES, MAX_RECORD_BYTES, MAX_VALUE};
+use ode_value::{Key, List};
+
+/// What a commit writes: a frame, and before it a checkpoint where one is due.
+#[derive(Drop)]
+struct Ready {
+    frame: Frame,
+    due: Option<Checkpoint>,
+}
+
+impl Areas {
+    ghost use Rattle.ode_areas.specs.Ready.{IsReady};
+
+    // Makes the changes of a batch in memory, and what is to be written. At an error nothing changed.
+    fn prepare(&mut self, batch: &Batch) -> Result<Ready, KeepError>
+        requires few { length batch.now ≤ MAX_CHANGES }
+        requires short { All (λ value. IfSome value (λ bytes. length bytes ≤ MAX_VALUE)) (values_of batch.now) }
+        ensures ready { IfOk result (λ r. IsReady batch.now self.old.header self.old.journal self.old.map r) }
+        ensures changed { OnOk result (self.new ≡ record self.old { map = applied batch.now self.old.map }) }
+        ensures within { OnOk result (record_bytes (applied batch.now self.old.map) ≤ MAX_RECORD_BYTES) }
+        ensures unchanged { OnErr result (self.new ≡ self.old) }
+        ensures too_large { OnTooLarge result (λ total. record_bytes self.old.map ≤ MAX_RECORD_BYTES
+            → (total ≡ record_bytes (applied batch.now self.old.map)) × (MAX_RECORD_BYTES < total)) }
+        ensures no_fault { OnDiskFault result ⊥ }
+        ensures not_damaged { OnDamaged result ⊥ }
+    {
+        let total = self.map.bytes_after(batch);
+        if total > MAX_RECORD_BYTES {
+            return Err(KeepError::TooLarge { total });
+        }
+        let frame = frame_of(self.alloc, batch)?;
+        let length = payload_length(batch);
+        let due = checkpoint_for(self.alloc, &self.header, &self.journal, &self.map, length)?;
+        self.map.apply(self.alloc, batch, total)?;
+        Ok(Ready { frame, due })
+    }
+}
+
+impl<H: Host> Keep<H> for Areas {
+    ghost use Rattle.ode_areas.specs.Holding.{Holds, is_live};
+    ghost use Rattle.ode_areas.specs.Image.{AreasMean};
+    ghost use Rattle.ode_areas.specs.Laws.{one_map_law, rising_law, stands_law, stays_law};
+
+    ghost holds = { Holds };
+
+    ghost means = { AreasMean };
+
+    ghost live = { is_live };
+
+    ghost stands = { λ keeper host entries h. stands_law keeper (H.view host) entries h };
+
+    ghost stays = { λ keeper old new entries h still. stays_law keeper (H.view old) (H.view new) entries h still };
+
+    ghost rising = { rising_law };
+
+    ghost one_map = { one_map_law };
+
+    fn live(&self) -> bool {
+        self.is_live
+    }
+
+    fn get(&mut self, _host: &mut H, key: Key) -> Result<Option<List<u8>>, KeepError> {
+        match self.map.get(key) {
+            None => Ok(None),
+            Some(value) => Ok(Some(List::from_slice(self.alloc, value.as_slice())?)),
+        }
+    }
+
+    fn keys_from(&mut self, _host: &mut H, key: Key) -> Result<Option<Key>, KeepError> {
+        Ok(self.map.least_from(key))
+    }
+
+    fn commit(&mut self, host: &mut H, batch: &Batch) -> Result<(), KeepError> {
+        let ready = self.prepare(batch)?;
+        let due = ready.due.as_ref();
+        match write_changes(host, &mut self.header, &mut self.journal, due, &ready.frame) {
+            Ok(()) => Ok(()),
+            Err(_) => {
+                self.is_live = false;
+                Err(KeepError::DiskFault)
+            }
+        }
+    }
+}

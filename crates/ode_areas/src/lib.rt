@@ -1,0 +1,18 @@
+//! The keeper of files of two areas: a snapshot, and a journal of what changed since.
+#![tactic(auto)]
+
+mod areas;
+mod changing;
+mod encode;
+mod error;
+mod frames;
+mod keeping;
+mod map;
+mod payload;
+mod plan;
+mod rows;
+mod start;
+mod steps;
+
+pub use areas::Areas;
+pub use error::StartError;

@@ -1,0 +1,99 @@
+//! What a commit writes before its frame.
+ghost use Rattle.std.specs.Prelude.{◌≡◌, ◌+◌, ◌<◌, ◌≤◌, length, IfOk, MatchOption};
+ghost use Rattle.std.specs.List.{AllByRecursion};
+ghost use Rattle.std.specs.Option.{IfSome};
+ghost use Rattle.ode_journal.specs.Appends.{room_of};
+ghost use Rattle.ode_keep.specs.Keeping.{OnDamaged, OnDiskFault, OnTooLarge};
+ghost use Rattle.ode_value.specs.Records.{snapshot};
+ghost use Rattle.ode_areas.specs.Rows.{FitsRow};
+ghost use Rattle.ode_areas.specs.Steps.{IsNext, MovesOver, empty_under};
+
+use crate::encode::{shut_snapshot, snapshot_length};
+use crate::map::Map;
+use ode_gate::{Header, next_generation};
+use ode_journal::Journal;
+use ode_keep::KeepError;
+use std::alloc::Global;
+
+// The format of the file.
+const FORMAT: u32 = 1;
+
+// The layout of two areas.
+const TWO_AREAS: u32 = 1;
+
+// Where the areas start, and where the second ends.
+const AREA_0: u64 = 4_096;
+
+const AREA_1: u64 = 33_558_528;
+
+const AREAS_END: u64 = 67_112_960;
+
+// The length of an area.
+const AREA_LEN: u64 = 33_554_432;
+
+// What a frame takes besides its payload: its gate, its length, and the gate behind it.
+const FRAME_BYTES: u64 = 6;
+
+/// A snapshot for the other area, with a shut gate behind it, and the header that is to follow.
+#[derive(Drop)]
+pub(crate) struct Checkpoint {
+    pub(crate) header: Header,
+    pub(crate) bytes: Vec<u8>,
+}
+
+// The header of the other area, in the other slot, over a snapshot of this length.
+fn next_header(older: &Header, length: u64) -> Header
+    requires { length < 33554432 }
+    ensures follows { IsNext older.now result }
+    ensures long { result.body_len ≡ length }
+{
+    let (body_at, journal_end) = if older.body_at == AREA_0 {
+        (AREA_1, AREAS_END)
+    } else {
+        (AREA_0, AREA_1)
+    };
+    let slot = if older.slot == 0 { 1 } else { 0 };
+    Header {
+        format: FORMAT,
+        layout: TWO_AREAS,
+        generation: next_generation(older.generation),
+        body_at,
+        body_len: length,
+        journal_at: body_at + length,
+        journal_end,
+        slot,
+    }
+}
+
+/// The checkpoint that is due before a frame whose payload has this length, and none where the frame fits its journal.
+/// It is `TooLarge` where it wouldn't fit behind the snapshot either.
+pub(crate) fn checkpoint_for(
+    alloc: Global,
+    header: &Header,
+    journal: &Journal,
+    map: &Map,
+    payload: u32,
+) -> Result<Option<Checkpoint>, KeepError>
+    requires { payload ≤ 4083716 }
+    ensures room { IfOk result (λ due. MatchOption due (payload + 6 ≤ room_of journal.now)
+        (λ c. payload + 6 ≤ room_of (empty_under c.header))) }
+    ensures moves { IfOk result (λ due. IfSome due (λ c. AllByRecursion FitsRow map.now
+        → MovesOver header.now map.now c.header c.bytes.items)) }
+    ensures slot { IfOk result (λ due. IfSome due (λ c. c.header.slot ≤ 1)) }
+    ensures too_large { OnTooLarge result (λ total. 33554432 < length (snapshot map.now) + payload + 6) }
+    ensures no_fault { OnDiskFault result ⊥ }
+    ensures not_damaged { OnDamaged result ⊥ }
+{
+    let need = u64::from(payload) + FRAME_BYTES;
+    if need <= journal.end.saturating_sub(journal.at) {
+        return Ok(None);
+    }
+    let length = snapshot_length(map);
+    if AREA_LEN - need < length {
+        let total = map.bytes();
+        return Err(KeepError::TooLarge { total });
+    }
+    let bytes = shut_snapshot(alloc, map, length as usize)?;
+    let header = next_header(header, length);
+    Ok(Some(Checkpoint { header, bytes }))
+}
