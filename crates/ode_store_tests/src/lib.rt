@@ -1,4 +1,4 @@
-//! Tests of what lies in a file: gates, headers and journals, and what stops leave of them, over a disk in memory.
+//! Tests of what lies in a file: gates, headers, journals and records, and what stops leave of them, over a disk in memory.
 #![tactic(auto)]
 
 #[cfg(test)]
@@ -7,3 +7,5 @@ mod disk;
 mod headers;
 #[cfg(test)]
 mod journals;
+#[cfg(test)]
+mod keepers;
