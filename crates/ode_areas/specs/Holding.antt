@@ -12,6 +12,10 @@ use Rattle.ode_areas.specs.Image.{HasMap}
 abbrev pub is_live : Areas → Bool
 is_live keeper = keeper.is_live
 
+-- the bytes of the records that it has in memory
+abbrev pub held_bytes : Areas → ℕ
+held_bytes keeper = record_bytes keeper.map
+
 -- It holds these records: a file stands on the disk in which its header counts, and that has them under this header. It
 -- has them in memory too, and knows where the journal ends. They aren't above the limit.
 pub record Holds (keeper : Areas) (view : View) (entries : Entries) : Type 0 where

@@ -1,4 +1,6 @@
 //! The keeper: its records in memory, over a header, a snapshot and a journal.
+ghost use Rattle.std.specs.Prelude.{◌≡◌};
+ghost use Rattle.ode_areas.specs.Holding.{held_bytes};
 
 use crate::map::Map;
 use ode_gate::Header;
@@ -13,4 +15,13 @@ pub struct Areas {
     pub(crate) map: Map,
     pub(crate) is_live: bool,
     pub(crate) alloc: Global,
+}
+
+impl Areas {
+    /// The bytes of the records that it has in memory: 17 for each key, and those of each value.
+    pub fn bytes(&self) -> u64
+        ensures { result ≡ held_bytes self.now }
+    {
+        self.map.bytes()
+    }
 }

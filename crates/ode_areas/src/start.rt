@@ -5,7 +5,7 @@ ghost use Rattle.ode_gate.specs.Slots.{Counts};
 ghost use Rattle.ode_host.specs.Causes.{Rose};
 ghost use Rattle.ode_host.specs.Host.{Looks, Stands, Tells};
 ghost use Rattle.ode_keep.specs.Entries.{Entries, record_bytes};
-ghost use Rattle.ode_areas.specs.Holding.{Holds, is_live};
+ghost use Rattle.ode_areas.specs.Holding.{Holds, held_bytes, is_live};
 ghost use Rattle.ode_areas.specs.Image.{HasMap, IsBadAt, IsBadBody, body_of};
 ghost use Rattle.ode_areas.specs.Rows.{IsSnapshot};
 ghost use Rattle.ode_areas.specs.Starting.{Refuses, Starts};
@@ -59,6 +59,8 @@ impl Areas {
         ensures holds { IfOk result (λ keeper. (file : List ℕ) (entries : Entries) → Stands file (H.view host.old)
             → Counts file h.now → HasMap h.now file entries → record_bytes entries ≤ MAX_RECORD_BYTES
             → Holds keeper (H.view host.new) entries) }
+        ensures bytes { IfOk result (λ keeper. (file : List ℕ) (entries : Entries) → Tells (H.view host.old) file
+            → HasMap h.now file entries → held_bytes keeper ≡ record_bytes entries) }
         ensures live { IfOk result (λ keeper. IsTrue (is_live keeper)) }
         ensures bad { (at : ℕ) → IsErrOf result (StartError.BadJournal at)
             → (file : List ℕ) → Tells (H.view host.old) file → IsBadAt h.now file at }

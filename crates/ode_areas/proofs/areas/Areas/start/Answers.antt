@@ -1,6 +1,8 @@
 use Rattle.std.proofs.Common.{◌≡◌, ℕ, inl, inr, true, Err, IsErrOf, Ok, ap}
 use Rattle.std.proofs.lemmas.Result.{err_from_is_err_and}
 use Rattle.ode_host.proofs.Moments.{looks_joined, stands_looks, tells_looks}
+use Rattle.ode_keep.specs.Entries.{Entries, record_bytes}
+use Rattle.ode_areas.specs.OneMap.{one_has}
 use Rattle.ode_areas.specs.declared.error.StartError.TheVariants.{BadJournal, BadPage}
 use Rattle.ode_areas.proofs.Started.{exact_refuses, exact_starts, has_map, holds_map, no_page, of_areas, only_bad}
 use Rattle.ode_areas.proofs.areas.Areas.start.Goals as goal
@@ -74,6 +76,12 @@ returns-clause-holds g c file entries stands counts has within =
     (c.in_ok-load_body.ensures.found file stands.tells).0
     (c.in_ok-journal.ensures.found file (tells_looks file _ _ c.load_body.ensures.looks stands.tells))
     has within
+
+pub returns-clause-bytes : goal.returns-clause-bytes
+unfolding returns-clause-found
+returns-clause-bytes g c file entries tells has =
+    let own = returns-clause-found g c file tells in
+    ap (λ (l : Entries). record_bytes l) (one_has c.args.h.now file own.0 entries own.1 has)
 
 pub returns-clause-broken : goal.returns-clause-broken
 returns-clause-broken g c file place tells is_bad =
