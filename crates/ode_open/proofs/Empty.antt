@@ -1,0 +1,16 @@
+-- The empty database.
+use Rattle.std.proofs.Common.{refl, arith, lit≤}
+use Rattle.ode_value.specs.Good.{IsGood}
+use Rattle.ode_value.specs.World.{empty_world}
+
+pub good_empty : IsGood empty_world
+good_empty = record {
+  classes = tt;
+  objects = omega arith;
+  next = (lit≤ tt, lit≤ tt);
+  transaction = (lit≤ tt, lit≤ tt);
+  next_entry = (lit≤ tt, lit≤ tt);
+  queue = refl;
+  clock = refl;
+  small = lit≤ tt;
+}

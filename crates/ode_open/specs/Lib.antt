@@ -1,0 +1,4 @@
+pub mod Holds
+pub mod Making
+pub mod Walking
+pub mod Answers

@@ -1,0 +1,11 @@
+//! A file is made, or opened to a world in memory and a keeper.
+#![tactic(auto)]
+
+mod error;
+mod make;
+mod opening;
+mod snapshot;
+
+pub use error::OpenError;
+pub use make::{InitError, initialise};
+pub use opening::{Opened, open};
