@@ -4,6 +4,7 @@ use Rattle.std.specs.BTreeMap.{is_at}
 use Rattle.std.specs.List.{AllByRecursion, flat_map}
 use Rattle.std.specs.List.Sorted.{IsStrictlySortedBy}
 use Rattle.std.specs.Map.{keys_of}
+use Rattle.std.specs.Option.{is_some}
 use Rattle.std.specs.Ordering.{MatchOrdering, is_eq, is_le, nat_cmp, ordering_then}
 use Rattle.std.specs.declared.cmp.Ordering.{Ordering}
 use Rattle.std.specs.declared.cmp.Ordering.TheVariants.{Less, Equal, Greater}
@@ -14,6 +15,7 @@ use Rattle.ode_areas.specs.Pieces.{all_behind, all_front, all_push}
 use Rattle.ode_areas.specs.Rows.{FitsKey, FitsRow}
 use Rattle.ode_keep.specs.Entries.{Entries, HasRisingKeys, key_cmp, least_from, value_under}
 use Rattle.ode_keep.proofs.Keys.{key_total, same_key}
+use Rattle.ode_keep.proofs.Least.{least_is}
 use Rattle.ode_value.specs.declared.key.Key.{Key}
 use Rattle.ode_value.specs.Records.{Row, row_bytes, snapshot}
 use Rattle.ode_open.specs.Walking.{IsFirstFrom, IsReadTo, rank, rank_from}
@@ -200,3 +202,22 @@ module _ (entries : Entries) (fits : AllByRecursion FitsRow entries) where
         subst (λ (l : Entries). IsReadTo l (rank r.0 + 1) (bytes ++ row_bytes r)) (sym read.split)
         (one_more r read.front read.back bytes (subst HasRisingKeys read.split rising) (subst (AllByRecursion FitsRow) read.split fits) read.before read.behind
         (subst (λ (l : Entries). IsFirstFrom l key (Some r)) read.split first) read.spelled)
+
+-- a key at which a record is found has a value
+pub no_value : (entries : Entries) (key least : Key) → HasRisingKeys entries → least_from entries key ≡ Some least → value_under entries least ≡ None → ⊥
+no_value entries key least rising found none =
+    let some = (least_is entries key least rising found).stands in
+    let no = sym (ap is_some none) ∙ some in
+    cc (no)
+
+-- one turn: from a key on the first record is found, and its bytes are put behind the others
+pub turn : (entries : Entries) → AllByRecursion FitsRow entries → HasRisingKeys entries → (key : Key) → FitsKey key → (from : Option Key) → from ≡ Some key
+    → (bytes : List ℕ) → IsReadTo entries (rank_from from) bytes → (found : Option Row) (r : Row) → found ≡ Some r → IsFirstFrom entries key found
+    → (slice next : List ℕ) → slice ≡ r.1 → (length slice < 2 ^ 16 → next ≡ bytes ++ row_bytes (r.0, slice)) → (after : ℕ) → after ≡ rank r.0 + 1 → IsReadTo entries after next
+turn entries fits rising key key_fits from from_is bytes read found r found_is first slice next slice_is put after after_is =
+    let here : IsReadTo entries (rank key) bytes = subst (λ (o : Option Key). IsReadTo entries (rank_from o) bytes) from_is read in
+    let is : IsFirstFrom entries key (Some r) = subst (λ (o : Option Row). IsFirstFrom entries key o) found_is first in
+    let short : length slice < 2 ^ 16 = subst (λ (l : List ℕ). length l < 2 ^ 16) (sym slice_is) (value_fits entries r.0 r.1 fits is.1) in
+    let spelled : next ≡ bytes ++ row_bytes r = put short ∙ ap (λ (l : List ℕ). bytes ++ row_bytes (r.0, l)) slice_is in
+    subst (λ (n : ℕ). IsReadTo entries n next) (sym after_is)
+    (subst (λ (l : List ℕ). IsReadTo entries (rank r.0 + 1) l) (sym spelled) (read_more entries fits key key_fits r bytes rising here is))
