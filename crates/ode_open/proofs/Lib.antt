@@ -5,3 +5,5 @@ pub mod Ranges
 pub mod Making
 pub mod Walks
 pub mod Worlds
+pub mod Refusals
+pub mod Held
