@@ -8,7 +8,7 @@ ghost use Rattle.ode_codec.specs.State.{class_of, object_of, world_of};
 
 use crate::state::{ClassRow, ObjectRow, State};
 use ode_host::{put_i64, put_u8, put_u16, put_u32, put_u64};
-use ode_value::{Key, Value};
+use ode_value::{Key, List, Value};
 use std::alloc::{AllocError, Global};
 
 /// The bytes of a snapshot, and how many bytes its records count.
@@ -79,6 +79,14 @@ fn put_head(out: &mut Vec<u8>, class: &ClassRow) -> Result<(), AllocError>
     put_head_value(out, class)
 }
 
+// The class, and the last version's number.
+fn put_object_value(out: &mut Vec<u8>, object: &ObjectRow) -> Result<(), AllocError>
+    ensures { OnOk result (out.new.items ≡ out.old.items ++ (object_row (object_of object.now)).1) }
+{
+    put_u32(out, object.class)?;
+    put_u32(out, 1)
+}
+
 fn put_object(out: &mut Vec<u8>, object: &ObjectRow) -> Result<(), AllocError>
     ensures { OnOk result (out.new.items ≡ out.old.items ++ row_bytes (object_row (object_of object.now))) }
 {
@@ -88,8 +96,7 @@ fn put_object(out: &mut Vec<u8>, object: &ObjectRow) -> Result<(), AllocError>
         b: 0,
     };
     put_start(out, key, 8)?;
-    put_u32(out, object.class)?;
-    put_u32(out, 1)
+    put_object_value(out, object)
 }
 
 // No parent, and one field, an int.
@@ -152,6 +159,15 @@ fn put_versions(out: &mut Vec<u8>, objects: &[ObjectRow]) -> Result<(), AllocErr
 }
 
 // The next numbers, and a clock that isn't set.
+fn put_counters_value(out: &mut Vec<u8>, state: &State) -> Result<(), AllocError>
+    ensures { OnOk result (out.new.items ≡ out.old.items ++ (counters_row (world_of state.now)).1) }
+{
+    put_u64(out, state.next)?;
+    put_u64(out, state.transaction)?;
+    put_u64(out, state.next_entry)?;
+    out.extend_from_slice(&[0; 21])
+}
+
 fn put_counters(out: &mut Vec<u8>, state: &State) -> Result<(), AllocError>
     ensures { OnOk result (out.new.items ≡ out.old.items ++ row_bytes (counters_row (world_of state.now))) }
 {
@@ -161,10 +177,7 @@ fn put_counters(out: &mut Vec<u8>, state: &State) -> Result<(), AllocError>
         b: 0,
     };
     put_start(out, key, 45)?;
-    put_u64(out, state.next)?;
-    put_u64(out, state.transaction)?;
-    put_u64(out, state.next_entry)?;
-    out.extend_from_slice(&[0; 21])
+    put_counters_value(out, state)
 }
 
 fn put_rows(out: &mut Vec<u8>, state: &State) -> Result<(), AllocError>
@@ -201,4 +214,49 @@ pub fn encode(alloc: Global, state: &State) -> Result<Snapshot, AllocError>
     put_rows(&mut bytes, state)?;
     let weight = weight_of(&bytes, state);
     Ok(Snapshot { bytes, weight })
+}
+
+/// The value of the counters' record.
+pub fn counters_value(alloc: Global, state: &State) -> Result<List<u8>, AllocError>
+    ensures { IfOk result (λ value. value ≡ (counters_row (world_of state.now)).1) }
+{
+    let mut value = Vec::new(alloc);
+    put_counters_value(&mut value, state)?;
+    Ok(List::from_vec(value))
+}
+
+/// The value of the record of a class's head.
+pub fn head_value(alloc: Global, class: &ClassRow) -> Result<List<u8>, AllocError>
+    ensures { IfOk result (λ value. value ≡ (head_row (class_of class.now)).1) }
+{
+    let mut value = Vec::new(alloc);
+    put_head_value(&mut value, class)?;
+    Ok(List::from_vec(value))
+}
+
+/// The value of the record of a class's text.
+pub fn text_value(alloc: Global, class: &ClassRow) -> Result<List<u8>, AllocError>
+    ensures { IfOk result (λ value. value ≡ class_text (class_of class.now)) }
+{
+    let mut value = Vec::new(alloc);
+    put_text_value(&mut value, class)?;
+    Ok(List::from_vec(value))
+}
+
+/// The value of an object's record.
+pub fn object_value(alloc: Global, object: &ObjectRow) -> Result<List<u8>, AllocError>
+    ensures { IfOk result (λ value. value ≡ (object_row (object_of object.now)).1) }
+{
+    let mut value = Vec::new(alloc);
+    put_object_value(&mut value, object)?;
+    Ok(List::from_vec(value))
+}
+
+/// The value of the record of a version that holds one int.
+pub fn version_value(alloc: Global, held: i64) -> Result<List<u8>, AllocError>
+    ensures { IfOk result (λ value. value ≡ to_be_bytes w32 0 ++ to_be_bytes w16 1 ++ spelled_value (Value.Int held)) }
+{
+    let mut value = Vec::new(alloc);
+    put_version_value(&mut value, held)?;
+    Ok(List::from_vec(value))
 }

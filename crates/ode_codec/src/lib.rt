@@ -8,5 +8,7 @@ mod records;
 mod state;
 
 pub use decoding::decode;
-pub use encoding::{Snapshot, encode};
+pub use encoding::{
+    Snapshot, counters_value, encode, head_value, object_value, text_value, version_value,
+};
 pub use state::{ClassRow, ObjectRow, State};

@@ -1,27 +1,21 @@
 -- What a statement makes of a good world.
-use Rattle.std.proofs.Common.{◌≡◌, ◌<◌, ℕ, List, length, sym, ap, subst, arith}
+use Rattle.std.proofs.Common.{◌≡◌, sym, subst}
 use Rattle.std.specs.Prelude.{Result, Ok, Err, IfOk, OnOk}
 use Rattle.std.specs.declared.alloc.AllocError.{AllocError}
 use Rattle.ode_value.specs.Commands.{command}
 use Rattle.ode_value.specs.Good.{IsGood}
-use Rattle.ode_value.specs.Records.{snapshot, rows}
 use Rattle.ode_value.specs.World.{World}
 use Rattle.ode_value.specs.declared.statement.Statement.{Statement}
 use Rattle.ode_engine.specs.declared.machine.Item.{Item}
 use Rattle.ode_engine.specs.declared.machine.Item.TheVariants.{Refused, Settled}
 use Rattle.ode_engine.specs.Carried.{outcome_of, Keeps}
 use Rattle.ode_value.specs.Proper.{IsProper}
-use Rattle.ode_codec.proofs.Lengths.{length-snapshot, total_weight_low}
 use Rattle.ode_engine.proofs.StaysGood.{command_good}
 
 -- the world after a statement is good
 pub item_good : (i : Item) (old new : World) (s : Statement) → IsGood old → IsProper s → outcome_of i new ≡ command old s → Keeps i old new → IsGood new
 item_good (Refused r) old new s good proper is keeps = subst IsGood (sym keeps) good
 item_good (Settled t) old new s good proper is keeps = command_good old (new, t.text.items) good s proper (sym is)
-
--- a snapshot has fewer bytes than twice what its records weigh
-pub has_room : (w : World) (bytes : List ℕ) → IsGood w → bytes ≡ snapshot (rows w) → length bytes < 33554432
-has_room w bytes good is = omega (arith, ap length is, length-snapshot (rows w), total_weight_low (rows w), good.small)
 
 pub good_after : (r : Result Item AllocError) (old new : World) (s : Statement) → IsGood old → IsProper s → IfOk r (λ i. outcome_of i new ≡ command old s) → IfOk r (λ i. Keeps i old new) → OnOk r (IsGood new)
 good_after (Ok i) old new s good proper is keeps = item_good i old new s good proper is keeps

@@ -29,6 +29,13 @@ member c = omega (arith, length-append (codes "int " ++ c.field) (codes "; "), l
 text_weight : (c : ClassRow) → row_weight (text_row (class_of c)) ≡ 33 + length c.name + length c.field
 text_weight c = omega (arith, five (codes "class ") c.name (codes " { ") (flat_map member_text (class_of c).fields) (codes "}"), member c)
 
+-- values that a keeper takes
+pub head_short : (c : ClassRow) → class_weight c.name c.field ≤ 253 → length (head_row (class_of c)).1 ≤ 3968
+head_short c light = omega (arith, head_weight c, light)
+
+pub text_short : (c : ClassRow) → class_weight c.name c.field ≤ 253 → length (text_row (class_of c)).1 ≤ 3968
+text_short c light = omega (arith, text_weight c, light)
+
 classes_weigh : (cs : List ClassRow) → total_weight (map head_row (map class_of cs)) + total_weight (map text_row (map class_of cs)) ≡ classes_weight cs
 classes_weigh [] = refl
 classes_weigh (c ∷ cs) = omega (arith, classes_weigh cs, head_weight c, text_weight c)

@@ -1,9 +1,13 @@
 -- What an item says of an outcome of the machine.
 use Rattle.std.specs.Prelude.{◌≡◌, [], ◌∷◌}
 use Rattle.ode_value.specs.Commands.{Outcome, Refused, Settles}
-use Rattle.ode_value.specs.Records.{snapshot, rows}
+use Rattle.ode_keep.specs.Entries.{applied}
+use Rattle.ode_value.specs.Good.{IsGood}
+use Rattle.ode_value.specs.Records.{rows}
 use Rattle.ode_value.specs.World.{World}
 use Rattle.ode_engine.specs.declared.machine.Item.{Item}
+use Rattle.ode_engine.specs.declared.machine.Settled.{Settled}
+use Rattle.ode_engine.specs.Puts.{IsSmall}
 use Rattle.ode_engine.specs.declared.machine.Item.TheVariants as item
 
 -- the outcome, where the state afterwards stands for this world
@@ -11,7 +15,12 @@ abbrev pub outcome_of : Item → World → Outcome
 outcome_of (item.Refused refusal) w = Refused refusal
 outcome_of (item.Settled s) w = Settles ((w, s.text.items) ∷ [])
 
--- a refusal changes nothing, and a settled transaction has the bytes of its world
+-- a settled transaction's batch makes the records of a good world those of the world after it
+pub record Changes (s : Settled) (old new : World) : Type 0 where
+  pub small : IsSmall s.batch
+  pub makes : IsGood old → applied s.batch (rows old) ≡ rows new
+
+-- a refusal changes nothing
 abbrev pub Keeps : Item → World → World → Type 0
 Keeps (item.Refused refusal) old new = new ≡ old
-Keeps (item.Settled s) old new = s.bytes.items ≡ snapshot (rows new)
+Keeps (item.Settled s) old new = Changes s old new

@@ -1,6 +1,7 @@
 //! Statements carried out on the world in memory.
 #![tactic(auto)]
 
+mod batches;
 mod find;
 mod forms;
 mod machine;

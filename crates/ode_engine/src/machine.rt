@@ -1,5 +1,5 @@
 //! Statements carried out on a state in memory.
-ghost use Rattle.std.specs.Prelude.{◌≡◌, ◌≤◌, ◌<◌, ◌+◌, map, IfOk, MatchResult};
+ghost use Rattle.std.specs.Prelude.{◌≡◌, ◌≤◌, ◌<◌, ◌+◌, [], map, IfOk, OnOk, MatchResult};
 ghost use Rattle.std.specs.Option.{option_map};
 ghost use Rattle.ode_value.specs.Commands.{Refused, one, declare, create, show, field_of, carried, command};
 ghost use Rattle.ode_value.specs.Good.{number_limit, weight_limit};
@@ -14,12 +14,15 @@ ghost use Rattle.ode_value.specs.declared.statement.Stmt.TheVariants.{Do, Show};
 ghost use Rattle.ode_value.specs.declared.value.Value.TheVariants.{Int};
 ghost use Rattle.ode_engine.specs.Assigned.{assigned_of};
 ghost use Rattle.ode_engine.specs.Carried.{outcome_of, Keeps};
+ghost use Rattle.ode_engine.specs.Settling.{HasBatch, counted, with_counters};
 ghost use Rattle.ode_codec.specs.State.{class_of, object_of, world_of};
 ghost use Rattle.ode_engine.specs.Weights.{class_weight};
 
+use crate::batches::{batch_of_class, batch_of_object, put_counters};
 use crate::find::{class_named, class_numbered, object_at};
 use crate::forms::{Assignment, Path, assignments, declared_field, shown_path};
-use ode_codec::{ClassRow, ObjectRow, State, encode};
+use ode_codec::{ClassRow, ObjectRow, State};
+use ode_keep::Batch;
 use ode_script::{put_aborted, put_class, put_committed, put_new, put_value};
 use ode_value::{CheckError, ClassDecl, Expr, Name, Refusal, Rhs, Statement, Stmt};
 use std::alloc::{AllocError, Global};
@@ -31,10 +34,10 @@ pub enum Item {
     Settled(Settled),
 }
 
-/// A settled transaction: the snapshot of the world after it, and all that it prints.
+/// A settled transaction: the records that it changes, and all that it prints.
 #[derive(Drop)]
 pub struct Settled {
-    pub bytes: Vec<u8>,
+    pub batch: Batch,
     pub text: Vec<u8>,
 }
 
@@ -66,28 +69,36 @@ fn weight(state: &State) -> u64
     62 + classes + 57 * state.objects.len() as u64
 }
 
-// The present world is settled, with this text before the last line.
-fn commit(alloc: Global, state: &mut State, mut text: Vec<u8>) -> Result<Item, AllocError>
+// The present world is settled, with this text before the last line. The batch has what was changed but the counters.
+fn commit(
+    alloc: Global,
+    state: &mut State,
+    mut text: Vec<u8>,
+    mut batch: Batch,
+) -> Result<Item, AllocError>
     requires { state.old.transaction < number_limit }
     ensures outcome { IfOk result (λ item. outcome_of item (world_of state.new) ≡ one (commit (world_of state.old) (world_of state.old) text.items)) }
-    ensures keeps { IfOk result (λ item. Keeps item (world_of state.old) (world_of state.new)) }
+    ensures world { OnOk result (world_of state.new ≡ counted (world_of state.old)) }
+    ensures batch { IfOk result (λ item. HasBatch item (with_counters batch (world_of state.new))) }
 {
     put_committed(alloc, &mut text, state.transaction)?;
     state.transaction += 1;
-    let bytes = encode(alloc, state)?.bytes;
-    Ok(Item::Settled(Settled { bytes, text }))
+    put_counters(alloc, &mut batch, state)?;
+    Ok(Item::Settled(Settled { batch, text }))
 }
 
 // Nothing of the transaction is kept but its number, and the next number as it is now.
 fn abort(alloc: Global, state: &mut State, mut text: Vec<u8>) -> Result<Item, AllocError>
     requires { state.old.transaction < number_limit }
     ensures outcome { IfOk result (λ item. outcome_of item (world_of state.new) ≡ one (abort (world_of state.old) (world_of state.old) Space text.items)) }
-    ensures keeps { IfOk result (λ item. Keeps item (world_of state.old) (world_of state.new)) }
+    ensures world { OnOk result (world_of state.new ≡ counted (world_of state.old)) }
+    ensures batch { IfOk result (λ item. HasBatch item (with_counters [] (world_of state.new))) }
 {
     put_aborted(alloc, &mut text, state.transaction)?;
     state.transaction += 1;
-    let bytes = encode(alloc, state)?.bytes;
-    Ok(Item::Settled(Settled { bytes, text }))
+    let mut batch = Batch::new(alloc);
+    put_counters(alloc, &mut batch, state)?;
+    Ok(Item::Settled(Settled { batch, text }))
 }
 
 // A class whose name is new.
@@ -112,8 +123,9 @@ fn declare_new(
         name: name.copy(alloc)?,
         field: field.copy(alloc)?,
     };
+    let batch = batch_of_class(alloc, &row)?;
     state.classes.push(row)?;
-    commit(alloc, state, text)
+    commit(alloc, state, text, batch)
 }
 
 fn declare(alloc: Global, state: &mut State, name: &Name, field: &Name) -> Result<Item, AllocError>
@@ -147,12 +159,14 @@ fn create_object(alloc: Global, state: &mut State, start: &Start) -> Result<Item
     if too_heavy {
         return abort(alloc, state, text);
     }
-    state.objects.push(ObjectRow {
+    let row = ObjectRow {
         id,
         class: start.class,
         held: start.held,
-    })?;
-    commit(alloc, state, text)
+    };
+    let batch = batch_of_object(alloc, &row)?;
+    state.objects.push(row)?;
+    commit(alloc, state, text, batch)
 }
 
 fn create(
@@ -196,7 +210,7 @@ fn show_held(alloc: Global, state: &mut State, held: i64) -> Result<Item, AllocE
 {
     let mut text = Vec::new(alloc);
     put_value(alloc, &mut text, held)?;
-    commit(alloc, state, text)
+    commit(alloc, state, text, Batch::new(alloc))
 }
 
 fn show(alloc: Global, state: &mut State, path: Path<'_>) -> Result<Item, AllocError>

@@ -1,14 +1,5 @@
+pub mod AfterSome
 pub mod Calling
 pub mod CarriesPieces
-pub mod Counting
-pub mod Cutting
-pub mod Empty
-pub mod Making
-pub mod Opening
-pub mod Printed
-pub mod Ranges
 pub mod Runs
-pub mod Slots
-pub mod Spelling
-pub mod Storing
-pub mod Telling
+pub mod Settles

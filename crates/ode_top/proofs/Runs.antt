@@ -2,6 +2,7 @@
 use Rattle.std.proofs.Common.{◌≡◌, ℕ, List, [], ◌∷◌, ◌++◌, Bool, true, false, Option, Some, refl, sym, ap, ◌∙◌, subst, append_assoc, append-nil}
 use Rattle.std.specs.Prelude.{◌||◌}
 use Rattle.ode_host.specs.View.{View}
+use Rattle.ode_value.specs.Good.{IsGood}
 use Rattle.ode_value.specs.World.{World}
 use Rattle.ode_host.specs.declared.status.Status.{Status}
 use Rattle.ode_script.specs.declared.reader.ScriptError.{ScriptError}
@@ -9,7 +10,7 @@ use Rattle.ode_script.specs.declared.reader.ScriptError.TheVariants as error
 use Rattle.ode_top.specs.Halts.{status_of_error}
 use Rattle.ode_script.specs.Left.{EndsBy}
 use Rattle.ode_script.specs.Pieces.{Ending, End, LongScript, Pieces, Then, Ended}
-use Rattle.ode_top.specs.Serves.{Carries, IsEnding, LeavesNothing, RanAs, SoFar, Serves}
+use Rattle.ode_top.specs.Serves.{Carries, Holding, IsEnding, LeavesNothing, RanAs, Serves, SoFar}
 use Rattle.ode_top.specs.Trace.{Item, Settled, Refusal, piece_items, trace, final, text_of, any_refused, ending, status_at}
 
 pub text_of-append : (xs ys : List Item) → text_of (xs ++ ys) ≡ text_of xs ++ text_of ys
@@ -28,9 +29,9 @@ any_refused-append (Settled v text ∷ xs) ys = any_refused-append xs ys
 any_refused-append (Refusal line ∷ xs) ys = refl
 
 -- one piece further
-pub same_next : (whole : Pieces) (w0 : World) (text0 : List ℕ) (line : ℕ) (piece : List ℕ) (rest ps : Pieces) (w v : World) (text : List ℕ) (refused again : Bool) (before now : View)
-    → ps ≡ Then line piece rest → Carries (piece_items w line piece) again w v before now → SoFar whole w0 text0 ps w text refused → SoFar whole w0 text0 rest v (text ++ text_of (piece_items w line piece)) (refused || again)
-same_next whole w0 text0 line piece rest ps w v text refused again before now is carries so_far =
+pub same_next : (whole : Pieces) (w0 : World) (text0 : List ℕ) (line : ℕ) (piece : List ℕ) (rest ps : Pieces) (w v : World) (text : List ℕ) (refused again : Bool) (held holds : Holding) (before now : View)
+    → ps ≡ Then line piece rest → Carries held holds (piece_items w line piece) again w v before now → SoFar whole w0 text0 ps w text refused → SoFar whole w0 text0 rest v (text ++ text_of (piece_items w line piece)) (refused || again)
+same_next whole w0 text0 line piece rest ps w v text refused again held holds before now is carries so_far =
     let items = piece_items w line piece in
     record {
       before = so_far.before ++ items;
@@ -46,16 +47,17 @@ pub same_at : (whole ps : Pieces) (w : World) (text : List ℕ) → ps ≡ whole
 same_at whole ps w text is = record { before = []; split = ap (trace w) (sym is); ends = ap ending (sym is); world = refl; printed = sym (append-nil text); stated = refl }
 
 -- the run has ended as the machine's
-pub ended_ran : (whole : Pieces) (w0 : World) (text0 : List ℕ) (ps : Pieces) (how : Ending) (w : World) (text : List ℕ) (refused : Bool) (left : Option (List ℕ)) (view : View) (result : Status)
-    → ps ≡ Ended how → result ≡ status_at how refused → LeavesNothing result left → Serves view w text → SoFar whole w0 text0 ps w text refused → RanAs whole w0 text0 left view result
-ended_ran whole w0 text0 ps how w text refused left view result is stated nothing serves so_far =
+pub ended_ran : (holds : Holding) (whole : Pieces) (w0 : World) (text0 : List ℕ) (ps : Pieces) (how : Ending) (w : World) (text : List ℕ) (refused : Bool) (left : Option (List ℕ)) (view : View) (result : Status)
+    → ps ≡ Ended how → result ≡ status_at how refused → LeavesNothing result left → IsGood w → Serves holds view w text → SoFar whole w0 text0 ps w text refused → RanAs holds whole w0 text0 left view result
+ended_ran holds whole w0 text0 ps how w text refused left view result is stated nothing good serves so_far =
     let all : trace w0 whole ≡ so_far.before = so_far.split ∙ ap (λ (p : Pieces). so_far.before ++ trace w p) is ∙ append-nil so_far.before in
     let ends : how ≡ ending whole = sym (so_far.ends ∙ ap ending is) in
     let held : w ≡ final w0 (trace w0 whole) = so_far.world ∙ ap (final w0) (sym all) in
     let told : text ≡ text0 ++ text_of (trace w0 whole) = so_far.printed ∙ ap (λ (items : List Item). text0 ++ text_of items) (sym all) in
     record {
       stated = stated ∙ ap (λ (e : Ending). status_at e refused) ends ∙ ap (status_at (ending whole)) (so_far.stated ∙ ap any_refused (sym all));
-      serves = subst (λ (v : World). Serves view v (text0 ++ text_of (trace w0 whole))) held (subst (λ (t : List ℕ). Serves view w t) told serves);
+      good = subst IsGood held good;
+      serves = subst (λ (v : World). Serves holds view v (text0 ++ text_of (trace w0 whole))) held (subst (λ (t : List ℕ). Serves holds view w t) told serves);
       nothing = nothing;
     }
 
@@ -65,9 +67,9 @@ end_leaves true left is = is
 end_leaves false left is = is
 
 -- an error that is the script's own ending
-pub error_ran : (whole : Pieces) (w0 : World) (text0 : List ℕ) (ps : Pieces) (w : World) (text : List ℕ) (refused : Bool) (left : Option (List ℕ)) (view : View) (result : Status) (e : ScriptError)
-    → EndsBy ps e → result ≡ status_of_error e → IsEnding result → Serves view w text → SoFar whole w0 text0 ps w text refused → RanAs whole w0 text0 left view result
-error_ran whole w0 text0 ps w text refused left view result error.Memory ends is ending_status serves same = absurd (subst IsEnding is ending_status)
-error_ran whole w0 text0 ps w text refused left view result error.ReadFault ends is ending_status serves same = absurd (subst IsEnding is ending_status)
-error_ran whole w0 text0 ps w text refused left view result error.LongScript ends is ending_status serves same =
-    ended_ran whole w0 text0 ps LongScript w text refused left view result ends is (subst (λ (s : Status). LeavesNothing s left) (sym is) tt) serves same
+pub error_ran : (holds : Holding) (whole : Pieces) (w0 : World) (text0 : List ℕ) (ps : Pieces) (w : World) (text : List ℕ) (refused : Bool) (left : Option (List ℕ)) (view : View) (result : Status) (e : ScriptError)
+    → EndsBy ps e → result ≡ status_of_error e → IsEnding result → IsGood w → Serves holds view w text → SoFar whole w0 text0 ps w text refused → RanAs holds whole w0 text0 left view result
+error_ran holds whole w0 text0 ps w text refused left view result error.Memory ends is ending_status good serves same = absurd (subst IsEnding is ending_status)
+error_ran holds whole w0 text0 ps w text refused left view result error.ReadFault ends is ending_status good serves same = absurd (subst IsEnding is ending_status)
+error_ran holds whole w0 text0 ps w text refused left view result error.LongScript ends is ending_status good serves same =
+    ended_ran holds whole w0 text0 ps LongScript w text refused left view result ends is (subst (λ (s : Status). LeavesNothing s left) (sym is) tt) good serves same

@@ -1,6 +1,7 @@
 -- What a call of the program is answered with.
 use Rattle.std.specs.Prelude.{◌≡◌, ◌⊎◌, ℕ, List, ◌++◌, take, Option, Some, codes}
-use Rattle.ode_host.specs.Host.{Tells}
+use Rattle.ode_gate.specs.Slots.{HasOpenSlot}
+use Rattle.ode_host.specs.Host.{Stands, Tells}
 use Rattle.ode_host.specs.View.{View}
 use Rattle.ode_host.specs.declared.status.Status.{Status}
 use Rattle.ode_host.specs.declared.status.Status.TheVariants as status
@@ -8,9 +9,9 @@ use Rattle.ode_value.specs.Records.{snapshot, rows}
 use Rattle.ode_value.specs.Texts.{line}
 use Rattle.ode_value.specs.World.{World, empty_world}
 use Rattle.ode_top.specs.Calls.{call_of}
-use Rattle.ode_top.specs.File.{HasOpenSlot, IsInUse, IsInitialised}
-use Rattle.ode_top.specs.Holds.{Holds}
-use Rattle.ode_top.specs.Serves.{LeavesNothing, Serves}
+use Rattle.ode_open.specs.Holds.{Holds}
+use Rattle.ode_open.specs.Making.{IsInUse, IsInitialised}
+use Rattle.ode_top.specs.Serves.{LeavesNothing}
 use Rattle.ode_top.specs.Trace.{run_status, run_text, run_world}
 use Rattle.ode_top.specs.declared.call.Mode.{Mode}
 
@@ -21,18 +22,26 @@ Asks mode words = (file : List ℕ) × (call_of words ≡ Some (mode, file))
 abbrev pub usage_line : List ℕ
 usage_line = line (codes "usage: ode (init|run|check|dump) FILE | ode gen FILE N")
 
+-- The file holds this world, and so does each that a stop from now on leaves, as long as nothing more is written; this is
+-- what was printed.
+pub record EndsWith (view : View) (w : World) (text : List ℕ) : Type 0 where
+  pub image : List ℕ
+  pub stands : Stands image view
+  pub holds : Holds image w
+  pub printed : view.text ≡ Some text
+
 -- The run of a whole script from a world, behind this text, is the machine's: its status, its text, and the world that
 -- the file then holds. Nothing of the script is left where it was read to its end.
 pub record IsMachineRun (script : List ℕ) (w : World) (text : List ℕ) (left : Option (List ℕ)) (view : View) (status : Status) : Type 0 where
   pub stated : status ≡ run_status w script
-  pub serves : Serves view (run_world w script) (text ++ run_text w script)
+  pub ends : EndsWith view (run_world w script) (text ++ run_text w script)
   pub nothing : LeavesNothing status left
 
--- A new file was made of this one: the parts of an empty database stand at their places, every other byte of the file
--- stayed, and it was said.
+-- A new file was made of this one, which every stop leaves: the parts of an empty database stand at their places, every
+-- other byte of the file stayed, and it was said.
 pub record IsMade (file text : List ℕ) (view : View) : Type 0 where
   pub image : List ℕ
-  pub tells : Tells view image
+  pub stands : Stands image view
   pub made : IsInitialised (snapshot (rows empty_world)) file image
   pub holds : Holds image empty_world
   pub printed : view.text ≡ Some (text ++ line (codes "ready"))

@@ -1,9 +1,5 @@
 pub mod Answers
 pub mod Calls
-pub mod Decoding
-pub mod File
 pub mod Halts
-pub mod Holds
 pub mod Serves
-pub mod Slots
 pub mod Trace

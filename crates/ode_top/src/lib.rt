@@ -2,9 +2,8 @@
 #![tactic(auto)]
 
 mod call;
-mod file;
-mod header;
 mod run;
+mod settling;
 mod top;
 
 pub use call::file_word;

@@ -1,78 +1,26 @@
 //! A run of a script, piece by piece.
-ghost use Rattle.std.specs.Prelude.{◌≡◌, ◌≢◌, ◌≤◌, ◌<◌, ◌^◌, ◌++◌, ℕ, List as Items, [], length, Some, OnOk, OnErr, IfOk, IfErr};
-ghost use Rattle.ode_host.specs.Causes.{Rose};
-ghost use Rattle.ode_host.specs.Host.{Keeps, MayHavePrinted, Tells};
-ghost use Rattle.ode_value.specs.Good.{IsGood};
-ghost use Rattle.ode_value.specs.Texts.{refused_line};
-ghost use Rattle.ode_engine.specs.Carried.{outcome_of, Keeps as StateKeeps};
-ghost use Rattle.ode_top.specs.File.{HoldsBody};
-ghost use Rattle.ode_top.specs.Halts.{IsRunStatus, status_of_error};
-ghost use Rattle.ode_script.specs.Pieces.{pieces};
-ghost use Rattle.ode_top.specs.Serves.{Carries, CutShort, IsCut, IsEnding, PrintsFront, RanAs, Serves};
+ghost use Rattle.std.specs.Prelude.{◌≡◌, ◌≢◌, ◌≤◌, ◌<◌, ◌^◌, ◌++◌, ◌⊎◌, ℕ, List as Items, IsTrue, length, Some, OnOk, OnErr, IfOk};
 ghost use Rattle.ode_codec.specs.State.{world_of};
+ghost use Rattle.ode_engine.specs.Carried.{outcome_of, Keeps as StateKeeps};
+ghost use Rattle.ode_host.specs.Causes.{Rose};
+ghost use Rattle.ode_host.specs.Host.{Keeps, LeavesCut, LeavesOnly, Printed, Stands};
+ghost use Rattle.ode_value.specs.Good.{IsGood};
+ghost use Rattle.ode_value.specs.Records.{rows};
+ghost use Rattle.ode_value.specs.Texts.{refused_line};
+ghost use Rattle.ode_script.specs.Pieces.{pieces};
+ghost use Rattle.ode_top.specs.Halts.{IsRunStatus, status_of_error};
+ghost use Rattle.ode_top.specs.Serves.{Carries, IsAfterSome, IsEnding, RanAs, Serves};
 ghost use Rattle.ode_top.specs.Trace.{Item as Done, piece_items, piece_outcome, run_items};
 
-use crate::file::store;
-use crate::header::next_generation;
+use crate::settling::{Halt, settle};
 use ode_classyn::parse_statement;
 use ode_codec::State;
-use ode_engine::{Item, Settled, command};
+use ode_engine::{Item, command};
 use ode_host::{Failed, Host, Source, Status};
+use ode_keep::Keep;
 use ode_script::{Piece, Reader, ScriptError, refused_line};
 use ode_value::Refusal;
 use std::alloc::{AllocError, Global};
-
-/// A world in memory, and the generation of the header under which the file has it.
-#[derive(Drop)]
-pub struct Database {
-    pub state: State,
-    pub generation: u64,
-}
-
-/// Why a run ends before its script does.
-#[derive(Clone, Copy, Debug, PartialEq, Eq)]
-pub enum Halt {
-    Memory,
-    DiskFault,
-    WriteFault,
-}
-
-impl From<AllocError> for Halt {
-    ghost use Rattle.ode_top.specs.declared.run.Halt.TheVariants.{Memory};
-
-    ghost from_gives = { λ _ e. e ≡ Memory };
-
-    fn from(_: AllocError) -> Halt {
-        Halt::Memory
-    }
-}
-
-// The file has the snapshot before any of the text is printed.
-fn keep_and_print<H: Host>(host: &mut H, generation: u64, settled: &Settled) -> Result<(), Halt>
-    requires generation { (1 ≤ generation) × (generation ≤ 3) }
-    requires room { length settled.now.bytes.items < 33554432 }
-    ensures held { OnOk result ((image : Items ℕ) → Tells (H.view host.old) image
-        → (next : Items ℕ) × Tells (H.view host.new) next × HoldsBody next settled.now.bytes.items) }
-    ensures printed { OnOk result ((text : Items ℕ) → (H.view host.old).text ≡ Some text
-        → (H.view host.new).text ≡ Some (text ++ settled.now.text.items)) }
-    ensures cut { result ≡ Err Halt.WriteFault → (image text : Items ℕ) → Tells (H.view host.old) image → (H.view host.old).text ≡ Some text
-        → (next : Items ℕ) × Tells (H.view host.new) next × HoldsBody next settled.now.bytes.items
-        × MayHavePrinted settled.now.text.items (H.view host.old) (H.view host.new) }
-    ensures silent { result ≡ Err Halt.DiskFault → (H.view host.new).text ≡ (H.view host.old).text }
-    ensures fault { result ≢ Err Halt.Memory }
-    ensures keeps { Keeps (H.view host.old) (H.view host.new) }
-    ensures disk { result ≡ Err Halt.DiskFault → Rose (H.view host.old).disk_faults (H.view host.new).disk_faults }
-    ensures print { result ≡ Err Halt.WriteFault → Rose (H.view host.old).print_faults (H.view host.new).print_faults }
-{
-    match store(host, generation, &settled.bytes) {
-        Ok(()) => {}
-        Err(Failed) => return Err(Halt::DiskFault),
-    }
-    match host.print(&settled.text) {
-        Ok(()) => Ok(()),
-        Err(Failed) => Err(Halt::WriteFault),
-    }
-}
 
 fn print_refusal<H: Host>(
     alloc: Global,
@@ -80,12 +28,14 @@ fn print_refusal<H: Host>(
     line: u64,
     refusal: &Refusal,
 ) -> Result<(), Halt>
-    ensures printed { OnOk result ((text : Items ℕ) → (H.view host.old).text ≡ Some text
-        → (H.view host.new).text ≡ Some (text ++ refused_line line refusal.now)) }
-    ensures cut { OnErr result (MayHavePrinted (refused_line line refusal.now) (H.view host.old) (H.view host.new)) }
-    ensures image { (H.view host.new).image ≡ (H.view host.old).image }
+    ensures printed { OnOk result (Printed (refused_line line refusal.now) (H.view host.old) (H.view host.new)) }
+    ensures any_moment { (file text : Items ℕ) → Stands file (H.view host.old) → (H.view host.old).text ≡ Some text
+        → LeavesOnly (H.view host.old) (H.view host.new) (LeavesCut file text (refused_line line refusal.now)) }
+    ensures stands { (file : Items ℕ) → Stands file (H.view host.old) → Stands file (H.view host.new) }
+    ensures told { (text : Items ℕ) → (H.view host.old).text ≡ Some text → (out : Items ℕ) × ((H.view host.new).text ≡ Some out) }
     ensures keeps { Keeps (H.view host.old) (H.view host.new) }
     ensures disk { result ≡ Err Halt.DiskFault → ⊥ }
+    ensures undamaged { result ≡ Err Halt.Damaged → ⊥ }
     ensures print { result ≡ Err Halt.WriteFault → Rose (H.view host.old).print_faults (H.view host.new).print_faults }
 {
     let text = refused_line(alloc, line, refusal)?;
@@ -110,36 +60,37 @@ fn evaluate(alloc: Global, state: &mut State, text: &[u8]) -> Result<Item, Alloc
 }
 
 /// Carries out one piece: whether it was refused. A transaction is kept in the file before its text is printed.
-pub fn carry_out<H: Host>(
+pub fn carry_out<H: Host, K: Keep<H>>(
     alloc: Global,
     host: &mut H,
-    database: &mut Database,
+    keeper: &mut K,
+    state: &mut State,
     line: u64,
     text: &[u8],
 ) -> Result<bool, Halt>
-    requires good { IsGood (world_of database.old.state) }
-    requires generation { (1 ≤ database.old.generation) × (database.old.generation ≤ 3) }
+    requires live { IsTrue (K.live keeper.old) }
+    requires good { IsGood (world_of state.old) }
     requires short { length text.now < 2 ^ 32 }
-    ensures carries { IfOk result (λ refused. Carries (piece_items (world_of database.old.state) line text.now) refused
-        (world_of database.old.state) (world_of database.new.state) (H.view host.old) (H.view host.new)) }
-    ensures cut { IfErr result (λ halt. halt ≢ Halt.DiskFault → (more : Items Done) (said : Items ℕ) → Serves (H.view host.old) (world_of database.old.state) said
-        → CutShort (piece_items (world_of database.old.state) line text.now ++ more) (world_of database.old.state) said (H.view host.new)) }
-    ensures silent { result ≡ Err Halt.DiskFault → (H.view host.new).text ≡ (H.view host.old).text }
-    ensures good { OnOk result (IsGood (world_of database.new.state)) }
-    ensures generation { OnOk result ((1 ≤ database.new.generation) × (database.new.generation ≤ 3)) }
+    ensures carries { IfOk result (λ refused. Carries (K.holds keeper.old) (K.holds keeper.new) (piece_items (world_of state.old) line text.now) refused
+        (world_of state.old) (world_of state.new) (H.view host.old) (H.view host.new)) }
+    ensures any_moment { (more : Items Done) (said : Items ℕ) → Serves (K.holds keeper.old) (H.view host.old) (world_of state.old) said
+        → LeavesOnly (H.view host.old) (H.view host.new) (IsAfterSome K.means (piece_items (world_of state.old) line text.now ++ more) (world_of state.old) said) }
+    ensures told { (said : Items ℕ) → (H.view host.old).text ≡ Some said → (out : Items ℕ) × ((H.view host.new).text ≡ Some out) }
+    ensures live { OnOk result (IsTrue (K.live keeper.new)) }
+    ensures good { OnOk result (IsGood (world_of state.new)) }
+    ensures undamaged { result ≡ Err Halt.Damaged → K.holds keeper.old (H.view host.old) (rows (world_of state.old)) → ⊥ }
     ensures keeps { Keeps (H.view host.old) (H.view host.new) }
     ensures disk { result ≡ Err Halt.DiskFault → Rose (H.view host.old).disk_faults (H.view host.new).disk_faults }
     ensures print { result ≡ Err Halt.WriteFault → Rose (H.view host.old).print_faults (H.view host.new).print_faults }
 {
-    let item = evaluate(alloc, &mut database.state, text)?;
+    let item = evaluate(alloc, state, text)?;
     match &item {
         Item::Refused(refusal) => {
             print_refusal(alloc, host, line, refusal)?;
             Ok(true)
         }
         Item::Settled(settled) => {
-            keep_and_print(host, database.generation, settled)?;
-            database.generation = next_generation(database.generation);
+            settle(host, keeper, settled)?;
             Ok(false)
         }
     }
@@ -156,6 +107,7 @@ impl Halt {
             Halt::Memory => Status::Memory,
             Halt::DiskFault => Status::DiskFault,
             Halt::WriteFault => Status::WriteFault,
+            Halt::Damaged => Status::BadFile,
         }
     }
 }
@@ -171,22 +123,24 @@ fn status_of_error(error: ScriptError) -> Status
     }
 }
 
-/// Runs a script on a database, piece by piece, in whatever chunks it comes.
-pub fn run_script<H: Host, S: Source>(
+/// Runs a script over a keeper and the world that it holds, piece by piece, in whatever chunks it comes. It is `BadFile`
+/// where the keeper finds its file to be none of what it wrote, and prints nothing then.
+pub fn run_script<H: Host, K: Keep<H>, S: Source>(
     alloc: Global,
     source: &mut S,
     host: &mut H,
-    mut database: Database,
+    keeper: &mut K,
+    mut state: State,
 ) -> Status
-    requires good { IsGood (world_of database.state) }
-    requires generation { (1 ≤ database.generation) × (database.generation ≤ 3) }
-    ensures ran { (script text : Items ℕ) → S.left source.old ≡ Some script → Serves (H.view host.old) (world_of database.state) text
-        → IsEnding result → RanAs (pieces script) (world_of database.state) text (S.left source.new) (H.view host.new) result }
-    ensures cut { (script text : Items ℕ) → S.left source.old ≡ Some script → Serves (H.view host.old) (world_of database.state) text
-        → IsCut result → CutShort (run_items (world_of database.state) script) (world_of database.state) text (H.view host.new) }
-    ensures front { (script text : Items ℕ) → S.left source.old ≡ Some script → Serves (H.view host.old) (world_of database.state) text
-        → result ≡ Status.DiskFault → PrintsFront (run_items (world_of database.state) script) text (H.view host.new) }
-    ensures statuses { IsRunStatus result }
+    requires live { IsTrue (K.live keeper.old) }
+    requires good { IsGood (world_of state) }
+    ensures ran { (script text : Items ℕ) → S.left source.old ≡ Some script → Serves (K.holds keeper.old) (H.view host.old) (world_of state) text
+        → IsEnding result → RanAs (K.holds keeper.new) (pieces script) (world_of state) text (S.left source.new) (H.view host.new) result }
+    ensures any_moment { (script text : Items ℕ) → S.left source.old ≡ Some script → Serves (K.holds keeper.old) (H.view host.old) (world_of state) text
+        → LeavesOnly (H.view host.old) (H.view host.new) (IsAfterSome K.means (run_items (world_of state) script) (world_of state) text) }
+    ensures told { (text : Items ℕ) → (H.view host.old).text ≡ Some text → (out : Items ℕ) × ((H.view host.new).text ≡ Some out) }
+    ensures answers { K.holds keeper.old (H.view host.old) (rows (world_of state)) → IsRunStatus result }
+    ensures statuses { IsRunStatus result ⊎ (result ≡ Status.BadFile) }
     ensures keeps { Keeps (H.view host.old) (H.view host.new) }
     ensures later { S.faults source.old ≤ S.faults source.new }
     ensures disk { result ≡ Status.DiskFault → Rose (H.view host.old).disk_faults (H.view host.new).disk_faults }
@@ -201,7 +155,7 @@ pub fn run_script<H: Host, S: Source>(
             Ok(Piece::End) => return if refused { Status::Refused } else { Status::Ok },
             Err(error) => return status_of_error(error),
         };
-        match carry_out(alloc, host, &mut database, line, text.as_slice()) {
+        match carry_out(alloc, host, keeper, &mut state, line, text.as_slice()) {
             Ok(again) => refused = refused || again,
             Err(halt) => return halt.status(),
         }

@@ -1,47 +1,57 @@
-use Rattle.std.proofs.Common.{◌++◌, refl}
-use Rattle.std.proofs.lemmas.Result.{err_from_is_err_and}
+use Rattle.std.proofs.Common.{◌++◌}
 use Rattle.ode_codec.specs.State.{world_of}
-use Rattle.ode_top.specs.Trace.{piece_items}
-use Rattle.ode_top.proofs.Cutting.{cut_at, only_write, refused_cut, settled_cut}
-use Rattle.ode_engine.proofs.Carries.{has_room}
-use Rattle.ode_top.proofs.CarriesPieces.{refused_carries, settled_carries}
+use Rattle.ode_value.specs.Records.{rows}
+use Rattle.ode_top.proofs.CarriesPieces.{refused_carries, refused_leaves, settled_carries, settled_leaves, within}
 use Rattle.ode_top.proofs.run.carry_out.Goals as goal
 
 pub returns-in-Refused-clause-carries : goal.returns-in-Refused-clause-carries
 returns-in-Refused-clause-carries g c =
-    let said = rw c.in-Refused.is at c.in_ok-item.ensures.outcome in
+    let w = world_of c.args.state.now in
+    let outcome = rw c.in-Refused.is at c.in_ok-item.ensures.outcome in
     let kept = rw c.in-Refused.is at c.in_ok-item.ensures.keeps in
-    refused_carries _ _ _ _ _ _ _ said kept c.print_refusal.ensures.keeps c.print_refusal.ensures.image c.in_ok-print_refusal-in-Refused.ensures.printed
+    let said = c.in_ok-print_refusal-in-Refused.ensures in
+    let holds = g.K.Keep.holds c.args.keeper.now in
+    refused_carries c.args.line c.args.text.now w (world_of c.evaluate.new.state) _ _ holds holds c.in-Refused.refusal outcome kept
+    (λ records. g.met.K.Keep.stays c.args.keeper.now c.args.host.now c.print_refusal.new.host (rows w) records said.stands)
+    said.printed
 
-pub keep_and_print-requires-clause-room : goal.keep_and_print-requires-clause-room
-keep_and_print-requires-clause-room g c =
-    let kept = rw c.in-Settled.is at c.in_ok-item.ensures.keeps in
-    has_room _ _ c.in_ok-item.ensures.good kept
+pub returns-in-Refused-clause-any_moment : goal.returns-in-Refused-clause-any_moment
+returns-in-Refused-clause-any_moment g c more said serves =
+    let w = world_of c.args.state.now in
+    let outcome = rw c.in-Refused.is at c.in_ok-item.ensures.outcome in
+    let there = g.met.K.Keep.stands c.args.keeper.now c.args.host.now (rows w) serves.records in
+    refused_leaves c.args.line c.args.text.now w (world_of c.evaluate.new.state) _ _ g.K.Keep.means more said c.in-Refused.refusal there.0 outcome c.requires.good there.2
+    (c.in_ok-print_refusal-in-Refused.ensures.any_moment there.0 said there.1 serves.printed)
+
+pub returns-in_err-print_refusal-in-Refused-clause-any_moment : goal.returns-in_err-print_refusal-in-Refused-clause-any_moment
+returns-in_err-print_refusal-in-Refused-clause-any_moment g c more said serves =
+    let w = world_of c.args.state.now in
+    let outcome = rw c.in-Refused.is at c.in_ok-item.ensures.outcome in
+    let there = g.met.K.Keep.stands c.args.keeper.now c.args.host.now (rows w) serves.records in
+    refused_leaves c.args.line c.args.text.now w (world_of c.evaluate.new.state) _ _ g.K.Keep.means more said c.in-Refused.refusal there.0 outcome c.requires.good there.2
+    (c.in_err-print_refusal-in-Refused.ensures.any_moment there.0 said there.1 serves.printed)
 
 pub returns-clause-carries : goal.returns-clause-carries
 returns-clause-carries g c =
-    let said = rw c.in-Settled.is at c.in_ok-item.ensures.outcome in
-    let kept = rw c.in-Settled.is at c.in_ok-item.ensures.keeps in
-    settled_carries _ _ _ _ _ _ _ _ said kept c.in_ok-item.ensures.good c.in_ok-keep_and_print-in-Settled.ensures.held c.in_ok-keep_and_print-in-Settled.ensures.printed
-
-pub returns-in_err-item-clause-cut : goal.returns-in_err-item-clause-cut
-returns-in_err-item-clause-cut g c =
-    let p = err_from_is_err_and c.from_residual.result c.from_residual.ensures.1 in
-    let w = world_of c.args.database.now.state in
-    rw (p.1, p.2) (λ not more said serves. cut_at (piece_items w c.args.line c.args.text.now ++ more) w said (g.H.Host.view c.args.host.now) serves)
-
-pub returns-in_err-print_refusal-in-Refused-clause-cut : goal.returns-in_err-print_refusal-in-Refused-clause-cut
-returns-in_err-print_refusal-in-Refused-clause-cut g c =
-    let p = err_from_is_err_and c.from_residual-in_err-print_refusal-in-Refused.result c.from_residual-in_err-print_refusal-in-Refused.ensures.1 in
-    let outcome = rw c.in-Refused.is at c.in_ok-item.ensures.outcome in
-    let ends = c.in_err-print_refusal-in-Refused.ensures in
-    rw (p.1, p.2) (λ not more said serves. refused_cut c.in-Refused.refusal c.args.line c.args.text.now (world_of c.args.database.now.state) _ _ outcome ends.keeps ends.image ends.cut more said serves)
-
-pub returns-in_err-keep_and_print-in-Settled-clause-cut : goal.returns-in_err-keep_and_print-in-Settled-clause-cut
-returns-in_err-keep_and_print-in-Settled-clause-cut g c =
-    let p = err_from_is_err_and c.from_residual-in_err-keep_and_print-in-Settled.result c.from_residual-in_err-keep_and_print-in-Settled.ensures.1 in
+    let w = world_of c.args.state.now in
     let outcome = rw c.in-Settled.is at c.in_ok-item.ensures.outcome in
     let kept = rw c.in-Settled.is at c.in_ok-item.ensures.keeps in
-    let ends = c.in_err-keep_and_print-in-Settled.ensures in
-    rw (p.1, p.2) (λ not more said serves.
-    settled_cut _ _ c.args.line c.args.text.now (world_of c.args.database.now.state) _ _ _ outcome kept c.in_ok-item.ensures.good (ends.cut (only_write _ _ refl not ends.fault)) more said serves)
+    let done = c.in_ok-settle-in-Settled.ensures in
+    settled_carries c.args.line c.args.text.now w (world_of c.evaluate.new.state) _ _ (g.K.Keep.holds c.args.keeper.now) (g.K.Keep.holds c.settle.new.keeper) c.in-Settled.settled.text.items c.in-Settled.settled.batch outcome (kept.makes c.requires.good)
+    (done.done (rows w)) done.printed
+
+pub returns-clause-any_moment : goal.returns-clause-any_moment
+returns-clause-any_moment g c more said serves =
+    let w = world_of c.args.state.now in
+    let outcome = rw c.in-Settled.is at c.in_ok-item.ensures.outcome in
+    let kept = rw c.in-Settled.is at c.in_ok-item.ensures.keeps in
+    settled_leaves c.args.line c.args.text.now w (world_of c.evaluate.new.state) _ _ g.K.Keep.means more said c.in-Settled.settled.text.items c.in-Settled.settled.batch outcome c.requires.good c.in_ok-item.ensures.good (kept.makes c.requires.good)
+    (c.in_ok-settle-in-Settled.ensures.any_moment (rows w) said serves.records serves.printed)
+
+pub returns-in_err-settle-in-Settled-clause-any_moment : goal.returns-in_err-settle-in-Settled-clause-any_moment
+returns-in_err-settle-in-Settled-clause-any_moment g c more said serves =
+    let w = world_of c.args.state.now in
+    let outcome = rw c.in-Settled.is at c.in_ok-item.ensures.outcome in
+    let kept = rw c.in-Settled.is at c.in_ok-item.ensures.keeps in
+    settled_leaves c.args.line c.args.text.now w (world_of c.evaluate.new.state) _ _ g.K.Keep.means more said c.in-Settled.settled.text.items c.in-Settled.settled.batch outcome c.requires.good c.in_ok-item.ensures.good (kept.makes c.requires.good)
+    (c.in_err-settle-in-Settled.ensures.any_moment (rows w) said serves.records serves.printed)

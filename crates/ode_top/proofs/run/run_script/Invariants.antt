@@ -1,20 +1,26 @@
-use Rattle.std.proofs.Common.{◌≡◌, ◌≤◌, ℕ, List, Some}
-use Rattle.ode_host.specs.Host.{Keeps}
-use Rattle.ode_value.specs.Good.{IsGood}
+use Rattle.std.proofs.Common.{◌≡◌, ◌≤◌, IsTrue, ℕ, List, Some}
+use Rattle.ode_codec.specs.State.{world_of}
+use Rattle.ode_host.specs.Host.{Keeps, LeavesOnly}
 use Rattle.ode_script.specs.Left.{HasLeft}
 use Rattle.ode_script.specs.Pieces.{pieces, pieces_from}
-use Rattle.ode_top.specs.Serves.{SoFar, Serves}
-use Rattle.ode_codec.specs.State.{world_of}
+use Rattle.ode_value.specs.Good.{IsGood}
+use Rattle.ode_value.specs.Records.{rows}
+use Rattle.ode_top.specs.Serves.{IsAfterSome, Serves, SoFar}
+use Rattle.ode_top.specs.Trace.{run_items}
 use Rattle.ode_top.proofs.run.run_script.Given as goal
 
--- what is done so far and the run of what is left are the run of the whole
+-- what is done so far and the run of what is left are the run of the whole, and no stop so far left anything else
 abbrev pub invariant-pieces : goal.invariant-pieces
 invariant-pieces g l = record {
-  whole : (script text : List ℕ) → g.S.Source.left l.fn.source ≡ Some script → Serves (g.H.Host.view l.fn.host) (world_of l.fn.database.state) text →
-      (rest : List ℕ) × (printed : List ℕ) × HasLeft l.reader (g.S.Source.left l.source) rest × Serves (g.H.Host.view l.host) (world_of l.database.state) printed
-      × SoFar (pieces script) (world_of l.fn.database.state) text (pieces_from l.reader.allowed l.reader.line rest) (world_of l.database.state) printed l.refused;
-  good : IsGood (world_of l.database.state);
-  generation : (1 ≤ l.database.generation) × (l.database.generation ≤ 3);
+  whole : (script text : List ℕ) → g.S.Source.left l.fn.source ≡ Some script → (g.H.Host.view l.fn.host).text ≡ Some text →
+      (rest : List ℕ) × (printed : List ℕ) × HasLeft l.reader (g.S.Source.left l.source) rest × ((g.H.Host.view l.host).text ≡ Some printed)
+      × SoFar (pieces script) (world_of l.fn.state) text (pieces_from l.reader.allowed l.reader.line rest) (world_of l.state) printed l.refused;
+  records : g.K.Keep.holds l.fn.keeper (g.H.Host.view l.fn.host) (rows (world_of l.fn.state)) → g.K.Keep.holds l.keeper (g.H.Host.view l.host) (rows (world_of l.state));
+  moments : (script text : List ℕ) → g.S.Source.left l.fn.source ≡ Some script → Serves (g.K.Keep.holds l.fn.keeper) (g.H.Host.view l.fn.host) (world_of l.fn.state) text →
+      LeavesOnly (g.H.Host.view l.fn.host) (g.H.Host.view l.host) (IsAfterSome g.K.Keep.means (run_items (world_of l.fn.state) script) (world_of l.fn.state) text);
+  told : (text : List ℕ) → (g.H.Host.view l.fn.host).text ≡ Some text → (out : List ℕ) × ((g.H.Host.view l.host).text ≡ Some out);
+  good : IsGood (world_of l.state);
+  live : IsTrue (g.K.Keep.live l.keeper);
   allowed : l.reader.allowed ≤ 67108864;
   keeps : Keeps (g.H.Host.view l.fn.host) (g.H.Host.view l.host);
   reads : g.S.Source.faults l.fn.source ≤ g.S.Source.faults l.source;

@@ -11,17 +11,17 @@ returns-in-Init-clause-in_use g c file asks tells in_use = c.init.ensures.in_use
 pub returns-in-Run-clause-run : goal.returns-in-Run-clause-run
 returns-in-Run-clause-run g c bytes image text w asks left tells said holds ending = c.run.ensures.ran bytes image text w left tells said holds ending
 
+pub returns-in-Run-clause-cut : goal.returns-in-Run-clause-cut
+returns-in-Run-clause-cut g c bytes image text w asks left tells said holds cut = c.run.ensures.cut bytes image text w left tells said holds cut
+
+pub returns-in-Run-clause-stops : goal.returns-in-Run-clause-stops
+returns-in-Run-clause-stops g c bytes image text w asks left tells said holds = c.run.ensures.stops bytes image text w left tells said holds
+
 pub returns-in-Run-clause-bad_file : goal.returns-in-Run-clause-bad_file
 returns-in-Run-clause-bad_file g c is asks image text tells said = c.run.ensures.bad_file is image text tells said
 
 pub returns-in-None-clause-said : goal.returns-in-None-clause-said
 returns-in-None-clause-said g c is text said = c.end_with.ensures.printed (λ (cut : c.end_with.result ≡ status.WriteFault). cc) text said
-
-pub returns-in-Run-clause-cut : goal.returns-in-Run-clause-cut
-returns-in-Run-clause-cut g c bytes image text w asks left tells said holds cut = c.run.ensures.cut bytes image text w left tells said holds cut
-
-pub returns-in-Run-clause-front : goal.returns-in-Run-clause-front
-returns-in-Run-clause-front g c bytes image text w asks left tells said holds disk = c.run.ensures.front bytes image text w left tells said holds disk
 
 pub returns-in-Run-clause-no_world : goal.returns-in-Run-clause-no_world
 returns-in-Run-clause-no_world g c image asks tells none = c.run.ensures.no_world image tells none

@@ -1,0 +1,23 @@
+-- Records that a batch puts under their keys.
+use Rattle.std.specs.Prelude.{◌≤◌, ℕ, ℤ, List, [], ◌∷◌, length, Some, None}
+use Rattle.std.specs.List.{All}
+use Rattle.std.specs.Map.{values_of}
+use Rattle.std.specs.Option.{IfSome}
+use Rattle.ode_value.specs.Records.{Row}
+use Rattle.ode_value.specs.World.{Version}
+use Rattle.ode_value.specs.declared.value.Value.TheVariants as value
+use Rattle.ode_keep.specs.Entries.{Changes}
+
+-- each of these records, in order
+abbrev pub putting : List Row → Changes
+putting [] = []
+putting (r ∷ rs) = (r.0, Some r.1) ∷ putting rs
+
+-- what a keeper takes at once
+pub record IsSmall (changes : Changes) : Type 0 where
+  pub few : length changes ≤ 1024
+  pub short : All (λ v. IfSome v (λ bytes. length bytes ≤ 3968)) (values_of changes)
+
+-- the first version of an object with one int
+abbrev pub first_version : ℤ → Version
+first_version n = record { number = 1; parent = None; fields = value.Int n ∷ [] }

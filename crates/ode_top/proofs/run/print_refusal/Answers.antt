@@ -1,0 +1,10 @@
+use Rattle.std.proofs.Common.{◌++◌}
+use Rattle.ode_top.proofs.Settles.{stands_printed}
+use Rattle.ode_top.proofs.run.print_refusal.Goals as goal
+
+pub returns-in-Ok-clause-told : goal.returns-in-Ok-clause-told
+returns-in-Ok-clause-told g c text printed = (text ++ c.deref.result.now, c.in-Ok.ensures.done text printed)
+
+pub returns-in-Ok-clause-stands : goal.returns-in-Ok-clause-stands
+returns-in-Ok-clause-stands g c file stands =
+    stands_printed c.deref.result.now file (g.H.Host.view c.args.host.now) (g.H.Host.view c.print.new.self) c.print.ensures.prints stands
