@@ -1,5 +1,5 @@
 -- What a file that holds a world has under its header.
-use Rattle.std.proofs.Common.{◌≡◌, ℕ, List, refl, subst, sym}
+use Rattle.std.proofs.Common.{◌≡◌, ℕ, List, subst}
 use Rattle.std.specs.List.{AllByRecursion}
 use Rattle.ode_areas.specs.declared.areas.Areas.{Areas}
 use Rattle.ode_areas.specs.Holding.{Holds as AreasHold}

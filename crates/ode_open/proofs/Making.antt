@@ -1,5 +1,5 @@
 -- What the writes of a new file make of what was there.
-use Rattle.std.proofs.Common.{◌≡◌, ◌≢◌, ◌<◌, ◌≤◌, ◌⊎◌, inl, inr, ⊎_elim, ℕ, ◌+◌, max, List, [], ◌∷◌, ◌++◌, length, take, drop, get_or, Some, None, refl, subst, sym, ◌∙◌, ap, arith, append_assoc, length-append, length-take, length-drop, take-append-drop}
+use Rattle.std.proofs.Common.{◌≡◌, ◌≢◌, ◌<◌, ◌≤◌, ◌⊎◌, inl, inr, ⊎_elim, ℕ, ◌+◌, max, List, [], ◌∷◌, ◌++◌, length, take, drop, get_or, Some, None, refl, subst, sym, ◌∙◌, ap, arith, append_assoc, length-append}
 use Rattle.std.specs.Prelude.{slice_get}
 use Rattle.std.specs.List.Sorted.{IsStrictlySortedBy}
 use Rattle.std.proofs.lemmas.List.{take_at, drop_at, drop-drop}
@@ -11,15 +11,15 @@ use Rattle.ode_host.proofs.Bytes.{length-written_over}
 use Rattle.ode_gate.specs.declared.header.Header.{Header}
 use Rattle.ode_gate.specs.Gate.{open_gate}
 use Rattle.ode_gate.specs.Headers.{IsHeader, IsOfAreas, header_bytes}
-use Rattle.ode_gate.specs.Slots.{Counts, Spells, bytes_of, open_body, slot_at}
+use Rattle.ode_gate.specs.Slots.{Counts, Spells, open_body, slot_at}
 use Rattle.ode_gate.proofs.Spelling.{length-header_bytes}
 use Rattle.ode_keep.specs.Entries.{Entries, HasRisingKeys}
 use Rattle.ode_value.specs.Records.{rows, snapshot}
 use Rattle.ode_value.specs.World.{empty_world}
-use Rattle.ode_areas.specs.Image.{AreasMean, HasMap, body_of}
-use Rattle.ode_areas.specs.Rows.{FitsKey, FitsRow, FitsSnapshot, IsSnapshot}
+use Rattle.ode_areas.specs.Image.{body_of}
+use Rattle.ode_areas.specs.Rows.{IsSnapshot}
 use Rattle.ode_open.specs.Holds.{Holds}
-use Rattle.ode_open.specs.Making.{IsInitialised, IsOutside, IsShutAt, first_header}
+use Rattle.ode_open.specs.Making.{IsInitialised, IsOutside, first_header}
 use Rattle.ode_open.proofs.Empty.{good_empty}
 use Rattle.ode_open.proofs.Ranges.{wrote_here, wrote_past, wrote_elsewhere, wrote_one, get_from_drop, drop_from_get}
 

@@ -1,5 +1,5 @@
 -- What the refusals of an opening say of the file.
-use Rattle.std.proofs.Common.{◌≡◌, ◌⊎◌, inl, inr, ⊎_elim, ℕ, List, Result, Err, refl, subst, sym}
+use Rattle.std.proofs.Common.{◌≡◌, ◌⊎◌, inl, inr, ⊎_elim, ℕ, List, Err, refl, subst}
 use Rattle.std.specs.Prelude.{IsErrOf, IsOk}
 use Rattle.ode_areas.specs.declared.areas.Areas.{Areas}
 use Rattle.ode_areas.specs.declared.error.StartError.{StartError}

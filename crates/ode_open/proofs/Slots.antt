@@ -1,6 +1,6 @@
 -- Which slots are open, by what is read of a header.
 use Rattle.std.proofs.Common.{◌≡◌, ◌⊎◌, inl, inr, ⊎_elim, ℕ, List}
-use Rattle.ode_gate.specs.Slots.{HasOpenSlot, HaveOneGeneration, IsBroken, IsNewer, IsOpen, bytes_of, place_of}
+use Rattle.ode_gate.specs.Slots.{HasOpenSlot, HaveOneGeneration, IsBroken, IsNewer, bytes_of, place_of}
 use Rattle.ode_gate.specs.Readings.{HasNone, IsBadAt, IsFirstNewer}
 use Rattle.ode_gate.proofs.Counting.{holds_open, shut_open}
 

@@ -9,7 +9,7 @@ use Rattle.ode_codec.specs.State.{world_of}
 use Rattle.ode_codec.proofs.GoodStates.{are_rows, state_of_good}
 use Rattle.ode_keep.specs.Entries.{Entries}
 use Rattle.ode_value.specs.Good.{IsGood}
-use Rattle.ode_value.specs.Records.{Row, counters_row, head_row, object_row, row_bytes, rows, snapshot, text_row, version_row, version_rows}
+use Rattle.ode_value.specs.Records.{Row, head_row, object_row, row_bytes, rows, snapshot, text_row, version_row, version_rows}
 use Rattle.ode_value.specs.World.{Object, World}
 
 -- a kind of one byte

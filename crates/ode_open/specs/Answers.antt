@@ -1,5 +1,5 @@
 -- What the opening of a file answers.
-use Rattle.std.specs.Prelude.{◌≡◌, ◌⊎◌, Result, Ok, Err, IsErrOf}
+use Rattle.std.specs.Prelude.{◌≡◌, Result, Ok, Err}
 use Rattle.ode_areas.specs.declared.error.StartError.{StartError}
 use Rattle.ode_areas.specs.declared.error.StartError.TheVariants as start
 use Rattle.ode_codec.specs.declared.state.State.{State}

@@ -14,7 +14,7 @@ ghost use Rattle.ode_value.specs.Good.{IsGood};
 ghost use Rattle.ode_value.specs.Records.{rows};
 ghost use Rattle.ode_value.specs.World.{World};
 ghost use Rattle.ode_open.specs.Holds.{Holds};
-ghost use Rattle.ode_open.specs.Answers.{IsOutside, OpensAs, ReadsAs};
+ghost use Rattle.ode_open.specs.Answers.{OpensAs, ReadsAs};
 
 use crate::error::OpenError;
 use crate::snapshot::snapshot_of;

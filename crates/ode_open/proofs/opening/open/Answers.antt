@@ -1,4 +1,4 @@
-use Rattle.std.proofs.Common.{◌≡◌, ◌∙◌, List, ℕ, inl, inr, ⊎_elim, ap, sym, subst, Err}
+use Rattle.std.proofs.Common.{◌≡◌, inl, inr, ⊎_elim, ap, subst, Err}
 use Rattle.std.proofs.lemmas.Result.{err_from_is_err_and}
 use Rattle.ode_areas.specs.Holding.{Holds as AreasHold}
 use Rattle.ode_codec.specs.State.{world_of}

@@ -1,4 +1,4 @@
-use Rattle.std.proofs.Common.{◌≡◌, ◌∙◌, List, ℕ, Option, Some, None, sym}
+use Rattle.std.proofs.Common.{◌≡◌, ◌∙◌, Some, None, sym}
 use Rattle.ode_keep.specs.Entries.{least_from, value_under}
 use Rattle.ode_open.proofs.Walks.{no_value}
 use Rattle.ode_open.proofs.snapshot.first_from.Goals as goal

@@ -1,4 +1,4 @@
-use Rattle.std.proofs.Common.{List, ℕ, Option, subst, arith}
+use Rattle.std.proofs.Common.{Option, subst, arith}
 use Rattle.ode_host.proofs.Moments.{looks_joined}
 use Rattle.ode_areas.specs.Rows.{FitsKey}
 use Rattle.ode_value.specs.declared.key.Key.{Key}
