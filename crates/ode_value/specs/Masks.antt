@@ -19,7 +19,7 @@ Plain = Slots → Result Value Fault
 -- the value or the fault, by one level; what isn't plain reads as null does
 abbrev pub plain_of : expr.Expr-F Plain → Plain
 plain_of (expr.Lit v) slots = Ok v
-plain_of (expr.Field e name) slots = Err (NoObject 0)
+plain_of _ slots = Err (NoObject 0)
 
 unfoldable pub plain : Expr → Plain
 plain = fold-Expr Plain plain_of
