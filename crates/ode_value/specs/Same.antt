@@ -12,6 +12,7 @@ use Rattle.ode_value.specs.declared.statement.Expr.{Expr, fold-Expr, out-Expr}
 use Rattle.ode_value.specs.declared.statement.Expr.TheOpen as expr
 use Rattle.ode_value.specs.declared.statement.Sort.{Sort}
 use Rattle.ode_value.specs.declared.statement.Sort.TheVariants as sort
+use Rattle.ode_value.specs.declared.value.Ref.{Ref}
 use Rattle.ode_value.specs.declared.value.Value.{Value}
 use Rattle.ode_value.specs.declared.value.Value.TheVariants as value
 
@@ -37,11 +38,14 @@ same_version None None = true
 same_version (Some m) (Some n) = m == n
 same_version _ _ = false
 
+abbrev pub same_ref : Ref → Ref → Bool
+same_ref r s = (r.object == s.object) && same_version r.version s.version
+
 abbrev pub same_value : Value → Value → Bool
 same_value (value.Int m) (value.Int n) = int_eq m n
 same_value (value.Bool b) (value.Bool c) = same_bool b c
 same_value (value.Text s) (value.Text t) = bytes_eq s t
-same_value (value.Reference r) (value.Reference s) = (r.object == s.object) && same_version r.version s.version
+same_value (value.Reference r) (value.Reference s) = same_ref r s
 same_value _ _ = false
 
 abbrev pub same_sort : Sort → Sort → Bool

@@ -28,7 +28,9 @@ pub use boxed::Boxed;
 pub use class::{Class, Field};
 pub use digits::{decimal, int_text, parse_decimal};
 pub use event::{EventExpr, Kind, Mode, Point};
-pub use examples::{fa_examples, relative_examples, sequence_examples, symbol_examples};
+pub use examples::{
+    fa_examples, plain_examples, relative_examples, sequence_examples, symbol_examples,
+};
 pub use key::Key;
 pub use laws::{points_are_firings, symbols_are_marks};
 pub use list::{Copied, List};
