@@ -156,7 +156,7 @@ good_declaring w name field g left new free free_field =
     good_settle w now (class_line name) g
     (λ light. record {
       classes = classes_push 1 w.classes c g.classes (omega arith) (omega (arith, classes_weigh now, light, length-append w.classes (c ∷ []))) new
-          (record { field = field; fields = refl; no_parent = refl; names = (free, free_field) });
+          (record { field = field; fields = refl; no_parent = refl; no_more = (refl, refl, refl, refl); names = (free, free_field) });
       objects = objects_more w.classes (c ∷ []) 0 w.next w.objects g.objects;
       next = g.next;
       transaction = g.transaction;

@@ -1,6 +1,8 @@
 ghost use Rattle.std.specs.Prelude.{◌≡◌, IfOk};
 
+use crate::event::Kind;
 use crate::list::{Copied, List};
+use crate::member::{Constraint, Method, TriggerDecl};
 use crate::name::Name;
 use crate::statement::Sort;
 use std::alloc::{AllocError, Global};
@@ -12,13 +14,18 @@ pub struct Field {
     pub sort: Sort,
 }
 
-/// A declared class. Classes are numbered from 1.
+/// A declared class. Classes are numbered from 1. The fields and the kinds of its ancestors stand before its own, and its trees are
+/// checked: they name parameters, locals and fields by their places.
 #[derive(Drop)]
 pub struct Class {
     pub number: u32,
     pub name: Name,
     pub parent: Option<u32>,
     pub fields: List<Field>,
+    pub methods: List<Method>,
+    pub constraints: List<Constraint>,
+    pub kinds: List<Kind>,
+    pub triggers: List<TriggerDecl>,
 }
 
 impl Field {
@@ -49,6 +56,10 @@ impl Class {
             name: self.name.copy(alloc)?,
             parent: self.parent,
             fields: self.fields.copy(alloc)?,
+            methods: self.methods.copy(alloc)?,
+            constraints: self.constraints.copy(alloc)?,
+            kinds: self.kinds.copy(alloc)?,
+            triggers: self.triggers.copy(alloc)?,
         })
     }
 }
