@@ -6,6 +6,7 @@ pub mod FreeNames
 pub mod LeafLaws
 pub mod LengthLaws
 pub mod LocalPoints
+pub mod PastLaws
 pub mod PlainLaws
 pub mod PointLaws
 pub mod PrintLaws

@@ -11,7 +11,9 @@ pub mod Machine
 pub mod Marks
 pub mod Masks
 pub mod Numbers
+pub mod Objects
 pub mod Operators
+pub mod Pasts
 pub mod Points
 pub mod PrintedClasses
 pub mod PrintedExamples

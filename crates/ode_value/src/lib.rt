@@ -33,7 +33,10 @@ pub use examples::{
     sequence_examples, symbol_examples,
 };
 pub use key::Key;
-pub use laws::{lengths_are_counts, points_are_firings, symbols_are_marks};
+pub use laws::{
+    lengths_are_counts, numbers_answer_for_views, numbers_stand_for_views, points_are_firings,
+    symbols_are_marks,
+};
 pub use list::{Copied, List};
 pub use member::{Constraint, Method, TriggerDecl};
 pub use name::Name;
