@@ -44,7 +44,7 @@ field_is c built = sym (ap first_name built.fields)
 
 pub classes_from : (number : ℕ) (c : ClassRow) (cs : List ClassRow) → Leads number c cs → AreClasses (number + 1) (map class_of cs) → AreClasses number (map class_of (c ∷ cs))
 classes_from number c cs leads others =
-    (leads.numbered, leads.low, none_named c.name cs leads.alone, record { field = c.field; fields = refl; no_parent = refl; names = (leads.name, leads.field) }, others)
+    (leads.numbered, leads.low, none_named c.name cs leads.alone, record { field = c.field; fields = refl; no_parent = refl; no_more = (refl, refl, refl, refl); names = (leads.name, leads.field) }, others)
 
 pub classes_to : (number : ℕ) (c : ClassRow) (cs : List ClassRow) → AreClasses number (map class_of (c ∷ cs)) → Leads number c cs × AreClasses (number + 1) (map class_of cs)
 classes_to number c cs h =

@@ -29,7 +29,16 @@ classes_of number (c ∷ cs) h =
     let others = classes_of (number + 1) cs h.4 in
     let built = h.3 in
     let row : ClassRow = record { number = c.number; name = c.name; field = built.field } in
-    let one : class_of row ≡ c = λ i. record { number = c.number; name = c.name; parent = sym built.no_parent i; fields = sym built.fields i } in
+    let one : class_of row ≡ c = λ i. record {
+      number = c.number;
+      name = c.name;
+      parent = sym built.no_parent i;
+      fields = sym built.fields i;
+      methods = sym built.no_more.0 i;
+      constraints = sym built.no_more.1 i;
+      kinds = sym built.no_more.2 i;
+      triggers = sym built.no_more.3 i;
+    } in
     record {
       list = row ∷ others.list;
       same = λ i. one i ∷ others.same i;

@@ -156,7 +156,7 @@ good_declaring w name field g left new free free_field =
     good_settle w now (class_line name) g
     (λ light. record {
       classes = classes_push 1 w.classes c g.classes (omega arith) (omega (arith, classes_weigh now, light, length-append w.classes (c ∷ []))) new
-          (record { field = field; fields = refl; no_parent = refl; names = (free, free_field) });
+          (record { field = field; fields = refl; no_parent = refl; no_more = (refl, refl, refl, refl); names = (free, free_field) });
       objects = objects_more w.classes (c ∷ []) 0 w.next w.objects g.objects;
       next = g.next;
       transaction = g.transaction;
@@ -247,11 +247,11 @@ module _ (w : World) (t : Settled) (g : IsGood w) where
   carried_good : (s : Stmt) → IsProperStmt s → Settling (carried w s)
   carried_good (Do (New name fields)) proper = built_good (assignments fields) (λ assigned. create w name assigned)
       (λ assigned is left. of_good name assigned left (λ field n same. proper field n (is ∙ ap Some same)) (class_named name w.classes) refl)
-  carried_good (Do (Plain x)) proper = refuses NotBuilt
   carried_good (Show (Plain x)) proper = built_good (shown_path x) (λ (path : ℕ × List ℕ). show w path.0 path.1) (λ path is left. show_good path.0 path.1 (object_at path.0 w.objects) left)
-  carried_good (Show (New name fields)) proper = refuses NotBuilt
+  carried_good _ proper = refuses NotBuilt
 
   -- a statement that settles leaves a good world
   pub command_good : (s : Statement) → IsProper s → Settling (command w s)
   command_good (Declares d) proper = built_good (declared_field d) (λ (field : List ℕ). declare w d.name field) (λ field is left. declare_good d.name field left proper.0 (proper.1 field is))
   command_good (Simple s) proper = carried_good s proper
+  command_good _ proper = refuses NotBuilt

@@ -24,7 +24,7 @@ use crate::forms::{Assignment, Path, assignments, declared_field, shown_path};
 use ode_codec::{ClassRow, ObjectRow, State};
 use ode_keep::Batch;
 use ode_script::{put_aborted, put_class, put_committed, put_new, put_value};
-use ode_value::{CheckError, ClassDecl, Expr, Name, Refusal, Rhs, Statement, Stmt};
+use ode_value::{CheckError, ClassDecl, Expr, Name, Reason, Refusal, Rhs, Statement, Stmt};
 use std::alloc::{AllocError, Global};
 
 /// A statement that was refused, or the transaction that it settled.
@@ -94,7 +94,7 @@ fn abort(alloc: Global, state: &mut State, mut text: Vec<u8>) -> Result<Item, Al
     ensures world { OnOk result (world_of state.new ≡ counted (world_of state.old)) }
     ensures batch { IfOk result (λ item. HasBatch item (with_counters [] (world_of state.new))) }
 {
-    put_aborted(alloc, &mut text, state.transaction)?;
+    put_aborted(alloc, &mut text, state.transaction, &Reason::Space)?;
     state.transaction += 1;
     let mut batch = Batch::new(alloc);
     put_counters(alloc, &mut batch, state)?;
@@ -244,7 +244,7 @@ pub fn command(alloc: Global, state: &mut State, statement: &Statement) -> Resul
             fields.as_slice(),
         ),
         Statement::Simple(Stmt::Show(Rhs::Plain(expr))) => command_show(alloc, state, expr),
-        Statement::Simple(_) => Ok(Item::Refused(Refusal::NotBuilt)),
+        _ => Ok(Item::Refused(Refusal::NotBuilt)),
     }
 }
 

@@ -8,11 +8,12 @@ use Rattle.ode_value.specs.Records.{weight}
 use Rattle.ode_value.specs.Words.{is_free}
 use Rattle.ode_value.specs.World.{World, Object, class_named, class_numbered}
 
--- a class with one int field, and no parent
+-- a class with one int field and nothing else
 pub record IsBuiltClass (c : Class) : Type 0 where
   pub field : List ℕ
   pub fields : c.fields ≡ record { name = field; sort = sort.Int } ∷ []
   pub no_parent : c.parent ≡ None
+  pub no_more : (c.methods ≡ []) × (c.constraints ≡ []) × (c.kinds ≡ []) × (c.triggers ≡ [])
   pub names : (is_free c.name ≡ true) × (is_free field ≡ true)
 
 -- an object with its first version alone

@@ -28,7 +28,16 @@ settle first now text = cond (nat_lt weight_limit (weight now)) (abort first now
 
 -- a class of one int field
 abbrev pub int_class : ℕ → List ℕ → List ℕ → Class
-int_class number name field = record { number = number; name = name; parent = None; fields = record { name = field; sort = sort.Int } ∷ [] }
+int_class number name field = record {
+  number = number;
+  name = name;
+  parent = None;
+  fields = record { name = field; sort = sort.Int } ∷ [];
+  methods = [];
+  constraints = [];
+  kinds = [];
+  triggers = [];
+}
 
 abbrev pub declaring : World → List ℕ → List ℕ → Settled
 declaring w name field = settle w (record w { classes = w.classes ++ int_class (length w.classes + 1) name field ∷ [] }) (class_line name)

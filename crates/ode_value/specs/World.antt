@@ -1,5 +1,5 @@
 -- The world of the machine, and what a reference denotes in it.
-use Rattle.std.specs.Prelude.{ℕ, ℤ, List, [], ◌∷◌, Bool, cond, ◌==◌, ◌&&◌, Option, Some, None, position}
+use Rattle.std.specs.Prelude.{ℕ, ◌+◌, ℤ, List, [], ◌∷◌, ◌++◌, Bool, cond, ◌==◌, ◌&&◌, Option, Some, None, position}
 use Rattle.std.specs.Option.{option_and_then}
 use Rattle.std.specs.Str.{bytes_eq}
 use Rattle.ode_value.specs.declared.class.Class.{Class}
@@ -85,3 +85,7 @@ version_of (Some number) versions = version_numbered number versions
 -- the version that a reference denotes; null denotes none (Agrawal and Gehani, SIGMOD 1989)
 abbrev pub denotes : World → Ref → Option Version
 denotes w r = cond (r.object == 0) None (option_and_then (λ (o : Object). version_of r.version o.versions) (object_at r.object w.objects))
+
+-- with a new version, derived from this one: its number is the one after the last, which becomes the last
+abbrev pub derived : Object → Version → Object
+derived o v = record o { last = o.last + 1; versions = o.versions ++ record { number = o.last + 1; parent = Some v.number; fields = v.fields } ∷ [] }

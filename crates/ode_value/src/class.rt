@@ -1,24 +1,31 @@
 ghost use Rattle.std.specs.Prelude.{◌≡◌, IfOk};
 
+use crate::event::Kind;
 use crate::list::{Copied, List};
+use crate::member::{Constraint, Method, TriggerDecl};
 use crate::name::Name;
 use crate::statement::Sort;
 use std::alloc::{AllocError, Global};
 
 /// A field of a class.
-#[derive(Debug, Drop)]
+#[derive(Drop)]
 pub struct Field {
     pub name: Name,
     pub sort: Sort,
 }
 
-/// A declared class. Classes are numbered from 1.
-#[derive(Debug, Drop)]
+/// A declared class. Classes are numbered from 1. The fields and the kinds of its ancestors stand before its own, and its trees are
+/// checked: they name parameters, locals and fields by their places.
+#[derive(Drop)]
 pub struct Class {
     pub number: u32,
     pub name: Name,
     pub parent: Option<u32>,
     pub fields: List<Field>,
+    pub methods: List<Method>,
+    pub constraints: List<Constraint>,
+    pub kinds: List<Kind>,
+    pub triggers: List<TriggerDecl>,
 }
 
 impl Field {
@@ -28,7 +35,7 @@ impl Field {
     {
         Ok(Field {
             name: self.name.copy(alloc)?,
-            sort: self.sort,
+            sort: self.sort.copy(alloc)?,
         })
     }
 }
@@ -49,6 +56,10 @@ impl Class {
             name: self.name.copy(alloc)?,
             parent: self.parent,
             fields: self.fields.copy(alloc)?,
+            methods: self.methods.copy(alloc)?,
+            constraints: self.constraints.copy(alloc)?,
+            kinds: self.kinds.copy(alloc)?,
+            triggers: self.triggers.copy(alloc)?,
         })
     }
 }

@@ -1,7 +1,16 @@
 //! Examples of the definitions, computed, each carried by the contract of a function that does nothing.
-ghost use Rattle.std.specs.Prelude.{◌≡◌, [], ◌∷◌, true, false, codes};
-ghost use Rattle.ode_value.specs.Examples.{a, b, c, kinds, calls, found, masked, symbol_table};
+ghost use Rattle.std.specs.Prelude.{◌≡◌, [], ◌∷◌, true, false, pos, negsuc, codes, Ok, Err};
+ghost use Rattle.ode_value.specs.Examples.{a, b, c, kinds, calls, found, masked, symbol_table, faulty, bool_lit, plain_with};
 ghost use Rattle.ode_value.specs.Histories.{listed};
+ghost use Rattle.ode_value.specs.Instants.{instant_text};
+ghost use Rattle.ode_value.specs.Printing.{event_text};
+ghost use Rattle.ode_value.specs.PrintedClasses.{decl_text};
+ghost use Rattle.ode_value.specs.PrintedExamples.{either, class_p};
+ghost use Rattle.ode_value.specs.declared.arithmetic.Fault.TheVariants.{Overflow, DivideByZero};
+ghost use Rattle.ode_value.specs.declared.operator.BinOp.TheVariants.{And, Or, Lt};
+ghost use Rattle.ode_value.specs.declared.operator.UnOp.TheVariants.{Minus, Not};
+ghost use Rattle.ode_value.specs.declared.statement.Expr.TheVariants.{Local, Own, Unary, Binary};
+ghost use Rattle.ode_value.specs.declared.value.Value.TheVariants.{Int, Bool, Text};
 ghost use Rattle.ode_value.specs.declared.event.EventExpr.TheVariants.{Any, First, Relative, Prior, Sequence, Choose, Fa};
 
 /// A call that the class doesn't list is no point, and doesn't part two others.
@@ -28,4 +37,27 @@ pub fn fa_examples()
 /// Symbol 0 has no leaf; then come `after a` without its mask, with it, and `after b`.
 pub fn symbol_examples()
     ensures { symbol_table masked ≡ (false ∷ false ∷ []) ∷ (false ∷ false ∷ []) ∷ (true ∷ false ∷ []) ∷ (false ∷ true ∷ []) ∷ [] }
+{}
+
+/// The right side of `&&` and `||` is evaluated only where it is needed, and a fault is no value.
+pub fn plain_examples()
+    ensures and { plain_with [] [] (Binary And (bool_lit false) faulty) ≡ Ok (Bool false) }
+    ensures or { plain_with [] [] (Binary Or (bool_lit true) faulty) ≡ Ok (Bool true) }
+    ensures not { plain_with [] [] (Unary Not faulty) ≡ Err DivideByZero }
+    ensures less { plain_with (Text (codes "ab") ∷ []) (Text (codes "b") ∷ []) (Binary Lt (Local 0) (Own 0)) ≡ Ok (Bool true) }
+    ensures minus { plain_with (Int (negsuc 9223372036854775807) ∷ []) [] (Unary Minus (Local 0)) ≡ Err Overflow }
+{}
+
+/// An operand that is an operator stands in brackets, and a trigger's words are printed in full.
+pub fn printing_examples()
+    ensures events { event_text either ≡ codes "after a or (after b and after c)" }
+    ensures of_class { decl_text class_p ≡ codes "class P { int n; event after a; trigger once committed immediate t(int k): after a && (n < k) ==> { say \"x\"; } }" }
+{}
+
+/// Instants of the years 1970, 2000, 0000 and 9999.
+pub fn instant_examples()
+    ensures early { instant_text (pos 90) ≡ codes "1970-01-01T00:01:30Z" }
+    ensures leap_day { instant_text (pos 951782400) ≡ codes "2000-02-29T00:00:00Z" }
+    ensures first { instant_text (negsuc 62167219199) ≡ codes "0000-01-01T00:00:00Z" }
+    ensures last { instant_text (pos 253402300799) ≡ codes "9999-12-31T23:59:59Z" }
 {}

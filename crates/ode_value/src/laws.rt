@@ -1,11 +1,18 @@
 //! Laws of the definitions, each carried by the contract of a function that does nothing.
-ghost use Rattle.std.specs.Prelude.{◌≡◌, ℕ, ◌+◌, ◌<◌, List as Items, length, take};
+ghost use Rattle.std.specs.Prelude.{◌≡◌, ℕ, ◌+◌, ◌<◌, List as Items, length, take, true};
+ghost use Rattle.ode_value.specs.declared.class.Class.{Class};
 ghost use Rattle.ode_value.specs.declared.event.EventExpr.{EventExpr};
 ghost use Rattle.ode_value.specs.declared.event.Point.{Point};
 ghost use Rattle.ode_value.specs.declared.value.Value.{Value};
 ghost use Rattle.ode_value.specs.Marks.{Mark, mark};
 ghost use Rattle.ode_value.specs.Points.{points, fires};
 ghost use Rattle.ode_value.specs.Symbols.{symbol, symbol_count, symbol_mark};
+ghost use Rattle.ode_value.specs.Lengths.{value_length, record_length, counters_length, object_length, version_length};
+ghost use Rattle.ode_value.specs.Records.{spelled_value, row_weight, counters_row, head_row, text_row, object_row, version_row, class_text};
+ghost use Rattle.ode_value.specs.World.{World, Object, Version};
+ghost use Rattle.ode_value.specs.Objects.{Histories, Starts, IsWithin};
+ghost use Rattle.ode_value.specs.Pasts.{Watch, lists, numbers, table_of, StandsFor};
+ghost use Rattle.ode_value.specs.Tables.{Table, Means};
 
 /// Each position of a history is a point of an expression exactly where the expression fires on the history up to and with it.
 pub fn points_are_firings()
@@ -16,4 +23,38 @@ pub fn points_are_firings()
 pub fn symbols_are_marks()
     ensures below { (e : EventExpr) (params : Items Value) (p : Point) → symbol e params p < symbol_count e }
     ensures mark { (e : EventExpr) (params : Items Value) (p : Point) → symbol_mark e (symbol e params p) ≡ mark e params p }
+{}
+
+/// The lengths of values and records are those of their bytes.
+pub fn lengths_are_counts()
+    ensures value { (v : Value) → length (spelled_value v) ≡ value_length v }
+    ensures counters { (w : World) → row_weight (counters_row w) ≡ counters_length }
+    ensures class_records { (c : Class) → row_weight (head_row c) + row_weight (text_row c) ≡ record_length (11 + length c.name) + record_length (length (class_text c)) }
+    ensures object { (o : Object) → row_weight (object_row o) ≡ object_length }
+    ensures version { (id : ℕ) (v : Version) → row_weight (version_row id v) ≡ version_length v.fields }
+{}
+
+/// A state number goes on standing for an activation's view: from its beginning, over each point and over an abort.
+pub fn numbers_stand_for_views()
+    ensures first { (tables : ℕ → ℕ → Table) (w : Watch) → Means (table_of tables w) w.event → (h : Histories) →
+        StandsFor tables w h (lists.begin h) ((numbers tables).begin tt) }
+    ensures point { (tables : ℕ → ℕ → Table) (w : Watch) → Means (table_of tables w) w.event →
+        (h : Histories) (start : Starts) (state : ℕ) (p : Point) → IsWithin start h → StandsFor tables w h start state →
+        StandsFor tables w (lists.grow h p) (lists.step w start p) ((numbers tables).step w state p) }
+    ensures whole_point { (tables : ℕ → ℕ → Table) (w : Watch) → Means (table_of tables w) w.event →
+        (h : Histories) (start : Starts) (state : ℕ) (p : Point) → IsWithin start h → StandsFor tables w h start state →
+        StandsFor tables w (lists.grow_whole h p) (lists.step_whole w start p) ((numbers tables).step_whole w state p) }
+    ensures abort { (tables : ℕ → ℕ → Table) (w : Watch) → Means (table_of tables w) w.event →
+        (first now : Histories) (start : Starts) (old state : ℕ) → StandsFor tables w first start old → StandsFor tables w now start state →
+        StandsFor tables w (lists.rewind first now) (lists.back w start start) ((numbers tables).back w old state) }
+{}
+
+/// Behind a point the number's answer is that of the view.
+pub fn numbers_answer_for_views()
+    ensures point { (tables : ℕ → ℕ → Table) (w : Watch) → Means (table_of tables w) w.event →
+        (h : Histories) (start : Starts) (state : ℕ) (p : Point) → IsWithin start h → StandsFor tables w h start state →
+        (numbers tables).fires w tt ((numbers tables).step w state p) ≡ lists.fires w (lists.grow h p) (lists.step w start p) }
+    ensures whole_point { (tables : ℕ → ℕ → Table) (w : Watch) → Means (table_of tables w) w.event → w.whole ≡ true →
+        (h : Histories) (start : Starts) (state : ℕ) (p : Point) → IsWithin start h → StandsFor tables w h start state →
+        (numbers tables).fires w tt ((numbers tables).step_whole w state p) ≡ lists.fires w (lists.grow_whole h p) (lists.step_whole w start p) }
 {}
