@@ -337,6 +337,52 @@ else
     skip 'a full device: there is no /dev/full'
 fi
 
+# --- a run that is killed
+
+# What a run of 20,000 times `pnew P(n = 5);` prints from this transaction and this object on.
+expected() {
+    awk -v k="$1" -v o="$2" 'BEGIN { for (i = 0; i < 20000; i++) printf "new #%d\ntx %d committed\n", o + i, k + i }'
+}
+
+# Twenty rounds over one file. What was printed is a front of the whole text; the next run finds at least the printed
+# transactions, and at most one more, and goes on with the next numbers.
+kill_rounds() {
+    local transaction=2 object=1 round shown settled pid
+    yes 'pnew P(n = 5);' | head -n 20000 > long.ode
+    for round in $(seq 20); do
+        expected "$transaction" "$object" > whole
+        ./ode run killed.db < long.ode > shown 2> errors &
+        pid=$!
+        sleep "0.$(printf '%03d' $((RANDOM % 700)))"
+        kill -KILL "$pid" 2> kill.errors
+        wait "$pid" 2> kill.errors
+        if ! cmp -s -n "$(stat -c %s shown)" shown whole; then
+            echo "  round $round: what was printed is no front"
+            return 1
+        fi
+        shown=$(grep -c '^tx [0-9]* committed$' shown)
+        run run killed.db <<< 'pnew P(n = 7);'
+        settled=$(($(sed -n 's/^tx \([0-9]*\) committed$/\1/p' text) - transaction))
+        if [ "$status" -ne 0 ] || [ "$settled" -lt "$shown" ] || [ "$settled" -gt $((shown + 1)) ]; then
+            echo "  round $round: $shown transactions were printed, and $settled are there; status $status"
+            return 1
+        fi
+        if [ "$(head -n 1 text)" != "new #$((object + settled))" ]; then
+            echo "  round $round: $(head -n 1 text), expected object $((object + settled))"
+            return 1
+        fi
+        transaction=$((transaction + settled + 1))
+        object=$((object + settled + 1))
+    done
+    echo "  $((transaction - 1)) transactions behind 20 kills"
+    run run killed.db <<< "show #1.n; show #$((object - 1)).n;"
+    [ "$status" -eq 0 ] && [ "$(sed -n 's/^value //p' text | tr '\n' ' ')" = '5 7 ' ]
+}
+
+fresh killed.db
+run run killed.db < declare.ode
+is 'a run that is killed leaves what it printed, twenty times' kill_rounds 2> kill.shell
+
 # --- a long script
 
 fresh many.db
