@@ -1,4 +1,5 @@
 pub mod DistinctLaws
 pub mod LeafLists
 pub mod LeafMarks
+pub mod OwnLeaves
 pub mod PlainForms
