@@ -247,11 +247,11 @@ module _ (w : World) (t : Settled) (g : IsGood w) where
   carried_good : (s : Stmt) → IsProperStmt s → Settling (carried w s)
   carried_good (Do (New name fields)) proper = built_good (assignments fields) (λ assigned. create w name assigned)
       (λ assigned is left. of_good name assigned left (λ field n same. proper field n (is ∙ ap Some same)) (class_named name w.classes) refl)
-  carried_good (Do (Plain x)) proper = refuses NotBuilt
   carried_good (Show (Plain x)) proper = built_good (shown_path x) (λ (path : ℕ × List ℕ). show w path.0 path.1) (λ path is left. show_good path.0 path.1 (object_at path.0 w.objects) left)
-  carried_good (Show (New name fields)) proper = refuses NotBuilt
+  carried_good _ proper = refuses NotBuilt
 
   -- a statement that settles leaves a good world
   pub command_good : (s : Statement) → IsProper s → Settling (command w s)
   command_good (Declares d) proper = built_good (declared_field d) (λ (field : List ℕ). declare w d.name field) (λ field is left. declare_good d.name field left proper.0 (proper.1 field is))
   command_good (Simple s) proper = carried_good s proper
+  command_good _ proper = refuses NotBuilt

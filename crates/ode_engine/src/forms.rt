@@ -30,7 +30,7 @@ fn literal(expr: &Expr) -> Option<&Value>
 {
     match expr {
         Expr::Lit(value) => Some(value),
-        Expr::Field(_, _) => None,
+        _ => None,
     }
 }
 
@@ -103,7 +103,6 @@ pub fn shown_path(expr: &Expr) -> Option<Path<'_>>
     ensures { option_map (λ p. (p.id, p.field.now)) result ≡ shown_path expr.now }
 {
     match expr {
-        Expr::Lit(_) => None,
         Expr::Field(of, field) => match literal(of.get()) {
             Some(value) => match object_in(value) {
                 Some(id) => Some(Path { id, field }),
@@ -111,5 +110,6 @@ pub fn shown_path(expr: &Expr) -> Option<Path<'_>>
             },
             None => None,
         },
+        _ => None,
     }
 }

@@ -21,7 +21,7 @@ use crate::find::{class_named, class_numbered, object_at};
 use crate::forms::{Assignment, Path, assignments, declared_field, shown_path};
 use ode_codec::{ClassRow, ObjectRow, State, encode};
 use ode_script::{put_aborted, put_class, put_committed, put_new, put_value};
-use ode_value::{CheckError, ClassDecl, Expr, Name, Refusal, Rhs, Statement, Stmt};
+use ode_value::{CheckError, ClassDecl, Expr, Name, Reason, Refusal, Rhs, Statement, Stmt};
 use std::alloc::{AllocError, Global};
 
 /// A statement that was refused, or the transaction that it settled.
@@ -84,7 +84,7 @@ fn abort(alloc: Global, state: &mut State, mut text: Vec<u8>) -> Result<Item, Al
     ensures outcome { IfOk result (λ item. outcome_of item (world_of state.new) ≡ one (abort (world_of state.old) (world_of state.old) Space text.items)) }
     ensures keeps { IfOk result (λ item. Keeps item (world_of state.old) (world_of state.new)) }
 {
-    put_aborted(alloc, &mut text, state.transaction)?;
+    put_aborted(alloc, &mut text, state.transaction, &Reason::Space)?;
     state.transaction += 1;
     let bytes = encode(alloc, state)?.bytes;
     Ok(Item::Settled(Settled { bytes, text }))
@@ -230,7 +230,7 @@ pub fn command(alloc: Global, state: &mut State, statement: &Statement) -> Resul
             fields.as_slice(),
         ),
         Statement::Simple(Stmt::Show(Rhs::Plain(expr))) => command_show(alloc, state, expr),
-        Statement::Simple(_) => Ok(Item::Refused(Refusal::NotBuilt)),
+        _ => Ok(Item::Refused(Refusal::NotBuilt)),
     }
 }
 

@@ -5,6 +5,7 @@ pub mod FirstBytes
 pub mod FreeNames
 pub mod LeafLaws
 pub mod LocalPoints
+pub mod PlainLaws
 pub mod PointLaws
 pub mod ReferenceTexts
 pub mod Sames

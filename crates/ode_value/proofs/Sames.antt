@@ -1,18 +1,22 @@
--- Kinds, values and expressions that pass for the same are the same.
-use Rattle.std.proofs.Common.{◌≡◌, ℕ, Bool, true, false, Some, None, Option, refl, ap, sym, ◌∙◌, subst}
-use Rattle.std.specs.Prelude.{◌&&◌, ◌==◌}
+-- Kinds, values, operators and expressions that pass for the same are the same.
+use Rattle.std.proofs.Common.{◌≡◌, ℕ, List, [], ◌∷◌, Bool, true, false, Some, None, Option, refl, ap, sym, ◌∙◌, subst}
+use Rattle.std.specs.Prelude.{◌&&◌, ◌==◌, slice_index_or}
 use Rattle.std.specs.Str.{bytes_eq}
 use Rattle.std.proofs.lemmas.Bool.Decides.{Decides-eqb, Decides-int_eq}
 use Rattle.std.proofs.lemmas.Slice.Eq.{bytes_eq-Decides}
 use Rattle.ode_value.specs.declared.event.Kind.{Kind}
 use Rattle.ode_value.specs.declared.event.Kind.TheVariants as kind
+use Rattle.ode_value.specs.declared.operator.BinOp.{BinOp}
+use Rattle.ode_value.specs.declared.operator.BinOp.TheVariants as binary
+use Rattle.ode_value.specs.declared.operator.UnOp.{UnOp}
+use Rattle.ode_value.specs.declared.operator.UnOp.TheVariants as unary
 use Rattle.ode_value.specs.declared.statement.Expr.{Expr, out-Expr, roll-Expr, roll-out-Expr, fold-roll-Expr, fold_out-Expr, the_lemmas, map-Expr, ind-Expr}
 use Rattle.ode_value.specs.declared.statement.Expr.TheOpen as expr
 use Rattle.ode_value.specs.declared.statement.Expr.TheVariants as v
 use Rattle.ode_value.specs.declared.value.Ref.{Ref}
 use Rattle.ode_value.specs.declared.value.Value.{Value}
 use Rattle.ode_value.specs.declared.value.Value.TheVariants as value
-use Rattle.ode_value.specs.Same.{same_kind, same_bool, same_version, same_value, same_expr_of, same_expr}
+use Rattle.ode_value.specs.Same.{same_kind, same_bool, same_version, same_value, same_unary, place_of, same_binary, same_expr_of, same_expr}
 
 pub both-true : (b c : Bool) → (b && c) ≡ true → (b ≡ true) × (c ≡ true)
 both-true false c h = cc
@@ -56,6 +60,37 @@ value-same (value.Text s) (value.Text t) h = ap value.Text ((bytes_eq-Decides s 
 value-same (value.Reference r) (value.Reference s) h = ap value.Reference (ref-same r s h)
 value-same _ _ h = cc
 
+unary-same : (o p : UnOp) → same_unary o p ≡ true → o ≡ p
+unary-same unary.Minus unary.Minus h = refl
+unary-same unary.Not unary.Not h = refl
+unary-same _ _ h = cc
+
+abbrev operators : List BinOp
+operators =
+    binary.Add ∷ binary.Sub ∷ binary.Mul ∷ binary.Div ∷ binary.Rem ∷ binary.Eq ∷ binary.Ne ∷ binary.Lt ∷ binary.Le ∷ binary.Gt ∷ binary.Ge ∷ binary.And ∷ []
+
+-- the operator at a place
+abbrev operator_at : ℕ → BinOp
+operator_at n = slice_index_or operators n binary.Or
+
+at-place : (o : BinOp) → operator_at (place_of o) ≡ o
+at-place binary.Add = refl
+at-place binary.Sub = refl
+at-place binary.Mul = refl
+at-place binary.Div = refl
+at-place binary.Rem = refl
+at-place binary.Eq = refl
+at-place binary.Ne = refl
+at-place binary.Lt = refl
+at-place binary.Le = refl
+at-place binary.Gt = refl
+at-place binary.Ge = refl
+at-place binary.And = refl
+at-place binary.Or = refl
+
+binary-same : (o p : BinOp) → same_binary o p ≡ true → o ≡ p
+binary-same o p h = sym (at-place o) ∙ ap operator_at ((Decides-eqb (place_of o) (place_of p)).0 h) ∙ at-place p
+
 -- what an induction shows of an expression
 abbrev Tells : Expr → Type 0
 Tells e = (f : Expr) → same_expr e f ≡ true → e ≡ f
@@ -72,6 +107,21 @@ same_expr-roll d f = ap (λ g. g f) (fold-roll-Expr (Expr → Bool) (λ x y. sam
 
 level-same : (y : expr.Expr-F Told) (d : expr.Expr-F Expr) → same_expr_of (map-Expr Expr (Expr → Bool) same_expr (map-Expr Told Expr expr_of y)) d ≡ true → map-Expr Told Expr expr_of y ≡ d
 level-same (expr.Lit v) (expr.Lit w) h = ap expr.Lit (value-same v w h)
+level-same (expr.Name m) (expr.Name n) h = ap expr.Name ((bytes_eq-Decides m n).0 h)
+level-same (expr.Local m) (expr.Local n) h = ap expr.Local ((Decides-eqb m n).0 h)
+level-same (expr.Own m) (expr.Own n) h = ap expr.Own ((Decides-eqb m n).0 h)
+level-same expr.This expr.This h = refl
+level-same (expr.Slot e m) (expr.Slot f n) h =
+    let parts = both-true (same_expr e.0 f) (m == n) h in
+    ap (λ x. expr.Slot x m) (e.1 f parts.0) ∙ ap (expr.Slot f) ((Decides-eqb m n).0 parts.1)
+level-same (expr.Version e) (expr.Version f) h = ap expr.Version (e.1 f h)
+level-same (expr.Unary o e) (expr.Unary p f) h =
+    let parts = both-true (same_unary o p) (same_expr e.0 f) h in
+    ap (λ x. expr.Unary x e.0) (unary-same o p parts.0) ∙ ap (expr.Unary p) (e.1 f parts.1)
+level-same (expr.Binary o e g) (expr.Binary p f h) is =
+    let parts = both-true (same_binary o p) (same_expr e.0 f && same_expr g.0 h) is in
+    let more = both-true (same_expr e.0 f) (same_expr g.0 h) parts.1 in
+    ap (λ x. expr.Binary x e.0 g.0) (binary-same o p parts.0) ∙ ap (λ x. expr.Binary p x g.0) (e.1 f more.0) ∙ ap (expr.Binary p f) (g.1 h more.1)
 level-same (expr.Field e m) (expr.Field f n) h =
     let parts = both-true (same_expr e.0 f) (bytes_eq m n) h in
     ap (λ x. expr.Field x m) (e.1 f parts.0) ∙ ap (expr.Field f) ((bytes_eq-Decides m n).0 parts.1)

@@ -30,12 +30,13 @@ pub data Outcome : Type 0 where
 -- The parts of the three built forms, where a tree is of that form.
 
 -- `class NAME { int NAME; };`: the field's name
-abbrev pub member_name : Member → List ℕ
-member_name (member.Field name sort.Int) = name
+abbrev pub member_name : Member → Option (List ℕ)
+member_name (member.Field name sort.Int) = Some name
+member_name _ = None
 
 abbrev pub only_field : List Member → Option (List ℕ)
 only_field [] = None
-only_field (m ∷ []) = Some (member_name m)
+only_field (m ∷ []) = member_name m
 only_field (m ∷ n ∷ ms) = None
 
 abbrev pub declared_field : ClassDecl → Option (List ℕ)
@@ -44,7 +45,7 @@ declared_field d = cond (is_some d.parent) None (only_field d.members)
 -- `pnew NAME()` or `pnew NAME(NAME = NUMBER)`: the field that is set, and to what
 abbrev pub literal_at : e.Expr-F Expr → Option Value
 literal_at (e.Lit v) = Some v
-literal_at (e.Field r f) = None
+literal_at _ = None
 
 abbrev pub int_in : Value → Option ℤ
 int_in (value.Int n) = Some n
@@ -69,8 +70,8 @@ object_in (value.Text t) = None
 object_in (value.Reference r) = cond (is_some r.version) None (Some r.object)
 
 abbrev pub path_at : e.Expr-F Expr → Option (ℕ × List ℕ)
-path_at (e.Lit v) = None
 path_at (e.Field r f) = option_map (λ (id : ℕ). (id, f)) (option_and_then object_in (literal_at (out-Expr r)))
+path_at _ = None
 
 abbrev pub shown_path : Expr → Option (ℕ × List ℕ)
 shown_path x = path_at (out-Expr x)
@@ -120,10 +121,10 @@ built w (Some a) carry = cond (nat_lt w.transaction number_limit) (carry a) (Ref
 
 abbrev pub carried : World → Stmt → Outcome
 carried w (Do (rhs.New name fields)) = built w (assignments fields) (λ assigned. create w name assigned)
-carried w (Do (rhs.Plain x)) = Refused NotBuilt
 carried w (Show (rhs.Plain x)) = built w (shown_path x) (λ (path : ℕ × List ℕ). show w path.0 path.1)
-carried w (Show (rhs.New name fields)) = Refused NotBuilt
+carried w _ = Refused NotBuilt
 
 abbrev pub command : World → Statement → Outcome
 command w (Declares d) = built w (declared_field d) (λ (field : List ℕ). declare w d.name field)
 command w (Simple s) = carried w s
+command w _ = Refused NotBuilt

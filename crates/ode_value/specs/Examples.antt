@@ -1,15 +1,20 @@
 -- Examples, over calls of methods whose names are single letters.
-use Rattle.std.specs.Prelude.{ℕ, Bool, false, List, [], ◌∷◌, map, length, Some, None}
+use Rattle.std.specs.Prelude.{ℕ, pos, Bool, false, List, [], ◌∷◌, map, length, Some, None, Result}
 use Rattle.std.specs.List.{range_with_len}
+use Rattle.ode_value.specs.declared.arithmetic.Fault.{Fault}
 use Rattle.ode_value.specs.declared.event.EventExpr.{EventExpr}
 use Rattle.ode_value.specs.declared.event.EventExpr.TheVariants as event
 use Rattle.ode_value.specs.declared.event.Kind.{Kind}
 use Rattle.ode_value.specs.declared.event.Kind.TheVariants as kind
 use Rattle.ode_value.specs.declared.event.Point.{Point}
+use Rattle.ode_value.specs.declared.operator.BinOp.TheVariants.{Div, Eq}
+use Rattle.ode_value.specs.declared.statement.Expr.{Expr}
 use Rattle.ode_value.specs.declared.statement.Expr.TheVariants as expr
+use Rattle.ode_value.specs.declared.value.Value.{Value}
 use Rattle.ode_value.specs.declared.value.Value.TheVariants as value
 use Rattle.ode_value.specs.Histories.{History}
 use Rattle.ode_value.specs.Marks.{Leaf, leaves, mark_of}
+use Rattle.ode_value.specs.Masks.{plain}
 use Rattle.ode_value.specs.Points.{Points, points}
 use Rattle.ode_value.specs.Symbols.{symbol_count_of, symbol_mark_of}
 
@@ -54,3 +59,14 @@ symbol_table e = symbol_table_of (leaves e)
 -- `after a && false or after b`
 abbrev pub masked : EventExpr
 masked = event.Or (event.Leaf (kind_of 97) (Some (expr.Lit (value.Bool false)))) b
+
+-- `1 / 0 == 1`
+abbrev pub faulty : Expr
+faulty = expr.Binary Eq (expr.Binary Div (expr.Lit (value.Int (pos 1))) (expr.Lit (value.Int (pos 0)))) (expr.Lit (value.Int (pos 1)))
+
+abbrev pub bool_lit : Bool → Expr
+bool_lit b = expr.Lit (value.Bool b)
+
+-- what it comes to, with these parameters and these fields
+abbrev pub plain_with : List Value → List Value → Expr → Result Value Fault
+plain_with params own x = plain x (record { locals = params; own = own })

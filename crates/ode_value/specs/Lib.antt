@@ -9,6 +9,7 @@ pub mod Machine
 pub mod Marks
 pub mod Masks
 pub mod Numbers
+pub mod Operators
 pub mod Points
 pub mod Proper
 pub mod Records

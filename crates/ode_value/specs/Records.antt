@@ -29,6 +29,10 @@ spelled_value (value.Reference r) = byte 3 ++ to_be_bytes w64 r.object ++ to_be_
 -- a class as it is printed
 abbrev pub sort_text : Sort → List ℕ
 sort_text sort.Int = codes "int"
+sort_text sort.Bool = codes "bool"
+sort_text sort.Text = codes "text"
+sort_text (sort.Reference class) = codes "ref " ++ class
+sort_text sort.Void = codes "void"
 
 abbrev pub member_text : Field → List ℕ
 member_text f = sort_text f.sort ++ codes " " ++ f.name ++ codes "; "

@@ -1,16 +1,16 @@
 -- What a run prints.
-use Rattle.std.specs.Prelude.{ℕ, List, [], ◌∷◌, ◌++◌, codes, cond, ◌==◌, ◌||◌}
+use Rattle.std.specs.Prelude.{ℕ, List, [], ◌∷◌, ◌++◌, codes, cond, ◌==◌, ◌||◌, None}
 use Rattle.std.specs.List.{flat_map}
 use Rattle.ode_value.specs.Decimal.{digits_of, int_digits}
 use Rattle.ode_value.specs.References.{spelled_ref}
 use Rattle.ode_value.specs.declared.value.Value.{Value}
 use Rattle.ode_value.specs.declared.value.Value.TheVariants as value
 use Rattle.ode_value.specs.declared.reason.CheckError.{CheckError}
-use Rattle.ode_value.specs.declared.reason.CheckError.TheVariants.{UnknownName, Duplicate}
+use Rattle.ode_value.specs.declared.reason.CheckError.TheVariants.{UnknownName, Duplicate, WrongSort, NotInherited, TooMany}
 use Rattle.ode_value.specs.declared.reason.Reason.{Reason}
-use Rattle.ode_value.specs.declared.reason.Reason.TheVariants.{Space}
+use Rattle.ode_value.specs.declared.reason.Reason.TheVariants as reason
 use Rattle.ode_value.specs.declared.reason.Refusal.{Refusal}
-use Rattle.ode_value.specs.declared.reason.Refusal.TheVariants.{NumbersSpent, NoObject, Check, NotBuilt}
+use Rattle.ode_value.specs.declared.reason.Refusal.TheVariants as refusal
 
 abbrev pub line : List ℕ → List ℕ
 line text = text ++ 10 ∷ []
@@ -35,7 +35,20 @@ abbrev pub value_line : Value → List ℕ
 value_line v = line (codes "value " ++ value_text v)
 
 abbrev pub reason_text : Reason → List ℕ
-reason_text Space = codes "space"
+reason_text reason.Asked = codes "asked"
+reason_text (reason.Constraint name) = codes "constraint " ++ name
+reason_text reason.Overflow = codes "overflow"
+reason_text reason.DivideByZero = codes "zero divisor"
+reason_text (reason.NoObject id) = codes "no object " ++ spelled_ref (record { object = id; version = None })
+reason_text (reason.NoVersion r) = codes "no version " ++ spelled_ref r
+reason_text (reason.LastVersion id) = codes "last version #" ++ digits_of id
+reason_text reason.Depth = codes "depth"
+reason_text reason.Budget = codes "budget"
+reason_text reason.Cascade = codes "cascade"
+reason_text reason.Size = codes "size"
+reason_text reason.Space = codes "space"
+reason_text reason.Output = codes "output"
+reason_text reason.End = codes "end"
 
 abbrev pub committed_line : ℕ → List ℕ
 committed_line k = line (codes "tx " ++ digits_of k ++ codes " committed")
@@ -46,12 +59,27 @@ aborted_line k reason = line (codes "tx " ++ digits_of k ++ codes " aborted " ++
 abbrev pub check_text : CheckError → List ℕ
 check_text (UnknownName name) = codes "unknown name " ++ name
 check_text (Duplicate name) = codes "duplicate " ++ name
+check_text (WrongSort name) = codes "wrong type " ++ name
+check_text (NotInherited name) = codes "not inherited " ++ name
+check_text (TooMany name) = codes "too many " ++ name
 
 abbrev pub refusal_text : Refusal → List ℕ
-refusal_text NumbersSpent = codes "numbers spent"
-refusal_text (NoObject id) = codes "no object #" ++ digits_of id
-refusal_text (Check e) = check_text e
-refusal_text NotBuilt = codes "not built"
+refusal_text (refusal.NoToken at) = codes "bad byte " ++ digits_of at
+refusal_text (refusal.Syntax at) = codes "syntax " ++ digits_of at
+refusal_text (refusal.TooDeep at) = codes "too deep " ++ digits_of at
+refusal_text refusal.InTransaction = codes "in transaction"
+refusal_text refusal.NoTransaction = codes "no transaction"
+refusal_text refusal.NumbersSpent = codes "numbers spent"
+refusal_text (refusal.NoObject id) = codes "no object #" ++ digits_of id
+refusal_text (refusal.NoVersion r) = codes "no version " ++ spelled_ref r
+refusal_text (refusal.Check e) = check_text e
+refusal_text (refusal.TooManySymbols trigger count) = codes "too many symbols " ++ trigger ++ codes " " ++ digits_of count
+refusal_text (refusal.TooManyStates trigger) = codes "too many states " ++ trigger
+refusal_text (refusal.ClassTooLarge count) = codes "class too large " ++ digits_of count
+refusal_text refusal.BadInstant = codes "bad instant"
+refusal_text refusal.ClockBack = codes "clock back"
+refusal_text (refusal.TooManyDue count) = codes "too many due " ++ digits_of count
+refusal_text refusal.NotBuilt = codes "not built"
 
 abbrev pub refused_line : ℕ → Refusal → List ℕ
 refused_line at refusal = line (codes "refused " ++ digits_of at ++ codes " " ++ refusal_text refusal)

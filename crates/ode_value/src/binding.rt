@@ -7,7 +7,7 @@ use crate::statement::Sort;
 use std::alloc::{AllocError, Global};
 
 /// What a `let` makes or a statement sets: by name as it is written, by its place once it is checked.
-#[derive(Debug, Drop)]
+#[derive(Drop)]
 pub enum Var {
     Name(Name),
     /// A parameter or a local, counted from 0, parameters first.
@@ -17,7 +17,7 @@ pub enum Var {
 }
 
 /// A parameter of a method or a trigger.
-#[derive(Debug, Drop)]
+#[derive(Drop)]
 pub struct Param {
     pub name: Name,
     pub sort: Sort,
@@ -49,7 +49,7 @@ impl Param {
     {
         Ok(Param {
             name: self.name.copy(alloc)?,
-            sort: self.sort,
+            sort: self.sort.copy(alloc)?,
         })
     }
 }

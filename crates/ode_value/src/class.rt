@@ -6,14 +6,14 @@ use crate::statement::Sort;
 use std::alloc::{AllocError, Global};
 
 /// A field of a class.
-#[derive(Debug, Drop)]
+#[derive(Drop)]
 pub struct Field {
     pub name: Name,
     pub sort: Sort,
 }
 
 /// A declared class. Classes are numbered from 1.
-#[derive(Debug, Drop)]
+#[derive(Drop)]
 pub struct Class {
     pub number: u32,
     pub name: Name,
@@ -28,7 +28,7 @@ impl Field {
     {
         Ok(Field {
             name: self.name.copy(alloc)?,
-            sort: self.sort,
+            sort: self.sort.copy(alloc)?,
         })
     }
 }

@@ -10,7 +10,7 @@ use crate::value::Value;
 use std::alloc::{AllocError, Global};
 
 /// The kind of a point.
-#[derive(Debug, Drop)]
+#[derive(Drop)]
 pub enum Kind {
     Create,
     Delete,
@@ -29,7 +29,7 @@ pub enum Kind {
 }
 
 /// When the action of a firing runs.
-#[derive(Clone, Copy, Debug, PartialEq, Eq)]
+#[derive(Clone, Copy)]
 pub enum Mode {
     Immediate,
     Deferred,
@@ -38,7 +38,7 @@ pub enum Mode {
 }
 
 /// An event expression. A leaf is a kind, perhaps with a mask.
-#[derive(Debug, Drop)]
+#[derive(Drop)]
 pub enum EventExpr {
     Leaf(Kind, Option<Expr>),
     Any,
@@ -55,7 +55,7 @@ pub enum EventExpr {
 }
 
 /// A point of an object's history.
-#[derive(Debug, Drop)]
+#[derive(Drop)]
 pub struct Point {
     pub kind: Kind,
     /// The arguments of the event.

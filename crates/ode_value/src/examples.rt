@@ -1,7 +1,12 @@
 //! Examples of the definitions, computed, each carried by the contract of a function that does nothing.
-ghost use Rattle.std.specs.Prelude.{◌≡◌, [], ◌∷◌, true, false, codes};
-ghost use Rattle.ode_value.specs.Examples.{a, b, c, kinds, calls, found, masked, symbol_table};
+ghost use Rattle.std.specs.Prelude.{◌≡◌, [], ◌∷◌, true, false, negsuc, codes, Ok, Err};
+ghost use Rattle.ode_value.specs.Examples.{a, b, c, kinds, calls, found, masked, symbol_table, faulty, bool_lit, plain_with};
 ghost use Rattle.ode_value.specs.Histories.{listed};
+ghost use Rattle.ode_value.specs.declared.arithmetic.Fault.TheVariants.{Overflow, DivideByZero};
+ghost use Rattle.ode_value.specs.declared.operator.BinOp.TheVariants.{And, Or, Lt};
+ghost use Rattle.ode_value.specs.declared.operator.UnOp.TheVariants.{Minus, Not};
+ghost use Rattle.ode_value.specs.declared.statement.Expr.TheVariants.{Local, Own, Unary, Binary};
+ghost use Rattle.ode_value.specs.declared.value.Value.TheVariants.{Int, Bool, Text};
 ghost use Rattle.ode_value.specs.declared.event.EventExpr.TheVariants.{Any, First, Relative, Prior, Sequence, Choose, Fa};
 
 /// A call that the class doesn't list is no point, and doesn't part two others.
@@ -28,4 +33,13 @@ pub fn fa_examples()
 /// Symbol 0 has no leaf; then come `after a` without its mask, with it, and `after b`.
 pub fn symbol_examples()
     ensures { symbol_table masked ≡ (false ∷ false ∷ []) ∷ (false ∷ false ∷ []) ∷ (true ∷ false ∷ []) ∷ (false ∷ true ∷ []) ∷ [] }
+{}
+
+/// The right side of `&&` and `||` is evaluated only where it is needed, and a fault is no value.
+pub fn plain_examples()
+    ensures and { plain_with [] [] (Binary And (bool_lit false) faulty) ≡ Ok (Bool false) }
+    ensures or { plain_with [] [] (Binary Or (bool_lit true) faulty) ≡ Ok (Bool true) }
+    ensures not { plain_with [] [] (Unary Not faulty) ≡ Err DivideByZero }
+    ensures less { plain_with (Text (codes "ab") ∷ []) (Text (codes "b") ∷ []) (Binary Lt (Local 0) (Own 0)) ≡ Ok (Bool true) }
+    ensures minus { plain_with (Int (negsuc 9223372036854775807) ∷ []) [] (Unary Minus (Local 0)) ≡ Err Overflow }
 {}

@@ -11,6 +11,7 @@ mod examples;
 mod key;
 mod laws;
 mod list;
+mod member;
 mod name;
 mod operator;
 mod reason;
@@ -27,15 +28,18 @@ pub use boxed::Boxed;
 pub use class::{Class, Field};
 pub use digits::{decimal, int_text, parse_decimal};
 pub use event::{EventExpr, Kind, Mode, Point};
-pub use examples::{fa_examples, relative_examples, sequence_examples, symbol_examples};
+pub use examples::{
+    fa_examples, plain_examples, relative_examples, sequence_examples, symbol_examples,
+};
 pub use key::Key;
 pub use laws::{points_are_firings, symbols_are_marks};
 pub use list::{Copied, List};
+pub use member::{Constraint, Method, TriggerDecl};
 pub use name::Name;
 pub use operator::{BinOp, UnOp};
 pub use reason::{CheckError, Reason, Refusal};
 pub use reference::{parse_ref, ref_text};
-pub use statement::{ClassDecl, Expr, Member, Rhs, Sort, Statement, Stmt};
+pub use statement::{Call, ClassDecl, Expr, Member, Rhs, Sort, Statement, Stmt};
 pub use text::{OdeText, TextError};
 pub use tree::State;
 pub use value::{Ref, Value};

@@ -1,0 +1,105 @@
+//! Members of classes.
+ghost use Rattle.std.specs.Prelude.{◌≡◌, IfOk};
+
+use crate::binding::Param;
+use crate::event::{EventExpr, Mode};
+use crate::list::{Copied, List};
+use crate::name::Name;
+use crate::statement::{Expr, Sort, Stmt};
+use std::alloc::{AllocError, Global};
+
+/// A method of a class.
+#[derive(Drop)]
+pub struct Method {
+    pub name: Name,
+    pub result: Sort,
+    pub params: List<Param>,
+    pub body: List<Stmt>,
+}
+
+/// A constraint of a class. A soft one is tested at the end of a transaction.
+#[derive(Drop)]
+pub struct Constraint {
+    pub name: Name,
+    pub soft: bool,
+    pub test: Expr,
+}
+
+/// A trigger of a class.
+#[derive(Drop)]
+pub struct TriggerDecl {
+    pub name: Name,
+    /// Whether a new object begins with an activation.
+    pub initial: bool,
+    /// Whether an activation stays on behind a firing.
+    pub perpetual: bool,
+    /// Whether points of aborted transactions count.
+    pub whole: bool,
+    pub mode: Mode,
+    pub params: List<Param>,
+    pub event: EventExpr,
+    pub action: List<Stmt>,
+}
+
+impl Method {
+    /// The same method again.
+    pub fn copy(&self, alloc: Global) -> Result<Method, AllocError>
+        ensures { IfOk result (λ copy. copy ≡ self.now) }
+    {
+        Ok(Method {
+            name: self.name.copy(alloc)?,
+            result: self.result.copy(alloc)?,
+            params: self.params.copy(alloc)?,
+            body: self.body.copy(alloc)?,
+        })
+    }
+}
+
+impl Copied for Method {
+    fn copy_in(&self, alloc: Global) -> Result<Method, AllocError> {
+        self.copy(alloc)
+    }
+}
+
+impl Constraint {
+    /// The same constraint again.
+    pub fn copy(&self, alloc: Global) -> Result<Constraint, AllocError>
+        ensures { IfOk result (λ copy. copy ≡ self.now) }
+    {
+        Ok(Constraint {
+            name: self.name.copy(alloc)?,
+            soft: self.soft,
+            test: self.test.copy(alloc)?,
+        })
+    }
+}
+
+impl Copied for Constraint {
+    fn copy_in(&self, alloc: Global) -> Result<Constraint, AllocError> {
+        self.copy(alloc)
+    }
+}
+
+impl TriggerDecl {
+    /// The same trigger again.
+    pub fn copy(&self, alloc: Global) -> Result<TriggerDecl, AllocError>
+        ensures { IfOk result (λ copy. copy ≡ self.now) }
+    {
+        Ok(TriggerDecl {
+            name: self.name.copy(alloc)?,
+            initial: self.initial,
+            perpetual: self.perpetual,
+            whole: self.whole,
+            mode: self.mode,
+            params: self.params.copy(alloc)?,
+            event: self.event.copy(alloc)?,
+            action: self.action.copy(alloc)?,
+        })
+    }
+}
+
+impl Copied for TriggerDecl {
+    fn copy_in(&self, alloc: Global) -> Result<TriggerDecl, AllocError> {
+        self.copy(alloc)
+    }
+}
