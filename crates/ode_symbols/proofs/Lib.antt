@@ -2,4 +2,3 @@ pub mod DistinctLaws
 pub mod LeafLists
 pub mod LeafMarks
 pub mod OwnLeaves
-pub mod PlainForms

@@ -9,12 +9,14 @@ use Rattle.std.proofs.lemmas.Slice.Eq.{bytes_eq-Decides}
 use Rattle.ode_value.specs.declared.event.EventExpr.{EventExpr}
 use Rattle.ode_value.specs.declared.event.Kind.{Kind}
 use Rattle.ode_value.specs.declared.event.Kind.TheVariants as kind
+use Rattle.ode_value.specs.declared.operator.UnOp.{UnOp}
+use Rattle.ode_value.specs.declared.operator.UnOp.TheVariants as unary
 use Rattle.ode_value.specs.declared.statement.Expr.{Expr, out-Expr, roll-Expr, out-roll-Expr, fold-roll-Expr, map-Expr, ind-Expr}
 use Rattle.ode_value.specs.declared.statement.Expr.TheOpen as expr
 use Rattle.ode_value.specs.declared.value.Value.{Value}
 use Rattle.ode_value.specs.declared.value.Value.TheVariants as value
 use Rattle.ode_value.specs.Marks.{Leaf, leaves, among, same_mask}
-use Rattle.ode_value.specs.Same.{same_bool, same_kind, same_version, same_value, same_expr_of, same_expr}
+use Rattle.ode_value.specs.Same.{same_bool, same_kind, same_version, same_value, same_unary, same_binary, place_of, same_expr_of, same_expr}
 use Rattle.ode_symbols.specs.Alphabets.{are_leaves_of}
 
 and-true : (b c : Bool) → b ≡ true → c ≡ true → (b && c) ≡ true
@@ -63,6 +65,10 @@ value-itself (value.Bool b) = bool-itself b
 value-itself (value.Text s) = bytes-itself s
 value-itself (value.Reference r) = and-true (r.object == r.object) (same_version r.version r.version) (number-itself r.object) (version-itself r.version)
 
+unary-itself : (op : UnOp) → same_unary op op ≡ true
+unary-itself unary.Minus = refl
+unary-itself unary.Not = refl
+
 abbrev Itself : Type 0
 Itself = (e : Expr) × (same_expr e e ≡ true)
 
@@ -71,6 +77,15 @@ expr_of x = x.0
 
 level-itself : (y : expr.Expr-F Itself) → same_expr_of (map-Expr Expr (Expr → Bool) same_expr (map-Expr Itself Expr expr_of y)) (map-Expr Itself Expr expr_of y) ≡ true
 level-itself (expr.Lit v) = value-itself v
+level-itself (expr.Name name) = bytes-itself name
+level-itself (expr.Local place) = number-itself place
+level-itself (expr.Own place) = number-itself place
+level-itself expr.This = refl
+level-itself (expr.Slot e place) = and-true (same_expr e.0 e.0) (place == place) e.1 (number-itself place)
+level-itself (expr.Version e) = e.1
+level-itself (expr.Unary op e) = and-true (same_unary op op) (same_expr e.0 e.0) (unary-itself op) e.1
+level-itself (expr.Binary op e f) =
+    and-true (same_binary op op) (same_expr e.0 e.0 && same_expr f.0 f.0) (number-itself (place_of op)) (and-true (same_expr e.0 e.0) (same_expr f.0 f.0) e.1 f.1)
 level-itself (expr.Field e name) = and-true (same_expr e.0 e.0) (bytes_eq name name) e.1 (bytes-itself name)
 
 same_expr-roll : (d : expr.Expr-F Expr) (f : Expr) → same_expr (roll-Expr d) f ≡ same_expr_of (map-Expr Expr (Expr → Bool) same_expr d) (out-Expr f)

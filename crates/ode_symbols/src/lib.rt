@@ -4,6 +4,7 @@
 mod alphabet;
 mod error;
 mod holding;
+mod operators;
 mod plain;
 mod rows;
 
