@@ -4,9 +4,11 @@ pub mod ExampleLaws
 pub mod FirstBytes
 pub mod FreeNames
 pub mod LeafLaws
+pub mod LengthLaws
 pub mod LocalPoints
 pub mod PlainLaws
 pub mod PointLaws
+pub mod PrintLaws
 pub mod ReferenceTexts
 pub mod Sames
 pub mod SymbolLaws

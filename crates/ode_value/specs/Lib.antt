@@ -5,12 +5,17 @@ pub mod Decimal
 pub mod Examples
 pub mod Good
 pub mod Histories
+pub mod Instants
+pub mod Lengths
 pub mod Machine
 pub mod Marks
 pub mod Masks
 pub mod Numbers
 pub mod Operators
 pub mod Points
+pub mod PrintedClasses
+pub mod PrintedExamples
+pub mod Printing
 pub mod Proper
 pub mod Records
 pub mod References

@@ -1,5 +1,5 @@
 -- What operators make of values.
-use Rattle.std.specs.Prelude.{ℕ, ℤ, pos, Bool, not, cond, Result, Ok, Err}
+use Rattle.std.specs.Prelude.{ℤ, pos, Bool, not, cond, Result, Ok, Err}
 use Rattle.std.specs.Cmp.Lexicographic.{slice_cmp}
 use Rattle.std.specs.declared.cmp.Ordering.{Ordering}
 use Rattle.std.specs.Ordering.{nat_cmp, int_cmp, is_eq, is_ne, is_lt, is_le, is_gt, is_ge}

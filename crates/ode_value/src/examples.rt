@@ -1,7 +1,11 @@
 //! Examples of the definitions, computed, each carried by the contract of a function that does nothing.
-ghost use Rattle.std.specs.Prelude.{◌≡◌, [], ◌∷◌, true, false, negsuc, codes, Ok, Err};
+ghost use Rattle.std.specs.Prelude.{◌≡◌, [], ◌∷◌, true, false, pos, negsuc, codes, Ok, Err};
 ghost use Rattle.ode_value.specs.Examples.{a, b, c, kinds, calls, found, masked, symbol_table, faulty, bool_lit, plain_with};
 ghost use Rattle.ode_value.specs.Histories.{listed};
+ghost use Rattle.ode_value.specs.Instants.{instant_text};
+ghost use Rattle.ode_value.specs.Printing.{event_text};
+ghost use Rattle.ode_value.specs.PrintedClasses.{decl_text};
+ghost use Rattle.ode_value.specs.PrintedExamples.{either, class_p};
 ghost use Rattle.ode_value.specs.declared.arithmetic.Fault.TheVariants.{Overflow, DivideByZero};
 ghost use Rattle.ode_value.specs.declared.operator.BinOp.TheVariants.{And, Or, Lt};
 ghost use Rattle.ode_value.specs.declared.operator.UnOp.TheVariants.{Minus, Not};
@@ -42,4 +46,18 @@ pub fn plain_examples()
     ensures not { plain_with [] [] (Unary Not faulty) ≡ Err DivideByZero }
     ensures less { plain_with (Text (codes "ab") ∷ []) (Text (codes "b") ∷ []) (Binary Lt (Local 0) (Own 0)) ≡ Ok (Bool true) }
     ensures minus { plain_with (Int (negsuc 9223372036854775807) ∷ []) [] (Unary Minus (Local 0)) ≡ Err Overflow }
+{}
+
+/// An operand that is an operator stands in brackets, and a trigger's words are printed in full.
+pub fn printing_examples()
+    ensures events { event_text either ≡ codes "after a or (after b and after c)" }
+    ensures of_class { decl_text class_p ≡ codes "class P { int n; event after a; trigger once committed immediate t(int k): after a && (n < k) ==> { say \"x\"; } }" }
+{}
+
+/// Instants of the years 1970, 2000, 0000 and 9999.
+pub fn instant_examples()
+    ensures early { instant_text (pos 90) ≡ codes "1970-01-01T00:01:30Z" }
+    ensures leap_day { instant_text (pos 951782400) ≡ codes "2000-02-29T00:00:00Z" }
+    ensures first { instant_text (negsuc 62167219199) ≡ codes "0000-01-01T00:00:00Z" }
+    ensures last { instant_text (pos 253402300799) ≡ codes "9999-12-31T23:59:59Z" }
 {}

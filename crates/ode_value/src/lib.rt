@@ -29,10 +29,11 @@ pub use class::{Class, Field};
 pub use digits::{decimal, int_text, parse_decimal};
 pub use event::{EventExpr, Kind, Mode, Point};
 pub use examples::{
-    fa_examples, plain_examples, relative_examples, sequence_examples, symbol_examples,
+    fa_examples, instant_examples, plain_examples, printing_examples, relative_examples,
+    sequence_examples, symbol_examples,
 };
 pub use key::Key;
-pub use laws::{points_are_firings, symbols_are_marks};
+pub use laws::{lengths_are_counts, points_are_firings, symbols_are_marks};
 pub use list::{Copied, List};
 pub use member::{Constraint, Method, TriggerDecl};
 pub use name::Name;

@@ -13,7 +13,7 @@ pub struct Ref {
 }
 
 /// A value of a field, a parameter or a local.
-#[derive(Debug, Drop)]
+#[derive(Drop)]
 pub enum Value {
     Int(i64),
     Bool(bool),

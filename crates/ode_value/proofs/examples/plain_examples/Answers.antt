@@ -1,4 +1,4 @@
-use Rattle.std.proofs.Common.{◌≡◌, pos, false, ap, []}
+use Rattle.std.proofs.Common.{◌≡◌, pos, false, true, ap, []}
 use Rattle.std.specs.Prelude.{negsuc, codes, ◌∷◌}
 use Rattle.ode_value.specs.Examples.{faulty}
 use Rattle.ode_value.specs.Masks.{Slots, Plain, plain, plain_of}
