@@ -57,9 +57,9 @@ fn of_two<'a>(op: BinOp, v: &Value, w: &Value) -> Result<Read<'a>, Fault>
 }
 
 // The value of a plain expression, or its fault. The right side of `&&` and `||` is read only where it is needed.
-#[cycle(read)]
+#[cycle(evaluate)]
 #[tactic(auto, using(ode_value::proofs::PlainLaws::plains))]
-fn read<'a>(
+fn evaluate<'a>(
     e: &'a Expr,
     params: &'a [Value],
     args: &'a [Value],
@@ -72,19 +72,19 @@ fn read<'a>(
         Expr::Local(place) => local(params, args, usize::from(*place)),
         Expr::Own(place) => value_at(own, usize::from(*place)),
         Expr::Unary(op, e) => {
-            let v = read(e.get(), params, args, own)?;
+            let v = evaluate(e.get(), params, args, own)?;
             of_one(*op, value(&v))
         }
         Expr::Binary(op, e, f) => {
-            let v = read(e.get(), params, args, own)?;
-            read_binary(*op, value(&v), f.get(), params, args, own)
+            let v = evaluate(e.get(), params, args, own)?;
+            evaluate_right(*op, value(&v), f.get(), params, args, own)
         }
         _ => Err(Fault::NoObject(0)),
     }
 }
 
-#[cycle(read)]
-fn read_binary<'a>(
+#[cycle(evaluate)]
+fn evaluate_right<'a>(
     op: BinOp,
     v: &Value,
     f: &'a Expr,
@@ -96,17 +96,17 @@ fn read_binary<'a>(
 {
     match op {
         BinOp::And => match v {
-            Value::Bool(true) => read(f, params, args, own),
+            Value::Bool(true) => evaluate(f, params, args, own),
             Value::Bool(false) => Ok(Read::Made(Value::Bool(false))),
             _ => Err(Fault::NoObject(0)),
         },
         BinOp::Or => match v {
             Value::Bool(true) => Ok(Read::Made(Value::Bool(true))),
-            Value::Bool(false) => read(f, params, args, own),
+            Value::Bool(false) => evaluate(f, params, args, own),
             _ => Err(Fault::NoObject(0)),
         },
         _ => {
-            let w = read(f, params, args, own)?;
+            let w = evaluate(f, params, args, own)?;
             of_two(op, v, value(&w))
         }
     }
@@ -117,7 +117,7 @@ fn read_binary<'a>(
 pub fn test(e: &Expr, params: &[Value], args: &[Value], own: &[Value]) -> Result<bool, Fault>
     ensures { result ≡ truth_of (plain e.now (record { locals = params.now ++ args.now; own = own.now })) }
 {
-    let v = read(e, params, args, own)?;
+    let v = evaluate(e, params, args, own)?;
     match value(&v) {
         Value::Bool(b) => Ok(*b),
         _ => Ok(false),
