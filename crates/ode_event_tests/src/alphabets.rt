@@ -42,7 +42,11 @@ fn alphabets_have_at_most_32_symbols(rt: HostRuntime) -> Result<(), Fail> {
     assert_eq!(rt; Alphabet::of(alloc, &four)?.size(), 17);
     for (masks, count) in [(5, 33), (6, 65), (15, 32769), (16, 65536), (40, 65536)] {
         let error = error_of(alloc, masks)?;
-        assert_eq!(rt; error, Some(AlphabetError::TooManySymbols { count }), "{masks} masks");
+        assert_eq!(rt;
+            error,
+            Some(AlphabetError::TooManySymbols { count }),
+            "{masks} masks"
+        );
     }
     Ok(())
 }
@@ -98,7 +102,11 @@ fn a_mask_that_faults_does_not_hold(rt: HostRuntime) -> Result<(), Fail> {
     ];
     for (letter, fields, symbol) in points {
         let kind = after(alloc, letter)?;
-        assert_eq!(rt; alphabet.symbol(&[], &kind, &[], fields), symbol, "{letter}");
+        assert_eq!(rt;
+            alphabet.symbol(&[], &kind, &[], fields),
+            symbol,
+            "{letter}"
+        );
     }
     Ok(())
 }

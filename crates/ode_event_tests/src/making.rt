@@ -28,11 +28,7 @@ fn pop(alloc: Global, stack: &mut Vec<EventExpr>) -> Result<Boxed<EventExpr>, Al
     }
 }
 
-fn of_two(
-    alloc: Global,
-    stack: &mut Vec<EventExpr>,
-    letter: u8,
-) -> Result<EventExpr, AllocError> {
+fn of_two(alloc: Global, stack: &mut Vec<EventExpr>, letter: u8) -> Result<EventExpr, AllocError> {
     let f = pop(alloc, stack)?;
     let e = pop(alloc, stack)?;
     Ok(match letter {

@@ -12,7 +12,12 @@ fn of_two(alloc: Global, op: BinOp, e: Expr, f: Expr) -> Result<Expr, AllocError
 
 // `m op n`
 fn compared(alloc: Global, m: i64, op: BinOp, n: i64) -> Result<Expr, AllocError> {
-    of_two(alloc, op, Expr::Lit(Value::Int(m)), Expr::Lit(Value::Int(n)))
+    of_two(
+        alloc,
+        op,
+        Expr::Lit(Value::Int(m)),
+        Expr::Lit(Value::Int(n)),
+    )
 }
 
 // `1 op 0 == 1`

@@ -14,7 +14,7 @@ fn add(places: &mut Vec<bool>, i: usize) {
 
 fn is_call(kind: &Kind, letter: u8) -> bool {
     match kind {
-        Kind::After(name) => name.as_bytes() == &[letter],
+        Kind::After(name) => name.as_bytes() == [letter].as_slice(),
         _ => false,
     }
 }

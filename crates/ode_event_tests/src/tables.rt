@@ -1,5 +1,6 @@
 //! Tables, against positions that are computed from the operators' explanations.
-ghost use Rattle.std.specs.Prelude.{◌≡◌, true};
+ghost use Rattle.std.specs.Prelude.{◌≡◌, IfOk, length, true};
+ghost use Rattle.ode_value.specs.Marks.{leaves};
 ghost use Rattle.ode_value.specs.Numbers.{has_numbers};
 
 use crate::making::{after, expression, keeps_numbers};
@@ -12,12 +13,30 @@ use std::alloc::Global;
 use std::process::Abort;
 use std::test::Fail;
 
+#[tactic(auto, using(ode_value::proofs::LeafLaws::forms))]
+fn after_a(alloc: Global) -> Result<EventExpr, Fail>
+    ensures leaves { IfOk result (λ e. length (leaves e) ≡ 1) }
+    ensures numbers { IfOk result (λ e. has_numbers e ≡ true) }
+{
+    let kind = after(alloc, b'a')?;
+    Ok(EventExpr::Leaf(kind, None))
+}
+
+#[test]
+fn a_tree_answers_where_its_leaf_holds_at_the_last_point(rt: HostRuntime) -> Result<(), Fail> {
+    let alloc = rt.alloc();
+    let e = after_a(alloc)?;
+    let first = init(alloc, &e)?;
+    assert!(rt; !out(&e, &first));
+    let second = step(alloc, &e, &first, &[true])?;
+    assert!(rt; out(&e, &second));
+    let third = step(alloc, &e, &second, &[false])?;
+    assert!(rt; !out(&e, &third));
+    Ok(())
+}
+
 // How many states the table of a text's expression has, or why it has no table.
-fn states_of(
-    rt: &impl Abort,
-    alloc: Global,
-    text: &str,
-) -> Result<Result<u16, BuildError>, Fail> {
+fn states_of(rt: &impl Abort, alloc: Global, text: &str) -> Result<Result<u16, BuildError>, Fail> {
     let e = expression(alloc, text)?;
     let alphabet = Alphabet::of(alloc, &e)?;
     assert!(rt; keeps_numbers(&e));
@@ -112,8 +131,14 @@ fn a_call_leads_to_yes_and_another_point_to_no(rt: HostRuntime) -> Result<(), Fa
     assert!(rt; keeps_numbers(&e));
     let alphabet = Alphabet::of(alloc, &e)?;
     let table = build(alloc, &e, &alphabet)?;
-    assert_eq!(rt; answers(&rt, alloc, &table, &[1])?.as_slice(), &[true]);
-    assert_eq!(rt; answers(&rt, alloc, &table, &[1, 0])?.as_slice(), &[true, false]);
+    assert_eq!(rt;
+        answers(&rt, alloc, &table, &[1])?.as_slice(),
+        [true].as_slice()
+    );
+    assert_eq!(rt;
+        answers(&rt, alloc, &table, &[1, 0])?.as_slice(),
+        [true, false].as_slice()
+    );
     Ok(())
 }
 
@@ -123,7 +148,10 @@ fn tables_have_at_most_512_states(rt: HostRuntime) -> Result<(), Fail> {
     assert_eq!(rt; states_of(&rt, alloc, "a")?, Ok(2));
     assert_eq!(rt; states_of(&rt, alloc, "a.5R")?, Ok(128));
     assert_eq!(rt; states_of(&rt, alloc, "a.7R")?, Ok(512));
-    assert_eq!(rt; states_of(&rt, alloc, "a.8R")?, Err(BuildError::TooManyStates));
+    assert_eq!(rt;
+        states_of(&rt, alloc, "a.8R")?,
+        Err(BuildError::TooManyStates)
+    );
     Ok(())
 }
 
@@ -140,8 +168,17 @@ fn parts_of_a_table_fit_each_other(rt: HostRuntime) -> Result<(), Fail> {
     assert!(rt; fits(alloc, 1, 0, &[], &[true])?);
     assert!(rt; fits(alloc, 2, 2, &[0, 1, 1, 0], &[true, false])?);
     assert!(rt; !fits(alloc, 0, 2, &[], &[])?, "no state");
-    assert!(rt; !fits(alloc, 2, 2, &[0, 1, 1, 2], &[true, false])?, "a number out of range");
-    assert!(rt; !fits(alloc, 2, 2, &[0, 1, 1], &[true, false])?, "a row too short");
-    assert!(rt; !fits(alloc, 2, 2, &[0, 1, 1, 0], &[true])?, "an answer too few");
+    assert!(rt;
+        !fits(alloc, 2, 2, &[0, 1, 1, 2], &[true, false])?,
+        "a number out of range"
+    );
+    assert!(rt;
+        !fits(alloc, 2, 2, &[0, 1, 1], &[true, false])?,
+        "a row too short"
+    );
+    assert!(rt;
+        !fits(alloc, 2, 2, &[0, 1, 1, 0], &[true])?,
+        "an answer too few"
+    );
     Ok(())
 }
