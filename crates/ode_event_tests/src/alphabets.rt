@@ -1,26 +1,38 @@
 //! Alphabets: how many symbols there are, the symbol of a point and the mark of a symbol.
 use crate::making::{after, leaf};
 use ode_symbols::{Alphabet, AlphabetError};
-use ode_value::{BinOp, Boxed, EventExpr, Expr, Value};
+use ode_value::{BinOp, Boxed, EventExpr, Expr, TextError, Value};
 use std::alloc::{AllocError, Global};
 use std::process::Abort;
 use std::test::Fail;
 
 // `after a && 0 or after a && 1 or ..`, with so many different masks
 fn masked(alloc: Global, masks: i64) -> Result<EventExpr, Fail> {
-    let mut e = leaf(alloc, b'a', Some(Expr::Lit(Value::Int(0))))?;
+    let first = (0 < masks).then_some(Expr::Lit(Value::Int(0)));
+    let mut e = leaf(alloc, b'a', first)?;
     for n in 1..masks {
-        let next = leaf(alloc, b'a', Some(Expr::Lit(Value::Int(n))))?;
-        let next = Boxed::new(alloc, next)?;
-        e = EventExpr::Or(Boxed::new(alloc, e)?, next);
+        e = with_mask(alloc, e, n)?;
     }
     Ok(e)
 }
 
-// Why its masks have no alphabet.
-fn error_of(alloc: Global, masks: i64) -> Result<Option<AlphabetError>, Fail> {
+fn with_mask(alloc: Global, e: EventExpr, n: i64) -> Result<EventExpr, TextError> {
+    let e = Boxed::new(alloc, e)?;
+    let next = leaf(alloc, b'a', Some(Expr::Lit(Value::Int(n))))?;
+    Ok(EventExpr::Or(e, Boxed::new(alloc, next)?))
+}
+
+// How many symbols so many masks have, or why there is no alphabet.
+fn size_of(alloc: Global, masks: i64) -> Result<Result<u8, AlphabetError>, Fail> {
     let e = masked(alloc, masks)?;
-    Ok(Alphabet::of(alloc, &e).err())
+    match Alphabet::of(alloc, &e) {
+        Ok(alphabet) => Ok(Ok(alphabet.size())),
+        Err(error) => Ok(Err(error)),
+    }
+}
+
+fn too_many(count: u32) -> Result<u8, AlphabetError> {
+    Err(AlphabetError::TooManySymbols { count })
 }
 
 // `after a && n < 1 or after b`, n the first field
@@ -35,18 +47,18 @@ fn small_or_b(alloc: Global) -> Result<EventExpr, Fail> {
 
 #[test]
 fn alphabets_have_at_most_32_symbols(rt: HostRuntime) -> Result<(), Fail> {
-    let alloc = rt.alloc();
-    let a = leaf(alloc, b'a', None)?;
-    assert_eq!(rt; Alphabet::of(alloc, &a)?.size(), 2);
-    let four = masked(alloc, 4)?;
-    assert_eq!(rt; Alphabet::of(alloc, &four)?.size(), 17);
-    for (masks, count) in [(5, 33), (6, 65), (15, 32769), (16, 65536), (40, 65536)] {
-        let error = error_of(alloc, masks)?;
-        assert_eq!(rt;
-            error,
-            Some(AlphabetError::TooManySymbols { count }),
-            "{masks} masks"
-        );
+    let sizes = [
+        (0, Ok(2)),
+        (1, Ok(3)),
+        (4, Ok(17)),
+        (5, too_many(33)),
+        (6, too_many(65)),
+        (15, too_many(32769)),
+        (16, too_many(65536)),
+        (40, too_many(65536)),
+    ];
+    for (masks, expected) in sizes {
+        assert_eq!(rt; size_of(rt.alloc(), masks)?, expected, "{masks} masks");
     }
     Ok(())
 }
@@ -69,8 +81,9 @@ fn symbols_have_marks(rt: HostRuntime) -> Result<(), Fail> {
     let alloc = rt.alloc();
     let a = leaf(alloc, b'a', None)?;
     let alphabet = Alphabet::of(alloc, &a)?;
-    has_mark(&rt, &alphabet, &a, 0, &[false])?;
-    has_mark(&rt, &alphabet, &a, 1, &[true])?;
+    for (symbol, holds) in [(0, false), (1, true)] {
+        has_mark(&rt, &alphabet, &a, symbol, &[holds])?;
+    }
     Ok(())
 }
 
@@ -80,10 +93,14 @@ fn a_kind_has_a_symbol_for_each_set_of_its_masks(rt: HostRuntime) -> Result<(), 
     let e = small_or_b(alloc)?;
     let alphabet = Alphabet::of(alloc, &e)?;
     assert_eq!(rt; alphabet.size(), 4);
-    has_mark(&rt, &alphabet, &e, 0, &[false, false])?;
-    has_mark(&rt, &alphabet, &e, 1, &[false, false])?;
-    has_mark(&rt, &alphabet, &e, 2, &[true, false])?;
-    has_mark(&rt, &alphabet, &e, 3, &[false, true])?;
+    for (symbol, of_a, of_b) in [
+        (0, false, false),
+        (1, false, false),
+        (2, true, false),
+        (3, false, true),
+    ] {
+        has_mark(&rt, &alphabet, &e, symbol, &[of_a, of_b])?;
+    }
     Ok(())
 }
 

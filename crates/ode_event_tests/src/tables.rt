@@ -22,16 +22,26 @@ fn after_a(alloc: Global) -> Result<EventExpr, Fail>
     Ok(EventExpr::Leaf(kind, None))
 }
 
+// The answers of the trees after points at which its leaf holds or doesn't.
+fn tree_answers(alloc: Global, e: &EventExpr, marks: &[bool]) -> Result<Vec<bool>, Fail>
+    requires leaves { length (leaves e.now) ≡ 1 }
+    requires numbers { has_numbers e.now ≡ true }
+{
+    let mut answers = Vec::new(alloc);
+    let mut s = init(alloc, e)?;
+    for holds in marks {
+        s = step(alloc, e, &s, &[*holds])?;
+        answers.push(out(e, &s))?;
+    }
+    Ok(answers)
+}
+
 #[test]
 fn a_tree_answers_where_its_leaf_holds_at_the_last_point(rt: HostRuntime) -> Result<(), Fail> {
-    let alloc = rt.alloc();
-    let e = after_a(alloc)?;
-    let first = init(alloc, &e)?;
-    assert!(rt; !out(&e, &first));
-    let second = step(alloc, &e, &first, &[true])?;
-    assert!(rt; out(&e, &second));
-    let third = step(alloc, &e, &second, &[false])?;
-    assert!(rt; !out(&e, &third));
+    let e = after_a(rt.alloc())?;
+    let marks = [true, false, false, true];
+    let answers = tree_answers(rt.alloc(), &e, &marks)?;
+    assert_eq!(rt; answers.as_slice(), marks.as_slice());
     Ok(())
 }
 
@@ -95,19 +105,31 @@ fn answers_as_positions(
     Ok(())
 }
 
-// The table of a text's expression answers on so many words as the positions say.
+// The table answers on so many pseudo-random words as the positions say.
+fn answers_on_words(
+    rt: &impl Abort,
+    alloc: Global,
+    e: &EventExpr,
+    alphabet: &Alphabet,
+    table: &Table,
+    words: u32,
+) -> Result<(), Fail> {
+    let mut seed = words;
+    for length in 0..words {
+        let (word, next) = random_word(alloc, (length % 16) as usize, seed)?;
+        answers_as_positions(rt, alloc, e, alphabet, table, &word)?;
+        seed = next;
+    }
+    Ok(())
+}
+
+// The same of the table of a text's expression.
 fn is_right(rt: &impl Abort, alloc: Global, text: &str, words: u32) -> Result<(), Fail> {
     let e = expression(alloc, text)?;
     assert!(rt; keeps_numbers(&e));
     let alphabet = Alphabet::of(alloc, &e)?;
     let table = build(alloc, &e, &alphabet)?;
-    let mut seed = words;
-    for length in 0..words {
-        let (word, next) = random_word(alloc, (length % 16) as usize, seed)?;
-        answers_as_positions(rt, alloc, &e, &alphabet, &table, &word)?;
-        seed = next;
-    }
-    Ok(())
+    answers_on_words(rt, alloc, &e, &alphabet, &table, words)
 }
 
 #[test]
@@ -124,21 +146,19 @@ fn tables_answer_as_each_operator_says(rt: HostRuntime) -> Result<(), Fail> {
     Ok(())
 }
 
-#[test]
-fn a_call_leads_to_yes_and_another_point_to_no(rt: HostRuntime) -> Result<(), Fail> {
-    let alloc = rt.alloc();
+// The answers of the table of `after a` after each symbol in turn.
+fn answers_of_a(rt: &impl Abort, alloc: Global, word: &[u8]) -> Result<Vec<bool>, Fail> {
     let e = expression(alloc, "a")?;
     assert!(rt; keeps_numbers(&e));
     let alphabet = Alphabet::of(alloc, &e)?;
     let table = build(alloc, &e, &alphabet)?;
-    assert_eq!(rt;
-        answers(&rt, alloc, &table, &[1])?.as_slice(),
-        [true].as_slice()
-    );
-    assert_eq!(rt;
-        answers(&rt, alloc, &table, &[1, 0])?.as_slice(),
-        [true, false].as_slice()
-    );
+    answers(rt, alloc, &table, word)
+}
+
+#[test]
+fn a_call_leads_to_yes_and_another_point_to_no(rt: HostRuntime) -> Result<(), Fail> {
+    let found = answers_of_a(&rt, rt.alloc(), &[1, 0, 0, 1])?;
+    assert_eq!(rt; found.as_slice(), [true, false, false, true].as_slice());
     Ok(())
 }
 
