@@ -1,5 +1,5 @@
 -- How the list of trees grows.
-use Rattle.std.proofs.Common.{◌≡◌, ℕ, zero, suc, ◌+◌, ◌-◌, ◌<◌, ◌≤◌, Bool, true, false, cond, List, [], ◌∷◌, ◌++◌, length, map, refl, ap, sym, ◌∙◌, subst, arith, length-append, append_assoc, add-one, Some, None}
+use Rattle.std.proofs.Common.{◌≡◌, ℕ, zero, suc, ◌+◌, ◌-◌, ◌<◌, ◌≤◌, Bool, true, false, cond, List, [], ◌∷◌, ◌++◌, length, map, refl, ap, sym, ◌∙◌, subst, arith, length-append, append_assoc, Some, None}
 use Rattle.std.specs.Prelude.{fold, flat_map, nat_le}
 use Rattle.std.specs.List.{list_any}
 use Rattle.std.proofs.lemmas.Bool.Decides.{nat_tests}
@@ -12,43 +12,36 @@ use Rattle.ode_value.specs.Trees.{first_tree, next_tree}
 use Rattle.ode_trees.specs.Listed.{each_step, grow_listed, grown_listed, listed_count}
 use Rattle.ode_trees.proofs.ListedLaws.{next-spelled}
 
-leb-above : (m n : ℕ) → n < m → nat_le m n ≡ false
+pub leb-above : (m n : ℕ) → n < m → nat_le m n ≡ false
 leb-above m n h = grind (arith, nat_tests)
 
-leb-within : (m n : ℕ) → m ≤ n → nat_le m n ≡ true
+pub leb-within : (m n : ℕ) → m ≤ n → nat_le m n ≡ true
 leb-within m n h = grind (arith, nat_tests)
 
 -- ---- a longer list begins with the shorter one
 
-abbrev Begins : List State → List State → Type 0
+abbrev pub Begins : List State → List State → Type 0
 Begins xs ys = (rest : List State) × (ys ≡ xs ++ rest)
 
-append-none : (xs : List State) → xs ≡ xs ++ []
+pub append-none : (xs : List State) → xs ≡ xs ++ []
 append-none [] = refl
 append-none (x ∷ xs) = ap (λ l. x ∷ l) (append-none xs)
 
-begins-with_tree : (trees : List State) (s : State) → Begins trees (with_tree trees s)
+pub begins-with_tree : (trees : List State) (s : State) → Begins trees (with_tree trees s)
 begins-with_tree trees s = by_test (list_any (same_tree s) trees) where
   by_test : (t : Bool) → Begins trees (cond t trees (trees ++ s ∷ []))
   by_test true = ([], append-none trees)
   by_test false = (s ∷ [], refl)
 
-begins-more : (xs ys zs : List State) → Begins xs ys → Begins ys zs → Begins xs zs
+pub begins-more : (xs ys zs : List State) → Begins xs ys → Begins ys zs → Begins xs zs
 begins-more xs ys zs p q = (p.0 ++ q.0, q.1 ∙ ap (λ l. l ++ q.0) p.1 ∙ append_assoc xs p.0 q.0)
 
-begins-fold : (trees new : List State) → Begins trees (fold with_tree trees new)
+pub begins-fold : (trees new : List State) → Begins trees (fold with_tree trees new)
 begins-fold trees [] = ([], append-none trees)
 begins-fold trees (s ∷ new) = begins-more trees (with_tree trees s) (fold with_tree (with_tree trees s) new) (begins-with_tree trees s) (begins-fold (with_tree trees s) new)
 
-begins-longer : (xs ys : List State) → Begins xs ys → length xs ≤ length ys
+pub begins-longer : (xs ys : List State) → Begins xs ys → length xs ≤ length ys
 begins-longer xs ys p = let e : length ys ≡ length xs + length p.0 = ap length p.1 ∙ length-append xs p.0 in omega arith
-
-none-long : (xs rest : List State) → length (xs ++ rest) ≡ length xs → xs ++ rest ≡ xs
-none-long xs [] h = sym (append-none xs)
-none-long xs (r ∷ rest) h = absurd (let e = length-append xs (r ∷ rest) in omega arith)
-
-begins-same : (xs ys : List State) → Begins xs ys → length ys ≡ length xs → ys ≡ xs
-begins-same xs ys p h = p.1 ∙ none-long xs p.0 (ap length (sym p.1) ∙ h)
 
 -- ---- the list after more rounds
 
@@ -60,17 +53,12 @@ pub grown-first : (e : EventExpr) (lists : List (List Bool)) → grown_listed e 
 unfolding grown_listed
 grown-first e lists = refl
 
-pub grown-more : (e : EventExpr) (lists : List (List Bool)) (n : ℕ) → grown_listed e lists (n + 1) ≡ grow_listed e lists (grown_listed e lists n)
-grown-more e lists n = ap (grown_listed e lists) (add-one n) ∙ grown-next e lists n
-
-pub ruleset rounds = (grown-first, grown-more)
-
 longer-next : (e : EventExpr) (lists : List (List Bool)) (n : ℕ) → length (grown_listed e lists n) ≤ length (grown_listed e lists (suc n))
 longer-next e lists n =
     subst (λ l. length (grown_listed e lists n) ≤ length l) (sym (grown-next e lists n))
     (begins-longer (grown_listed e lists n) (grow_listed e lists (grown_listed e lists n)) (begins-fold (grown_listed e lists n) (flat_map (each_step e lists) (grown_listed e lists n))))
 
-longer : (e : EventExpr) (lists : List (List Bool)) (n more : ℕ) → length (grown_listed e lists n) ≤ length (grown_listed e lists (n + more))
+pub longer : (e : EventExpr) (lists : List (List Bool)) (n more : ℕ) → length (grown_listed e lists n) ≤ length (grown_listed e lists (n + more))
 longer e lists n zero = let same : n ≡ n + 0 = omega arith in subst (λ k. length (grown_listed e lists n) ≤ length (grown_listed e lists k)) same (omega arith)
 longer e lists n (suc more) =
     let before = longer e lists n more in
@@ -78,43 +66,16 @@ longer e lists n (suc more) =
     let same : suc (n + more) ≡ n + suc more = omega arith in
     subst (λ k. length (grown_listed e lists n) ≤ length (grown_listed e lists k)) same (omega (arith, before, step))
 
--- a round that adds nothing is followed by none that does
-stays : (e : EventExpr) (lists : List (List Bool)) (n more : ℕ) → grow_listed e lists (grown_listed e lists n) ≡ grown_listed e lists n → grown_listed e lists (n + more) ≡ grown_listed e lists n
-stays e lists n zero h = let same : n + 0 ≡ n = omega arith in ap (grown_listed e lists) same
-stays e lists n (suc more) h =
-    let same : n + suc more ≡ suc (n + more) = omega arith in
-    ap (grown_listed e lists) same ∙ grown-next e lists (n + more) ∙ ap (grow_listed e lists) (stays e lists n more h) ∙ h
-
-last-round : (e : EventExpr) (lists : List (List Bool)) → length (grown_listed e lists 512) ≡ listed_count e lists
+pub last-round : (e : EventExpr) (lists : List (List Bool)) → length (grown_listed e lists 512) ≡ listed_count e lists
 unfolding listed_count
 last-round e lists = refl
 
-pub counted-end : (e : EventExpr) (lists : List (List Bool)) (n : ℕ) (trees : List State) → n ≡ 512 → trees ≡ grown_listed e lists n → counted (length trees) ≡ counted (listed_count e lists)
-counted-end e lists n trees p q = ap (λ l. counted (length l)) q ∙ ap (λ k. counted (length (grown_listed e lists k))) p ∙ ap counted (last-round e lists)
-
-pub counted-same : (e : EventExpr) (lists : List (List Bool)) (n : ℕ) (trees : List State) → n ≤ 512 → trees ≡ grow_listed e lists (grown_listed e lists n) → length trees ≡ length (grown_listed e lists n)
-    → counted (length trees) ≡ counted (listed_count e lists)
-counted-same e lists n trees below grown same =
-    let here = begins-fold (grown_listed e lists n) (flat_map (each_step e lists) (grown_listed e lists n)) in
-    let still : grow_listed e lists (grown_listed e lists n) ≡ grown_listed e lists n = begins-same (grown_listed e lists n) (grow_listed e lists (grown_listed e lists n)) here (ap length (sym grown) ∙ same) in
-    let all : n + (512 - n) ≡ 512 = omega arith in
-    ap counted same ∙ ap (λ l. counted (length l)) (sym (stays e lists n (512 - n) still)) ∙ ap (λ k. counted (length (grown_listed e lists k))) all ∙ ap counted (last-round e lists)
-
-beyond : (n : ℕ) → 512 < n → counted n ≡ None
+pub beyond : (n : ℕ) → 512 < n → counted n ≡ None
 beyond n above = ap (λ t. cond t (Some n) None) (leb-above n 512 above)
-
-pub counted-more : (e : EventExpr) (lists : List (List Bool)) (n : ℕ) (trees : List State) → n < 512 → trees ≡ grow_listed e lists (grown_listed e lists n) → 512 < length trees
-    → counted (length trees) ≡ counted (listed_count e lists)
-counted-more e lists n trees below grown more =
-    let up : length (grown_listed e lists (suc n)) ≤ length (grown_listed e lists (suc n + (511 - n))) = longer e lists (suc n) (511 - n) in
-    let all : suc n + (511 - n) ≡ 512 = omega arith in
-    let long : length trees ≡ length (grown_listed e lists (suc n)) = ap length (grown ∙ sym (grown-next e lists n)) in
-    let last : length (grown_listed e lists (suc n + (511 - n))) ≡ listed_count e lists = ap (λ k. length (grown_listed e lists k)) all ∙ last-round e lists in
-    beyond (length trees) more ∙ sym (beyond (listed_count e lists) (omega arith))
 
 -- ---- lists that spell marks
 
-each-marks : (e : EventExpr) (ms : List Mark) (s : State) → each_step e (map (spelled e) ms) s ≡ map (λ step. step s) (map (next_tree e) ms)
+pub each-marks : (e : EventExpr) (ms : List Mark) (s : State) → each_step e (map (spelled e) ms) s ≡ map (λ step. step s) (map (next_tree e) ms)
 each-marks e [] s = refl
 each-marks e (m ∷ ms) s = λ i. next-spelled e m i s ∷ each-marks e ms s i
 
@@ -129,13 +90,3 @@ grown-marks e ms (suc n) = grow-marks e ms (grown_listed e (map (spelled e) ms) 
 pub count-marks : (e : EventExpr) (lists : List (List Bool)) (ms : List Mark) → lists ≡ map (spelled e) ms → listed_count e lists ≡ count_over e ms
 unfolding listed_count count_by_steps
 count-marks e lists ms h = ap (listed_count e) h ∙ ap length (grown-marks e ms 512)
-
-within-limit : (n : ℕ) → n ≤ 512 → counted n ≡ Some n
-within-limit n h = ap (λ t. cond t (Some n) None) (leb-within n 512 h)
-
--- what is answered of the trees, by the marks
-pub told-small : (e : EventExpr) (lists : List (List Bool)) (n : ℕ) → n ≤ 512 → counted n ≡ counted (listed_count e lists) → (ms : List Mark) → lists ≡ map (spelled e) ms → Some n ≡ counted (count_over e ms)
-told-small e lists n h p ms q = sym (within-limit n h) ∙ p ∙ ap counted (count-marks e lists ms q)
-
-pub told-large : (e : EventExpr) (lists : List (List Bool)) (n : ℕ) → 512 < n → counted n ≡ counted (listed_count e lists) → (ms : List Mark) → lists ≡ map (spelled e) ms → None ≡ counted (count_over e ms)
-told-large e lists n h p ms q = sym (beyond n h) ∙ p ∙ ap counted (count-marks e lists ms q)

@@ -4,11 +4,12 @@ use Rattle.std.specs.Prelude.{◌||◌, ◌&&◌, cond, filter, map}
 use Rattle.std.specs.List.{list_any}
 use Rattle.std.specs.declared.cmp.Ordering.{Ordering}
 use Rattle.std.specs.declared.cmp.Ordering.TheVariants.{Less, Equal, Greater}
-use Rattle.std.specs.Ordering.{nat_cmp, bool_cmp, ordering_then}
+use Rattle.std.specs.Ordering.{nat_cmp, bool_cmp, ordering_then, is_eq}
+use Rattle.std.specs.Cmp.{nat_cmp_is}
 use Rattle.std.specs.FinMap.{nat_cmp-IsAntisymmetric}
-use Rattle.ode_value.specs.declared.tree.State.{State, out-State, roll-State, roll-out-State, fold-roll-State, map-State, ind-State}
+use Rattle.ode_value.specs.declared.tree.State.{State, out-State, roll-State, roll-out-State, out-roll-State, fold-roll-State, map-State, ind-State}
 use Rattle.ode_value.specs.declared.tree.State.TheOpen.{State-F, Bit, Place, Seen, Both, Flag, Count, Starts, Pairs}
-use Rattle.ode_value.specs.TreeOrder.{list_cmp, tree_cmp_of, tree_cmp, placed, joined, all_joined, pair_cmp}
+use Rattle.ode_value.specs.TreeOrder.{list_cmp, tree_cmp_of, tree_cmp, same_tree, placed, joined, all_joined, pair_cmp}
 
 -- equal in two parts is equal in both
 then-equal : (a b : Ordering) → ordering_then a b ≡ Equal → (a ≡ Equal) × (b ≡ Equal)
@@ -151,3 +152,69 @@ pairs-equal x y h =
     let first = tree-equal x.0 y.0 both.0 in
     let second = tree-equal x.1 y.1 both.1 in
     λ i. (first i, second i)
+
+-- ---- each tree is the same as itself
+
+bool-itself : (b : Bool) → bool_cmp b b ≡ Equal
+bool-itself false = refl
+bool-itself true = refl
+
+nat-itself : (n : ℕ) → nat_cmp n n ≡ Equal
+nat-itself n = sym (nat_cmp_is n n Equal refl)
+
+both-equal : (a b : Ordering) → a ≡ Equal → b ≡ Equal → ordering_then a b ≡ Equal
+both-equal Less b h k = cc
+both-equal Equal b h k = k
+both-equal Greater b h k = cc
+
+abbrev Same : Type 0
+Same = (s : State) × (tree_cmp s s ≡ Equal)
+
+abbrev same_of : Same → State
+same_of x = x.0
+
+abbrev same_pair : Same × Same → State × State
+same_pair x = (x.0.0, x.1.0)
+
+list-itself : (xs : List Same) → list_cmp (λ (x : (State → Ordering)) (y : State). x y) (map tree_cmp (map same_of xs)) (map same_of xs) ≡ Equal
+list-itself [] = refl
+list-itself (x ∷ xs) = both-equal (tree_cmp x.0 x.0) (list_cmp (λ (f : (State → Ordering)) (y : State). f y) (map tree_cmp (map same_of xs)) (map same_of xs)) x.1 (list-itself xs)
+
+pairs-itself : (xs : List (Same × Same))
+    → list_cmp (λ (x : (State → Ordering) × (State → Ordering)) (y : State × State). ordering_then (x.0 y.0) (x.1 y.1)) (map (λ x. (tree_cmp x.0, tree_cmp x.1)) (map same_pair xs)) (map same_pair xs) ≡ Equal
+pairs-itself [] = refl
+pairs-itself (x ∷ xs) =
+    both-equal (ordering_then (tree_cmp x.0.0 x.0.0) (tree_cmp x.1.0 x.1.0))
+    (list_cmp (λ (f : (State → Ordering) × (State → Ordering)) (y : State × State). ordering_then (f.0 y.0) (f.1 y.1)) (map (λ y. (tree_cmp y.0, tree_cmp y.1)) (map same_pair xs)) (map same_pair xs))
+    (both-equal (tree_cmp x.0.0 x.0.0) (tree_cmp x.1.0 x.1.0) x.0.1 x.1.1) (pairs-itself xs)
+
+level-itself : (y : State-F Same) → tree_cmp_of (map-State State (State → Ordering) tree_cmp (map-State Same State same_of y)) (map-State Same State same_of y) ≡ Equal
+level-itself (Bit b) = bool-itself b
+level-itself (Place n) = nat-itself n
+level-itself (Seen b e) = both-equal (bool_cmp b b) (tree_cmp e.0 e.0) (bool-itself b) e.1
+level-itself (Both e f) = both-equal (tree_cmp e.0 e.0) (tree_cmp f.0 f.0) e.1 f.1
+level-itself (Flag e f b) = both-equal (tree_cmp e.0 e.0) (ordering_then (tree_cmp f.0 f.0) (bool_cmp b b)) e.1 (both-equal (tree_cmp f.0 f.0) (bool_cmp b b) f.1 (bool-itself b))
+level-itself (Count e n) = both-equal (tree_cmp e.0 e.0) (nat_cmp n n) e.1 (nat-itself n)
+level-itself (Starts e s) = both-equal (tree_cmp e.0 e.0) (list_cmp (λ (x : (State → Ordering)) (y : State). x y) (map tree_cmp (map same_of s)) (map same_of s)) e.1 (list-itself s)
+level-itself (Pairs e s) =
+    both-equal (tree_cmp e.0 e.0)
+    (list_cmp (λ (x : (State → Ordering) × (State → Ordering)) (y : State × State). ordering_then (x.0 y.0) (x.1 y.1)) (map (λ x. (tree_cmp x.0, tree_cmp x.1)) (map same_pair s)) (map same_pair s))
+    e.1 (pairs-itself s)
+
+pub tree-itself : (s : State) → tree_cmp s s ≡ Equal
+tree-itself = ind-State (λ s. tree_cmp s s ≡ Equal) (λ x y q. subst (λ d. tree_cmp (roll-State d) (roll-State d) ≡ Equal) q (here y)) where
+  here : (y : State-F Same) → tree_cmp (roll-State (map-State Same State same_of y)) (roll-State (map-State Same State same_of y)) ≡ Equal
+  here y =
+      let d = map-State Same State same_of y in
+      tree_cmp-roll d (roll-State d) ∙ ap (tree_cmp_of (map-State State (State → Ordering) tree_cmp d)) (out-roll-State d) ∙ level-itself y
+
+pub same_tree-itself : (s : State) → same_tree s s ≡ true
+same_tree-itself s = ap is_eq (tree-itself s)
+
+is_equal : (o : Ordering) → is_eq o ≡ true → o ≡ Equal
+is_equal Less h = cc
+is_equal Equal h = refl
+is_equal Greater h = cc
+
+pub same_tree-equal : (s t : State) → same_tree s t ≡ true → s ≡ t
+same_tree-equal s t h = tree-equal s t (is_equal (tree_cmp s t) h)

@@ -1,5 +1,6 @@
 pub mod CountLaws
 pub mod EqualTrees
+pub mod FoundLaws
 pub mod ListForms
 pub mod ListedLaws
 pub mod MachineLaws

@@ -2,6 +2,7 @@
 #![tactic(auto)]
 
 mod count;
+mod growth;
 mod laws;
 mod machine;
 mod order;
@@ -9,6 +10,7 @@ mod part;
 mod set;
 
 pub use count::count_trees;
+pub use growth::{Reached, reach};
 pub use laws::trees_answer_as_points;
 pub use machine::{init, out, step};
 pub use ode_value::State;

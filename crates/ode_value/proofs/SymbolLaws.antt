@@ -31,7 +31,7 @@ true_isnt_false true h k = cc
 apart : {A : Type 0} (same : A → A → Bool) → ((x y : A) → same x y ≡ true → x ≡ y) → (x z : A) → same x z ≡ false → (y : A) → same y z ≡ true → not (same x y) ≡ true
 apart same eq x z p y q = not_of_false (same x y) (λ h. true_isnt_false (same x z) (ap (λ u. same u z) (eq x y h) ∙ q) p)
 
-distinct-any : {A : Type 0} (same : A → A → Bool) → ((x y : A) → same x y ≡ true → x ≡ y) → (z : A) (xs : List A) → list_any (λ y. same y z) (distinct same xs) ≡ list_any (λ y. same y z) xs
+pub distinct-any : {A : Type 0} (same : A → A → Bool) → ((x y : A) → same x y ≡ true → x ≡ y) → (z : A) (xs : List A) → list_any (λ y. same y z) (distinct same xs) ≡ list_any (λ y. same y z) xs
 distinct-any same eq z [] = refl
 distinct-any same eq z (x ∷ xs) = by_test (distinct-any same eq z xs) (same x z) refl where
   by_test : list_any (λ y. same y z) (distinct same xs) ≡ list_any (λ y. same y z) xs → (t : Bool) → same x z ≡ t

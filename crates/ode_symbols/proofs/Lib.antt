@@ -1,0 +1,4 @@
+pub mod DistinctLaws
+pub mod LeafLists
+pub mod LeafMarks
+pub mod OwnLeaves

@@ -1,0 +1,8 @@
+use Rattle.std.proofs.Common.{◌≤◌, ◌^◌, arith}
+use Rattle.std.proofs.Math.Pow.{pow_mono}
+use Rattle.ode_symbols.proofs.rows.symbols_of.Goals as goal
+
+pub returns-else-masks-lt16 : goal.returns-else-masks-lt16
+returns-else-masks-lt16 c =
+    let many : 2 ^ 16 ≤ 2 ^ c.args.masks = pow_mono c.if-masks-lt16.false in
+    omega arith

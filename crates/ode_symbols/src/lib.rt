@@ -1,0 +1,13 @@
+//! The alphabet of an event expression: which marks a point can have, and which one a point has.
+#![tactic(auto)]
+
+mod alphabet;
+mod error;
+mod holding;
+mod operators;
+mod plain;
+mod rows;
+
+pub use alphabet::Alphabet;
+pub use error::AlphabetError;
+pub use plain::test;

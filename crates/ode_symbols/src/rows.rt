@@ -1,0 +1,218 @@
+//! The kinds of an expression's leaves, each with its masks.
+ghost use Rattle.std.specs.Prelude.{◌≡◌, ◌++◌, ◌∷◌, ◌^◌, [], IfOk, OnOk, List as Items, filter_map, length, map, min};
+ghost use Rattle.std.specs.List.{list_any};
+ghost use Rattle.ode_symbols.specs.Alphabets.{alphabet, size_of, with_any, with_new};
+ghost use Rattle.ode_value.specs.Marks.{Leaf, leaves};
+ghost use Rattle.ode_value.specs.Same.{same_expr, same_kind};
+ghost use Rattle.ode_value.specs.Symbols.{distinct, mask_of, row_of};
+
+use ode_value::{Copied, EventExpr, Expr, Kind, List};
+use std::alloc::{AllocError, Global};
+use std::marker::Model;
+
+/// A kind, with the masks of its masked leaves.
+#[derive(Drop)]
+pub struct Row {
+    pub kind: Kind,
+    pub masks: List<Expr>,
+}
+
+impl Model for Row {
+    ghost use Rattle.std.specs.Coded.{codes};
+    ghost use Rattle.ode_value.specs.contracts.statement.Expr as e;
+    ghost use Rattle.ode_value.specs.Symbols.{Row};
+
+    ghost Value = { Row };
+
+    ghost coded = { Prim.hlevel (codes, e.the_row.coded) };
+
+    ghost view = { λ row. record { kind = row.kind; masks = row.masks } };
+}
+
+type Leaves = List<(Kind, Option<Expr>)>;
+
+fn add_leaf(
+    alloc: Global,
+    kind: &Kind,
+    mask: &Option<Expr>,
+    to: &mut Leaves,
+) -> Result<(), AllocError>
+    ensures { OnOk result (to.new ≡ to.old ++ (kind.now, mask.now) ∷ []) }
+{
+    let kind = kind.copy(alloc)?;
+    let mask = mask.copy_in(alloc)?;
+    to.push((kind, mask))
+}
+
+/// Adds the leaves of an expression, in the order of the text.
+#[tactic(auto, using(crate::proofs::LeafLists::listings))]
+pub fn add_leaves(alloc: Global, e: &EventExpr, to: &mut Leaves) -> Result<(), AllocError>
+    ensures { OnOk result (to.new ≡ to.old ++ leaves e.now) }
+{
+    match e {
+        EventExpr::Leaf(kind, mask) => add_leaf(alloc, kind, mask, to),
+        EventExpr::Any => Ok(()),
+        EventExpr::First => Ok(()),
+        EventExpr::Not(e) => add_leaves(alloc, e.get(), to),
+        EventExpr::And(e, f) => {
+            add_leaves(alloc, e.get(), to)?;
+            add_leaves(alloc, f.get(), to)
+        }
+        EventExpr::Or(e, f) => {
+            add_leaves(alloc, e.get(), to)?;
+            add_leaves(alloc, f.get(), to)
+        }
+        EventExpr::Relative(e, f) => {
+            add_leaves(alloc, e.get(), to)?;
+            add_leaves(alloc, f.get(), to)
+        }
+        EventExpr::Prior(e, f) => {
+            add_leaves(alloc, e.get(), to)?;
+            add_leaves(alloc, f.get(), to)
+        }
+        EventExpr::Sequence(e, f) => {
+            add_leaves(alloc, e.get(), to)?;
+            add_leaves(alloc, f.get(), to)
+        }
+        EventExpr::Choose(_, e) => add_leaves(alloc, e.get(), to),
+        EventExpr::Every(_, e) => add_leaves(alloc, e.get(), to),
+        EventExpr::Fa(e, f, g) => {
+            add_leaves(alloc, e.get(), to)?;
+            add_leaves(alloc, f.get(), to)?;
+            add_leaves(alloc, g.get(), to)
+        }
+    }
+}
+
+fn has_kind(kinds: &[Kind], kind: &Kind) -> bool
+    ensures { result ≡ list_any (λ k. same_kind k kind.now) kinds.now }
+{
+    for k in kinds {
+        if k.same(kind) {
+            return true;
+        }
+    }
+    false
+}
+
+fn has_mask(masks: &[Expr], mask: &Expr) -> bool
+    ensures { result ≡ list_any (λ x. same_expr x mask.now) masks.now }
+{
+    for x in masks {
+        if x.same(mask) {
+            return true;
+        }
+    }
+    false
+}
+
+fn add_kind(alloc: Global, kinds: &mut List<Kind>, kind: &Kind) -> Result<(), AllocError>
+    ensures { OnOk result (kinds.new ≡ with_new same_kind kinds.old kind.now) }
+{
+    if !has_kind(kinds.as_slice(), kind) {
+        let copy = kind.copy(alloc)?;
+        kinds.push(copy)?;
+    }
+    Ok(())
+}
+
+fn add_mask(alloc: Global, masks: &mut List<Expr>, mask: &Expr) -> Result<(), AllocError>
+    ensures { OnOk result (masks.new ≡ with_new same_expr masks.old mask.now) }
+{
+    if !has_mask(masks.as_slice(), mask) {
+        let copy = mask.copy(alloc)?;
+        masks.push(copy)?;
+    }
+    Ok(())
+}
+
+// Adds the mask of a leaf of this kind.
+fn add_mask_of(
+    alloc: Global,
+    masks: &mut List<Expr>,
+    kind: &Kind,
+    leaf: &(Kind, Option<Expr>),
+) -> Result<(), AllocError>
+    ensures { OnOk result (masks.new ≡ with_any same_expr masks.old (mask_of kind.now leaf.now)) }
+{
+    if !leaf.0.same(kind) {
+        return Ok(());
+    }
+    match &leaf.1 {
+        Some(mask) => add_mask(alloc, masks, mask),
+        None => Ok(()),
+    }
+}
+
+// The kinds of these leaves, in the order of their first leaf.
+fn kinds_of(alloc: Global, leaves: &[(Kind, Option<Expr>)]) -> Result<List<Kind>, AllocError>
+    ensures { IfOk result (λ kinds. kinds ≡ distinct same_kind (map (λ (l : Leaf). l.0) leaves.now)) }
+{
+    let mut kinds = List::new(alloc);
+    for leaf in leaves {
+        add_kind(alloc, &mut kinds, &leaf.0)?;
+    }
+    Ok(kinds)
+}
+
+// The masks of this kind, in the order of their first place.
+fn masks_of(
+    alloc: Global,
+    leaves: &[(Kind, Option<Expr>)],
+    kind: &Kind,
+) -> Result<List<Expr>, AllocError>
+    ensures { IfOk result (λ masks. masks ≡ distinct same_expr (filter_map (mask_of kind.now) leaves.now)) }
+{
+    let mut masks = List::new(alloc);
+    for leaf in leaves {
+        add_mask_of(alloc, &mut masks, kind, leaf)?;
+    }
+    Ok(masks)
+}
+
+fn rows_for(
+    alloc: Global,
+    leaves: &[(Kind, Option<Expr>)],
+    kinds: List<Kind>,
+) -> Result<List<Row>, AllocError>
+    ensures { IfOk result (λ rows. rows ≡ map (row_of leaves.now) kinds) }
+{
+    let mut rows = List::new(alloc);
+    for kind in kinds.into_vec() {
+        let masks = masks_of(alloc, leaves, &kind)?;
+        rows.push(Row { kind, masks })?;
+    }
+    Ok(rows)
+}
+
+/// The rows of an expression's leaves.
+pub fn rows_of(alloc: Global, e: &EventExpr) -> Result<List<Row>, AllocError>
+    ensures { IfOk result (λ rows. rows ≡ alphabet e.now) }
+{
+    let mut leaves = List::new(alloc);
+    add_leaves(alloc, e, &mut leaves)?;
+    let kinds = kinds_of(alloc, leaves.as_slice())?;
+    rows_for(alloc, leaves.as_slice(), kinds)
+}
+
+/// How many symbols a kind with so many masks has, or 65,536.
+pub fn symbols_of(masks: usize) -> u32
+    ensures { result ≡ min (2 ^ masks) 65536 }
+{
+    if masks < 16 {
+        2u32.pow(masks as u32)
+    } else {
+        65536
+    }
+}
+
+/// How many symbols these rows have, or 65,536.
+pub fn count(rows: &[Row]) -> u32
+    ensures { result ≡ min (size_of rows.now) 65536 }
+{
+    let mut count = 1;
+    for row in rows {
+        count = (count + symbols_of(row.masks.len())).min(65536);
+    }
+    count
+}

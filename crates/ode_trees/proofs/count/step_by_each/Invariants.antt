@@ -1,7 +1,0 @@
-use Rattle.std.proofs.Common.{◌≡◌, ◌++◌, take}
-use Rattle.ode_trees.specs.Listed.{each_step}
-use Rattle.ode_trees.proofs.count.step_by_each.Given as goal
-
--- the steps by the marks so far
-abbrev pub invariant-loop-mark : goal.invariant-loop-mark
-invariant-loop-mark l = l.new ≡ l.initial.new ++ each_step l.e (take l.mark-index l.marks) l.s

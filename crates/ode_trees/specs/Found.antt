@@ -1,0 +1,38 @@
+-- Trees that words of marks reach, each with a number, and the numbers of the trees after it.
+use Rattle.std.specs.Prelude.{◌≡◌, ℕ, ◌<◌, ◌≤◌, List, [], ◌∷◌, map, flat_map, fold, length, take, Option, Some, None}
+use Rattle.std.specs.List.{slice_get}
+use Rattle.ode_value.specs.declared.event.EventExpr.{EventExpr}
+use Rattle.ode_value.specs.declared.tree.State.{State}
+use Rattle.ode_value.specs.Marks.{Mark}
+use Rattle.ode_value.specs.TreeCount.{with_tree, count_over}
+use Rattle.ode_value.specs.Trees.{first_tree, next_tree}
+use Rattle.ode_trees.specs.declared.growth.Reached.{Reached}
+
+-- the numbers stand for these trees
+abbrev pub Leads : List State → List ℕ → List State → Type 0
+Leads trees next steps = map (slice_get trees) next ≡ map Some steps
+
+-- the first tree, and what these steps of these trees give, each once
+abbrev pub made_from : List State → (State → List State) → List State → List State
+made_from firsts steps trees = fold with_tree firsts (flat_map steps trees)
+
+-- The list has what steps of its first q trees give, in their order, and a tree of these stands there before its own steps.
+pub record IsMade (firsts : List State) (steps : State → List State) (q : ℕ) (trees : List State) : Type 0 where
+  pub made : trees ≡ made_from firsts steps (take q trees)
+  pub before : (k : ℕ) → k < q → k < length (made_from firsts steps (take k trees))
+
+-- the trees after one, by each of these marks
+abbrev pub steps_by : EventExpr → List Mark → State → List State
+steps_by e ms s = map (λ m. next_tree e m s) ms
+
+-- The trees that words of these marks reach, from the first one on, and for each the numbers of the trees after it by each mark.
+pub record IsReached (e : EventExpr) (ms : List Mark) (r : Reached) : Type 0 where
+  pub count : length r.trees ≡ count_over e ms
+  pub few : length r.trees ≤ 512
+  pub first : slice_get r.trees 0 ≡ Some (first_tree e)
+  pub next : Leads r.trees r.next (flat_map (steps_by e ms) r.trees)
+
+-- the trees, where there are at most 512
+abbrev pub IsAnswer : EventExpr → List Mark → Option Reached → Type 0
+IsAnswer e ms None = 512 < count_over e ms
+IsAnswer e ms (Some r) = IsReached e ms r
