@@ -19,7 +19,7 @@ use ode_engine::{Item, command};
 use ode_host::{Failed, Host, Source, Status};
 use ode_keep::Keep;
 use ode_script::{Piece, Reader, ScriptError, refused_line};
-use ode_value::Refusal;
+use ode_value::{Boxed, Refusal};
 use std::alloc::{AllocError, Global};
 
 fn print_refusal<H: Host>(
@@ -54,7 +54,10 @@ fn evaluate(alloc: Global, state: &mut State, text: &[u8]) -> Result<Item, Alloc
     ensures good { OnOk result (IsGood (world_of state.new)) }
 {
     match parse_statement(alloc, text)? {
-        Some(statement) => command(alloc, state, &statement),
+        Some(statement) => {
+            let statement = Boxed::new(alloc, statement)?;
+            command(alloc, state, statement.get())
+        }
         None => Ok(Item::Refused(Refusal::NotBuilt)),
     }
 }
