@@ -53,8 +53,8 @@ fn a_file_with_a_snapshot_goes_on_as_it_is(rt: HostRuntime) -> Result<(), Fail> 
     Ok(())
 }
 
-// Where the gate of the first script's second transaction stands. The counts of calls are from it to the run's last call:
-// those of two transactions.
+// Where the gate of the first script's second transaction stands. Each transaction makes five calls of the host, and none
+// follows those of the third, which is the last.
 const GATE: usize = 4304;
 
 const CALLS: u64 = 5;

@@ -135,6 +135,15 @@ impl Cut {
         Ok(plan)
     }
 
+    // The reads of the script that fail.
+    fn reads(&self, alloc: Global, number: u64) -> Result<Vec<u64>, AllocError> {
+        let mut fails = Vec::new(alloc);
+        if let Cut::Read = self {
+            fails.push(number)?;
+        }
+        Ok(fails)
+    }
+
     // The first script on an image, in chunks of 7 bytes, and cut at this number.
     fn run(
         &self,
@@ -143,11 +152,8 @@ impl Cut {
         number: u64,
         torn: Torn,
     ) -> Result<Trial, AllocError> {
-        let reads: &[u64] = match self {
-            Cut::Read => &[number],
-            Cut::Stop | Cut::Disk | Cut::Print => &[],
-        };
-        let script = source(alloc, FIRST, reads, 7)?;
+        let reads = self.reads(alloc, number)?;
+        let script = source(alloc, FIRST, &reads, 7)?;
         let plan = self.plan(alloc, number, torn)?;
         call(alloc, &["run", "f"], script, image, plan)
     }
