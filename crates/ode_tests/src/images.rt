@@ -132,11 +132,11 @@ fn counting(alloc: Global, next: Numbers) -> Result<Vec<u8>, AllocError> {
     Ok(payload)
 }
 
-// The file with a frame more, behind the gate that ends it.
+// The file with a frame more, behind the gate that ends it. The payload has at most 65,535 bytes.
 fn put_frame(file: &mut Vec<u8>, payload: &[u8]) -> Result<(), AllocError> {
     let _ = file.pop();
     file.push(0xA5)?;
-    file.extend_from_slice(&(payload.len() as u32).to_be_bytes())?;
+    put_u32(file, payload.len().min(65_535) as u32)?;
     file.extend_from_slice(payload)?;
     file.push(0)?;
     Ok(())
