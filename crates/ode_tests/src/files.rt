@@ -1,4 +1,5 @@
 //! Files that hold no database of the built forms.
+use crate::images::{first_file, patched, three_frames, turned};
 use crate::trial::{FIRST, FIRST_TEXT, new_file, run};
 use ode_host::Status;
 use std::alloc::{AllocError, Global};
@@ -17,26 +18,6 @@ fn is_refused(
     ran.is(rt, line, Status::BadFile, name);
     assert_eq!(rt; ran.host.image(), image, "what {name} leaves");
     Ok(())
-}
-
-// The image with some bits of one byte turned.
-fn turned(alloc: Global, image: &[u8], at: usize, bits: u8) -> Result<Vec<u8>, AllocError> {
-    let mut image = image.to_vec(alloc)?;
-    if let Some(byte) = image.get_mut(at) {
-        *byte ^= bits;
-    }
-    Ok(image)
-}
-
-// The image with these bytes at a place.
-fn patched(alloc: Global, image: &[u8], at: usize, bytes: &[u8]) -> Result<Vec<u8>, AllocError> {
-    let mut image = image.to_vec(alloc)?;
-    for (i, byte) in bytes.iter().enumerate() {
-        if let Some(place) = image.get_mut(at.saturating_add(i)) {
-            *place = *byte;
-        }
-    }
-    Ok(image)
 }
 
 // Where these bits are turned, the file is refused.
@@ -107,14 +88,42 @@ fn counters_with_a_wrong_byte_are_bad(rt: HostRuntime) -> Result<(), Fail> {
 #[test]
 fn records_with_a_wrong_byte_are_bad(rt: HostRuntime) -> Result<(), Fail> {
     let alloc = rt.alloc();
-    let ran = run(alloc, &new_file(alloc)?, FIRST)?;
-    let file = ran.host.image();
+    let file = first_file(alloc)?;
     assert_eq!(rt; file.len(), 4290);
     let places: Vec<usize> = (4160..4281usize).collect(alloc)?;
-    are_bad(&rt, alloc, file, &places, 0x80)?;
+    are_bad(&rt, alloc, &file, &places, 0x80)?;
     // the same, but for the field's name in the text, which no other record has
     let places: Vec<usize> = (4160..4281usize).filter(|at| *at != 4224).collect(alloc)?;
-    are_bad(&rt, alloc, file, &places, 0x01)?;
+    are_bad(&rt, alloc, &file, &places, 0x01)?;
+    Ok(())
+}
+
+// The length, the number of changes, and the first change up to the counters that it puts, which the next frame puts anew.
+#[test]
+fn a_frame_with_a_wrong_byte_is_bad(rt: HostRuntime) -> Result<(), Fail> {
+    let alloc = rt.alloc();
+    let file = three_frames(alloc)?;
+    let places: Vec<usize> = (4161..4189usize).collect(alloc)?;
+    are_bad(&rt, alloc, &file, &places, 0x80)?;
+    are_bad(&rt, alloc, &file, &places, 0x01)?;
+    Ok(())
+}
+
+#[test]
+fn a_journal_that_is_cut_short_is_bad(rt: HostRuntime) -> Result<(), Fail> {
+    let alloc = rt.alloc();
+    let file = three_frames(alloc)?;
+    assert_eq!(rt; file.len(), 4516);
+    for length in 4161..4516usize {
+        let front = file.get(..length).ok_or("a front")?;
+        is_refused(
+            &rt,
+            alloc,
+            front,
+            "bad file\n",
+            "a journal that is cut short",
+        )?;
+    }
     Ok(())
 }
 
@@ -200,20 +209,5 @@ fn a_broken_slot_is_bad_beside_a_good_one(rt: HostRuntime) -> Result<(), Fail> {
         "bad file\n",
         "a first slot that is broken",
     )?;
-    Ok(())
-}
-
-// The generation stands in slot 0, and goes from 1 to 3 and on to 1 with each transaction.
-#[test]
-fn each_transaction_takes_the_next_generation(rt: HostRuntime) -> Result<(), Fail> {
-    let alloc = rt.alloc();
-    let mut file = new_file(alloc)?;
-    for generation in [2, 3, 1, 2u8] {
-        let script = format!(in alloc; "class C{} {{ int n; }};", file.len())?;
-        let ran = run(alloc, &file, script.as_str())?;
-        assert_eq!(rt; ran.status, Status::Ok);
-        assert_eq!(rt; ran.host.image().get(24).copied(), Some(generation));
-        file = ran.host.image().to_vec(alloc)?;
-    }
     Ok(())
 }

@@ -8,11 +8,17 @@ mod files;
 #[cfg(test)]
 mod full;
 #[cfg(test)]
+mod images;
+#[cfg(test)]
+mod journal;
+#[cfg(test)]
 mod limits;
 #[cfg(test)]
 mod names;
 #[cfg(test)]
 mod new_files;
+#[cfg(test)]
+mod pickups;
 #[cfg(test)]
 mod refusals;
 #[cfg(test)]

@@ -1,24 +1,14 @@
 //! Limits of scripts, of numbers and of a database.
-use crate::trial::{FIRST, new_file, run};
+use crate::images::{file_with, next_numbers};
+use crate::trial::run;
 use ode_host::Status;
 use std::alloc::{AllocError, Global};
 use std::test::Fail;
 
-// The image with a number at a place.
-fn with_number(alloc: Global, image: &[u8], at: usize, number: u64) -> Result<Vec<u8>, AllocError> {
-    let mut image = image.to_vec(alloc)?;
-    for (i, byte) in number.to_be_bytes().into_iter().enumerate() {
-        if let Some(place) = image.get_mut(at.saturating_add(i)) {
-            *place = byte;
-        }
-    }
-    Ok(image)
+// A file with an object, whose counters have this next object and this next transaction.
+fn counting(alloc: Global, object: u64, transaction: u64) -> Result<Vec<u8>, AllocError> {
+    file_with(alloc, 1, next_numbers(object, transaction))
 }
-
-// Where the counters have the next object, and the next transaction.
-const NEXT_OBJECT: usize = 4115;
-
-const NEXT_TRANSACTION: usize = 4123;
 
 const LAST_OBJECT: &str = "pnew P(n = 7);
 pnew P();
@@ -39,8 +29,7 @@ refused 5 no object #4611686018427387904
 #[test]
 fn an_object_without_a_number_aborts(rt: HostRuntime) -> Result<(), Fail> {
     let alloc = rt.alloc();
-    let ran = run(alloc, &new_file(alloc)?, FIRST)?;
-    let image = with_number(alloc, ran.host.image(), NEXT_OBJECT, (1 << 62) - 1)?;
+    let image = counting(alloc, (1 << 62) - 1, 4)?;
     let ran = run(alloc, &image, LAST_OBJECT)?;
     ran.is(&rt, LAST_OBJECT_TEXT, Status::Refused, "the last object");
     Ok(())
@@ -49,8 +38,7 @@ fn an_object_without_a_number_aborts(rt: HostRuntime) -> Result<(), Fail> {
 #[test]
 fn an_abort_is_no_refusal_and_is_kept(rt: HostRuntime) -> Result<(), Fail> {
     let alloc = rt.alloc();
-    let ran = run(alloc, &new_file(alloc)?, FIRST)?;
-    let image = with_number(alloc, ran.host.image(), NEXT_OBJECT, 1 << 62)?;
+    let image = counting(alloc, 1 << 62, 4)?;
     let ran = run(alloc, &image, "pnew P();")?;
     ran.is(&rt, "tx 4 aborted space\n", Status::Ok, "an abort");
     let ran = run(alloc, ran.host.image(), "show #1.n;")?;
@@ -83,8 +71,7 @@ refused 6 not built
 #[test]
 fn no_transaction_is_begun_without_a_number(rt: HostRuntime) -> Result<(), Fail> {
     let alloc = rt.alloc();
-    let ran = run(alloc, &new_file(alloc)?, FIRST)?;
-    let image = with_number(alloc, ran.host.image(), NEXT_TRANSACTION, (1 << 62) - 1)?;
+    let image = counting(alloc, 2, (1 << 62) - 1)?;
     let ran = run(alloc, &image, LAST_TRANSACTION)?;
     ran.is(
         &rt,

@@ -191,3 +191,44 @@ fn memory_suffices(rt: HostRuntime) -> Result<(), Fail> {
     assert_eq!(rt; ran.host.refused(), 0);
     Ok(())
 }
+
+// Scripts that run on one file, one after the other.
+const RUNS: [Case; 5] = [
+    Case {
+        script: "class P { int n; };",
+        text: "class P\ntx 1 committed\n",
+        status: Status::Ok,
+    },
+    Case {
+        script: "pnew P(n = 5); show #1.n;",
+        text: "new #1\ntx 2 committed\nvalue 5\ntx 3 committed\n",
+        status: Status::Ok,
+    },
+    Case {
+        script: "class P { int n; }; pnew P(n = 6); show #3.n;",
+        text: "refused 1 duplicate P\nnew #2\ntx 4 committed\nrefused 1 no object #3\n",
+        status: Status::Refused,
+    },
+    Case {
+        script: "",
+        text: "",
+        status: Status::Ok,
+    },
+    Case {
+        script: "pnew P(); show #1.n; show #2.n; show #3.n;",
+        text: "new #3\ntx 5 committed\nvalue 5\ntx 6 committed\nvalue 6\ntx 7 committed\nvalue 0\ntx 8 committed\n",
+        status: Status::Ok,
+    },
+];
+
+#[test]
+fn numbers_go_on_from_run_to_run(rt: HostRuntime) -> Result<(), Fail> {
+    let alloc = rt.alloc();
+    let mut file = new_file(alloc)?;
+    for case in RUNS {
+        let ran = run(alloc, &file, case.script)?;
+        ran.is(&rt, case.text, case.status, case.script);
+        file = ran.host.image().to_vec(alloc)?;
+    }
+    Ok(())
+}

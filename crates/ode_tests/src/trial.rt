@@ -1,5 +1,5 @@
 //! Calls of `ode` in memory.
-use ode_host::{MemHost, MemSource, Plan, Status};
+use ode_host::{MemHost, MemSource, Plan, Status, Torn};
 use ode_top::run_ode;
 use std::alloc::{AllocError, Global};
 use std::process::Abort;
@@ -103,6 +103,31 @@ pub fn new_file(alloc: Global) -> Result<Vec<u8>, AllocError> {
 pub fn run(alloc: Global, image: &[u8], script: &str) -> Result<Trial, AllocError> {
     let script = source(alloc, script, &[], 4096)?;
     call(alloc, &["run", "f"], script, image, smooth(alloc))
+}
+
+/// A run of this script on an image, with a stop at this call.
+pub fn run_stopped(
+    alloc: Global,
+    image: &[u8],
+    script: &str,
+    at: u64,
+    torn: Torn,
+) -> Result<Trial, AllocError> {
+    let script = source(alloc, script, &[], 4096)?;
+    let mut plan = smooth(alloc);
+    plan.stop = Some((at, torn));
+    call(alloc, &["run", "f"], script, image, plan)
+}
+
+/// How many calls of its host a run of this script makes, which ends with `Ok`.
+pub fn calls_of(alloc: Global, image: &[u8], script: &str) -> Result<u64, AllocError> {
+    for at in 0..1000u64 {
+        let ran = run_stopped(alloc, image, script, at, Torn::Whole)?;
+        if ran.status == Status::Ok {
+            return Ok(at);
+        }
+    }
+    Ok(0)
 }
 
 /// A script, what it prints, and how it ends.
