@@ -33,7 +33,7 @@ pub codes-each : (set : List State) → flat_map (λ x. x) (map code set) ≡ fl
 codes-each [] = refl
 codes-each (s ∷ set) = ap (λ l. code s ++ l) (codes-each set)
 
-codes-pairs : (set : List (State × State)) → flat_map (λ x. x.0 ++ x.1) (map (λ x. (code x.0, code x.1)) set) ≡ flat_map pair_code set
+codes-pairs : (set : List (State × State)) → flat_map (λ (x : List ℕ × List ℕ). x.0 ++ x.1) (map (λ (x : State × State). (code x.0, code x.1)) set) ≡ flat_map pair_code set
 codes-pairs [] = refl
 codes-pairs (x ∷ set) = ap (λ l. (code x.0 ++ code x.1) ++ l) (codes-pairs set)
 
@@ -45,6 +45,6 @@ code-Starts e set =
 pub code-Pairs : (e : State) (set : List (State × State)) → code (tree.Pairs e set) ≡ 7 ∷ length set ∷ (code e ++ flat_map pair_code set)
 code-Pairs e set =
     ap code (sym (tree.rolls-Pairs e set)) ∙ code-roll (level.Pairs e set)
-    ∙ (λ i. 7 ∷ length-map set (λ (x : State × State). (code x.0, code x.1)) i ∷ (code e ++ codes-pairs set i))
+    ∙ (λ i. 7 ∷ length-map {B = List ℕ × List ℕ} set (λ (x : State × State). (code x.0, code x.1)) i ∷ (code e ++ codes-pairs set i))
 
 pub ruleset codes = (the_lemmas, append_assoc, append-nil, code-Bit, code-Place, code-Seen, code-Both, code-Flag, code-Count, code-Starts, code-Pairs)

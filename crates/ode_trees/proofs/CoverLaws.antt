@@ -1,5 +1,5 @@
 -- Trees under their codes.
-use Rattle.std.proofs.Common.{◌≡◌, ℕ, Bool, true, false, cond, List, [], ◌∷◌, ◌++◌, Some, None, Option, refl, ap, sym, ◌∙◌, subst}
+use Rattle.std.proofs.Common.{◌≡◌, ℕ, Bool, true, false, cond, List, [], ◌∷◌, ◌++◌, Some, None, Option, refl, ap, sym, ◌∙◌, subst, OnOk, Ok, Err, Result}
 use Rattle.std.specs.Prelude.{◌||◌}
 use Rattle.std.specs.BTreeMap.{insert_entry}
 use Rattle.std.specs.Cmp.Lexicographic.{slice_cmp}
@@ -7,6 +7,7 @@ use Rattle.std.specs.List.{list_any}
 use Rattle.std.specs.Map.{lookup}
 use Rattle.std.specs.Option.{is_some}
 use Rattle.std.specs.Ordering.{is_eq, match_ordering, nat_cmp}
+use Rattle.std.specs.declared.alloc.AllocError.{AllocError}
 use Rattle.std.specs.declared.cmp.Ordering.{Ordering}
 use Rattle.std.specs.declared.cmp.Ordering.TheVariants.{Less, Equal, Greater}
 use Rattle.std.specs.Str.{bytes_eq}
@@ -75,12 +76,18 @@ covers-new {K} code_of cmp order trees entries k n new is covers = λ s h. by_kn
       entries
 
 -- a tree under whose code there is none isn't there
-pub not-covered : {K : Type 0} (code_of : K → List ℕ) (trees : List State) (entries : List (K × ℕ)) (s : State) (c : List ℕ) → c ≡ code s → Covers trees entries code_of
+pub not-covered : {K : Type 0} (entries : List (K × ℕ)) (code_of : K → List ℕ) (trees : List State) (s : State) (c : List ℕ) → c ≡ code s → Covers trees entries code_of
     → lookup (λ k. is_eq (slice_cmp nat_cmp c (code_of k))) entries ≡ None → list_any (same_tree s) trees ≡ false
-not-covered code_of trees entries s c is covers none = by_known (list_any (same_tree s) trees) refl where
+not-covered entries code_of trees s c is covers none = by_known (list_any (same_tree s) trees) refl where
   found : is_some (lookup (λ k. is_eq (slice_cmp nat_cmp (code s) (code_of k))) entries) ≡ false
   found = ap (λ l. is_some (lookup (λ k. is_eq (slice_cmp nat_cmp l (code_of k))) entries)) (sym is) ∙ ap is_some none
 
   by_known : (t : Bool) → list_any (same_tree s) trees ≡ t → t ≡ false
   by_known true known = let both : true ≡ false = sym (covers s known) ∙ found in both
   by_known false known = refl
+
+pub covers-ok : {K : Type 0} (entries more : List (K × ℕ)) (code_of : K → List ℕ) (cmp : K → K → Ordering) → ((x y : K) → cmp x y ≡ slice_cmp nat_cmp (code_of x) (code_of y)) → (trees after : List State) (k : K) (n : ℕ) (new : State)
+    (r : Result (Unit {0}) AllocError) → code_of k ≡ code new → Covers trees entries code_of → more ≡ insert_entry cmp entries k n → OnOk r (after ≡ trees ++ new ∷ []) → OnOk r (Covers after more code_of)
+covers-ok entries more code_of cmp order trees after k n new (Ok x) is covers p q =
+    subst (λ l. Covers after l code_of) (sym p) (subst (λ l. Covers l (insert_entry cmp entries k n) code_of) (sym q) (covers-new code_of cmp order trees entries k n new is covers))
+covers-ok entries more code_of cmp order trees after k n new (Err x) is covers p q = tt
