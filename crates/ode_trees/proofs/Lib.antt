@@ -1,4 +1,6 @@
+pub mod CodeLaws
 pub mod CountLaws
+pub mod CoverLaws
 pub mod EqualTrees
 pub mod FoundLaws
 pub mod ListForms

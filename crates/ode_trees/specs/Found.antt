@@ -1,16 +1,27 @@
 -- Trees that words of marks reach, each with a number, and the numbers of the trees after it.
-use Rattle.std.specs.Prelude.{◌≡◌, ℕ, ◌<◌, ◌≤◌, List, [], ◌∷◌, map, flat_map, fold, length, take, Option, Some, None}
-use Rattle.std.specs.List.{slice_get}
+use Rattle.std.specs.Prelude.{true, ◌≡◌, ℕ, ◌<◌, ◌≤◌, List, [], ◌∷◌, map, flat_map, fold, length, take, Option, Some, None}
+use Rattle.std.specs.Cmp.Lexicographic.{slice_cmp}
+use Rattle.std.specs.List.{list_any, slice_get}
+use Rattle.std.specs.Map.{lookup}
+use Rattle.std.specs.Option.{is_some}
+use Rattle.std.specs.Ordering.{is_eq, nat_cmp}
 use Rattle.ode_value.specs.declared.event.EventExpr.{EventExpr}
 use Rattle.ode_value.specs.declared.tree.State.{State}
 use Rattle.ode_value.specs.Marks.{Mark}
 use Rattle.ode_value.specs.TreeCount.{with_tree, count_over}
+use Rattle.ode_value.specs.TreeOrder.{same_tree}
 use Rattle.ode_value.specs.Trees.{first_tree, next_tree}
+use Rattle.ode_trees.specs.Codes.{code}
 use Rattle.ode_trees.specs.declared.growth.Reached.{Reached}
 
 -- the numbers stand for these trees
 abbrev pub Leads : List State → List ℕ → List State → Type 0
 Leads trees next steps = map (slice_get trees) next ≡ map Some steps
+
+-- each of the trees stands under its code
+abbrev pub Covers : {K : Type 0} → List State → List (K × ℕ) → (K → List ℕ) → Type 0
+Covers trees entries code_of =
+    (s : State) → list_any (same_tree s) trees ≡ true → is_some (lookup (λ k. is_eq (slice_cmp nat_cmp (code s) (code_of k))) entries) ≡ true
 
 -- the first tree, and what these steps of these trees give, each once
 abbrev pub made_from : List State → (State → List State) → List State → List State

@@ -1,7 +1,8 @@
 //! The trees that words of marks reach, each with a number.
 ghost use Rattle.std.specs.Prelude.{◌≡◌, ◌<◌, ◌≤◌, ◌++◌, ◌∷◌, [], All, Bool, IfOk, IfSome, List as Items, None, OnOk, Some, flat_map, fold, false, length, map, slice_index_or, true};
 ghost use Rattle.std.specs.List.{list_any, slice_get};
-ghost use Rattle.ode_trees.specs.Found.{IsAnswer, Leads};
+ghost use Rattle.ode_trees.specs.Codes.{code};
+ghost use Rattle.ode_trees.specs.Found.{Covers, IsAnswer, Leads};
 ghost use Rattle.ode_trees.specs.Listed.{each_step, listed_count};
 ghost use Rattle.ode_value.specs.declared.tree.State.{State as Tree};
 ghost use Rattle.ode_value.specs.Marks.{Mark, leaves, spelled};
@@ -10,11 +11,12 @@ ghost use Rattle.ode_value.specs.TreeCount.{counted, with_tree};
 ghost use Rattle.ode_value.specs.TreeOrder.{same_tree};
 ghost use Rattle.ode_value.specs.Trees.{first_tree};
 
+use crate::codes::write;
 use crate::machine::{init, step_listed};
-use crate::order::{compare, same};
+use crate::order::same;
 use ode_value::{EventExpr, List, State};
 use std::alloc::{AllocError, Global};
-use std::cmp::Ordering;
+use std::collections::BTreeMap;
 
 /// The trees of an expression that words of some marks reach.
 #[derive(Drop)]
@@ -25,36 +27,12 @@ pub struct Reached {
     pub next: List<usize>,
 }
 
-// The trees so far, their numbers in the order of the trees, and the numbers of the trees after those that were stepped.
+// The trees so far, their numbers under their codes, and the numbers of the trees after those that were stepped.
 #[derive(Drop)]
 struct Search {
     trees: List<State>,
-    order: List<usize>,
+    numbers: BTreeMap<Vec<u64>, usize>,
     next: List<usize>,
-}
-
-fn is_before(trees: &[State], number: usize, s: &State) -> bool {
-    match trees.get(number) {
-        Some(t) => compare(t, s) == Ordering::Less,
-        None => false,
-    }
-}
-
-// Where a tree stands among the numbers, which are in the order of their trees, or would.
-fn place(trees: &[State], order: &[usize], s: &State) -> usize
-    ensures { result ≤ length order.now }
-{
-    let mut low = 0;
-    let mut high = order.len();
-    while low < high {
-        let middle = low + (high - low) / 2;
-        if is_before(trees, order[middle], s) {
-            low = middle + 1;
-        } else {
-            high = middle;
-        }
-    }
-    high
 }
 
 // The number of a tree, where it is this one.
@@ -81,45 +59,72 @@ fn find(trees: &[State], s: &State) -> Option<usize>
     None
 }
 
-// The number of a tree: one that is there is found by its order, and one that isn't is compared with all before it is added.
-fn number(trees: &[State], order: &[usize], at: usize, s: &State) -> Option<usize>
-    ensures some { IfSome result (λ n. slice_get trees.now n ≡ Some s.now) }
-    ensures none { result ≡ None → list_any (same_tree s.now) trees.now ≡ false }
+// The number that stands under a code, where it is that of the tree. Trees of one code are equal, but no clause says so: a tree
+// that stands under another one's code would be looked for among all.
+fn number(found: &Search, key: &[u64], s: &State) -> Option<usize>
+    requires key { key.now ≡ code s.now }
+    requires covers { Covers found.now.trees found.now.numbers.entries (λ k. k.items) }
+    ensures some { IfSome result (λ n. slice_get found.now.trees n ≡ Some s.now) }
+    ensures none { result ≡ None → list_any (same_tree s.now) found.now.trees ≡ false }
 {
-    if at < order.len() {
-        match number_if(trees, order[at], s) {
-            Some(n) => return Some(n),
-            None => {}
-        }
+    match found.numbers.get(key) {
+        Some(n) => match number_if(found.trees.as_slice(), *n, s) {
+            Some(n) => Some(n),
+            None => find(found.trees.as_slice(), s),
+        },
+        None => None,
     }
-    find(trees, s)
+}
+
+// Adds a tree under its code.
+fn add(found: &mut Search, key: Vec<u64>, s: State) -> Result<(), AllocError>
+    requires key { key.items ≡ code s }
+    requires covers { Covers found.old.trees found.old.numbers.entries (λ k. k.items) }
+    ensures covers { OnOk result (Covers found.new.trees found.new.numbers.entries (λ k. k.items)) }
+    ensures trees { OnOk result (found.new.trees ≡ found.old.trees ++ s ∷ []) }
+    ensures next { found.new.next ≡ found.old.next }
+{
+    let n = found.trees.len();
+    found.numbers.insert(key, n)?;
+    found.trees.push(s)
+}
+
+fn key_of(alloc: Global, s: &State) -> Result<Vec<u64>, AllocError>
+    ensures { IfOk result (λ key. key.items ≡ code s.now) }
+{
+    let mut key = Vec::new(alloc);
+    write(s, &mut key)?;
+    Ok(key)
 }
 
 // Adds the number of a tree, and the tree where it is new.
-fn note(found: &mut Search, s: State) -> Result<(), AllocError>
+fn note(alloc: Global, found: &mut Search, s: State) -> Result<(), AllocError>
+    requires covers { Covers found.old.trees found.old.numbers.entries (λ k. k.items) }
+    ensures covers { OnOk result (Covers found.new.trees found.new.numbers.entries (λ k. k.items)) }
     ensures trees { OnOk result (found.new.trees ≡ with_tree found.old.trees s) }
     ensures next { OnOk result ((steps : Items Tree) → Leads found.old.trees found.old.next steps
         → Leads found.new.trees found.new.next (steps ++ s ∷ [])) }
 {
-    let at = place(found.trees.as_slice(), found.order.as_slice(), &s);
-    match number(found.trees.as_slice(), found.order.as_slice(), at, &s) {
+    let key = key_of(alloc, &s)?;
+    match number(found, key.as_slice(), &s) {
         Some(n) => found.next.push(n),
         None => {
             let n = found.trees.len();
-            found.order.insert(at, n)?;
-            found.trees.push(s)?;
+            add(found, key, s)?;
             found.next.push(n)
         }
     }
 }
 
-fn note_each(found: &mut Search, new: List<State>) -> Result<(), AllocError>
+fn note_each(alloc: Global, found: &mut Search, new: List<State>) -> Result<(), AllocError>
+    requires covers { Covers found.old.trees found.old.numbers.entries (λ k. k.items) }
+    ensures covers { OnOk result (Covers found.new.trees found.new.numbers.entries (λ k. k.items)) }
     ensures trees { OnOk result (found.new.trees ≡ fold with_tree found.old.trees new) }
     ensures next { OnOk result ((steps : Items Tree) → Leads found.old.trees found.old.next steps
         → Leads found.new.trees found.new.next (steps ++ new)) }
 {
     for s in new.into_vec() {
-        note(found, s)?;
+        note(alloc, found, s)?;
     }
     Ok(())
 }
@@ -151,30 +156,33 @@ fn add_row(
     q: usize,
 ) -> Result<(), AllocError>
     requires within { q < length found.old.trees }
+    requires covers { Covers found.old.trees found.old.numbers.entries (λ k. k.items) }
     requires whole { All (λ (mark : Items Bool). length mark ≡ length (leaves e.now)) marks.now }
     requires numbers { has_numbers e.now ≡ true }
+    ensures covers { OnOk result (Covers found.new.trees found.new.numbers.entries (λ k. k.items)) }
     ensures trees { OnOk result (found.new.trees
         ≡ fold with_tree found.old.trees (each_step e.now marks.now (slice_index_or found.old.trees q (first_tree e.now)))) }
     ensures next { OnOk result ((steps : Items Tree) → Leads found.old.trees found.old.next steps
         → Leads found.new.trees found.new.next (steps ++ each_step e.now marks.now (slice_index_or found.old.trees q (first_tree e.now)))) }
 {
     let new = step_by_each(alloc, e, marks, &found.trees.as_slice()[q])?;
-    note_each(found, new)
+    note_each(alloc, found, new)
 }
 
 fn begin(alloc: Global, e: &EventExpr) -> Result<Search, AllocError>
+    ensures covers { IfOk result (λ found. Covers found.trees found.numbers.entries (λ k. k.items)) }
     ensures trees { IfOk result (λ found. found.trees ≡ first_tree e.now ∷ []) }
     ensures next { IfOk result (λ found. found.next ≡ []) }
 {
     let first = init(alloc, e)?;
-    let mut trees = List::new(alloc);
-    trees.push(first)?;
-    let order = List::from_slice(alloc, &[0])?;
-    Ok(Search {
-        trees,
-        order,
+    let key = key_of(alloc, &first)?;
+    let mut found = Search {
+        trees: List::new(alloc),
+        numbers: BTreeMap::new(alloc),
         next: List::new(alloc),
-    })
+    };
+    add(&mut found, key, first)?;
+    Ok(found)
 }
 
 // All trees that words reach, with the trees after each, or more than 512 of them.

@@ -1,6 +1,7 @@
 //! The trees of states of an event expression: the first one, a step, the answer, and how many there are.
 #![tactic(auto)]
 
+mod codes;
 mod count;
 mod growth;
 mod laws;

@@ -21,6 +21,7 @@ loop-q-preserved c =
     let few : length trees ≤ 512 = omega (arith, c.len-in-loop-q.ensures, c.if-len-le512.true) in
     let after = c.in_ok-add_row.ensures.trees in
     record {
+      covers = c.in_ok-add_row.ensures.covers;
       within = subst (λ l. q + 1 ≤ length l) (sym after) (omega (arith, not-shorter trees new));
       few = omega arith;
       first = subst (λ l. slice_get l 0 ≡ Some first) (sym after) (first-stays trees new first c.loop-q.invariant.first);

@@ -2,13 +2,14 @@ use Rattle.std.proofs.Common.{◌≡◌, ◌-◌, ◌≤◌, [], ◌∷◌, leng
 use Rattle.std.specs.Prelude.{Some, flat_map}
 use Rattle.std.specs.List.{slice_get}
 use Rattle.ode_value.specs.Trees.{first_tree}
-use Rattle.ode_trees.specs.Found.{IsMade, Leads}
+use Rattle.ode_trees.specs.Found.{Covers, IsMade, Leads}
 use Rattle.ode_trees.specs.Listed.{each_step}
 use Rattle.ode_trees.proofs.growth.explore.Given as goal
 
 -- the first q trees were stepped
 abbrev pub invariant-loop-q : goal.invariant-loop-q
 invariant-loop-q l = record {
+  covers : Covers l.found.trees l.found.numbers.entries (λ k. k.items);
   within : l.q ≤ length l.found.trees;
   few : l.q ≤ 512;
   first : slice_get l.found.trees 0 ≡ Some (first_tree l.e);
