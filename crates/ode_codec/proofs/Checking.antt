@@ -12,7 +12,7 @@ use Rattle.ode_value.specs.declared.value.Value.{Value}
 use Rattle.ode_value.specs.declared.value.Value.TheVariants as value
 use Rattle.ode_value.specs.Good.{AreClasses, AreObjects, IsBuiltClass, IsBuiltObject}
 use Rattle.ode_value.specs.Words.{is_free}
-use Rattle.ode_value.specs.World.{Version, class_named, class_numbered}
+use Rattle.ode_value.specs.World.{Version, Declared, class_named, class_numbered}
 use Rattle.ode_codec.specs.declared.state.ClassRow.{ClassRow}
 use Rattle.ode_codec.specs.declared.state.ObjectRow.{ObjectRow}
 use Rattle.ode_codec.specs.Checks.{Leads, Rises}
@@ -32,7 +32,7 @@ none_of false rest c found f e = f e
 
 pub named_none : (name : List ℕ) (cs : List ClassRow) → class_named name (map class_of cs) ≡ None → list_any (λ (c : ClassRow). bytes_eq c.name name) cs ≡ false
 named_none name [] e = refl
-named_none name (c ∷ cs) e = none_of (bytes_eq c.name name) (list_any (λ (c : ClassRow). bytes_eq c.name name) cs) (class_of c) (class_named name (map class_of cs)) (named_none name cs) e
+named_none name (c ∷ cs) e = none_of (bytes_eq c.name name) (list_any (λ (c : ClassRow). bytes_eq c.name name) cs) (class_of c).class (class_named name (map class_of cs)) (named_none name cs) e
 
 first_name : List Field → List ℕ
 first_name [] = []
@@ -44,7 +44,7 @@ field_is c built = sym (ap first_name built.fields)
 
 pub classes_from : (number : ℕ) (c : ClassRow) (cs : List ClassRow) → Leads number c cs → AreClasses (number + 1) (map class_of cs) → AreClasses number (map class_of (c ∷ cs))
 classes_from number c cs leads others =
-    (leads.numbered, leads.low, none_named c.name cs leads.alone, record { field = c.field; fields = refl; no_parent = refl; no_more = (refl, refl, refl, refl); names = (leads.name, leads.field) }, others)
+    (leads.numbered, leads.low, none_named c.name cs leads.alone, record { field = c.field; fields = refl; no_parent = refl; no_more = (refl, refl, refl, refl); names = (leads.name, leads.field); tree = refl }, others)
 
 pub classes_to : (number : ℕ) (c : ClassRow) (cs : List ClassRow) → AreClasses number (map class_of (c ∷ cs)) → Leads number c cs × AreClasses (number + 1) (map class_of cs)
 classes_to number c cs h =
@@ -100,16 +100,16 @@ found_by P true c others here later some = here refl
 found_by P false c others here later some = later some
 
 -- the numbers of the classes are those from the first one on, as many as there are
-pub is_known : (number : ℕ) (cs : List Class) (k : ℕ) → AreClasses number cs → number ≤ k → k < number + length cs → IsSome (class_numbered k cs)
+pub is_known : (number : ℕ) (cs : List Declared) (k : ℕ) → AreClasses number cs → number ≤ k → k < number + length cs → IsSome (class_numbered k cs)
 is_known number [] k h low high = absurd (omega arith)
-is_known number (c ∷ cs) k h low high = found (c.number == k) c (class_numbered k cs) (λ e.
-    let other = not_from_Decides (c.number == k) (Decides-eqb c.number k) e in
+is_known number (c ∷ cs) k h low high = found (c.class.number == k) c.class (class_numbered k cs) (λ e.
+    let other = not_from_Decides (c.class.number == k) (Decides-eqb c.class.number k) e in
     is_known (number + 1) cs k h.4 (omega (arith, other, h.0)) (omega arith))
 
-pub known_is : (number : ℕ) (cs : List Class) (k : ℕ) → AreClasses number cs → IsSome (class_numbered k cs) → (number ≤ k) × (k < number + length cs)
+pub known_is : (number : ℕ) (cs : List Declared) (k : ℕ) → AreClasses number cs → IsSome (class_numbered k cs) → (number ≤ k) × (k < number + length cs)
 known_is number [] k h some = absurd cc
-known_is number (c ∷ cs) k h some = found_by ((number ≤ k) × (k < number + length (c ∷ cs))) (c.number == k) c (class_numbered k cs)
-    (λ e. let same = (Decides-eqb c.number k).0 e in (omega (arith, h.0, same), omega (arith, h.0, same)))
+known_is number (c ∷ cs) k h some = found_by ((number ≤ k) × (k < number + length (c ∷ cs))) (c.class.number == k) c.class (class_numbered k cs)
+    (λ e. let same = (Decides-eqb c.class.number k).0 e in (omega (arith, h.0, same), omega (arith, h.0, same)))
     (λ later. let r = known_is (number + 1) cs k h.4 later in (omega (arith, r.0), omega (arith, r.1))) some
 
 pub objects_from : (cs : List ClassRow) (low next : ℕ) (o : ObjectRow) (os : List ObjectRow) → AreClasses 1 (map class_of cs) → Rises low next (length cs) o

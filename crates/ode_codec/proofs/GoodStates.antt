@@ -6,7 +6,7 @@ use Rattle.std.proofs.lemmas.Bool.Decides.{Decides-eqb}
 use Rattle.ode_value.specs.declared.class.Class.{Class}
 use Rattle.ode_value.specs.Good.{IsGood, AreClasses, AreObjects}
 use Rattle.ode_value.specs.Records.{Row, rows, counters_row}
-use Rattle.ode_value.specs.World.{World, Object, class_numbered}
+use Rattle.ode_value.specs.World.{World, Declared, Object, class_numbered}
 use Rattle.ode_codec.specs.declared.state.ClassRow.{ClassRow}
 use Rattle.ode_codec.specs.declared.state.ObjectRow.{ObjectRow}
 use Rattle.ode_codec.specs.declared.state.State.{State}
@@ -18,26 +18,29 @@ use Rattle.ode_codec.proofs.Parts.{head_back, head_parts, text_front, text_parts
 
 -- ---- classes
 
-pub record Classes (number : ℕ) (cs : List Class) : Type 0 where
+pub record Classes (number : ℕ) (cs : List Declared) : Type 0 where
   pub list : List ClassRow
   pub same : map class_of list ≡ cs
   pub fit : FitClasses number list
 
-pub classes_of : (number : ℕ) (cs : List Class) → AreClasses number cs → Classes number cs
+pub classes_of : (number : ℕ) (cs : List Declared) → AreClasses number cs → Classes number cs
 classes_of number [] h = record { list = []; same = refl; fit = tt }
 classes_of number (c ∷ cs) h =
     let others = classes_of (number + 1) cs h.4 in
     let built = h.3 in
-    let row : ClassRow = record { number = c.number; name = c.name; field = built.field } in
+    let row : ClassRow = record { number = c.class.number; name = c.class.name; field = built.field } in
     let one : class_of row ≡ c = λ i. record {
-      number = c.number;
-      name = c.name;
-      parent = sym built.no_parent i;
-      fields = sym built.fields i;
-      methods = sym built.no_more.0 i;
-      constraints = sym built.no_more.1 i;
-      kinds = sym built.no_more.2 i;
-      triggers = sym built.no_more.3 i;
+      class = record {
+        number = c.class.number;
+        name = c.class.name;
+        parent = sym built.no_parent i;
+        fields = sym built.fields i;
+        methods = sym built.no_more.0 i;
+        constraints = sym built.no_more.1 i;
+        kinds = sym built.no_more.2 i;
+        triggers = sym built.no_more.3 i;
+      };
+      tree = sym built.tree i;
     } in
     record {
       list = row ∷ others.list;
@@ -50,9 +53,9 @@ by_test : (b : Bool) (k n : ℕ) (c : Class) (others : Option Class) → (b ≡ 
 by_test true k n c others same low rest some = let e = same refl in omega arith
 by_test false k n c others same low rest some = rest some
 
-pub class_low : (number : ℕ) (cs : List Class) (k : ℕ) → AreClasses number cs → IsSome (class_numbered k cs) → k < 2 ^ 32
+pub class_low : (number : ℕ) (cs : List Declared) (k : ℕ) → AreClasses number cs → IsSome (class_numbered k cs) → k < 2 ^ 32
 class_low number [] k h some = absurd cc
-class_low number (c ∷ cs) k h some = by_test (c.number == k) k number c (class_numbered k cs) (λ e. sym h.0 ∙ (Decides-eqb c.number k).0 e) h.1 (class_low (number + 1) cs k h.4) some
+class_low number (c ∷ cs) k h some = by_test (c.class.number == k) k number c.class (class_numbered k cs) (λ e. sym h.0 ∙ (Decides-eqb c.class.number k).0 e) h.1 (class_low (number + 1) cs k h.4) some
 
 -- ---- objects
 
@@ -61,11 +64,11 @@ pub record Objects (os : List Object) : Type 0 where
   pub same : map object_of list ≡ os
   pub fit : AllByRecursion FitsObject list
 
-pub rises : (cs : List Class) (low next : ℕ) (os : List Object) → AreObjects cs low next os → low ≤ next
+pub rises : (cs : List Declared) (low next : ℕ) (os : List Object) → AreObjects cs low next os → low ≤ next
 rises cs low next [] h = h
 rises cs low next (o ∷ os) h = omega (arith, h.0, rises cs (o.id + 1) next os h.3)
 
-pub objects_of : (cs : List Class) (low next : ℕ) (os : List Object) → next < 2 ^ 64 → AreClasses 1 cs → AreObjects cs low next os → Objects os
+pub objects_of : (cs : List Declared) (low next : ℕ) (os : List Object) → next < 2 ^ 64 → AreClasses 1 cs → AreObjects cs low next os → Objects os
 objects_of cs low next [] fits classes h = record { list = []; same = refl; fit = tt }
 objects_of cs low next (o ∷ os) fits classes h =
     let others = objects_of cs (o.id + 1) next os fits classes h.3 in

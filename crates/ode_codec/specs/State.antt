@@ -1,14 +1,13 @@
 -- The world that a state in memory stands for.
 use Rattle.std.specs.Prelude.{[], map, None}
-use Rattle.ode_value.specs.declared.class.Class.{Class}
-use Rattle.ode_value.specs.Machine.{int_class, int_object}
-use Rattle.ode_value.specs.World.{World, Object}
+use Rattle.ode_value.specs.Machine.{int_declared, int_object}
+use Rattle.ode_value.specs.World.{World, Declared, Object}
 use Rattle.ode_codec.specs.declared.state.ClassRow.{ClassRow}
 use Rattle.ode_codec.specs.declared.state.ObjectRow.{ObjectRow}
 use Rattle.ode_codec.specs.declared.state.State.{State}
 
-abbrev pub class_of : ClassRow → Class
-class_of row = int_class row.number row.name row.field
+abbrev pub class_of : ClassRow → Declared
+class_of row = int_declared row.number row.name row.field
 
 abbrev pub object_of : ObjectRow → Object
 object_of row = int_object row.id row.class row.held

@@ -3,7 +3,8 @@ ghost use Rattle.std.specs.Prelude.{◌≡◌, ◌*◌, ◌≤◌, ◌++◌, len
 ghost use Rattle.std.specs.Int.{w16, w32, to_be_bytes};
 ghost use Rattle.std.specs.List.{flat_map};
 ghost use Rattle.ode_value.specs.Records.{counters_row, head_row, object_row, rows, text_row, version_rows};
-ghost use Rattle.ode_value.specs.Records.{class_text, key_bytes, row_bytes, snapshot, spelled_value, weight};
+ghost use Rattle.ode_value.specs.PrintedClasses.{decl_text};
+ghost use Rattle.ode_value.specs.Records.{key_bytes, row_bytes, snapshot, spelled_value, weight};
 ghost use Rattle.ode_codec.specs.State.{class_of, object_of, world_of};
 
 use crate::state::{ClassRow, ObjectRow, State};
@@ -29,13 +30,13 @@ fn put_start(out: &mut Vec<u8>, key: Key, length: u16) -> Result<(), AllocError>
 }
 
 fn text_length(class: &ClassRow) -> u16
-    ensures { result ≡ length (class_text (class_of class.now)) }
+    ensures { result ≡ length (decl_text (class_of class.now).tree) }
 {
     16 + class.name.as_bytes().len() as u16 + class.field.as_bytes().len() as u16
 }
 
 fn put_text_value(out: &mut Vec<u8>, class: &ClassRow) -> Result<(), AllocError>
-    ensures { OnOk result (out.new.items ≡ out.old.items ++ class_text (class_of class.now)) }
+    ensures { OnOk result (out.new.items ≡ out.old.items ++ decl_text (class_of class.now).tree) }
 {
     out.extend_from_slice(b"class ")?;
     out.extend_from_slice(class.name.as_bytes())?;
@@ -236,7 +237,7 @@ pub fn head_value(alloc: Global, class: &ClassRow) -> Result<List<u8>, AllocErro
 
 /// The value of the record of a class's text.
 pub fn text_value(alloc: Global, class: &ClassRow) -> Result<List<u8>, AllocError>
-    ensures { IfOk result (λ value. value ≡ class_text (class_of class.now)) }
+    ensures { IfOk result (λ value. value ≡ decl_text (class_of class.now).tree) }
 {
     let mut value = Vec::new(alloc);
     put_text_value(&mut value, class)?;

@@ -1,13 +1,12 @@
 -- A transaction's batch makes the records of the world before it those of the world after it.
-use Rattle.std.proofs.Common.{◌≡◌, ◌≤◌, ◌<◌, ◌+◌, ℕ, zero, suc, List, [], ◌∷◌, ◌++◌, length, Result, Ok, Err, Some, IfOk, OnOk, refl, sym, ◌∙◌, ap, subst, arith, length-append}
-use Rattle.std.specs.List.{All, flat_map}
+use Rattle.std.proofs.Common.{◌≡◌, ◌≤◌, ◌+◌, ℕ, zero, suc, List, [], ◌∷◌, ◌++◌, length, Result, Ok, Err, IfOk, OnOk, refl, sym, ◌∙◌, ap, subst, arith}
+use Rattle.std.specs.List.{All}
 use Rattle.std.specs.Map.{values_of}
 use Rattle.std.specs.Option.{IfSome}
 use Rattle.std.specs.declared.alloc.AllocError.{AllocError}
-use Rattle.ode_value.specs.declared.class.Class.{Class}
 use Rattle.ode_value.specs.Good.{IsGood}
-use Rattle.ode_value.specs.Records.{Row, class_text, counters_row, head_row, text_row, object_row, version_row, rows}
-use Rattle.ode_value.specs.World.{World, Object, Version}
+use Rattle.ode_value.specs.Records.{Row, counters_row, head_row, text_row, object_row, version_row, rows}
+use Rattle.ode_value.specs.World.{World, Declared}
 use Rattle.ode_keep.specs.Entries.{Changes, applied}
 use Rattle.ode_codec.specs.declared.state.ObjectRow.{ObjectRow}
 use Rattle.ode_codec.specs.declared.state.State.{State}
@@ -61,8 +60,8 @@ counters_keep (Ok i) w u s batch has none is classes objects =
     (λ good. counters_change w (world_of s) (ap (λ (x : World). x.classes) is ∙ classes) (ap (λ (x : World). x.objects) is ∙ objects))
 
 -- a class more
-pub class_keeps : (r : Result Item AllocError) (w u : World) (s : State) (c : Class) (batch : Changes) → IfOk r (λ i. HasBatch i (with_counters batch (world_of s))) → batch ≡ putting (head_row c ∷ text_row c ∷ [])
-    → OnOk r (world_of s ≡ counted u) → u.classes ≡ w.classes ++ c ∷ [] → u.objects ≡ w.objects → c.number ≡ length w.classes + 1
+pub class_keeps : (r : Result Item AllocError) (w u : World) (s : State) (c : Declared) (batch : Changes) → IfOk r (λ i. HasBatch i (with_counters batch (world_of s))) → batch ≡ putting (head_row c ∷ text_row c ∷ [])
+    → OnOk r (world_of s ≡ counted u) → u.classes ≡ w.classes ++ c ∷ [] → u.objects ≡ w.objects → c.class.number ≡ length w.classes + 1
     → length (head_row c).1 ≤ 3968 → length (text_row c).1 ≤ 3968 → IfOk r (λ i. Keeps i w (world_of s))
 class_keeps (Err e) w u s c batch has are is classes objects new head text = tt
 class_keeps (Ok i) w u s c batch has are is classes objects new head text =

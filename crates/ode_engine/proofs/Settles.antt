@@ -6,7 +6,7 @@ use Rattle.ode_value.specs.Commands.{Outcome, Refused}
 use Rattle.ode_value.specs.declared.reason.Refusal.{Refusal}
 use Rattle.ode_engine.specs.declared.machine.Item.TheVariants as item
 use Rattle.ode_value.specs.Good.{number_limit, weight_limit}
-use Rattle.ode_value.specs.Machine.{commit, abort, settle, declaring, creating, int_class, int_object}
+use Rattle.ode_value.specs.Machine.{commit, abort, settle, declaring, creating, int_declared, int_object}
 use Rattle.ode_value.specs.Records.{weight}
 use Rattle.ode_value.specs.Texts.{class_line, new_line}
 use Rattle.ode_value.specs.World.{World}
@@ -53,7 +53,7 @@ module _ (s : State) (class : ℕ) (held : ℤ) (left : s.next < number_limit) w
 
 module _ (s : State) (name field : List ℕ) where
   abbrev with_class : World
-  with_class = record (world_of s) { classes = map class_of s.classes ++ int_class (length (map class_of s.classes) + 1) name field ∷ [] }
+  with_class = record (world_of s) { classes = map class_of s.classes ++ int_declared (length (map class_of s.classes) + 1) name field ∷ [] }
 
   heavier : weight with_class ≡ weight (world_of s) + class_weight name field
   heavier = weight_declared s (record { number = length (map class_of s.classes) + 1; name = name; field = field })
@@ -71,7 +71,7 @@ module _ (s : State) (name field : List ℕ) where
       ap (λ t. commit (world_of (record s { classes = classes })) (world_of (record s { classes = classes })) t) is
       ∙ ap (λ cs. commit (record (world_of s) { classes = cs }) (record (world_of s) { classes = cs }) (class_line name))
       (ap (map class_of) more ∙ map_push class_of s.classes (record { number = length s.classes + 1; name = name; field = field })
-      ∙ ap (λ n. map class_of s.classes ++ int_class (n + 1) name field ∷ []) (sym (length_map class_of s.classes)))
+      ∙ ap (λ n. map class_of s.classes ++ int_declared (n + 1) name field ∷ []) (sym (length_map class_of s.classes)))
       ∙ sym (settles_light (world_of s) with_class (class_line name) (omega (arith, heavier, light)))
 
 -- another form of the outcome

@@ -1,9 +1,10 @@
 -- The weight of a world in memory is a sum over its classes and objects.
 use Rattle.std.proofs.Common.{◌≡◌, ◌≤◌, ℕ, suc, ◌+◌, ◌*◌, List, [], ◌∷◌, ◌++◌, length, map, refl, sym, ◌∙◌, ap, arith, length-append}
-use Rattle.std.specs.Prelude.{codes}
 use Rattle.std.specs.Int.{w16, w32, to_be_bytes}
 use Rattle.std.specs.List.{flat_map}
-use Rattle.ode_value.specs.Records.{Row, byte, member_text, total_weight, row_weight, weight, head_row, text_row, object_row, version_rows, class_text}
+use Rattle.ode_value.specs.PrintedClasses.{decl_text}
+use Rattle.ode_value.specs.Records.{Row, byte, total_weight, row_weight, weight, head_row, text_row, object_row, version_rows}
+use Rattle.ode_value.proofs.PrintLaws.{int_decl_length}
 use Rattle.ode_codec.specs.declared.state.ClassRow.{ClassRow}
 use Rattle.ode_codec.specs.declared.state.ObjectRow.{ObjectRow}
 use Rattle.ode_codec.specs.declared.state.State.{State}
@@ -21,13 +22,10 @@ four : (a b c d : List ℕ) → length (a ++ b ++ c ++ d) ≡ length a + length 
 four a b c d = omega (arith, length-append (a ++ b ++ c) d, length-append (a ++ b) c, length-append a b)
 
 head_weight : (c : ClassRow) → row_weight (head_row (class_of c)) ≡ 28 + length c.name
-head_weight c = omega (arith, five (byte (length c.name)) c.name (to_be_bytes w32 0) (to_be_bytes w32 (length (class_text (class_of c)))) (to_be_bytes w16 0))
-
-member : (c : ClassRow) → length (flat_map member_text (class_of c).fields) ≡ 6 + length c.field
-member c = omega (arith, length-append (codes "int " ++ c.field) (codes "; "), length-append (codes "int ") c.field, length-append (codes "int " ++ c.field ++ codes "; ") [])
+head_weight c = omega (arith, five (byte (length c.name)) c.name (to_be_bytes w32 0) (to_be_bytes w32 (length (decl_text (class_of c).tree))) (to_be_bytes w16 0))
 
 text_weight : (c : ClassRow) → row_weight (text_row (class_of c)) ≡ 33 + length c.name + length c.field
-text_weight c = omega (arith, five (codes "class ") c.name (codes " { ") (flat_map member_text (class_of c).fields) (codes "}"), member c)
+text_weight c = omega (arith, int_decl_length c.name c.field)
 
 -- values that a keeper takes
 pub head_short : (c : ClassRow) → class_weight c.name c.field ≤ 253 → length (head_row (class_of c)).1 ≤ 3968

@@ -10,7 +10,7 @@ use Rattle.ode_value.specs.declared.class.Class.{Class}
 use Rattle.ode_value.specs.declared.reason.Reason.{Reason}
 use Rattle.ode_value.specs.declared.reason.Reason.TheVariants.{Space}
 use Rattle.ode_value.specs.Good.{IsGood, AreClasses, AreObjects, IsBuiltClass, IsBuiltObject, number_limit, weight_limit}
-use Rattle.ode_value.specs.Machine.{Settled, commit, abort, settle, int_class, int_object, declaring, creating, showing}
+use Rattle.ode_value.specs.Machine.{Settled, commit, abort, settle, int_declared, int_object, declaring, creating, showing}
 use Rattle.ode_value.specs.Commands.{Outcome, Refused, Settles, one, built, declare, create, create_of, create_in, show, show_of, show_value, field_of, shown_path, assignments, declared_field, carried, command}
 use Rattle.ode_value.specs.Records.{Row, total_weight, weight, head_row, text_row, object_row, version_rows}
 use Rattle.ode_value.specs.Texts.{class_line, new_line, value_line}
@@ -25,7 +25,7 @@ use Rattle.ode_value.specs.declared.statement.Stmt.{Stmt}
 use Rattle.ode_value.specs.declared.statement.Stmt.TheVariants.{Do, Show}
 use Rattle.ode_value.specs.declared.value.Value.{Value}
 use Rattle.ode_value.specs.Proper.{IsProper, IsProperStmt}
-use Rattle.ode_value.specs.World.{World, Object, class_named, class_numbered, slot_of, object_at}
+use Rattle.ode_value.specs.World.{World, Declared, Object, class_named, class_numbered, slot_of, object_at}
 
 -- a commit of a good world, and an abort from one
 pub good_commit : (first now : World) (text : List ℕ) → IsGood now → now.transaction ≡ first.transaction → first.transaction < number_limit → IsGood (commit first now text).0
@@ -40,7 +40,7 @@ good_commit first now text g same left = record {
   small = g.small;
 }
 
-further : (classes : List Class) (low next more : ℕ) (os : List Object) → next ≤ more → AreObjects classes low next os → AreObjects classes low more os
+further : (classes : List Declared) (low next more : ℕ) (os : List Object) → next ≤ more → AreObjects classes low next os → AreObjects classes low more os
 further classes low next more [] le objects = omega arith
 further classes low next more (o ∷ os) le objects = (objects.0, objects.1, objects.2, further classes (o.id + 1) next more os le objects.3)
 
@@ -74,70 +74,70 @@ apart : (a b : List ℕ) → bytes_eq a b ≡ false → bytes_eq b a ≡ false
 apart a b differ = ⊎_elim (λ yes. absurd (let same : b ≡ a = (bytes_eq-Decides b a).0 yes in let other = (bytes_eq-Decides a b).1 (sym same) in cc)) (λ is. is) (by_test (bytes_eq b a))
 
 -- no class has the name, and one more has another name
-named_head : (name : List ℕ) (c : Class) (cs : List Class) → class_named name (c ∷ cs) ≡ None → (bytes_eq c.name name ≡ false) × (class_named name cs ≡ None)
-named_head name c cs none = by (bytes_eq c.name name) refl
+named_head : (name : List ℕ) (c : Declared) (cs : List Declared) → class_named name (c ∷ cs) ≡ None → (bytes_eq c.class.name name ≡ false) × (class_named name cs ≡ None)
+named_head name c cs none = by (bytes_eq c.class.name name) refl
   where
-    by : (b : Bool) → bytes_eq c.name name ≡ b → (bytes_eq c.name name ≡ false) × (class_named name cs ≡ None)
-    by true is = absurd (let e = sym (ap (λ t. cond t (Some c) (class_named name cs)) is) ∙ none in cc)
-    by false is = (is, sym (ap (λ t. cond t (Some c) (class_named name cs)) is) ∙ none)
+    by : (b : Bool) → bytes_eq c.class.name name ≡ b → (bytes_eq c.class.name name ≡ false) × (class_named name cs ≡ None)
+    by true is = absurd (let e = sym (ap (λ t. cond t (Some c.class) (class_named name cs)) is) ∙ none in cc)
+    by false is = (is, sym (ap (λ t. cond t (Some c.class) (class_named name cs)) is) ∙ none)
 
-named_push : (name : List ℕ) (cs : List Class) (c : Class) → class_named name cs ≡ None → bytes_eq c.name name ≡ false → class_named name (cs ++ c ∷ []) ≡ None
-named_push name [] c none other = ap (λ t. cond t (Some c) None) other
+named_push : (name : List ℕ) (cs : List Declared) (c : Declared) → class_named name cs ≡ None → bytes_eq c.class.name name ≡ false → class_named name (cs ++ c ∷ []) ≡ None
+named_push name [] c none other = ap (λ t. cond t (Some c.class) None) other
 named_push name (d ∷ ds) c none other =
     let head = named_head name d ds none in
-    ap (λ t. cond t (Some d) (class_named name (ds ++ c ∷ []))) head.0 ∙ named_push name ds c head.1 other
+    ap (λ t. cond t (Some d.class) (class_named name (ds ++ c ∷ []))) head.0 ∙ named_push name ds c head.1 other
 
-classes_push : (n : ℕ) (cs : List Class) (c : Class) → AreClasses n cs → c.number ≡ n + length cs → n + length cs < 2 ^ 32 → class_named c.name cs ≡ None → IsBuiltClass c → AreClasses n (cs ++ c ∷ [])
+classes_push : (n : ℕ) (cs : List Declared) (c : Declared) → AreClasses n cs → c.class.number ≡ n + length cs → n + length cs < 2 ^ 32 → class_named c.class.name cs ≡ None → IsBuiltClass c → AreClasses n (cs ++ c ∷ [])
 classes_push n [] c are number small new built = (omega arith, omega arith, refl, built, tt)
 classes_push n (d ∷ ds) c are number small new built =
-    let head = named_head c.name d ds new in
-    (are.0, are.1, named_push d.name ds c are.2 (apart d.name c.name head.0), are.3, classes_push (n + 1) ds c are.4 (omega arith) (omega arith) head.1 built)
+    let head = named_head c.class.name d ds new in
+    (are.0, are.1, named_push d.class.name ds c are.2 (apart d.class.name c.class.name head.0), are.3, classes_push (n + 1) ds c are.4 (omega arith) (omega arith) head.1 built)
 
 -- a class that is known stays known
-kept : (k : ℕ) (c : Class) (cs ds : List Class) (b : Bool) → (c.number == k) ≡ b → (IsSome (class_numbered k cs) → IsSome (class_numbered k ds)) → IsSome (class_numbered k (c ∷ cs)) → IsSome (class_numbered k (c ∷ ds))
-kept k c cs ds true is rest known = subst (λ (t : Bool). IsSome (cond t (Some c) (class_numbered k ds))) (sym is) refl
+kept : (k : ℕ) (c : Declared) (cs ds : List Declared) (b : Bool) → (c.class.number == k) ≡ b → (IsSome (class_numbered k cs) → IsSome (class_numbered k ds)) → IsSome (class_numbered k (c ∷ cs)) → IsSome (class_numbered k (c ∷ ds))
+kept k c cs ds true is rest known = subst (λ (t : Bool). IsSome (cond t (Some c.class) (class_numbered k ds))) (sym is) refl
 kept k c cs ds false is rest known =
-    subst (λ (t : Bool). IsSome (cond t (Some c) (class_numbered k ds))) (sym is) (rest (subst (λ (t : Bool). IsSome (cond t (Some c) (class_numbered k cs))) is known))
+    subst (λ (t : Bool). IsSome (cond t (Some c.class) (class_numbered k ds))) (sym is) (rest (subst (λ (t : Bool). IsSome (cond t (Some c.class) (class_numbered k cs))) is known))
 
-numbered_more : (k : ℕ) (cs ds : List Class) → IsSome (class_numbered k cs) → IsSome (class_numbered k (cs ++ ds))
+numbered_more : (k : ℕ) (cs ds : List Declared) → IsSome (class_numbered k cs) → IsSome (class_numbered k (cs ++ ds))
 numbered_more k [] ds known = absurd (cc)
-numbered_more k (c ∷ cs) ds known = kept k c cs (cs ++ ds) (c.number == k) refl (λ h. numbered_more k cs ds h) known
+numbered_more k (c ∷ cs) ds known = kept k c cs (cs ++ ds) (c.class.number == k) refl (λ h. numbered_more k cs ds h) known
 
-objects_more : (cs ds : List Class) (low next : ℕ) (os : List Object) → AreObjects cs low next os → AreObjects (cs ++ ds) low next os
+objects_more : (cs ds : List Declared) (low next : ℕ) (os : List Object) → AreObjects cs low next os → AreObjects (cs ++ ds) low next os
 objects_more cs ds low next [] are = are
 objects_more cs ds low next (o ∷ os) are = (are.0, numbered_more o.class cs ds are.1, are.2, objects_more cs ds (o.id + 1) next os are.3)
 
-objects_push : (cs : List Class) (low next : ℕ) (os : List Object) (o : Object) → AreObjects cs low next os → o.id ≡ next → IsSome (class_numbered o.class cs) → IsBuiltObject o → AreObjects cs low (next + 1) (os ++ o ∷ [])
+objects_push : (cs : List Declared) (low next : ℕ) (os : List Object) (o : Object) → AreObjects cs low next os → o.id ≡ next → IsSome (class_numbered o.class cs) → IsBuiltObject o → AreObjects cs low (next + 1) (os ++ o ∷ [])
 objects_push cs low next [] o are is known built = (omega arith, known, built, omega arith)
 objects_push cs low next (p ∷ ps) o are is known built = (are.0, are.1, are.2, objects_push cs (p.id + 1) next ps o are.3 is known built)
 
 -- a class that has a name has a number
-numbered_tail : (k : ℕ) (d : Class) (ds : List Class) (b : Bool) → (d.number == k) ≡ b → IsSome (class_numbered k ds) → IsSome (class_numbered k (d ∷ ds))
-numbered_tail k d ds true is known = subst (λ (t : Bool). IsSome (cond t (Some d) (class_numbered k ds))) (sym is) refl
-numbered_tail k d ds false is known = subst (λ (t : Bool). IsSome (cond t (Some d) (class_numbered k ds))) (sym is) known
+numbered_tail : (k : ℕ) (d : Declared) (ds : List Declared) (b : Bool) → (d.class.number == k) ≡ b → IsSome (class_numbered k ds) → IsSome (class_numbered k (d ∷ ds))
+numbered_tail k d ds true is known = subst (λ (t : Bool). IsSome (cond t (Some d.class) (class_numbered k ds))) (sym is) refl
+numbered_tail k d ds false is known = subst (λ (t : Bool). IsSome (cond t (Some d.class) (class_numbered k ds))) (sym is) known
 
-numbered_head : (d c : Class) (ds : List Class) → d ≡ c → IsSome (class_numbered c.number (d ∷ ds))
+numbered_head : (d : Declared) (c : Class) (ds : List Declared) → d.class ≡ c → IsSome (class_numbered c.number (d ∷ ds))
 numbered_head d c ds same =
     subst (λ (e : Class). IsSome (class_numbered e.number (d ∷ ds))) same
-    (subst (λ (t : Bool). IsSome (cond t (Some d) (class_numbered d.number ds))) (sym (eq-eqb d.number d.number refl)) refl)
+    (subst (λ (t : Bool). IsSome (cond t (Some d.class) (class_numbered d.class.number ds))) (sym (eq-eqb d.class.number d.class.number refl)) refl)
 
-named_split : (name : List ℕ) (d c : Class) (ds : List Class) (b : Bool) → bytes_eq d.name name ≡ b → class_named name (d ∷ ds) ≡ Some c → (d ≡ c) ⊎ (class_named name ds ≡ Some c)
-named_split name d c ds true is found = inl (let e : Some d ≡ Some c = sym (ap (λ t. cond t (Some d) (class_named name ds)) is) ∙ found in cc)
-named_split name d c ds false is found = inr (sym (ap (λ t. cond t (Some d) (class_named name ds)) is) ∙ found)
+named_split : (name : List ℕ) (d : Declared) (c : Class) (ds : List Declared) (b : Bool) → bytes_eq d.class.name name ≡ b → class_named name (d ∷ ds) ≡ Some c → (d.class ≡ c) ⊎ (class_named name ds ≡ Some c)
+named_split name d c ds true is found = inl (let e : Some d.class ≡ Some c = sym (ap (λ t. cond t (Some d.class) (class_named name ds)) is) ∙ found in cc)
+named_split name d c ds false is found = inr (sym (ap (λ t. cond t (Some d.class) (class_named name ds)) is) ∙ found)
 
-pub named_numbered : (name : List ℕ) (cs : List Class) (c : Class) → class_named name cs ≡ Some c → IsSome (class_numbered c.number cs)
+pub named_numbered : (name : List ℕ) (cs : List Declared) (c : Class) → class_named name cs ≡ Some c → IsSome (class_numbered c.number cs)
 named_numbered name [] c found = absurd (cc)
 named_numbered name (d ∷ ds) c found =
     ⊎_elim (λ same. numbered_head d c ds same)
-    (λ later. numbered_tail c.number d ds (d.number == c.number) refl (named_numbered name ds c later))
-    (named_split name d c ds (bytes_eq d.name name) refl found)
+    (λ later. numbered_tail c.number d ds (d.class.number == c.number) refl (named_numbered name ds c later))
+    (named_split name d c ds (bytes_eq d.class.name name) refl found)
 
 -- each class weighs something
 heavy_append : (xs ys : List Row) → total_weight (xs ++ ys) ≡ total_weight xs + total_weight ys
 heavy_append [] ys = omega arith
 heavy_append (x ∷ xs) ys = omega (arith, heavy_append xs ys)
 
-heads_weigh : (cs : List Class) → length cs ≤ total_weight (map head_row cs)
+heads_weigh : (cs : List Declared) → length cs ≤ total_weight (map head_row cs)
 heads_weigh [] = omega arith
 heads_weigh (c ∷ cs) = omega (arith, heads_weigh cs)
 
@@ -151,12 +151,12 @@ classes_weigh w =
 
 pub good_declaring : (w : World) (name field : List ℕ) → IsGood w → w.transaction < number_limit → class_named name w.classes ≡ None → is_free name ≡ true → is_free field ≡ true → IsGood (declaring w name field).0
 good_declaring w name field g left new free free_field =
-    let c = int_class (length w.classes + 1) name field in
+    let c = int_declared (length w.classes + 1) name field in
     let now = record w { classes = w.classes ++ c ∷ [] } in
     good_settle w now (class_line name) g
     (λ light. record {
       classes = classes_push 1 w.classes c g.classes (omega arith) (omega (arith, classes_weigh now, light, length-append w.classes (c ∷ []))) new
-          (record { field = field; fields = refl; no_parent = refl; no_more = (refl, refl, refl, refl); names = (free, free_field) });
+          (record { field = field; fields = refl; no_parent = refl; no_more = (refl, refl, refl, refl); names = (free, free_field); tree = refl });
       objects = objects_more w.classes (c ∷ []) 0 w.next w.objects g.objects;
       next = g.next;
       transaction = g.transaction;

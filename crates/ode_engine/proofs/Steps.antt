@@ -1,21 +1,20 @@
 -- What a transaction changes of a world's records.
-use Rattle.std.proofs.Common.{◌≡◌, ◌<◌, ◌≤◌, ℕ, ◌+◌, List, [], ◌∷◌, ◌++◌, length, map, Some, refl, sym, ◌∙◌, ap, arith, append_assoc}
+use Rattle.std.proofs.Common.{◌≡◌, ◌<◌, ◌≤◌, ℕ, ◌+◌, List, [], ◌∷◌, ◌++◌, length, map, refl, sym, ◌∙◌, ap, arith, append_assoc}
 use Rattle.std.proofs.lemmas.Grind.{flat_map-append}
 use Rattle.std.proofs.lemmas.List.{map-append, append-nil}
 use Rattle.std.specs.Cmp.{nat_cmp_is}
 use Rattle.std.specs.List.{flat_map}
 use Rattle.std.specs.Ordering.{nat_cmp, ordering_then}
 use Rattle.std.specs.declared.cmp.Ordering.{Ordering}
-use Rattle.std.specs.declared.cmp.Ordering.TheVariants.{Less, Equal, Greater}
+use Rattle.std.specs.declared.cmp.Ordering.TheVariants.{Equal, Greater}
 use Rattle.std.specs.BTreeMap.{insert_entry}
-use Rattle.ode_value.specs.declared.class.Class.{Class}
 use Rattle.ode_value.specs.declared.key.Key.{Key}
 use Rattle.ode_value.specs.Good.{AreClasses, AreObjects, IsGood}
 use Rattle.ode_value.specs.Records.{Row, key, rows, counters_row, head_row, text_row, object_row, version_row, version_rows}
-use Rattle.ode_value.specs.World.{World, Object, Version}
+use Rattle.ode_value.specs.World.{World, Declared, Object, Version}
 use Rattle.ode_keep.specs.Entries.{key_cmp, Entries, applied}
 use Rattle.ode_engine.specs.Puts.{putting}
-use Rattle.ode_engine.proofs.Between.{Under, Over, OfKind, lower_kind, higher_kind, kind_append, under_append, over_append, insert_between}
+use Rattle.ode_engine.proofs.Between.{Under, OfKind, lower_kind, higher_kind, kind_append, under_append, over_append, insert_between}
 
 -- a key of the same kind is above one with a lower number
 above : (kind n m b c : ℕ) → nat_cmp kind kind ≡ Equal → m < n → key_cmp (key kind n b) (key kind m c) ≡ Greater
@@ -23,19 +22,19 @@ above kind n m b c same lower =
     ap (λ (o : Ordering). ordering_then o (ordering_then (nat_cmp n m) (nat_cmp b c))) same
     ∙ ap (λ (o : Ordering). ordering_then o (nat_cmp b c)) (sym (nat_cmp_is n m Greater lower))
 
-heads_under : (n m : ℕ) (cs : List Class) → AreClasses m cs → m + length cs ≤ n → Under (key 2 n 0) (map head_row cs)
+heads_under : (n m : ℕ) (cs : List Declared) → AreClasses m cs → m + length cs ≤ n → Under (key 2 n 0) (map head_row cs)
 heads_under n m [] are up_to = tt
-heads_under n m (c ∷ cs) are up_to = (above 2 n c.number 0 0 refl (omega (arith, are.0, up_to)), heads_under n (m + 1) cs are.4 (omega (arith, up_to)))
+heads_under n m (c ∷ cs) are up_to = (above 2 n c.class.number 0 0 refl (omega (arith, are.0, up_to)), heads_under n (m + 1) cs are.4 (omega (arith, up_to)))
 
-texts_under : (n m : ℕ) (cs : List Class) → AreClasses m cs → m + length cs ≤ n → Under (key 3 n 0) (map text_row cs)
+texts_under : (n m : ℕ) (cs : List Declared) → AreClasses m cs → m + length cs ≤ n → Under (key 3 n 0) (map text_row cs)
 texts_under n m [] are up_to = tt
-texts_under n m (c ∷ cs) are up_to = (above 3 n c.number 0 0 refl (omega (arith, are.0, up_to)), texts_under n (m + 1) cs are.4 (omega (arith, up_to)))
+texts_under n m (c ∷ cs) are up_to = (above 3 n c.class.number 0 0 refl (omega (arith, are.0, up_to)), texts_under n (m + 1) cs are.4 (omega (arith, up_to)))
 
-up_to_next : (classes : List Class) (low next : ℕ) (os : List Object) → AreObjects classes low next os → low ≤ next
+up_to_next : (classes : List Declared) (low next : ℕ) (os : List Object) → AreObjects classes low next os → low ≤ next
 up_to_next classes low next [] are = are
 up_to_next classes low next (o ∷ os) are = omega (arith, are.0, up_to_next classes (o.id + 1) next os are.3)
 
-objects_under : (classes : List Class) (low next : ℕ) (os : List Object) → AreObjects classes low next os → Under (key 6 next 0) (map object_row os)
+objects_under : (classes : List Declared) (low next : ℕ) (os : List Object) → AreObjects classes low next os → Under (key 6 next 0) (map object_row os)
 objects_under classes low next [] are = tt
 objects_under classes low next (o ∷ os) are =
     (above 6 next o.id 0 0 refl (omega (arith, up_to_next classes (o.id + 1) next os are.3)), objects_under classes (o.id + 1) next os are.3)
@@ -44,18 +43,18 @@ own_under : (next id : ℕ) (vs : List Version) → id < next → Under (key 7 n
 own_under next id [] lower = tt
 own_under next id (v ∷ vs) lower = (above 7 next id 1 v.number refl lower, own_under next id vs lower)
 
-versions_under : (classes : List Class) (low next : ℕ) (os : List Object) → AreObjects classes low next os → Under (key 7 next 1) (flat_map version_rows os)
+versions_under : (classes : List Declared) (low next : ℕ) (os : List Object) → AreObjects classes low next os → Under (key 7 next 1) (flat_map version_rows os)
 versions_under classes low next [] are = tt
 versions_under classes low next (o ∷ os) are =
     under_append (key 7 next 1) (version_rows o) (flat_map version_rows os)
     (own_under next o.id o.versions (omega (arith, up_to_next classes (o.id + 1) next os are.3)))
     (versions_under classes (o.id + 1) next os are.3)
 
-heads_kind : (cs : List Class) → OfKind 2 (map head_row cs)
+heads_kind : (cs : List Declared) → OfKind 2 (map head_row cs)
 heads_kind [] = tt
 heads_kind (c ∷ cs) = (refl, heads_kind cs)
 
-texts_kind : (cs : List Class) → OfKind 3 (map text_row cs)
+texts_kind : (cs : List Declared) → OfKind 3 (map text_row cs)
 texts_kind [] = tt
 texts_kind (c ∷ cs) = (refl, texts_kind cs)
 
@@ -79,7 +78,7 @@ counters_change w v classes objects = rw (classes, objects) refl
 regroup : (a b c d : Entries) → a ++ b ++ c ++ d ≡ a ++ (b ++ (c ++ d))
 regroup a b c d = append_assoc (a ++ b) c d ∙ append_assoc a b (c ++ d)
 
-module _ (cs : List Class) (os : List Object) (next : ℕ) (are_classes : AreClasses 1 cs) (are_objects : AreObjects cs 0 next os) (first : Row) (counts : first.0.kind ≡ 1) where
+module _ (cs : List Declared) (os : List Object) (next : ℕ) (are_classes : AreClasses 1 cs) (are_objects : AreObjects cs 0 next os) (first : Row) (counts : first.0.kind ≡ 1) where
   abbrev F : Entries
   F = first ∷ []
 
@@ -99,7 +98,7 @@ module _ (cs : List Class) (os : List Object) (next : ℕ) (are_classes : AreCla
   above_first k more = lower_kind k 1 F (counts, tt) more
 
   -- a class, whose number is the next one
-  module _ (c : Class) (new : c.number ≡ length cs + 1) where
+  module _ (c : Declared) (new : c.class.number ≡ length cs + 1) where
     abbrev h : Row
     h = head_row c
 
@@ -108,7 +107,7 @@ module _ (cs : List Class) (os : List Object) (next : ℕ) (are_classes : AreCla
 
     with_head : insert_entry key_cmp ((F ++ H) ++ (T ++ (O ++ V))) h.0 h.1 ≡ (F ++ H) ++ h ∷ (T ++ (O ++ V))
     with_head = insert_between h.0 h.1 (F ++ H) (T ++ (O ++ V))
-        (under_append h.0 F H (above_first h.0 (omega arith)) (heads_under c.number 1 cs are_classes (omega (arith, new))))
+        (under_append h.0 F H (above_first h.0 (omega arith)) (heads_under c.class.number 1 cs are_classes (omega (arith, new))))
         (over_append h.0 T (O ++ V) (higher_kind h.0 3 T (texts_kind cs) (omega arith))
         (over_append h.0 O V (higher_kind h.0 6 O (objects_kind os) (omega arith)) (higher_kind h.0 7 V (versions_kind os) (omega arith))))
 
@@ -119,7 +118,7 @@ module _ (cs : List Class) (os : List Object) (next : ℕ) (are_classes : AreCla
     with_text = insert_between t.0 t.1 low (O ++ V)
         (under_append t.0 (F ++ (H ++ h ∷ [])) T
         (under_append t.0 F (H ++ h ∷ []) (above_first t.0 (omega arith)) (lower_kind t.0 2 (H ++ h ∷ []) (kind_append 2 H (h ∷ []) (heads_kind cs) (refl, tt)) (omega arith)))
-        (texts_under c.number 1 cs are_classes (omega (arith, new))))
+        (texts_under c.class.number 1 cs are_classes (omega (arith, new))))
         (over_append t.0 O V (higher_kind t.0 6 O (objects_kind os) (omega arith)) (higher_kind t.0 7 V (versions_kind os) (omega arith)))
 
     to_low : (F ++ H) ++ h ∷ (T ++ (O ++ V)) ≡ low ++ (O ++ V)
@@ -180,7 +179,7 @@ module _ (cs : List Class) (os : List Object) (next : ℕ) (are_classes : AreCla
         ∙ rw (map-append object_row os (o ∷ []), flat_map-append version_rows os (o ∷ []), versions) refl
 
 -- A class more, or an object more, and other counters.
-pub class_changes : (w v : World) (c : Class) → IsGood w → v.classes ≡ w.classes ++ c ∷ [] → v.objects ≡ w.objects → c.number ≡ length w.classes + 1
+pub class_changes : (w v : World) (c : Declared) → IsGood w → v.classes ≡ w.classes ++ c ∷ [] → v.objects ≡ w.objects → c.class.number ≡ length w.classes + 1
     → applied (putting (counters_row v ∷ head_row c ∷ text_row c ∷ [])) (rows w) ≡ rows v
 class_changes w v c good classes objects new =
     with_class w.classes w.objects w.next good.classes good.objects (counters_row v) refl c new ∙ rw (classes, objects) refl

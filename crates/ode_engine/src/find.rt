@@ -9,7 +9,7 @@ use ode_value::Name;
 
 /// The class of a name.
 pub fn class_named<'a>(classes: &'a [ClassRow], name: &Name) -> Option<&'a ClassRow>
-    ensures { option_map class_of (option_copied result) ≡ class_named name.now (map class_of classes.now) }
+    ensures { option_map (λ c. (class_of c).class) (option_copied result) ≡ class_named name.now (map class_of classes.now) }
 {
     for class in classes {
         if class.name.same(name) {
@@ -21,7 +21,7 @@ pub fn class_named<'a>(classes: &'a [ClassRow], name: &Name) -> Option<&'a Class
 
 /// The class of a number.
 pub fn class_numbered(classes: &[ClassRow], number: u32) -> Option<&ClassRow>
-    ensures { option_map class_of (option_copied result) ≡ class_numbered number (map class_of classes.now) }
+    ensures { option_map (λ c. (class_of c).class) (option_copied result) ≡ class_numbered number (map class_of classes.now) }
 {
     for class in classes {
         if class.number == number {

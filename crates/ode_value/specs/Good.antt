@@ -1,20 +1,26 @@
 -- Which worlds the built forms make, and which of them are good.
 use Rattle.std.specs.Prelude.{◌≡◌, ◌<◌, ◌≤◌, ◌^◌, ◌+◌, ℕ, ℤ, List, [], ◌∷◌, true, None, IsSome, FitsSigned}
 use Rattle.std.specs.Int.{w64}
-use Rattle.ode_value.specs.declared.class.Class.{Class}
+use Rattle.ode_value.specs.declared.statement.ClassDecl.{ClassDecl}
+use Rattle.ode_value.specs.declared.statement.Member.TheVariants as member
 use Rattle.ode_value.specs.declared.statement.Sort.TheVariants as sort
 use Rattle.ode_value.specs.declared.value.Value.TheVariants as value
 use Rattle.ode_value.specs.Records.{weight}
 use Rattle.ode_value.specs.Words.{is_free}
-use Rattle.ode_value.specs.World.{World, Object, class_named, class_numbered}
+use Rattle.ode_value.specs.World.{World, Declared, Object, class_named, class_numbered}
 
--- a class with one int field and nothing else
-pub record IsBuiltClass (c : Class) : Type 0 where
+-- the tree of a class of one int field
+abbrev pub int_tree : List ℕ → List ℕ → ClassDecl
+int_tree name field = record { name = name; parent = None; members = member.Field field sort.Int ∷ [] }
+
+-- a class with one int field and nothing else, whose tree is of that form
+pub record IsBuiltClass (c : Declared) : Type 0 where
   pub field : List ℕ
-  pub fields : c.fields ≡ record { name = field; sort = sort.Int } ∷ []
-  pub no_parent : c.parent ≡ None
-  pub no_more : (c.methods ≡ []) × (c.constraints ≡ []) × (c.kinds ≡ []) × (c.triggers ≡ [])
-  pub names : (is_free c.name ≡ true) × (is_free field ≡ true)
+  pub fields : c.class.fields ≡ record { name = field; sort = sort.Int } ∷ []
+  pub no_parent : c.class.parent ≡ None
+  pub no_more : (c.class.methods ≡ []) × (c.class.constraints ≡ []) × (c.class.kinds ≡ []) × (c.class.triggers ≡ [])
+  pub names : (is_free c.class.name ≡ true) × (is_free field ≡ true)
+  pub tree : c.tree ≡ int_tree c.class.name field
 
 -- an object with its first version alone
 pub record IsBuiltObject (o : Object) : Type 0 where
@@ -25,12 +31,12 @@ pub record IsBuiltObject (o : Object) : Type 0 where
   pub live : o.live ≡ true
 
 -- the classes are numbered from here on, within 32 bits, and no two have one name
-abbrev pub AreClasses : ℕ → List Class → Type 0
+abbrev pub AreClasses : ℕ → List Declared → Type 0
 AreClasses number [] = Unit {0}
-AreClasses number (c ∷ cs) = (c.number ≡ number) × (number < 2 ^ 32) × (class_named c.name cs ≡ None) × IsBuiltClass c × AreClasses (number + 1) cs
+AreClasses number (c ∷ cs) = (c.class.number ≡ number) × (number < 2 ^ 32) × (class_named c.class.name cs ≡ None) × IsBuiltClass c × AreClasses (number + 1) cs
 
 -- the objects' numbers rise from here on and stay below the next one, and each object has a class
-abbrev pub AreObjects : List Class → ℕ → ℕ → List Object → Type 0
+abbrev pub AreObjects : List Declared → ℕ → ℕ → List Object → Type 0
 AreObjects classes low next [] = low ≤ next
 AreObjects classes low next (o ∷ os) = (low ≤ o.id) × IsSome (class_numbered o.class classes) × IsBuiltObject o × AreObjects classes (o.id + 1) next os
 

@@ -6,10 +6,10 @@ use Rattle.ode_value.specs.declared.reason.Reason.TheVariants.{Space}
 use Rattle.ode_value.specs.declared.statement.Sort.TheVariants as sort
 use Rattle.ode_value.specs.declared.value.Value.{Value}
 use Rattle.ode_value.specs.declared.value.Value.TheVariants as value
-use Rattle.ode_value.specs.Good.{number_limit, weight_limit}
+use Rattle.ode_value.specs.Good.{int_tree, number_limit, weight_limit}
 use Rattle.ode_value.specs.Records.{weight}
 use Rattle.ode_value.specs.Texts.{class_line, new_line, value_line, committed_line, aborted_line}
-use Rattle.ode_value.specs.World.{World, Object}
+use Rattle.ode_value.specs.World.{World, Declared, Object}
 
 -- a settled transaction: the world after it, and all that it prints
 abbrev pub Settled : Type 0
@@ -39,8 +39,12 @@ int_class number name field = record {
   triggers = [];
 }
 
+-- beside its tree
+abbrev pub int_declared : ℕ → List ℕ → List ℕ → Declared
+int_declared number name field = record { class = int_class number name field; tree = int_tree name field }
+
 abbrev pub declaring : World → List ℕ → List ℕ → Settled
-declaring w name field = settle w (record w { classes = w.classes ++ int_class (length w.classes + 1) name field ∷ [] }) (class_line name)
+declaring w name field = settle w (record w { classes = w.classes ++ int_declared (length w.classes + 1) name field ∷ [] }) (class_line name)
 
 -- a new object of a class, with one int
 abbrev pub int_object : ℕ → ℕ → ℤ → Object

@@ -2,7 +2,6 @@
 use Rattle.std.specs.Prelude.{ℕ, cond, List, [], ◌∷◌, ◌++◌, map, codes, Option, Some, None}
 use Rattle.std.specs.List.{join_by}
 use Rattle.ode_value.specs.Printing.{in_brackets, with_commas, expr_text, operand_text, kind_text, event_text}
-use Rattle.ode_value.specs.Records.{sort_text}
 use Rattle.ode_value.specs.declared.binding.Param.{Param}
 use Rattle.ode_value.specs.declared.binding.Var.{Var}
 use Rattle.ode_value.specs.declared.binding.Var.TheVariants as var
@@ -18,6 +17,8 @@ use Rattle.ode_value.specs.declared.statement.Member.{Member}
 use Rattle.ode_value.specs.declared.statement.Member.TheVariants as member
 use Rattle.ode_value.specs.declared.statement.Rhs.{Rhs}
 use Rattle.ode_value.specs.declared.statement.Rhs.TheVariants as rhs
+use Rattle.ode_value.specs.declared.statement.Sort.{Sort}
+use Rattle.ode_value.specs.declared.statement.Sort.TheVariants as sort
 use Rattle.ode_value.specs.declared.statement.Stmt.{Stmt, fold-Stmt}
 use Rattle.ode_value.specs.declared.statement.Stmt.TheOpen as stmt
 
@@ -85,6 +86,14 @@ abbrev pub body_text : List Stmt → List ℕ
 body_text body = in_braces (map stmt_text body)
 
 -- ---- members
+
+-- a sort by its word
+abbrev pub sort_text : Sort → List ℕ
+sort_text sort.Int = codes "int"
+sort_text sort.Bool = codes "bool"
+sort_text sort.Text = codes "text"
+sort_text (sort.Reference class) = codes "ref " ++ class
+sort_text sort.Void = codes "void"
 
 abbrev pub param_text : Param → List ℕ
 param_text p = sort_text p.sort ++ codes " " ++ p.name

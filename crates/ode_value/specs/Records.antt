@@ -1,16 +1,13 @@
 -- The records of a world: each under its key, in the order of the keys.
-use Rattle.std.specs.Prelude.{ℕ, ◌+◌, List, [], ◌∷◌, ◌++◌, length, map, cond, Option, Some, None, codes}
+use Rattle.std.specs.Prelude.{ℕ, ◌+◌, List, [], ◌∷◌, ◌++◌, length, map, cond, Option, Some, None}
 use Rattle.std.specs.Int.{w16, w32, w64, to_be_bytes, cast_unsigned}
 use Rattle.std.specs.List.{flat_map}
 use Rattle.std.specs.Option.{unwrap_or}
-use Rattle.ode_value.specs.declared.class.Class.{Class}
-use Rattle.ode_value.specs.declared.class.Field.{Field}
 use Rattle.ode_value.specs.declared.key.Key.{Key}
-use Rattle.ode_value.specs.declared.statement.Sort.{Sort}
-use Rattle.ode_value.specs.declared.statement.Sort.TheVariants as sort
 use Rattle.ode_value.specs.declared.value.Value.{Value}
 use Rattle.ode_value.specs.declared.value.Value.TheVariants as value
-use Rattle.ode_value.specs.World.{World, Object, Version, Position}
+use Rattle.ode_value.specs.PrintedClasses.{decl_text}
+use Rattle.ode_value.specs.World.{World, Declared, Object, Version, Position}
 
 -- one byte
 abbrev pub byte : ℕ → List ℕ
@@ -26,20 +23,6 @@ spelled_value (value.Bool b) = byte 1 ++ byte (cond b 1 0)
 spelled_value (value.Text t) = byte 2 ++ to_be_bytes w16 (length t) ++ t
 spelled_value (value.Reference r) = byte 3 ++ to_be_bytes w64 r.object ++ to_be_bytes w32 (unwrap_or r.version 0)
 
--- a class as it is printed
-abbrev pub sort_text : Sort → List ℕ
-sort_text sort.Int = codes "int"
-sort_text sort.Bool = codes "bool"
-sort_text sort.Text = codes "text"
-sort_text (sort.Reference class) = codes "ref " ++ class
-sort_text sort.Void = codes "void"
-
-abbrev pub member_text : Field → List ℕ
-member_text f = sort_text f.sort ++ codes " " ++ f.name ++ codes "; "
-
-abbrev pub class_text : Class → List ℕ
-class_text c = codes "class " ++ c.name ++ codes " { " ++ flat_map member_text c.fields ++ codes "}"
-
 -- the clock's position, or zeros
 abbrev pub clock_bytes : Option Position → List ℕ
 clock_bytes None = byte 0 ++ to_be_bytes w64 0 ++ to_be_bytes w64 0 ++ to_be_bytes w32 0
@@ -53,12 +36,12 @@ abbrev pub counters_row : World → Row
 counters_row w = (key 1 0 0, to_be_bytes w64 w.next ++ to_be_bytes w64 w.transaction ++ to_be_bytes w64 w.next_entry ++ clock_bytes w.clock)
 
 -- a class's head: its name, its parent, the length of its text and the count of its triggers
-abbrev pub head_row : Class → Row
-head_row c = (key 2 c.number 0, byte (length c.name) ++ c.name ++ to_be_bytes w32 (unwrap_or c.parent 0) ++ to_be_bytes w32 (length (class_text c)) ++ to_be_bytes w16 0)
+abbrev pub head_row : Declared → Row
+head_row c = (key 2 c.class.number 0, byte (length c.class.name) ++ c.class.name ++ to_be_bytes w32 (unwrap_or c.class.parent 0) ++ to_be_bytes w32 (length (decl_text c.tree)) ++ to_be_bytes w16 0)
 
 -- a class's text, which one piece holds for every class of the built forms
-abbrev pub text_row : Class → Row
-text_row c = (key 3 c.number 0, class_text c)
+abbrev pub text_row : Declared → Row
+text_row c = (key 3 c.class.number 0, decl_text c.tree)
 
 abbrev pub object_row : Object → Row
 object_row o = (key 6 o.id 0, to_be_bytes w32 o.class ++ to_be_bytes w32 o.last)

@@ -4,8 +4,14 @@ use Rattle.std.specs.Option.{option_and_then}
 use Rattle.std.specs.Str.{bytes_eq}
 use Rattle.ode_value.specs.declared.class.Class.{Class}
 use Rattle.ode_value.specs.declared.class.Field.{Field}
+use Rattle.ode_value.specs.declared.statement.ClassDecl.{ClassDecl}
 use Rattle.ode_value.specs.declared.value.Ref.{Ref}
 use Rattle.ode_value.specs.declared.value.Value.{Value}
+
+-- a declared class: as it was checked, and as it was written
+pub record Declared : Type 0 where
+  pub class : Class
+  pub tree : ClassDecl
 
 -- a version: its number, the version that it was derived from, and a value for each field of the class
 pub record Version : Type 0 where
@@ -38,7 +44,7 @@ pub record Position : Type 0 where
 -- The classes and the objects, each in rising order of numbers; the next number of an object, the next transaction's
 -- number; the queue of firings by number and the next number there; the clock. What histories are kept as stands beside.
 pub record World : Type 0 where
-  pub classes : List Class
+  pub classes : List Declared
   pub objects : List Object
   pub next : ℕ
   pub transaction : ℕ
@@ -51,13 +57,13 @@ abbrev pub empty_world : World
 empty_world = record { classes = []; objects = []; next = 1; transaction = 1; queue = []; next_entry = 1; clock = None }
 
 -- the class of this name, and the one of this number
-abbrev pub class_named : List ℕ → List Class → Option Class
+abbrev pub class_named : List ℕ → List Declared → Option Class
 class_named name [] = None
-class_named name (c ∷ cs) = cond (bytes_eq c.name name) (Some c) (class_named name cs)
+class_named name (c ∷ cs) = cond (bytes_eq c.class.name name) (Some c.class) (class_named name cs)
 
-abbrev pub class_numbered : ℕ → List Class → Option Class
+abbrev pub class_numbered : ℕ → List Declared → Option Class
 class_numbered number [] = None
-class_numbered number (c ∷ cs) = cond (c.number == number) (Some c) (class_numbered number cs)
+class_numbered number (c ∷ cs) = cond (c.class.number == number) (Some c.class) (class_numbered number cs)
 
 -- the place of the field of this name
 abbrev pub slot_of : List ℕ → List Field → Option ℕ

@@ -1,6 +1,5 @@
 //! Laws of the definitions, each carried by the contract of a function that does nothing.
 ghost use Rattle.std.specs.Prelude.{◌≡◌, ℕ, ◌+◌, ◌<◌, List as Items, length, take, true};
-ghost use Rattle.ode_value.specs.declared.class.Class.{Class};
 ghost use Rattle.ode_value.specs.declared.event.EventExpr.{EventExpr};
 ghost use Rattle.ode_value.specs.declared.event.Point.{Point};
 ghost use Rattle.ode_value.specs.declared.value.Value.{Value};
@@ -8,8 +7,9 @@ ghost use Rattle.ode_value.specs.Marks.{Mark, mark};
 ghost use Rattle.ode_value.specs.Points.{points, fires};
 ghost use Rattle.ode_value.specs.Symbols.{symbol, symbol_count, symbol_mark};
 ghost use Rattle.ode_value.specs.Lengths.{value_length, record_length, counters_length, object_length, version_length};
-ghost use Rattle.ode_value.specs.Records.{spelled_value, row_weight, counters_row, head_row, text_row, object_row, version_row, class_text};
-ghost use Rattle.ode_value.specs.World.{World, Object, Version};
+ghost use Rattle.ode_value.specs.Records.{spelled_value, row_weight, counters_row, head_row, text_row, object_row, version_row};
+ghost use Rattle.ode_value.specs.PrintedClasses.{decl_text};
+ghost use Rattle.ode_value.specs.World.{World, Declared, Object, Version};
 ghost use Rattle.ode_value.specs.Objects.{Histories, Starts, IsWithin};
 ghost use Rattle.ode_value.specs.Pasts.{Watch, lists, numbers, table_of, StandsFor};
 ghost use Rattle.ode_value.specs.Tables.{Table, Means};
@@ -29,7 +29,7 @@ pub fn symbols_are_marks()
 pub fn lengths_are_counts()
     ensures value { (v : Value) → length (spelled_value v) ≡ value_length v }
     ensures counters { (w : World) → row_weight (counters_row w) ≡ counters_length }
-    ensures class_records { (c : Class) → row_weight (head_row c) + row_weight (text_row c) ≡ record_length (11 + length c.name) + record_length (length (class_text c)) }
+    ensures class_records { (c : Declared) → row_weight (head_row c) + row_weight (text_row c) ≡ record_length (11 + length c.class.name) + record_length (length (decl_text c.tree)) }
     ensures object { (o : Object) → row_weight (object_row o) ≡ object_length }
     ensures version { (id : ℕ) (v : Version) → row_weight (version_row id v) ≡ version_length v.fields }
 {}
