@@ -8,9 +8,9 @@ use Rattle.ode_value.specs.Good.{IsGood}
 use Rattle.ode_value.specs.Records.{Row, counters_row, head_row, text_row, object_row, version_row, rows}
 use Rattle.ode_value.specs.World.{World, Declared}
 use Rattle.ode_keep.specs.Entries.{Changes, applied}
-use Rattle.ode_codec.specs.declared.state.ObjectRow.{ObjectRow}
-use Rattle.ode_codec.specs.declared.state.State.{State}
-use Rattle.ode_codec.specs.State.{object_of, world_of}
+use Rattle.ode_first_records.specs.declared.state.ObjectRow.{ObjectRow}
+use Rattle.ode_first_records.specs.declared.state.State.{State}
+use Rattle.ode_first_records.specs.State.{object_of, world_of}
 use Rattle.ode_engine.specs.declared.machine.Item.{Item}
 use Rattle.ode_engine.specs.declared.machine.Item.TheVariants.{Refused, Settled}
 use Rattle.ode_engine.specs.Carried.{Keeps}

@@ -11,12 +11,12 @@ use Rattle.ode_value.specs.Records.{weight}
 use Rattle.ode_value.specs.Texts.{class_line, new_line}
 use Rattle.ode_value.specs.World.{World}
 use Rattle.ode_value.specs.declared.reason.Reason.TheVariants.{Space}
-use Rattle.ode_codec.specs.declared.state.ClassRow.{ClassRow}
-use Rattle.ode_codec.specs.declared.state.ObjectRow.{ObjectRow}
-use Rattle.ode_codec.specs.declared.state.State.{State}
+use Rattle.ode_first_records.specs.declared.state.ClassRow.{ClassRow}
+use Rattle.ode_first_records.specs.declared.state.ObjectRow.{ObjectRow}
+use Rattle.ode_first_records.specs.declared.state.State.{State}
 use Rattle.ode_engine.specs.declared.machine.Item.{Item}
 use Rattle.ode_engine.specs.Carried.{outcome_of}
-use Rattle.ode_codec.specs.State.{class_of, object_of, world_of}
+use Rattle.ode_first_records.specs.State.{class_of, object_of, world_of}
 use Rattle.ode_engine.specs.Weights.{class_weight}
 use Rattle.ode_engine.proofs.StateWeights.{weight_declared, weight_created, map_push, length_map}
 

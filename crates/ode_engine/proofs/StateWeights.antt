@@ -5,10 +5,10 @@ use Rattle.std.specs.List.{flat_map}
 use Rattle.ode_value.specs.PrintedClasses.{decl_text}
 use Rattle.ode_value.specs.Records.{Row, byte, total_weight, row_weight, weight, head_row, text_row, object_row, version_rows}
 use Rattle.ode_value.proofs.PrintLaws.{int_decl_length}
-use Rattle.ode_codec.specs.declared.state.ClassRow.{ClassRow}
-use Rattle.ode_codec.specs.declared.state.ObjectRow.{ObjectRow}
-use Rattle.ode_codec.specs.declared.state.State.{State}
-use Rattle.ode_codec.specs.State.{class_of, object_of, world_of}
+use Rattle.ode_first_records.specs.declared.state.ClassRow.{ClassRow}
+use Rattle.ode_first_records.specs.declared.state.ObjectRow.{ObjectRow}
+use Rattle.ode_first_records.specs.declared.state.State.{State}
+use Rattle.ode_first_records.specs.State.{class_of, object_of, world_of}
 use Rattle.ode_engine.specs.Weights.{class_weight, classes_weight}
 
 pub total_weight-append : (xs ys : List Row) → total_weight (xs ++ ys) ≡ total_weight xs + total_weight ys

@@ -1,6 +1,6 @@
 -- What a world in memory weighs.
 use Rattle.std.specs.Prelude.{ℕ, ◌+◌, ◌*◌, List, [], ◌∷◌, length}
-use Rattle.ode_codec.specs.declared.state.ClassRow.{ClassRow}
+use Rattle.ode_first_records.specs.declared.state.ClassRow.{ClassRow}
 
 -- the head and the text of a class
 abbrev pub class_weight : List ℕ → List ℕ → ℕ

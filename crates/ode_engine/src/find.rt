@@ -2,9 +2,9 @@
 ghost use Rattle.std.specs.Prelude.{◌≡◌, map};
 ghost use Rattle.std.specs.Option.{option_copied, option_map};
 ghost use Rattle.ode_value.specs.World.{class_named, class_numbered, object_at};
-ghost use Rattle.ode_codec.specs.State.{class_of, object_of};
+ghost use Rattle.ode_first_records.specs.State.{class_of, object_of};
 
-use ode_codec::{ClassRow, ObjectRow};
+use ode_first_records::{ClassRow, ObjectRow};
 use ode_value::Name;
 
 /// The class of a name.

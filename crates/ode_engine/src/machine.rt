@@ -15,13 +15,13 @@ ghost use Rattle.ode_value.specs.declared.value.Value.TheVariants.{Int};
 ghost use Rattle.ode_engine.specs.Assigned.{assigned_of};
 ghost use Rattle.ode_engine.specs.Carried.{outcome_of, Keeps};
 ghost use Rattle.ode_engine.specs.Settling.{HasBatch, counted, with_counters};
-ghost use Rattle.ode_codec.specs.State.{class_of, object_of, world_of};
+ghost use Rattle.ode_first_records.specs.State.{class_of, object_of, world_of};
 ghost use Rattle.ode_engine.specs.Weights.{class_weight};
 
 use crate::batches::{batch_of_class, batch_of_object, put_counters};
 use crate::find::{class_named, class_numbered, object_at};
 use crate::forms::{Assignment, Path, assignments, declared_field, shown_path};
-use ode_codec::{ClassRow, ObjectRow, State};
+use ode_first_records::{ClassRow, ObjectRow, State};
 use ode_keep::Batch;
 use ode_script::{put_aborted, put_class, put_committed, put_new, put_value};
 use ode_value::{CheckError, ClassDecl, Expr, Name, Reason, Refusal, Rhs, Statement, Stmt};

@@ -4,9 +4,9 @@ use Rattle.std.specs.List.{AllByRecursion, flat_map}
 use Rattle.ode_areas.specs.FirstRows.{same_row_first}
 use Rattle.ode_areas.specs.Pieces.{one_list}
 use Rattle.ode_areas.specs.Rows.{FitsRow}
-use Rattle.ode_codec.specs.Reading.{IsRow}
-use Rattle.ode_codec.specs.State.{world_of}
-use Rattle.ode_codec.proofs.GoodStates.{are_rows, state_of_good}
+use Rattle.ode_first_records.specs.Reading.{IsRow}
+use Rattle.ode_first_records.specs.State.{world_of}
+use Rattle.ode_first_records.proofs.GoodStates.{are_rows, state_of_good}
 use Rattle.ode_keep.specs.Entries.{Entries}
 use Rattle.ode_value.specs.Good.{IsGood}
 use Rattle.ode_value.specs.Records.{Row, head_row, object_row, row_bytes, rows, snapshot, text_row, version_row, version_rows}

@@ -2,8 +2,8 @@
 use Rattle.std.specs.Prelude.{◌≡◌, Result, Ok, Err}
 use Rattle.ode_areas.specs.declared.error.StartError.{StartError}
 use Rattle.ode_areas.specs.declared.error.StartError.TheVariants as start
-use Rattle.ode_codec.specs.declared.state.State.{State}
-use Rattle.ode_codec.specs.State.{world_of}
+use Rattle.ode_first_records.specs.declared.state.State.{State}
+use Rattle.ode_first_records.specs.State.{world_of}
 use Rattle.ode_gate.specs.declared.error.GateError.{GateError}
 use Rattle.ode_gate.specs.declared.error.GateError.TheVariants as gate
 use Rattle.ode_keep.specs.declared.error.KeepError.{KeepError}

@@ -8,7 +8,7 @@ use Rattle.ode_value.specs.World.{World}
 use Rattle.ode_value.specs.declared.reason.Refusal.TheVariants.{NotBuilt}
 use Rattle.ode_value.specs.declared.statement.Statement.{Statement}
 use Rattle.ode_script.specs.Pieces.{Ending, End, LongScript, Pieces, Then, Ended, pieces}
-use Rattle.ode_classyn.specs.Statements.{statement_of}
+use Rattle.ode_first_syntax.specs.Statements.{statement_of}
 
 -- a settled transaction with its text, or a refusal's line
 pub data Item : Type 0 where

@@ -2,7 +2,7 @@
 ghost use Rattle.std.specs.Prelude.{◌≡◌, ◌≢◌, ◌⊎◌, ◌↔◌, ◌≤◌, ◌++◌, ℕ, List as Items, Some, None, IsTrue};
 ghost use Rattle.ode_areas.specs.Holding.{Holds as AreasHold, is_live};
 ghost use Rattle.ode_areas.specs.Image.{AreasMean};
-ghost use Rattle.ode_codec.specs.State.{world_of};
+ghost use Rattle.ode_first_records.specs.State.{world_of};
 ghost use Rattle.ode_host.specs.Causes.{Rose};
 ghost use Rattle.ode_host.specs.FirstSync.{SyncedRun};
 ghost use Rattle.ode_host.specs.Host.{Keeps, LeavesOnly, Stands, Tells};

@@ -1,5 +1,5 @@
 use Rattle.std.proofs.Common.{map, ap, sym}
-use Rattle.ode_codec.specs.State.{class_of, world_of}
+use Rattle.ode_first_records.specs.State.{class_of, world_of}
 use Rattle.ode_engine.proofs.Settles.{comes_to, refused_as}
 use Rattle.ode_engine.proofs.machine.create.Goals as goal
 

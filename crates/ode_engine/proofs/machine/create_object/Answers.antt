@@ -5,8 +5,8 @@ use Rattle.ode_value.specs.Commands.{one}
 use Rattle.ode_value.specs.Good.{weight_limit}
 use Rattle.ode_value.specs.Records.{weight}
 use Rattle.ode_value.specs.Texts.{new_line}
-use Rattle.ode_codec.specs.declared.state.ObjectRow.{ObjectRow}
-use Rattle.ode_codec.specs.State.{object_of, world_of}
+use Rattle.ode_first_records.specs.declared.state.ObjectRow.{ObjectRow}
+use Rattle.ode_first_records.specs.State.{object_of, world_of}
 use Rattle.ode_engine.proofs.StateWeights.{map_push}
 use Rattle.ode_engine.proofs.Changing.{counters_keep, object_keeps}
 use Rattle.ode_engine.proofs.Settles.{comes_to, created_heavy, created_light}

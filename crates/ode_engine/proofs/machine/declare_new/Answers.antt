@@ -3,8 +3,8 @@ use Rattle.ode_value.specs.Commands.{one}
 use Rattle.ode_value.specs.Good.{weight_limit}
 use Rattle.ode_value.specs.Records.{head_row, text_row, weight}
 use Rattle.ode_value.specs.Texts.{class_line}
-use Rattle.ode_codec.specs.declared.state.ClassRow.{ClassRow}
-use Rattle.ode_codec.specs.State.{class_of, world_of}
+use Rattle.ode_first_records.specs.declared.state.ClassRow.{ClassRow}
+use Rattle.ode_first_records.specs.State.{class_of, world_of}
 use Rattle.ode_engine.specs.Puts.{putting}
 use Rattle.ode_engine.specs.Weights.{class_weight}
 use Rattle.ode_engine.proofs.Changing.{class_keeps, counters_keep}

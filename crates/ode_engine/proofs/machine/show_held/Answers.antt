@@ -1,5 +1,5 @@
 use Rattle.std.proofs.Common.{refl}
-use Rattle.ode_codec.specs.State.{world_of}
+use Rattle.ode_first_records.specs.State.{world_of}
 use Rattle.ode_engine.proofs.Changing.{counters_keep}
 use Rattle.ode_engine.proofs.machine.show_held.Goals as goal
 

@@ -1,7 +1,7 @@
 use Rattle.std.proofs.Common.{◌≡◌, inl, inr, ⊎_elim, ap, subst, Err}
 use Rattle.std.proofs.lemmas.Result.{err_from_is_err_and}
 use Rattle.ode_areas.specs.Holding.{Holds as AreasHold}
-use Rattle.ode_codec.specs.State.{world_of}
+use Rattle.ode_first_records.specs.State.{world_of}
 use Rattle.ode_gate.proofs.Counting.{open_from_counts}
 use Rattle.ode_host.proofs.Moments.{looks_joined, stands_looks, tells_looks}
 use Rattle.ode_keep.specs.Entries.{Entries}

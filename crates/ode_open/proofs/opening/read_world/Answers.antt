@@ -1,5 +1,5 @@
 use Rattle.std.proofs.Common.{◌∙◌, sym}
-use Rattle.ode_codec.specs.State.{world_of}
+use Rattle.ode_first_records.specs.State.{world_of}
 use Rattle.ode_open.proofs.Worlds.{same_rows}
 use Rattle.ode_open.proofs.opening.read_world.Goals as goal
 

@@ -1,6 +1,6 @@
 use Rattle.std.proofs.Common.{Err, ◌≡◌, ℕ, List, ◌++◌, Bool, arith, ap, sym, subst, ◌∙◌}
 use Rattle.std.specs.Prelude.{◌||◌}
-use Rattle.ode_codec.specs.State.{world_of}
+use Rattle.ode_first_records.specs.State.{world_of}
 use Rattle.ode_host.specs.declared.status.Status.{Status}
 use Rattle.ode_host.proofs.Moments.{keeps_joined, looks_none, started}
 use Rattle.ode_script.specs.Left.{HasLeft}

@@ -1,5 +1,5 @@
 use Rattle.std.proofs.Common.{◌≡◌, ◌≤◌, IsTrue, ℕ, List, Some}
-use Rattle.ode_codec.specs.State.{world_of}
+use Rattle.ode_first_records.specs.State.{world_of}
 use Rattle.ode_host.specs.Host.{Keeps, LeavesOnly}
 use Rattle.ode_script.specs.Left.{HasLeft}
 use Rattle.ode_script.specs.Pieces.{pieces, pieces_from}

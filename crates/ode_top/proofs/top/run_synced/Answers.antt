@@ -1,7 +1,7 @@
 use Rattle.std.proofs.Common.{◌≡◌, ◌∙◌, Err, ap, inl, inr, refl, subst}
 use Rattle.std.specs.Prelude.{codes}
 use Rattle.ode_areas.specs.Image.{AreasMean}
-use Rattle.ode_codec.specs.State.{world_of}
+use Rattle.ode_first_records.specs.State.{world_of}
 use Rattle.ode_host.specs.Host.{LeavesOnly}
 use Rattle.ode_host.specs.declared.status.Status.TheVariants as status
 use Rattle.ode_host.proofs.Moments.{joined, tells_looks}

@@ -1,7 +1,0 @@
-use Rattle.std.proofs.Common.{◌≡◌, ◌++◌, map, take}
-use Rattle.ode_value.specs.Records.{text_row, snapshot}
-use Rattle.ode_codec.specs.State.{class_of}
-use Rattle.ode_codec.proofs.encoding.put_texts.Given as goal
-
-abbrev pub invariant-loop-class : goal.invariant-loop-class
-invariant-loop-class l = l.out.items ≡ l.fn.out.items ++ snapshot (map text_row (map class_of (take l.class-index l.classes)))
