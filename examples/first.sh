@@ -22,12 +22,18 @@ if ! command -v rt > /dev/null; then
 fi
 
 # One try of two runs: `init`, and then the script. Each takes its words from a file beside its input.
-runs=$(mktemp -d)
-trap 'rm -rf "$runs"' EXIT
+work=$(mktemp -d)
+trap 'rm -rf "$work"' EXIT
+runs=$work/runs
+mkdir "$runs"
 : > "$runs/1 init"
 printf '%s\n' init "$file" > "$runs/1 init.args"
 cp examples/first.ode "$runs/2 run first.ode"
 printf '%s\n' run "$file" > "$runs/2 run first.ode.args"
 echo 'There is no proved program yet, so rt builds one without proofs. This takes up to a minute.'
-(cd crates/ode && rt try --cases "$runs")
+if ! (cd crates/ode && rt try --cases "$runs" 2> "$work/errors"); then
+    cat "$work/errors" >&2
+    exit 1
+fi
+echo
 echo "This run was not proved. \`make\` proves and builds the program; the file is $2."
