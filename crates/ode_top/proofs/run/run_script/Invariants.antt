@@ -3,8 +3,8 @@ use Rattle.ode_first_records.specs.State.{world_of}
 use Rattle.ode_host.specs.Host.{Keeps, LeavesOnly}
 use Rattle.ode_script.specs.Left.{HasLeft}
 use Rattle.ode_script.specs.Pieces.{pieces, pieces_from}
-use Rattle.ode_value.specs.Good.{IsGood}
-use Rattle.ode_value.specs.Records.{rows}
+use Rattle.ode_value.specs.OneIntGood.{IsOneIntGood}
+use Rattle.ode_value.specs.OneIntRecords.{rows}
 use Rattle.ode_top.specs.Serves.{IsAfterSome, Serves, SoFar}
 use Rattle.ode_top.specs.Trace.{run_items}
 use Rattle.ode_top.proofs.run.run_script.Given as goal
@@ -19,7 +19,7 @@ invariant-pieces g l = record {
   moments : (script text : List ℕ) → g.S.Source.left l.fn.source ≡ Some script → Serves (g.K.Keep.holds l.fn.keeper) (g.H.Host.view l.fn.host) (world_of l.fn.state) text →
       LeavesOnly (g.H.Host.view l.fn.host) (g.H.Host.view l.host) (IsAfterSome g.K.Keep.means (run_items (world_of l.fn.state) script) (world_of l.fn.state) text);
   told : (text : List ℕ) → (g.H.Host.view l.fn.host).text ≡ Some text → (out : List ℕ) × ((g.H.Host.view l.host).text ≡ Some out);
-  good : IsGood (world_of l.state);
+  good : IsOneIntGood (world_of l.state);
   live : IsTrue (g.K.Keep.live l.keeper);
   allowed : l.reader.allowed ≤ 67108864;
   keeps : Keeps (g.H.Host.view l.fn.host) (g.H.Host.view l.host);
