@@ -11,7 +11,7 @@ all:
 
 # Makes a new file, and runs the first example on it: with the program, or where that isn't built by a try without proofs.
 example:
-	@examples/first.sh $(PROGRAM) $(FILE)
+	@checks/example.sh $(PROGRAM) $(FILE)
 
 # The whole gate: every proof, test and must-fail edit, and then the real program on real files.
 test:

@@ -1,5 +1,5 @@
 #!/usr/bin/env bash
-# Makes a new file and runs the first example on it: examples/first.sh PROGRAM FILE
+# Makes a new file and runs the first example on it: checks/example.sh PROGRAM FILE
 # Where the program isn't built, `rt try` builds and runs it without proving anything.
 set -euo pipefail
 cd "$(dirname "${BASH_SOURCE[0]}")/.."
