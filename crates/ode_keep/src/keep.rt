@@ -4,7 +4,7 @@ ghost use Rattle.std.specs.List.{All};
 ghost use Rattle.std.specs.Map.{values_of};
 ghost use Rattle.std.specs.Option.{IfSome};
 ghost use Rattle.std.specs.Ordering.{is_le};
-ghost use Rattle.ode_host.specs.Causes.{Rose};
+ghost use Rattle.ode_host.specs.Causes.{Counts};
 ghost use Rattle.ode_host.specs.Host.{Keeps, LeavesOnly, Looks, Stands};
 ghost use Rattle.ode_host.specs.View.{View};
 ghost use Rattle.ode_keep.specs.Entries.{Entries, HasRisingKeys, applied, key_cmp, least_from};
@@ -42,7 +42,7 @@ pub trait Keep<H: Host> {
             → holds self.new (H.view host.new) entries) }
         ensures looks { Looks (H.view host.old) (H.view host.new) }
         ensures usable { live self.new ≡ is_usable result }
-        ensures fault { OnDiskFault result (Rose (H.view host.old).disk_faults (H.view host.new).disk_faults) }
+        ensures cause { Counts (IsErrOf result KeepError.DiskFault) (H.view host.old).disk_faults (H.view host.new).disk_faults }
         ensures damaged { OnDamaged result ((entries : Entries) → holds self.old (H.view host.old) entries → ⊥) }
         ensures too_large { OnTooLarge result (λ _. ⊥) };
 
@@ -56,7 +56,7 @@ pub trait Keep<H: Host> {
             → holds self.new (H.view host.new) entries) }
         ensures looks { Looks (H.view host.old) (H.view host.new) }
         ensures usable { live self.new ≡ is_usable result }
-        ensures fault { OnDiskFault result (Rose (H.view host.old).disk_faults (H.view host.new).disk_faults) }
+        ensures cause { Counts (IsErrOf result KeepError.DiskFault) (H.view host.old).disk_faults (H.view host.new).disk_faults }
         ensures damaged { OnDamaged result ((entries : Entries) → holds self.old (H.view host.old) entries → ⊥) }
         ensures too_large { OnTooLarge result (λ _. ⊥) };
 
@@ -76,10 +76,8 @@ pub trait Keep<H: Host> {
         ensures looks { OnRefusal result (Looks (H.view host.old) (H.view host.new)) }
         ensures any_moment { (entries : Entries) → holds self.old (H.view host.old) entries
             → LeavesOnly (H.view host.old) (H.view host.new) (LeavesOldOrNew means entries batch.now (H.view host.old)) }
-        ensures text { (H.view host.new).text ≡ (H.view host.old).text }
-        ensures keeps { Keeps (H.view host.old) (H.view host.new) }
         ensures usable { live self.new ≡ is_usable result }
-        ensures fault { OnDiskFault result (Rose (H.view host.old).disk_faults (H.view host.new).disk_faults) }
+        ensures leaves { DiskCalls (IsErrOf result KeepError.DiskFault) (H.view host.old) (H.view host.new) }
         ensures damaged { OnDamaged result ((entries : Entries) → holds self.old (H.view host.old) entries → ⊥) };
 
     /// What it holds stands on the disk.
