@@ -2,7 +2,7 @@
 ghost use Rattle.std.specs.Prelude.{◌≡◌, ◌≤◌, MatchOption, OnErr, OnOk};
 ghost use Rattle.std.specs.Option.{IfSome};
 ghost use Rattle.ode_gate.specs.declared.header.Header.{Header};
-ghost use Rattle.ode_host.specs.Causes.{Counts};
+ghost use Rattle.ode_host.specs.Causes.{RoseIf};
 ghost use Rattle.ode_host.specs.Host.{Keeps, LeavesOnly};
 ghost use Rattle.ode_journal.specs.declared.journal.Journal.{Journal};
 ghost use Rattle.ode_journal.specs.Appends.{need_of, room_of};

@@ -1,7 +1,7 @@
 //! The header is changed: its slot is closed, filled and opened.
-ghost use Rattle.std.specs.Prelude.{◌≡◌, ◌+◌, ◌≤◌, ◌↔◌, [], ◌∷◌, List, ℕ, IfOk, IfErr, OnOk, OnErr, IsTrue};
-ghost use Rattle.ode_host.specs.Causes.{Counts};
-ghost use Rattle.ode_host.specs.Host.{Keeps, Looks, LeavesOnly, LeavesTorn, Puts, Stands, Tells, written_over};
+ghost use Rattle.std.specs.Prelude.{◌≡◌, ◌+◌, ◌≤◌, ◌↔◌, [], ◌∷◌, List, ℕ, IfOk, IfErr, IsErr, OnOk, IsTrue};
+ghost use Rattle.ode_host.specs.Causes.{RoseIf};
+ghost use Rattle.ode_host.specs.Host.{DiskCalls, Looks, LeavesOnly, LeavesTorn, Puts, Stands, Tells, written_over};
 ghost use Rattle.ode_gate.specs.declared.error.GateError.TheVariants.{DiskFault};
 ghost use Rattle.ode_gate.specs.declared.header.Header.{Header};
 ghost use Rattle.ode_gate.specs.Gate.{open_gate};
@@ -21,7 +21,7 @@ fn is_open<H: Host>(host: &mut H, slot: u8) -> Result<bool, Failed>
     ensures opened { IfOk result (λ b. (image : List ℕ) → Tells (H.view host.old) image
         → (IsTrue b ↔ IsOpen (bytes_of slot image))) }
     ensures looks { Looks (H.view host.old) (H.view host.new) }
-    ensures cause { Counts (IsErr result) (H.view host.old).disk_faults (H.view host.new).disk_faults }
+    ensures cause { RoseIf (IsErr result) (H.view host.old).disk_faults (H.view host.new).disk_faults }
 {
     let mut gate = [SHUT];
     let count = read_whole(host, place_of(slot), &mut gate)?;
@@ -60,7 +60,7 @@ pub fn fill_slot<H: Host>(
         → LeavesOnly (H.view host.old) (H.view host.new) (LeavesTorn (place_of slot + 1) 56 image (H.view host.old)) }
     ensures puts { Puts 56 (H.view host.old) (H.view host.new) }
     ensures kind { IfErr result (λ e. e ≡ DiskFault) }
-    ensures cause { Counts (IsErr result) (H.view host.old).disk_faults (H.view host.new).disk_faults }
+    ensures cause { RoseIf (IsErr result) (H.view host.old).disk_faults (H.view host.new).disk_faults }
 {
     h.fill(buffer);
     write_synced(host, place_of(slot) + 1, &buffer[1..])?;
@@ -76,7 +76,7 @@ pub fn open_slot<H: Host>(host: &mut H, slot: u8) -> Result<(), GateError>
         → LeavesOnly (H.view host.old) (H.view host.new) (LeavesTorn (place_of slot) 1 image (H.view host.old)) }
     ensures puts { Puts 1 (H.view host.old) (H.view host.new) }
     ensures kind { IfErr result (λ e. e ≡ DiskFault) }
-    ensures cause { Counts (IsErr result) (H.view host.old).disk_faults (H.view host.new).disk_faults }
+    ensures cause { RoseIf (IsErr result) (H.view host.old).disk_faults (H.view host.new).disk_faults }
 {
     write_synced(host, place_of(slot), &[OPEN])?;
     Ok(())

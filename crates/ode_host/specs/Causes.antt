@@ -6,7 +6,7 @@ abbrev pub Rose : ℕ → ℕ → Type 0
 Rose before now = min (before + 1) (2 ^ 64 - 1) ≤ now
 
 -- A count of faults rose where this is so, and only there. It never falls.
-pub record Counts (failed : Type 0) (before now : ℕ) : Type 0 where
+pub record RoseIf (failed : Type 0) (before now : ℕ) : Type 0 where
   pub later : before ≤ now
   pub rose : failed → Rose before now
   pub calm : failed ⊎ (now ≡ before)

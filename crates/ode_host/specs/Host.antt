@@ -1,6 +1,6 @@
 -- What the calls of a host do to its disk and to what is printed, and what a stop may leave of both.
 use Rattle.std.specs.Prelude.{◌≡◌, ◌<◌, ℕ, ◌+◌, ◌-◌, ◌≤◌, max, min, List, ◌++◌, length, take, drop, replicate, IsTrue, Some, IsSome}
-use Rattle.ode_host.specs.Causes.{Counts}
+use Rattle.ode_host.specs.Causes.{RoseIf}
 use Rattle.ode_host.specs.View.{View}
 
 -- old with these bytes at this offset, and zeros between its end and the offset
@@ -123,13 +123,13 @@ pub record DiskCalls (failed : Type 0) (old new : View) : Type 0 where
   pub keeps : Keeps old new
   pub text : new.text ≡ old.text
   pub print_faults : new.print_faults ≡ old.print_faults
-  pub disk_faults : Counts failed old.disk_faults new.disk_faults
+  pub disk_faults : RoseIf failed old.disk_faults new.disk_faults
 
 -- What calls of a host leave, whatever they answer: each count of faults rose where the answer says so, and only there.
 pub record HostCalls (disk_failed print_failed : Type 0) (old new : View) : Type 0 where
   pub keeps : Keeps old new
-  pub disk_faults : Counts disk_failed old.disk_faults new.disk_faults
-  pub print_faults : Counts print_failed old.print_faults new.print_faults
+  pub disk_faults : RoseIf disk_failed old.disk_faults new.disk_faults
+  pub print_faults : RoseIf print_failed old.print_faults new.print_faults
 
 -- Nothing was written, and a stop at any moment leaves an image that it might have left at the start.
 pub record Spares (old new : View) : Type 0 where

@@ -1,6 +1,6 @@
 //! A file and the standard output.
 ghost use Rattle.std.specs.Prelude.{◌≡◌, IfOk, IsErr};
-ghost use Rattle.ode_host.specs.Causes.{Counts};
+ghost use Rattle.ode_host.specs.Causes.{RoseIf};
 
 use crate::faults::raise;
 use crate::named_file::{Opened, read_named, size_named, sync_named, write_named};
@@ -37,7 +37,7 @@ impl<'a, R: Files + Print> FileHost<'a, R> {
 // The answer without the error's cause, and a fault more at an error.
 fn counted<T: Drop>(answer: io::Result<T>, faults: &mut u64) -> Result<T, Failed>
     ensures ok { IfOk result (λ value. answer ≡ Ok value) }
-    ensures cause { Counts (IsErr result) faults.old faults.new }
+    ensures cause { RoseIf (IsErr result) faults.old faults.new }
 {
     match answer {
         Ok(value) => Ok(value),

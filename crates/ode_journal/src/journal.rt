@@ -1,7 +1,6 @@
 //! A frame is added to a journal.
 ghost use Rattle.std.specs.Prelude.{◌≡◌, ◌<◌, ◌++◌, [], ◌∷◌, ◌↔◌, List, ℕ, OnOk, OnErr, IsErrOf};
-ghost use Rattle.ode_host.specs.Causes.{Counts};
-ghost use Rattle.ode_host.specs.Host.{LeavesOnly, Keeps, Puts};
+ghost use Rattle.ode_host.specs.Host.{DiskCalls, LeavesOnly, Puts};
 
 use crate::error::AppendError;
 use crate::frame::Frame;

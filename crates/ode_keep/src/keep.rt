@@ -1,15 +1,15 @@
 //! The trait of keepers.
-ghost use Rattle.std.specs.Prelude.{◌≡◌, ◌<◌, ◌≤◌, ℕ, List, Bool, IfOk, IsTrue, OnOk, length, true};
+ghost use Rattle.std.specs.Prelude.{◌≡◌, ◌<◌, ◌≤◌, ℕ, List, Bool, IfOk, IsErrOf, IsTrue, OnOk, length, true};
 ghost use Rattle.std.specs.List.{All};
 ghost use Rattle.std.specs.Map.{values_of};
 ghost use Rattle.std.specs.Option.{IfSome};
 ghost use Rattle.std.specs.Ordering.{is_le};
-ghost use Rattle.ode_host.specs.Causes.{Counts};
-ghost use Rattle.ode_host.specs.Host.{Keeps, LeavesOnly, Looks, Stands};
+ghost use Rattle.ode_host.specs.Causes.{RoseIf};
+ghost use Rattle.ode_host.specs.Host.{DiskCalls, LeavesOnly, Looks, Stands};
 ghost use Rattle.ode_host.specs.View.{View};
 ghost use Rattle.ode_keep.specs.Entries.{Entries, HasRisingKeys, applied, key_cmp, least_from};
 ghost use Rattle.ode_keep.specs.Entries.{record_bytes, value_under};
-ghost use Rattle.ode_keep.specs.Keeping.{LeavesOldOrNew, OnDamaged, OnDiskFault, OnRefusal, OnTooLarge};
+ghost use Rattle.ode_keep.specs.Keeping.{LeavesOldOrNew, OnDamaged, OnRefusal, OnTooLarge};
 ghost use Rattle.ode_keep.specs.Keeping.{UnlessFault, is_usable};
 
 use crate::batch::Batch;
@@ -42,7 +42,7 @@ pub trait Keep<H: Host> {
             → holds self.new (H.view host.new) entries) }
         ensures looks { Looks (H.view host.old) (H.view host.new) }
         ensures usable { live self.new ≡ is_usable result }
-        ensures cause { Counts (IsErrOf result KeepError.DiskFault) (H.view host.old).disk_faults (H.view host.new).disk_faults }
+        ensures cause { RoseIf (IsErrOf result KeepError.DiskFault) (H.view host.old).disk_faults (H.view host.new).disk_faults }
         ensures damaged { OnDamaged result ((entries : Entries) → holds self.old (H.view host.old) entries → ⊥) }
         ensures too_large { OnTooLarge result (λ _. ⊥) };
 
@@ -56,7 +56,7 @@ pub trait Keep<H: Host> {
             → holds self.new (H.view host.new) entries) }
         ensures looks { Looks (H.view host.old) (H.view host.new) }
         ensures usable { live self.new ≡ is_usable result }
-        ensures cause { Counts (IsErrOf result KeepError.DiskFault) (H.view host.old).disk_faults (H.view host.new).disk_faults }
+        ensures cause { RoseIf (IsErrOf result KeepError.DiskFault) (H.view host.old).disk_faults (H.view host.new).disk_faults }
         ensures damaged { OnDamaged result ((entries : Entries) → holds self.old (H.view host.old) entries → ⊥) }
         ensures too_large { OnTooLarge result (λ _. ⊥) };
 

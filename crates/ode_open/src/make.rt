@@ -4,7 +4,7 @@ ghost use Rattle.ode_gate.specs.Gate.{open_gate};
 ghost use Rattle.ode_gate.specs.Headers.{header_bytes};
 ghost use Rattle.ode_gate.specs.Slots.{HasOpenSlot};
 ghost use Rattle.ode_gate.specs.declared.error.GateError.TheVariants as gate;
-ghost use Rattle.ode_host.specs.Causes.{Counts};
+ghost use Rattle.ode_host.specs.Causes.{RoseIf};
 ghost use Rattle.ode_host.specs.Host.{Keeps, Looks, Stands, Tells, written_over};
 ghost use Rattle.ode_value.specs.Records.{rows, snapshot};
 ghost use Rattle.ode_value.specs.World.{empty_world};
@@ -76,7 +76,7 @@ fn has_open_slot<H: Host>(host: &mut H) -> Result<bool, Failed>
     ensures is_open { IfOk result (λ b.
         (image : List ℕ) → Tells (H.view host.old) image → (IsTrue b ↔ HasOpenSlot image)) }
     ensures looks { Looks (H.view host.old) (H.view host.new) }
-    ensures cause { Counts (IsErr result) (H.view host.old).disk_faults (H.view host.new).disk_faults }
+    ensures cause { RoseIf (IsErr result) (H.view host.old).disk_faults (H.view host.new).disk_faults }
 {
     match read_header(host, &mut [0; 57]) {
         Ok(_) => Ok(true),
@@ -92,7 +92,7 @@ fn is_in_use<H: Host>(host: &mut H) -> Result<bool, Failed>
     ensures in_use { IfOk result (λ b.
         (image : List ℕ) → Tells (H.view host.old) image → (IsTrue b ↔ IsInUse image)) }
     ensures looks { Looks (H.view host.old) (H.view host.new) }
-    ensures cause { Counts (IsErr result) (H.view host.old).disk_faults (H.view host.new).disk_faults }
+    ensures cause { RoseIf (IsErr result) (H.view host.old).disk_faults (H.view host.new).disk_faults }
 {
     if host.size()? > LONGEST {
         return Ok(true);
