@@ -1,9 +1,8 @@
 //! The writes of a commit, each of which leaves the records before it or those after it.
-ghost use Rattle.std.specs.Prelude.{◌≡◌, ◌≤◌, MatchOption, OnErr, OnOk};
+ghost use Rattle.std.specs.Prelude.{◌≡◌, ◌≤◌, MatchOption, IsErr, OnOk};
 ghost use Rattle.std.specs.Option.{IfSome};
 ghost use Rattle.ode_gate.specs.declared.header.Header.{Header};
-ghost use Rattle.ode_host.specs.Causes.{RoseIf};
-ghost use Rattle.ode_host.specs.Host.{Keeps, LeavesOnly};
+ghost use Rattle.ode_host.specs.Host.{DiskCalls, LeavesOnly};
 ghost use Rattle.ode_journal.specs.declared.journal.Journal.{Journal};
 ghost use Rattle.ode_journal.specs.Appends.{need_of, room_of};
 ghost use Rattle.ode_keep.specs.Entries.{Changes, Entries, applied};
