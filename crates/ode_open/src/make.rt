@@ -1,11 +1,11 @@
 //! A file is made.
-ghost use Rattle.std.specs.Prelude.{◌≡◌, ◌++◌, [], ◌∷◌, ◌↔◌, List, ℕ, IfErr, IfOk, IsErr, IsErrOf, IsTrue, OnErr, OnOk};
+ghost use Rattle.std.specs.Prelude.{◌≡◌, ◌++◌, [], ◌∷◌, ◌↔◌, List, ℕ, IfErr, IfOk, IsErr, IsErrOf, IsTrue, OnOk};
 ghost use Rattle.ode_gate.specs.Gate.{open_gate};
 ghost use Rattle.ode_gate.specs.Headers.{header_bytes};
 ghost use Rattle.ode_gate.specs.Slots.{HasOpenSlot};
 ghost use Rattle.ode_gate.specs.declared.error.GateError.TheVariants as gate;
 ghost use Rattle.ode_host.specs.Causes.{RoseIf};
-ghost use Rattle.ode_host.specs.Host.{Keeps, Looks, Stands, Tells, written_over};
+ghost use Rattle.ode_host.specs.Host.{DiskCalls, Looks, Stands, Tells, written_over};
 ghost use Rattle.ode_value.specs.Records.{rows, snapshot};
 ghost use Rattle.ode_value.specs.World.{empty_world};
 ghost use Rattle.ode_open.specs.Holds.{Holds};
@@ -133,6 +133,7 @@ pub fn initialise<H: Host>(host: &mut H) -> Result<(), InitError>
         → (file : List ℕ) → Tells (H.view host.old) file → IsInUse file }
     ensures refused { (file : List ℕ) → Tells (H.view host.old) file → IsInUse file → IsErr result }
     ensures looks { IsErrOf result InitError.FileExists → Looks (H.view host.old) (H.view host.new) }
+    ensures spared { (file : List ℕ) → Tells (H.view host.old) file → IsInUse file → Looks (H.view host.old) (H.view host.new) }
     ensures leaves { DiskCalls (IsErrOf result InitError.DiskFault) (H.view host.old) (H.view host.new) }
 {
     if is_in_use(host)? {
