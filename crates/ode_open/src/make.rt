@@ -125,7 +125,7 @@ fn write_header<H: Host>(host: &mut H) -> Result<(), GateError>
 /// `DiskFault` some of it may be.
 pub fn initialise<H: Host>(host: &mut H) -> Result<(), InitError>
     ensures made { OnOk result ((file : List ℕ) → Tells (H.view host.old) file
-        → (image : List ℕ) × Stands image (H.view host.new) × IsInitialised (snapshot (rows empty_world)) file image) }
+        → (image : List ℕ) × Stands image (H.view host.new) × IsInitialised (snapshot (rows empty_one_int_world)) file image) }
     ensures holds { OnOk result ((file image : List ℕ) → Tells (H.view host.old) file
         → Tells (H.view host.new) image → Holds image empty_world) }
 

@@ -71,7 +71,7 @@ fn run_opened<H: Host, S: Source>(
     opened: Opened,
 ) -> Status
     requires live { IsTrue (is_live opened.keeper) }
-    requires good { IsGood (world_of opened.state) }
+    requires good { IsOneIntGood (world_of opened.state) }
     ensures ran { (bytes text : Items ℕ) → S.left script.old ≡ Some bytes → Serves (AreasHold opened.keeper) (H.view host.old) (world_of opened.state) text
         → IsEnding result → IsMachineRun bytes (world_of opened.state) text (S.left script.new) (H.view host.new) result }
     ensures any_moment { (bytes text : Items ℕ) → S.left script.old ≡ Some bytes → Serves (AreasHold opened.keeper) (H.view host.old) (world_of opened.state) text
@@ -90,10 +90,10 @@ fn run_opened<H: Host, S: Source>(
 
 // A run over a file that a sync has just left as it reads.
 fn run_synced<H: Host, S: Source>(alloc: Global, script: &mut S, host: &mut H) -> Status
-    ensures ran { (bytes image text : Items ℕ) (w : World) → S.left script.old ≡ Some bytes
+    ensures ran { (bytes image text : Items ℕ) (w : OneIntWorld) → S.left script.old ≡ Some bytes
         → Stands image (H.view host.old) → (H.view host.old).text ≡ Some text → Holds image w → IsEnding result
         → IsMachineRun bytes w text (S.left script.new) (H.view host.new) result }
-    ensures any_moment { (bytes image text : Items ℕ) (w : World) → S.left script.old ≡ Some bytes
+    ensures any_moment { (bytes image text : Items ℕ) (w : OneIntWorld) → S.left script.old ≡ Some bytes
         → Stands image (H.view host.old) → (H.view host.old).text ≡ Some text → Holds image w
         → LeavesOnly (H.view host.old) (H.view host.new) (IsAfterSome AreasMean (run_items w bytes) w text) }
     ensures answers { (image : Items ℕ) (w : World) → Stands image (H.view host.old) → Holds image w → IsRunStatus result }
@@ -103,7 +103,7 @@ fn run_synced<H: Host, S: Source>(alloc: Global, script: &mut S, host: &mut H) -
     ensures idle { (image : Items ℕ) → Stands image (H.view host.old) → ((w : World) → ¬ Holds image w)
         → IsIdle result (H.view host.old) (H.view host.new) × (S.left script.new ≡ S.left script.old) }
     ensures bad_file_cut { result ≡ Status.WriteFault → (image text : Items ℕ) → Stands image (H.view host.old) → (H.view host.old).text ≡ Some text
-        → ((w : World) → ¬ Holds image w) → IsBadFileCut image text (H.view host.new) }
+        → ((w : OneIntWorld) → ¬ Holds image w) → IsBadFileCut image text (H.view host.new) }
     ensures not_usage { result ≢ Status.Usage }
     ensures leaves { HostCalls (result ≡ Status.DiskFault) (result ≡ Status.WriteFault) (H.view host.old) (H.view host.new) }
     ensures reads { RoseIf (result ≡ Status.ReadFault) (S.faults script.old) (S.faults script.new) }
@@ -119,13 +119,13 @@ fn run_synced<H: Host, S: Source>(alloc: Global, script: &mut S, host: &mut H) -
 
 // A run begins with a sync, so that what it reads is what a stop leaves.
 fn run<H: Host, S: Source>(alloc: Global, script: &mut S, host: &mut H) -> Status
-    ensures ran { (bytes image text : Items ℕ) (w : World) → S.left script.old ≡ Some bytes
+    ensures ran { (bytes image text : Items ℕ) (w : OneIntWorld) → S.left script.old ≡ Some bytes
         → Tells (H.view host.old) image → (H.view host.old).text ≡ Some text → Holds image w → IsEnding result
         → IsMachineRun bytes w text (S.left script.new) (H.view host.new) result }
-    ensures cut { (bytes image text : Items ℕ) (w : World) → S.left script.old ≡ Some bytes
+    ensures cut { (bytes image text : Items ℕ) (w : OneIntWorld) → S.left script.old ≡ Some bytes
         → Tells (H.view host.old) image → (H.view host.old).text ≡ Some text → Holds image w → IsCut result
         → CutShort (run_items w bytes) w text (H.view host.new) }
-    ensures stops { (bytes image text : Items ℕ) (w : World) → S.left script.old ≡ Some bytes
+    ensures stops { (bytes image text : Items ℕ) (w : OneIntWorld) → S.left script.old ≡ Some bytes
         → Tells (H.view host.old) image → (H.view host.old).text ≡ Some text → Holds image w
         → SyncedRun (H.view host.old) (H.view host.new) image (result ≡ Status.DiskFault) (IsAfterSome AreasMean (run_items w bytes) w text) }
     ensures answers { (image : Items ℕ) (w : World) → Tells (H.view host.old) image → Holds image w → IsRunStatus result }
@@ -135,7 +135,7 @@ fn run<H: Host, S: Source>(alloc: Global, script: &mut S, host: &mut H) -> Statu
     ensures idle { (image : Items ℕ) → Tells (H.view host.old) image → ((w : World) → ¬ Holds image w)
         → IsIdle result (H.view host.old) (H.view host.new) × (S.left script.new ≡ S.left script.old) }
     ensures bad_file_cut { result ≡ Status.WriteFault → (image text : Items ℕ) → Tells (H.view host.old) image → (H.view host.old).text ≡ Some text
-        → ((w : World) → ¬ Holds image w) → IsBadFileCut image text (H.view host.new) }
+        → ((w : OneIntWorld) → ¬ Holds image w) → IsBadFileCut image text (H.view host.new) }
     ensures not_usage { result ≢ Status.Usage }
     ensures leaves { HostCalls (result ≡ Status.DiskFault) (result ≡ Status.WriteFault) (H.view host.old) (H.view host.new) }
     ensures reads { RoseIf (result ≡ Status.ReadFault) (S.faults script.old) (S.faults script.new) }
@@ -155,12 +155,12 @@ pub fn run_ode<H: Host, S: Source>(
     host: &mut H,
 ) -> Status
     // A run on a file that holds a world is the machine's, whatever the script and the chunks that it comes in.
-    ensures run { (bytes image text : Items ℕ) (w : World) → Asks Mode.Run (bytes_of words.now.items) → S.left script.old ≡ Some bytes
+    ensures run { (bytes image text : Items ℕ) (w : OneIntWorld) → Asks Mode.Run (bytes_of words.now.items) → S.left script.old ≡ Some bytes
         → Tells (H.view host.old) image → (H.view host.old).text ≡ Some text → Holds image w → IsEnding result
         → IsMachineRun bytes w text (S.left script.new) (H.view host.new) result }
     // Where the disk, the output or the script fails or memory is short, the file holds the world after some of the settled
     // transactions, and what is printed is a front of what these print, or a refusal's line behind them.
-    ensures cut { (bytes image text : Items ℕ) (w : World) → Asks Mode.Run (bytes_of words.now.items) → S.left script.old ≡ Some bytes
+    ensures cut { (bytes image text : Items ℕ) (w : OneIntWorld) → Asks Mode.Run (bytes_of words.now.items) → S.left script.old ≡ Some bytes
         → Tells (H.view host.old) image → (H.view host.old).text ≡ Some text → Holds image w → IsCut result
         → CutShort (run_items w bytes) w text (H.view host.new) }
     // So does a stop at any moment from the first sync on, at which the file is as it was at the start. Before it, a stop
@@ -179,7 +179,7 @@ pub fn run_ode<H: Host, S: Source>(
     ensures idle { (image : Items ℕ) → Asks Mode.Run (bytes_of words.now.items) → Tells (H.view host.old) image
         → ((w : World) → ¬ Holds image w) → IsIdle result (H.view host.old) (H.view host.new) × (S.left script.new ≡ S.left script.old) }
     ensures bad_file_cut { result ≡ Status.WriteFault → Asks Mode.Run (bytes_of words.now.items) → (image text : Items ℕ)
-        → Tells (H.view host.old) image → (H.view host.old).text ≡ Some text → ((w : World) → ¬ Holds image w)
+        → Tells (H.view host.old) image → (H.view host.old).text ≡ Some text → ((w : OneIntWorld) → ¬ Holds image w)
         → IsBadFileCut image text (H.view host.new) }
 
     ensures made { result ≡ Status.Ok → Asks Mode.Init (bytes_of words.now.items)
