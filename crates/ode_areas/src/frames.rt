@@ -1,6 +1,6 @@
 //! The frames of a journal are read, and what they change is made.
 ghost use Rattle.std.specs.Prelude.{IfOk, IsErrOf, List, ℕ};
-ghost use Rattle.ode_host.specs.Causes.{Rose};
+ghost use Rattle.ode_host.specs.Causes.{RoseIf};
 ghost use Rattle.ode_host.specs.Host.{Looks, Tells};
 ghost use Rattle.ode_areas.specs.Image.{IsBadFrom};
 ghost use Rattle.ode_areas.specs.Replaying.{IsReplayed};
@@ -25,7 +25,7 @@ pub(crate) fn replay_frames<H: Host>(
     ensures bad { (at : ℕ) → IsErrOf result (JournalError.BadJournal at)
         → (file : List ℕ) → Tells (H.view host.old) file → IsBadFrom start end at file }
     ensures looks { Looks (H.view host.old) (H.view host.new) }
-    ensures cause { IsErrOf result JournalError.DiskFault → Rose (H.view host.old).disk_faults (H.view host.new).disk_faults }
+    ensures cause { RoseIf (IsErrOf result JournalError.DiskFault) (H.view host.old).disk_faults (H.view host.new).disk_faults }
 {
     let mut at = start;
     'frames: loop {

@@ -2,7 +2,7 @@
 ghost use Rattle.std.specs.Prelude.{◌≡◌, ◌≤◌, [], IfOk, IsErrOf, IsTrue, List, OnOk, length, ℕ};
 ghost use Rattle.ode_gate.specs.Headers.{IsHeader, IsOfAreas};
 ghost use Rattle.ode_gate.specs.Slots.{Counts};
-ghost use Rattle.ode_host.specs.Causes.{Rose};
+ghost use Rattle.ode_host.specs.Causes.{RoseIf};
 ghost use Rattle.ode_host.specs.Host.{Looks, Stands, Tells};
 ghost use Rattle.ode_keep.specs.Entries.{Entries, record_bytes};
 ghost use Rattle.ode_areas.specs.Holding.{Holds, held_bytes, is_live};
@@ -35,7 +35,7 @@ fn load_body<H: Host>(
         → (file : List ℕ) → Tells (H.view host.old) file → IsBadBody h.now file at }
     ensures no_page { (page : ℕ) → IsErrOf result (StartError.BadPage page) → ⊥ }
     ensures looks { Looks (H.view host.old) (H.view host.new) }
-    ensures cause { IsErrOf result StartError.DiskFault → Rose (H.view host.old).disk_faults (H.view host.new).disk_faults }
+    ensures cause { RoseIf (IsErrOf result StartError.DiskFault) (H.view host.old).disk_faults (H.view host.new).disk_faults }
 {
     let mut body = vec![in alloc; 0; h.body_len as usize]?;
     let count = read_whole(host, h.body_at, &mut body)?;
@@ -72,7 +72,7 @@ impl Areas {
         ensures broken { (file : List ℕ) (at : ℕ) → Tells (H.view host.old) file
             → IsBadAt h.now file at → Refuses result (StartError.BadJournal at) }
         ensures looks { Looks (H.view host.old) (H.view host.new) }
-        ensures cause { IsErrOf result StartError.DiskFault → Rose (H.view host.old).disk_faults (H.view host.new).disk_faults }
+        ensures cause { RoseIf (IsErrOf result StartError.DiskFault) (H.view host.old).disk_faults (H.view host.new).disk_faults }
     {
         let mut map = Map::new(alloc);
         load_body(alloc, host, h, &mut map)?;

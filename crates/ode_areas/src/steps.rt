@@ -1,9 +1,8 @@
 //! The writes of a commit, each of which leaves the records before it or those after it.
-ghost use Rattle.std.specs.Prelude.{◌≡◌, ◌≤◌, MatchOption, OnErr, OnOk};
+ghost use Rattle.std.specs.Prelude.{◌≡◌, ◌≤◌, MatchOption, IsErr, OnOk};
 ghost use Rattle.std.specs.Option.{IfSome};
 ghost use Rattle.ode_gate.specs.declared.header.Header.{Header};
-ghost use Rattle.ode_host.specs.Causes.{Rose};
-ghost use Rattle.ode_host.specs.Host.{Keeps, LeavesOnly};
+ghost use Rattle.ode_host.specs.Host.{DiskCalls, LeavesOnly};
 ghost use Rattle.ode_journal.specs.declared.journal.Journal.{Journal};
 ghost use Rattle.ode_journal.specs.Appends.{need_of, room_of};
 ghost use Rattle.ode_keep.specs.Entries.{Changes, Entries, applied};
@@ -28,9 +27,7 @@ fn move_over<H: Host>(host: &mut H, checkpoint: &Checkpoint) -> Result<(), Faile
         → StandUnder older place entries (H.view host.old)
         → MovesOver older entries checkpoint.now.header checkpoint.now.bytes.items
         → LeavesOnly (H.view host.old) (H.view host.new) (LeavesMap entries (H.view host.old)) }
-    ensures keeps { Keeps (H.view host.old) (H.view host.new) }
-    ensures text { (H.view host.new).text ≡ (H.view host.old).text }
-    ensures cause { OnErr result (Rose (H.view host.old).disk_faults (H.view host.new).disk_faults) }
+    ensures leaves { DiskCalls (IsErr result) (H.view host.old) (H.view host.new) }
 {
     write_synced(host, checkpoint.header.body_at, &checkpoint.bytes)?;
     match change_header(host, &checkpoint.header, &mut [0; 57]) {
@@ -49,9 +46,7 @@ fn add_frame<H: Host>(host: &mut H, journal: &mut Journal, frame: &Frame) -> Res
     ensures any_moment { (header : Header) (entries : Entries) (changes : Changes)
         → StandUnder header journal.old entries (H.view host.old) → IsPayload changes frame.now.payload
         → LeavesOnly (H.view host.old) (H.view host.new) (LeavesOldOrNew AreasMean entries changes (H.view host.old)) }
-    ensures keeps { Keeps (H.view host.old) (H.view host.new) }
-    ensures text { (H.view host.new).text ≡ (H.view host.old).text }
-    ensures cause { OnErr result (Rose (H.view host.old).disk_faults (H.view host.new).disk_faults) }
+    ensures leaves { DiskCalls (IsErr result) (H.view host.old) (H.view host.new) }
 {
     match journal.append(host, frame) {
         Ok(()) => Ok(()),
@@ -82,9 +77,7 @@ pub(crate) fn write_changes<H: Host>(
         → IfSome due.entry (λ c. MovesOver header.old entries c.now.header c.now.bytes.items)
         → IsPayload changes frame.now.payload
         → LeavesOnly (H.view host.old) (H.view host.new) (LeavesOldOrNew AreasMean entries changes (H.view host.old)) }
-    ensures keeps { Keeps (H.view host.old) (H.view host.new) }
-    ensures text { (H.view host.new).text ≡ (H.view host.old).text }
-    ensures cause { OnErr result (Rose (H.view host.old).disk_faults (H.view host.new).disk_faults) }
+    ensures leaves { DiskCalls (IsErr result) (H.view host.old) (H.view host.new) }
 {
     match due {
         None => add_frame(host, journal, frame),

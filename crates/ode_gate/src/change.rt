@@ -1,7 +1,7 @@
 //! The header is changed: its slot is closed, filled and opened.
-ghost use Rattle.std.specs.Prelude.{◌≡◌, ◌+◌, ◌≤◌, ◌↔◌, [], ◌∷◌, List, ℕ, IfOk, IfErr, OnOk, OnErr, IsTrue};
-ghost use Rattle.ode_host.specs.Causes.{Rose};
-ghost use Rattle.ode_host.specs.Host.{Keeps, Looks, LeavesOnly, LeavesTorn, Puts, Stands, Tells, written_over};
+ghost use Rattle.std.specs.Prelude.{◌≡◌, ◌+◌, ◌≤◌, ◌↔◌, [], ◌∷◌, List, ℕ, IfOk, IfErr, IsErr, OnOk, IsTrue};
+ghost use Rattle.ode_host.specs.Causes.{RoseIf};
+ghost use Rattle.ode_host.specs.Host.{DiskCalls, Looks, LeavesOnly, LeavesTorn, Puts, Stands, Tells, written_over};
 ghost use Rattle.ode_gate.specs.declared.error.GateError.TheVariants.{DiskFault};
 ghost use Rattle.ode_gate.specs.declared.header.Header.{Header};
 ghost use Rattle.ode_gate.specs.Gate.{open_gate};
@@ -21,7 +21,7 @@ fn is_open<H: Host>(host: &mut H, slot: u8) -> Result<bool, Failed>
     ensures opened { IfOk result (λ b. (image : List ℕ) → Tells (H.view host.old) image
         → (IsTrue b ↔ IsOpen (bytes_of slot image))) }
     ensures looks { Looks (H.view host.old) (H.view host.new) }
-    ensures cause { OnErr result (Rose (H.view host.old).disk_faults (H.view host.new).disk_faults) }
+    ensures cause { RoseIf (IsErr result) (H.view host.old).disk_faults (H.view host.new).disk_faults }
 {
     let mut gate = [SHUT];
     let count = read_whole(host, place_of(slot), &mut gate)?;
@@ -37,10 +37,8 @@ pub fn close_slot<H: Host>(host: &mut H, slot: u8) -> Result<(), GateError>
         → Stands (written_over image (place_of slot) (0 ∷ [])) (H.view host.new)) }
     ensures any_moment { (image : List ℕ) → Stands image (H.view host.old)
         → LeavesOnly (H.view host.old) (H.view host.new) (LeavesTorn (place_of slot) 1 image (H.view host.old)) }
-    ensures keeps { Keeps (H.view host.old) (H.view host.new) }
-    ensures text { (H.view host.new).text ≡ (H.view host.old).text }
-    ensures cause { IfErr result (λ e. (e ≡ DiskFault)
-        × Rose (H.view host.old).disk_faults (H.view host.new).disk_faults) }
+    ensures kind { IfErr result (λ e. e ≡ DiskFault) }
+    ensures leaves { DiskCalls (IsErr result) (H.view host.old) (H.view host.new) }
 {
     if is_open(host, slot)? {
         write_synced(host, place_of(slot), &[SHUT])?;
@@ -61,8 +59,8 @@ pub fn fill_slot<H: Host>(
     ensures any_moment { (image : List ℕ) → Stands image (H.view host.old)
         → LeavesOnly (H.view host.old) (H.view host.new) (LeavesTorn (place_of slot + 1) 56 image (H.view host.old)) }
     ensures puts { Puts 56 (H.view host.old) (H.view host.new) }
-    ensures cause { IfErr result (λ e. (e ≡ DiskFault)
-        × Rose (H.view host.old).disk_faults (H.view host.new).disk_faults) }
+    ensures kind { IfErr result (λ e. e ≡ DiskFault) }
+    ensures cause { RoseIf (IsErr result) (H.view host.old).disk_faults (H.view host.new).disk_faults }
 {
     h.fill(buffer);
     write_synced(host, place_of(slot) + 1, &buffer[1..])?;
@@ -77,8 +75,8 @@ pub fn open_slot<H: Host>(host: &mut H, slot: u8) -> Result<(), GateError>
     ensures any_moment { (image : List ℕ) → Stands image (H.view host.old)
         → LeavesOnly (H.view host.old) (H.view host.new) (LeavesTorn (place_of slot) 1 image (H.view host.old)) }
     ensures puts { Puts 1 (H.view host.old) (H.view host.new) }
-    ensures cause { IfErr result (λ e. (e ≡ DiskFault)
-        × Rose (H.view host.old).disk_faults (H.view host.new).disk_faults) }
+    ensures kind { IfErr result (λ e. e ≡ DiskFault) }
+    ensures cause { RoseIf (IsErr result) (H.view host.old).disk_faults (H.view host.new).disk_faults }
 {
     write_synced(host, place_of(slot), &[OPEN])?;
     Ok(())
@@ -98,10 +96,8 @@ pub fn change_header<H: Host>(
     ensures any_moment { (image : List ℕ) (older : Header) → MayFollow image older h.now
         → Stands image (H.view host.old)
         → LeavesOnly (H.view host.old) (H.view host.new) (LeavesHeader image older h.now (H.view host.old)) }
-    ensures keeps { Keeps (H.view host.old) (H.view host.new) }
-    ensures text { (H.view host.new).text ≡ (H.view host.old).text }
-    ensures cause { IfErr result (λ e. (e ≡ DiskFault)
-        × Rose (H.view host.old).disk_faults (H.view host.new).disk_faults) }
+    ensures kind { IfErr result (λ e. e ≡ DiskFault) }
+    ensures leaves { DiskCalls (IsErr result) (H.view host.old) (H.view host.new) }
 {
     close_slot(host, h.slot)?;
     fill_slot(host, h.slot, h, buffer)?;

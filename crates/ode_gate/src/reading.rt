@@ -1,6 +1,6 @@
 //! The header that counts.
 ghost use Rattle.std.specs.Prelude.{◌≡◌, ◌⊎◌, List, ℕ, Result, Ok, IfOk, IfErr, IsErrOf};
-ghost use Rattle.ode_host.specs.Causes.{Rose};
+ghost use Rattle.ode_host.specs.Causes.{RoseIf};
 ghost use Rattle.ode_host.specs.Host.{Looks, Tells};
 ghost use Rattle.ode_gate.specs.declared.error.GateError.{GateError};
 ghost use Rattle.ode_gate.specs.declared.header.Header.{Header};
@@ -70,8 +70,7 @@ pub fn read_header<H: Host>(host: &mut H, buffer: &mut [u8; 57]) -> Result<Heade
     ensures bad { (at : ℕ) → IsErrOf result (GateError.BadHeader at)
         → (image : List ℕ) → Tells (H.view host.old) image → NoneNewer image × IsBadAt image at }
     ensures looks { Looks (H.view host.old) (H.view host.new) }
-    ensures cause { IsErrOf result GateError.DiskFault
-        → Rose (H.view host.old).disk_faults (H.view host.new).disk_faults }
+    ensures cause { RoseIf (IsErrOf result GateError.DiskFault) (H.view host.old).disk_faults (H.view host.new).disk_faults }
 {
     let first = read_slot(host, 0, buffer)?;
     let second = read_slot(host, 1, buffer)?;

@@ -1,6 +1,6 @@
 //! The two slots of a header.
-ghost use Rattle.std.specs.Prelude.{◌≡◌, ◌<◌, ◌≤◌, ◌↔◌, ◌^◌, List, ℕ, IfOk, OnErr};
-ghost use Rattle.ode_host.specs.Causes.{Rose};
+ghost use Rattle.std.specs.Prelude.{◌≡◌, ◌<◌, ◌≤◌, ◌↔◌, ◌^◌, List, ℕ, IfOk, IsErr};
+ghost use Rattle.ode_host.specs.Causes.{RoseIf};
 ghost use Rattle.ode_host.specs.Host.{Looks, Tells};
 ghost use Rattle.ode_gate.specs.Slots.{IsSlot, bytes_of, place_of};
 ghost use Rattle.ode_gate.specs.Readings.{ReadsAs};
@@ -63,7 +63,7 @@ pub fn read_slot<H: Host>(host: &mut H, slot: u8, buffer: &mut [u8; 57]) -> Resu
     ensures slot { IfOk result (λ found. (bytes : List ℕ) × ReadsAs slot bytes found
         × ((image : List ℕ) → Tells (H.view host.old) image → bytes ≡ bytes_of slot image)) }
     ensures looks { Looks (H.view host.old) (H.view host.new) }
-    ensures cause { OnErr result (Rose (H.view host.old).disk_faults (H.view host.new).disk_faults) }
+    ensures cause { RoseIf (IsErr result) (H.view host.old).disk_faults (H.view host.new).disk_faults }
 {
     let count = read_whole(host, place_of(slot), buffer)?;
     Ok(Slot::of_bytes(&buffer[..count], slot))

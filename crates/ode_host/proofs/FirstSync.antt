@@ -1,8 +1,8 @@
 -- How a run goes on from its first sync.
-use Rattle.std.proofs.Common.{◌≡◌, ◌<◌, ◌≤◌, ◌+◌, min, ⊎_elim, ℕ, List, sym, subst, arith}
+use Rattle.std.proofs.Common.{◌≡◌, ◌<◌, ◌≤◌, ◌+◌, min, ⊎_elim, inl, inr, ℕ, List, sym, subst, arith}
 use Rattle.std.proofs.lemmas.Bool.{cases_lt}
 use Rattle.ode_host.specs.FirstSync.{SyncedRun}
-use Rattle.ode_host.specs.Host.{Elapses, LeavesOnly, Nothing}
+use Rattle.ode_host.specs.Host.{Elapses, LeavesOnly, Nothing, Only}
 use Rattle.ode_host.specs.View.{View}
 
 module _ (old mid : View) (time : Elapses Nothing old mid) where
@@ -19,19 +19,24 @@ module _ (old mid : View) (time : Elapses Nothing old mid) where
       (cases_lt old.moment t)
 
   -- the sync failed, and the run ended
-  pub never_synced : (P : List ℕ → List ℕ → Type 0) → SyncedRun old mid P
-  never_synced P = record {
+  pub never_synced : (image : List ℕ) (failed : Type 0) (P : List ℕ → List ℕ → Type 0) → failed → SyncedRun old mid image failed P
+  never_synced image failed P is_so = record {
     since = mid.moment + 1;
     later = omega (arith, time.later);
+    within = inl is_so;
     before = λ t c o below up_to left. at_start t c o up_to left;
+    stands = λ c o reached left. absurd (omega arith);
     each = λ t c o above up_to left. absurd (omega arith);
   }
 
   -- behind the sync a stop leaves what has P, then and as the run goes on
-  pub synced_run : (new : View) (P : List ℕ → List ℕ → Type 0) → LeavesOnly mid new P → ((c o : List ℕ) → mid.left mid.moment c o → P c o) → SyncedRun old new P
-  synced_run new P run now = record {
+  pub synced_run : (new : View) (image : List ℕ) (failed : Type 0) (P : List ℕ → List ℕ → Type 0) → Only image mid → LeavesOnly mid new P
+      → ((c o : List ℕ) → mid.left mid.moment c o → P c o) → SyncedRun old new image failed P
+  synced_run new image failed P only run now = record {
     since = mid.moment;
     later = time.later;
+    within = inr run.later;
+    stands = λ c o reached left. only c o (run.keeps mid.moment c o (omega arith) left);
     before = λ t c o below up_to left. at_start t c o (omega (arith, below)) (run.keeps t c o (omega (arith, below)) left);
     each = λ t c o above up_to left. ⊎_elim
         (λ (beyond : mid.moment < t). run.each t c o beyond up_to left)

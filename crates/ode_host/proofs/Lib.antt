@@ -1,4 +1,5 @@
 pub mod Bytes
+pub mod Calls
 pub mod Filling
 pub mod FirstSync
 pub mod MemViews

@@ -97,6 +97,7 @@ pub keeps_joined : (a b c : View) → Keeps a b → Keeps b c → Keeps a c
 keeps_joined a b c first second = record {
   honest = second.honest ∙ first.honest;
   told = λ some. second.told (first.told some);
+  printed = λ some. second.printed (first.printed some);
   disk_faults = omega (arith, first.disk_faults, second.disk_faults);
   print_faults = omega (arith, first.print_faults, second.print_faults);
 }
@@ -122,11 +123,12 @@ looks_joined a b c first second = record {
         (cases_lt b.moment t);
   };
   written = λ some. second.written (first.keeps.told some) ∙ first.written some;
+  print_faults = second.print_faults ∙ first.print_faults;
 }
 
 pub looks_none : (v : View) → Looks v v
 looks_none v = record {
-  keeps = record { honest = refl; told = λ some. some; disk_faults = omega arith; print_faults = omega arith };
+  keeps = record { honest = refl; told = λ some. some; printed = λ some. some; disk_faults = omega arith; print_faults = omega arith };
   image = refl;
   text = refl;
   time = record {
@@ -136,6 +138,7 @@ looks_none v = record {
     steps = λ t f o above up_to left. absurd (omega arith);
   };
   written = λ some. refl;
+  print_faults = refl;
 }
 
 -- what stands still stands after them

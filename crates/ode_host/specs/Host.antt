@@ -1,5 +1,6 @@
 -- What the calls of a host do to its disk and to what is printed, and what a stop may leave of both.
 use Rattle.std.specs.Prelude.{◌≡◌, ◌<◌, ℕ, ◌+◌, ◌-◌, ◌≤◌, max, min, List, ◌++◌, length, take, drop, replicate, IsTrue, Some, IsSome}
+use Rattle.ode_host.specs.Causes.{RoseIf}
 use Rattle.ode_host.specs.View.{View}
 
 -- old with these bytes at this offset, and zeros between its end and the offset
@@ -38,6 +39,7 @@ pub record Elapses (step : Step) (old new : View) : Type 0 where
 pub record Keeps (old new : View) : Type 0 where
   pub honest : new.honest ≡ old.honest
   pub told : IsSome old.image → IsSome new.image
+  pub printed : IsSome old.text → IsSome new.text
   pub disk_faults : old.disk_faults ≤ new.disk_faults
   pub print_faults : old.print_faults ≤ new.print_faults
 
@@ -48,6 +50,7 @@ pub record Looks (old new : View) : Type 0 where
   pub text : new.text ≡ old.text
   pub time : Elapses Nothing old new
   pub written : IsSome old.image → new.written ≡ old.written
+  pub print_faults : new.print_faults ≡ old.print_faults
 
 -- the host is honest, and its disk reads as this
 pub record Tells (view : View) (file : List ℕ) : Type 0 where
@@ -70,6 +73,7 @@ pub record Writes (at : ℕ) (bytes : List ℕ) (old new : View) : Type 0 where
   pub time : Elapses (TornWrite at (length bytes)) old new
   pub written : IsSome old.image → new.written ≡ old.written + length bytes
   pub fetched : IsSome old.image → new.fetched ≡ old.fetched
+  pub print_faults : new.print_faults ≡ old.print_faults
 
 -- the disk reads as it was with these bytes at this offset
 abbrev pub Wrote : ℕ → List ℕ → View → View → Type 0
@@ -86,6 +90,7 @@ pub record Prints (piece : List ℕ) (old new : View) : Type 0 where
   pub time : Elapses (CutPrint piece) old new
   pub written : IsSome old.image → new.written ≡ old.written
   pub fetched : IsSome old.image → new.fetched ≡ old.fetched
+  pub disk_faults : new.disk_faults ≡ old.disk_faults
 
 abbrev pub Printed : List ℕ → View → View → Type 0
 Printed piece old new = (text : List ℕ) → old.text ≡ Some text → new.text ≡ Some (text ++ piece)
@@ -110,6 +115,28 @@ pub record Puts (by : ℕ) (old new : View) : Type 0 where
   pub text : new.text ≡ old.text
   pub written : IsSome old.image → new.written ≡ old.written + by
   pub fetched : IsSome old.image → new.fetched ≡ old.fetched
+  pub print_faults : new.print_faults ≡ old.print_faults
+
+-- What calls of the disk leave, whatever they answer: the text and the count of failed prints are as they were, and the
+-- disk's count rose where the answer says so, and only there.
+pub record DiskCalls (failed : Type 0) (old new : View) : Type 0 where
+  pub keeps : Keeps old new
+  pub text : new.text ≡ old.text
+  pub print_faults : new.print_faults ≡ old.print_faults
+  pub disk_faults : RoseIf failed old.disk_faults new.disk_faults
+
+-- What calls of a host leave, whatever they answer: each count of faults rose where the answer says so, and only there.
+pub record HostCalls (disk_failed print_failed : Type 0) (old new : View) : Type 0 where
+  pub keeps : Keeps old new
+  pub disk_faults : RoseIf disk_failed old.disk_faults new.disk_faults
+  pub print_faults : RoseIf print_failed old.print_faults new.print_faults
+
+-- Nothing was written, and a stop at any moment leaves an image that it might have left at the start.
+pub record Spares (old new : View) : Type 0 where
+  pub later : old.moment ≤ new.moment
+  pub image : new.image ≡ old.image
+  pub written : IsSome old.image → new.written ≡ old.written
+  pub stops : (t : ℕ) (c o : List ℕ) → t ≤ new.moment → new.left t c o → (e : List ℕ) × old.left (min t old.moment) c e
 
 -- some reads gave this many bytes
 abbrev pub Fetched : ℕ → View → View → Type 0

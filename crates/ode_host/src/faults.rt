@@ -1,4 +1,4 @@
-//! Counts of faults.
+//! RoseIf of faults.
 ghost use Rattle.std.specs.Prelude.{◌≡◌, ◌+◌, ◌-◌, ◌^◌, ◌≤◌, min};
 
 /// Raises a count, which stands still at its last value.

@@ -1,12 +1,13 @@
 //! A file and the standard output.
-ghost use Rattle.std.specs.Prelude.{◌≡◌, ◌≤◌, IfOk, OnErr};
-ghost use Rattle.ode_host.specs.Causes.{Rose};
+ghost use Rattle.std.specs.Prelude.{◌≡◌, IfOk, IsErr};
+ghost use Rattle.ode_host.specs.Causes.{RoseIf};
 
 use crate::faults::raise;
 use crate::named_file::{Opened, read_named, size_named, sync_named, write_named};
 use crate::{Failed, Host};
 use std::fs::File;
 use std::io;
+use std::os::unix::fs::FileExt;
 use std::rt::Files;
 
 /// A file of this name as the disk, and standard output. It tells nothing of either. The file is opened at the first use; a
@@ -36,8 +37,7 @@ impl<'a, R: Files + Print> FileHost<'a, R> {
 // The answer without the error's cause, and a fault more at an error.
 fn counted<T: Drop>(answer: io::Result<T>, faults: &mut u64) -> Result<T, Failed>
     ensures ok { IfOk result (λ value. answer ≡ Ok value) }
-    ensures later { faults.old ≤ faults.new }
-    ensures cause { OnErr result (Rose faults.old faults.new) }
+    ensures cause { RoseIf (IsErr result) faults.old faults.new }
 {
     match answer {
         Ok(value) => Ok(value),
@@ -48,7 +48,10 @@ fn counted<T: Drop>(answer: io::Result<T>, faults: &mut u64) -> Result<T, Failed
     }
 }
 
-impl<'a, R: Files + Print> Host for FileHost<'a, R> {
+impl<'a, R: Files + Print> Host for FileHost<'a, R>
+where
+    R::File: FileExt,
+{
     ghost use Rattle.ode_host.specs.Untold.{untold, untold_law};
 
     ghost view = { λ h. untold h.disk_faults h.print_faults };

@@ -1,6 +1,6 @@
 //! The host: a disk and an output.
-ghost use Rattle.std.specs.Prelude.{◌≡◌, ◌+◌, ◌≤◌, List, ℕ, length, IsSome, Some, IfOk, OnOk, OnErr};
-ghost use Rattle.ode_host.specs.Causes.{Rose};
+ghost use Rattle.std.specs.Prelude.{◌≡◌, ◌+◌, ◌≤◌, List, ℕ, length, IsSome, Some, IfOk, OnOk, OnErr, IsErr};
+ghost use Rattle.ode_host.specs.Causes.{RoseIf};
 ghost use Rattle.ode_host.specs.View.{View};
 ghost use Rattle.ode_host.specs.Host.{Looks, Gives, Writes, Wrote, MayHaveWritten, Only, Tells, Prints, Printed, MayHavePrinted};
 
@@ -21,7 +21,7 @@ pub trait Host {
         ensures looks { Looks (view self.old) (view self.new) }
         ensures fetched { IfOk result (λ n. IsSome (view self.old).image → (view self.new).fetched ≡ (view self.old).fetched + n) }
         ensures not_fetched { OnErr result (IsSome (view self.old).image → (view self.new).fetched ≡ (view self.old).fetched) }
-        ensures cause { OnErr result (Rose (view self.old).disk_faults (view self.new).disk_faults) };
+        ensures cause { RoseIf (IsErr result) (view self.old).disk_faults (view self.new).disk_faults };
 
     /// Writes over what is there, and past the end. Until a sync a stop may leave any bytes in the range and past the old
     /// end. A failed write may have been cut short.
@@ -29,28 +29,28 @@ pub trait Host {
         ensures writes { Writes at from.now (view self.old) (view self.new) }
         ensures done { OnOk result (Wrote at from.now (view self.old) (view self.new)) }
         ensures torn { OnErr result (MayHaveWritten at (length from.now) (view self.old) (view self.new)) }
-        ensures cause { OnErr result (Rose (view self.old).disk_faults (view self.new).disk_faults) };
+        ensures cause { RoseIf (IsErr result) (view self.old).disk_faults (view self.new).disk_faults };
 
     /// After it a stop leaves what a read gives.
     fn sync(&mut self) -> Result<(), Failed>
         ensures durable { OnOk result ((file : List ℕ) → Tells (view self.old) file → Only file (view self.new)) }
         ensures looks { Looks (view self.old) (view self.new) }
         ensures not_fetched { IsSome (view self.old).image → (view self.new).fetched ≡ (view self.old).fetched }
-        ensures cause { OnErr result (Rose (view self.old).disk_faults (view self.new).disk_faults) };
+        ensures cause { RoseIf (IsErr result) (view self.old).disk_faults (view self.new).disk_faults };
 
     /// How many bytes the disk has.
     fn size(&mut self) -> Result<u64, Failed>
         ensures length { IfOk result (λ n. (file : List ℕ) → Tells (view self.old) file → n ≡ length file) }
         ensures looks { Looks (view self.old) (view self.new) }
         ensures not_fetched { IsSome (view self.old).image → (view self.new).fetched ≡ (view self.old).fetched }
-        ensures cause { OnErr result (Rose (view self.old).disk_faults (view self.new).disk_faults) };
+        ensures cause { RoseIf (IsErr result) (view self.old).disk_faults (view self.new).disk_faults };
 
     /// Prints the piece. A failed print leaves a front of it printed.
     fn print(&mut self, piece: &[u8]) -> Result<(), Failed>
         ensures prints { Prints piece.now (view self.old) (view self.new) }
         ensures done { OnOk result (Printed piece.now (view self.old) (view self.new)) }
         ensures cut { OnErr result (MayHavePrinted piece.now (view self.old) (view self.new)) }
-        ensures cause { OnErr result (Rose (view self.old).print_faults (view self.new).print_faults) };
+        ensures cause { RoseIf (IsErr result) (view self.old).print_faults (view self.new).print_faults };
 
     /// What a stop now leaves printed is what was printed.
     ghost text_stands: { (host : Self) (c o : List ℕ) → (view host).left (view host).moment c o → (view host).text ≡ Some o };

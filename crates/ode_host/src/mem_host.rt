@@ -1,6 +1,6 @@
 //! A host in memory, which fails and stops as a plan says.
 ghost use Rattle.std.specs.Prelude.{◌≡◌, ◌+◌, ◌-◌, ◌^◌, ◌<◌, ◌≤◌, ◌⊎◌, [], List, ℕ, length, take, drop, min, IfOk, OnOk, OnErr, IsErr, IsSome, IsTrue, Contains, ◌↔◌};
-ghost use Rattle.ode_host.specs.Causes.{Rose};
+ghost use Rattle.ode_host.specs.Causes.{RoseIf};
 ghost use Rattle.ode_host.specs.Host.{Looks, Gives, Writes, Wrote, MayHaveWritten, Only, Tells, Prints, Printed, MayHavePrinted};
 ghost use Rattle.ode_host.specs.Tears.{IsPlanned};
 
@@ -135,7 +135,7 @@ impl Host for MemHost {
         ensures looks { Looks (mem_view self.old) (mem_view self.new) }
         ensures fetched { IfOk result (λ n. IsSome (mem_view self.old).image → (mem_view self.new).fetched ≡ (mem_view self.old).fetched + n) }
         ensures not_fetched { OnErr result (IsSome (mem_view self.old).image → (mem_view self.new).fetched ≡ (mem_view self.old).fetched) }
-        ensures cause { OnErr result (Rose (mem_view self.old).disk_faults (mem_view self.new).disk_faults) }
+        ensures cause { RoseIf (IsErr result) (mem_view self.old).disk_faults (mem_view self.new).disk_faults }
         ensures exact { IsErr result ↔ Fails (disk_fails_of self.old) self.old self.new }
         ensures counted { Counted result (mem_view self.old).disk_faults (mem_view self.new).disk_faults }
         ensures others { (mem_view self.new).print_faults ≡ (mem_view self.old).print_faults }
@@ -157,7 +157,7 @@ impl Host for MemHost {
         ensures writes { Writes at from.now (mem_view self.old) (mem_view self.new) }
         ensures done { OnOk result (Wrote at from.now (mem_view self.old) (mem_view self.new)) }
         ensures torn { OnErr result (MayHaveWritten at (length from.now) (mem_view self.old) (mem_view self.new)) }
-        ensures cause { OnErr result (Rose (mem_view self.old).disk_faults (mem_view self.new).disk_faults) }
+        ensures cause { RoseIf (IsErr result) (mem_view self.old).disk_faults (mem_view self.new).disk_faults }
         ensures exact { IsErr result ↔ Fails (disk_fails_of self.old) self.old self.new }
         ensures counted { Counted result (mem_view self.old).disk_faults (mem_view self.new).disk_faults }
         ensures others { (mem_view self.new).print_faults ≡ (mem_view self.old).print_faults }
@@ -192,7 +192,7 @@ impl Host for MemHost {
         ensures durable { OnOk result ((file : List ℕ) → Tells (mem_view self.old) file → Only file (mem_view self.new)) }
         ensures looks { Looks (mem_view self.old) (mem_view self.new) }
         ensures not_fetched { IsSome (mem_view self.old).image → (mem_view self.new).fetched ≡ (mem_view self.old).fetched }
-        ensures cause { OnErr result (Rose (mem_view self.old).disk_faults (mem_view self.new).disk_faults) }
+        ensures cause { RoseIf (IsErr result) (mem_view self.old).disk_faults (mem_view self.new).disk_faults }
         ensures exact { IsErr result ↔ Fails (disk_fails_of self.old) self.old self.new }
         ensures counted { Counted result (mem_view self.old).disk_faults (mem_view self.new).disk_faults }
         ensures others { (mem_view self.new).print_faults ≡ (mem_view self.old).print_faults }
@@ -220,7 +220,7 @@ impl Host for MemHost {
         ensures length { IfOk result (λ n. (file : List ℕ) → Tells (mem_view self.old) file → n ≡ length file) }
         ensures looks { Looks (mem_view self.old) (mem_view self.new) }
         ensures not_fetched { IsSome (mem_view self.old).image → (mem_view self.new).fetched ≡ (mem_view self.old).fetched }
-        ensures cause { OnErr result (Rose (mem_view self.old).disk_faults (mem_view self.new).disk_faults) }
+        ensures cause { RoseIf (IsErr result) (mem_view self.old).disk_faults (mem_view self.new).disk_faults }
         ensures exact { IsErr result ↔ Fails (disk_fails_of self.old) self.old self.new }
         ensures counted { Counted result (mem_view self.old).disk_faults (mem_view self.new).disk_faults }
         ensures others { (mem_view self.new).print_faults ≡ (mem_view self.old).print_faults }
@@ -240,7 +240,7 @@ impl Host for MemHost {
         ensures prints { Prints piece.now (mem_view self.old) (mem_view self.new) }
         ensures done { OnOk result (Printed piece.now (mem_view self.old) (mem_view self.new)) }
         ensures cut { OnErr result (MayHavePrinted piece.now (mem_view self.old) (mem_view self.new)) }
-        ensures cause { OnErr result (Rose (mem_view self.old).print_faults (mem_view self.new).print_faults) }
+        ensures cause { RoseIf (IsErr result) (mem_view self.old).print_faults (mem_view self.new).print_faults }
         ensures exact { IsErr result ↔ Fails (print_fails_of self.old) self.old self.new }
         ensures counted { Counted result (mem_view self.old).print_faults (mem_view self.new).print_faults }
         ensures others { (mem_view self.new).disk_faults ≡ (mem_view self.old).disk_faults }

@@ -2,7 +2,7 @@
 ghost use Rattle.std.specs.Prelude.{◌≡◌, ◌<◌, ◌≤◌, ◌↔◌, [], List, ℕ, Some, min, length, take, drop, IsErr, IfOk, IsTrue, Contains};
 ghost use Rattle.std.specs.Io.{ReadsAtMost};
 ghost use Rattle.std.specs.Io.KnownBytes.{ReadConsumes};
-ghost use Rattle.ode_host.specs.Causes.{Counted, HasCause};
+ghost use Rattle.ode_host.specs.Causes.{Counted, RoseIf};
 
 use crate::faults::raise;
 use crate::numbering::Numbering;
@@ -65,7 +65,7 @@ impl Source for MemSource {
         requires { 0 < length to.old }
         ensures bound { ReadsAtMost result to.new }
         ensures bytes { ReadConsumes (Some (rest_of self.old)) (Some (rest_of self.new)) result to.new }
-        ensures cause { HasCause self.old.faults self.new.faults result }
+        ensures cause { RoseIf (IsErr result) self.old.faults self.new.faults }
         ensures exact { IsErr result ↔ Contains (fails_of self.old) (read_number_of self.old) }
         ensures counted { Counted result self.old.faults self.new.faults }
         ensures count { IfOk result (λ n. n ≡ min (min (length (rest_of self.old)) (length to.old)) (most_of self.old)) }

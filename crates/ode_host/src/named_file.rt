@@ -1,10 +1,11 @@
 //! A file that is opened at its first use.
 ghost use Rattle.std.specs.Prelude.{◌≤◌, length, IfOk};
 
-use crate::retry::read_again;
+use crate::retry::read_at_again;
 use std::fs::{File, OpenFile, OpenOptions};
 use std::io;
-use std::io::{ErrorKind, Read, Seek, SeekFrom, Write};
+use std::io::ErrorKind;
+use std::os::unix::fs::FileExt;
 use std::rt::Files;
 
 /// A file, where it was found, and what keeps it from the places of the standard streams.
@@ -52,7 +53,7 @@ fn created<R: Files>(rt: &R, name: &str) -> io::Result<R::File> {
 
 fn open_once<R: Files>(rt: &R, name: &str, opened: &mut Opened<R::File>) -> io::Result<()> {
     if opened.streams.is_none() {
-        opened.streams = take_places(rt).ok();
+        opened.streams = Some(take_places(rt)?);
     }
     if opened.file.is_none() {
         opened.file = found(rt, name)?;
@@ -60,20 +61,12 @@ fn open_once<R: Files>(rt: &R, name: &str, opened: &mut Opened<R::File>) -> io::
     Ok(())
 }
 
-fn read_from<F: Read + Seek>(file: &mut F, at: u64, to: &mut [u8]) -> io::Result<usize>
-    ensures { IfOk result (λ count. count ≤ length to.new) }
-{
-    file.seek(SeekFrom::Start(at))?;
-    read_again(file, to)
-}
-
 // A write of no bytes makes the file as long as one of some bytes does.
-fn write_to<F: Write + Seek + OpenFile>(file: &mut F, at: u64, from: &[u8]) -> io::Result<()> {
+fn write_to<F: FileExt + OpenFile>(file: &F, at: u64, from: &[u8]) -> io::Result<()> {
     if from.is_empty() && file.metadata()?.len() < at {
         return file.set_len(at);
     }
-    file.seek(SeekFrom::Start(at))?;
-    file.write_all(from)
+    file.write_all_at(from, at)
 }
 
 /// Reads at an offset. A missing file has nothing there.
@@ -84,11 +77,13 @@ pub fn read_named<R: Files>(
     at: u64,
     to: &mut [u8],
 ) -> io::Result<usize>
+where
+    R::File: FileExt,
     ensures { IfOk result (λ count. count ≤ length to.new) }
 {
     open_once(rt, name, opened)?;
-    match &mut opened.file {
-        Some(file) => read_from(file, at, to),
+    match &opened.file {
+        Some(file) => read_at_again(file, at, to),
         None => Ok(0),
     }
 }
@@ -100,22 +95,25 @@ pub fn write_named<R: Files>(
     opened: &mut Opened<R::File>,
     at: u64,
     from: &[u8],
-) -> io::Result<()> {
+) -> io::Result<()>
+where
+    R::File: FileExt,
+{
     open_once(rt, name, opened)?;
     if opened.file.is_none() {
         opened.file = Some(created(rt, name)?);
     }
-    match &mut opened.file {
+    match &opened.file {
         Some(file) => write_to(file, at, from),
         None => Ok(()),
     }
 }
 
-/// Makes what was written durable.
+/// Makes what was written durable: the bytes, and the length where it changed.
 pub fn sync_named<R: Files>(rt: &R, name: &str, opened: &mut Opened<R::File>) -> io::Result<()> {
     open_once(rt, name, opened)?;
     match &opened.file {
-        Some(file) => file.sync_all(),
+        Some(file) => file.sync_data(),
         None => Ok(()),
     }
 }

@@ -1,7 +1,7 @@
 //! Reads of as much as there is.
-ghost use Rattle.std.specs.Prelude.{◌≡◌, ◌+◌, ◌-◌, ◌<◌, ◌≤◌, ◌^◌, min, List, ℕ, length, take, drop, IfOk, IsTrue, OnErr};
+ghost use Rattle.std.specs.Prelude.{◌≡◌, ◌+◌, ◌-◌, ◌<◌, ◌≤◌, ◌^◌, min, List, ℕ, length, take, drop, IfOk, IsTrue, IsErr, OnErr};
 ghost use Rattle.std.specs.Bool.{OnTrue};
-ghost use Rattle.ode_host.specs.Causes.{Rose};
+ghost use Rattle.ode_host.specs.Causes.{RoseIf};
 ghost use Rattle.ode_host.specs.Host.{Fetched, FetchedAtMost, Gives, Looks, Tells};
 
 use crate::host::{Failed, Host};
@@ -16,7 +16,7 @@ fn read_more<H: Host>(host: &mut H, at: u64, filled: usize, to: &mut [u8]) -> Re
     ensures looks { Looks (H.view host.old) (H.view host.new) }
     ensures fetched { IfOk result (λ n. Fetched n (H.view host.old) (H.view host.new)) }
     ensures not_fetched { OnErr result (Fetched 0 (H.view host.old) (H.view host.new)) }
-    ensures cause { OnErr result (Rose (H.view host.old).disk_faults (H.view host.new).disk_faults) }
+    ensures cause { RoseIf (IsErr result) (H.view host.old).disk_faults (H.view host.new).disk_faults }
 {
     host.read_at(at + filled as u64, &mut to[filled..])
 }
@@ -32,7 +32,7 @@ pub fn read_whole<H: Host>(host: &mut H, at: u64, to: &mut [u8]) -> Result<usize
     ensures looks { Looks (H.view host.old) (H.view host.new) }
     ensures fetched { IfOk result (λ n. Fetched n (H.view host.old) (H.view host.new)) }
     ensures cut { OnErr result (FetchedAtMost (length to.old) (H.view host.old) (H.view host.new)) }
-    ensures cause { OnErr result (Rose (H.view host.old).disk_faults (H.view host.new).disk_faults) }
+    ensures cause { RoseIf (IsErr result) (H.view host.old).disk_faults (H.view host.new).disk_faults }
 {
     let mut filled = 0;
     while filled < to.len() {
@@ -55,7 +55,7 @@ pub fn read_exact<H: Host>(host: &mut H, at: u64, to: &mut [u8]) -> Result<bool,
     ensures looks { Looks (H.view host.old) (H.view host.new) }
     ensures fetched { IfOk result (λ b. OnTrue b (Fetched (length to.old) (H.view host.old) (H.view host.new))) }
     ensures at_most { FetchedAtMost (length to.old) (H.view host.old) (H.view host.new) }
-    ensures cause { OnErr result (Rose (H.view host.old).disk_faults (H.view host.new).disk_faults) }
+    ensures cause { RoseIf (IsErr result) (H.view host.old).disk_faults (H.view host.new).disk_faults }
 {
     let count = read_whole(host, at, to)?;
     Ok(count == to.len())

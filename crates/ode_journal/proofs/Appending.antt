@@ -198,4 +198,5 @@ puts_both payload frame old mid new is first second = record {
   text = second.text ∙ first.text;
   written = λ some. omega (arith, frame_size payload frame is, first.written some, second.written (first.keeps.told some));
   fetched = λ some. second.fetched (first.keeps.told some) ∙ first.fetched some;
+  print_faults = second.print_faults ∙ first.print_faults;
 }

@@ -1,7 +1,6 @@
 //! A frame is added to a journal.
 ghost use Rattle.std.specs.Prelude.{◌≡◌, ◌<◌, ◌++◌, [], ◌∷◌, ◌↔◌, List, ℕ, OnOk, OnErr, IsErrOf};
-ghost use Rattle.ode_host.specs.Causes.{Rose};
-ghost use Rattle.ode_host.specs.Host.{LeavesOnly, Keeps, Puts};
+ghost use Rattle.ode_host.specs.Host.{DiskCalls, LeavesOnly, Puts};
 
 use crate::error::AppendError;
 use crate::frame::Frame;
@@ -38,9 +37,7 @@ impl Journal {
         ensures full { (need room : ℕ) → IsErrOf result (AppendError.AreaFull need room)
             ↔ ((need ≡ need_of frame.now.payload) × (room ≡ room_of self.old) × (room < need)) }
         ensures untouched { (need room : ℕ) → IsErrOf result (AppendError.AreaFull need room) → host.new ≡ host.old }
-        ensures fault { IsErrOf result AppendError.DiskFault → Rose (H.view host.old).disk_faults (H.view host.new).disk_faults }
-        ensures keeps { Keeps (H.view host.old) (H.view host.new) }
-        ensures text { (H.view host.new).text ≡ (H.view host.old).text }
+        ensures leaves { DiskCalls (IsErrOf result AppendError.DiskFault) (H.view host.old) (H.view host.new) }
     {
         let bytes = frame.as_bytes();
         let need = bytes.len() as u64 + 1;

@@ -3,7 +3,7 @@ ghost use Rattle.std.specs.Prelude.{◌≡◌, ◌+◌, ◌≤◌, ◌<◌, ◌^
 ghost use Rattle.std.specs.Bool.{OnTrue, OnFalse};
 ghost use Rattle.std.specs.Int.{w32, to_be_bytes};
 ghost use Rattle.ode_gate.specs.Gate.{open_gate};
-ghost use Rattle.ode_host.specs.Causes.{Rose};
+ghost use Rattle.ode_host.specs.Causes.{RoseIf};
 ghost use Rattle.ode_host.specs.Fields.{number_at};
 ghost use Rattle.ode_host.specs.Host.{Looks, Tells};
 ghost use Rattle.ode_journal.specs.Answers.{Answers};
@@ -24,7 +24,7 @@ fn is_open<H: Host>(host: &mut H, at: u64, end: u64) -> Result<bool, JournalErro
     ensures bad { (place : ℕ) → IsErrOf result (JournalError.BadJournal place)
         → (place ≡ at) × ((file : List ℕ) → Tells (H.view host.old) file → limit end file ≤ at) }
     ensures looks { Looks (H.view host.old) (H.view host.new) }
-    ensures cause { IsErrOf result JournalError.DiskFault → Rose (H.view host.old).disk_faults (H.view host.new).disk_faults }
+    ensures cause { RoseIf (IsErrOf result JournalError.DiskFault) (H.view host.old).disk_faults (H.view host.new).disk_faults }
 {
     let mut gate = [0u8; 1];
     if at >= end || !read_exact(host, at, &mut gate)? {
@@ -49,7 +49,7 @@ fn read_length<H: Host>(host: &mut H, at: u64, end: u64) -> Result<u32, JournalE
     ensures bad { (place : ℕ) → IsErrOf result (JournalError.BadJournal place)
         → (place ≡ at) × ((file : List ℕ) → Tells (H.view host.old) file → limit end file < at + 5 + number_at w32 file (at + 1)) }
     ensures looks { Looks (H.view host.old) (H.view host.new) }
-    ensures cause { IsErrOf result JournalError.DiskFault → Rose (H.view host.old).disk_faults (H.view host.new).disk_faults }
+    ensures cause { RoseIf (IsErrOf result JournalError.DiskFault) (H.view host.old).disk_faults (H.view host.new).disk_faults }
 {
     let bad = JournalError::BadJournal { at };
     let room = end - at - 1;
@@ -77,7 +77,7 @@ fn read_payload<H: Host>(
     ensures bad { (place : ℕ) → IsErrOf result (JournalError.BadJournal place)
         → (place ≡ at) × ((file : List ℕ) → Tells (H.view host.old) file → length file < at + 5 + count) }
     ensures looks { Looks (H.view host.old) (H.view host.new) }
-    ensures cause { IsErrOf result JournalError.DiskFault → Rose (H.view host.old).disk_faults (H.view host.new).disk_faults }
+    ensures cause { RoseIf (IsErrOf result JournalError.DiskFault) (H.view host.old).disk_faults (H.view host.new).disk_faults }
 {
     let mut payload = vec![in alloc; 0; count as usize]?;
     if !read_exact(host, at + 5, &mut payload)? {
@@ -103,7 +103,7 @@ pub fn next_frame<H: Host>(
     ensures whole { (file : List ℕ) (next : Option (List ℕ)) → Tells (H.view host.old) file → NextIs end at next file → Answers result (Ok next) }
     ensures broken { (file : List ℕ) → Tells (H.view host.old) file → IsBad end at file → Answers result (Err (JournalError.BadJournal at)) }
     ensures looks { Looks (H.view host.old) (H.view host.new) }
-    ensures cause { IsErrOf result JournalError.DiskFault → Rose (H.view host.old).disk_faults (H.view host.new).disk_faults }
+    ensures cause { RoseIf (IsErrOf result JournalError.DiskFault) (H.view host.old).disk_faults (H.view host.new).disk_faults }
 {
     if !is_open(host, at, end)? {
         return Ok(None);
@@ -132,7 +132,7 @@ pub fn scan<H: Host>(
     ensures broken { (file : List ℕ) (place : ℕ) → Tells (H.view host.old) file → IsBroken start end place file
         → Answers result (Err (JournalError.BadJournal place)) }
     ensures looks { Looks (H.view host.old) (H.view host.new) }
-    ensures cause { IsErrOf result JournalError.DiskFault → Rose (H.view host.old).disk_faults (H.view host.new).disk_faults }
+    ensures cause { RoseIf (IsErrOf result JournalError.DiskFault) (H.view host.old).disk_faults (H.view host.new).disk_faults }
 {
     let mut frames = List::new(alloc);
     let mut at = start;

@@ -1,16 +1,16 @@
 //! The trait of keepers.
-ghost use Rattle.std.specs.Prelude.{◌≡◌, ◌<◌, ◌≤◌, ℕ, List, Bool, IfOk, IsTrue, OnOk, length, true};
+ghost use Rattle.std.specs.Prelude.{◌≡◌, ◌<◌, ◌≤◌, ℕ, List, Bool, IfOk, IsErrOf, IsTrue, OnOk, length, true};
 ghost use Rattle.std.specs.List.{All};
 ghost use Rattle.std.specs.Map.{values_of};
 ghost use Rattle.std.specs.Option.{IfSome};
 ghost use Rattle.std.specs.Ordering.{is_le};
-ghost use Rattle.ode_host.specs.Causes.{Rose};
-ghost use Rattle.ode_host.specs.Host.{Keeps, LeavesOnly, Looks, Stands};
+ghost use Rattle.ode_host.specs.Causes.{RoseIf};
+ghost use Rattle.ode_host.specs.Host.{DiskCalls, LeavesOnly, Looks, Stands};
 ghost use Rattle.ode_host.specs.View.{View};
 ghost use Rattle.ode_keep.specs.Entries.{Entries, HasRisingKeys, applied, least_from};
 ghost use Rattle.ode_value.specs.Keys.{key_cmp};
 ghost use Rattle.ode_keep.specs.Entries.{record_bytes, value_under};
-ghost use Rattle.ode_keep.specs.Keeping.{LeavesOldOrNew, OnDamaged, OnDiskFault, OnRefusal, OnTooLarge};
+ghost use Rattle.ode_keep.specs.Keeping.{LeavesOldOrNew, OnDamaged, OnRefusal, OnTooLarge};
 ghost use Rattle.ode_keep.specs.Keeping.{UnlessFault, is_usable};
 
 use crate::batch::Batch;
@@ -43,7 +43,7 @@ pub trait Keep<H: Host> {
             → holds self.new (H.view host.new) entries) }
         ensures looks { Looks (H.view host.old) (H.view host.new) }
         ensures usable { live self.new ≡ is_usable result }
-        ensures fault { OnDiskFault result (Rose (H.view host.old).disk_faults (H.view host.new).disk_faults) }
+        ensures cause { RoseIf (IsErrOf result KeepError.DiskFault) (H.view host.old).disk_faults (H.view host.new).disk_faults }
         ensures damaged { OnDamaged result ((entries : Entries) → holds self.old (H.view host.old) entries → ⊥) }
         ensures too_large { OnTooLarge result (λ _. ⊥) };
 
@@ -57,7 +57,7 @@ pub trait Keep<H: Host> {
             → holds self.new (H.view host.new) entries) }
         ensures looks { Looks (H.view host.old) (H.view host.new) }
         ensures usable { live self.new ≡ is_usable result }
-        ensures fault { OnDiskFault result (Rose (H.view host.old).disk_faults (H.view host.new).disk_faults) }
+        ensures cause { RoseIf (IsErrOf result KeepError.DiskFault) (H.view host.old).disk_faults (H.view host.new).disk_faults }
         ensures damaged { OnDamaged result ((entries : Entries) → holds self.old (H.view host.old) entries → ⊥) }
         ensures too_large { OnTooLarge result (λ _. ⊥) };
 
@@ -77,10 +77,8 @@ pub trait Keep<H: Host> {
         ensures looks { OnRefusal result (Looks (H.view host.old) (H.view host.new)) }
         ensures any_moment { (entries : Entries) → holds self.old (H.view host.old) entries
             → LeavesOnly (H.view host.old) (H.view host.new) (LeavesOldOrNew means entries batch.now (H.view host.old)) }
-        ensures text { (H.view host.new).text ≡ (H.view host.old).text }
-        ensures keeps { Keeps (H.view host.old) (H.view host.new) }
         ensures usable { live self.new ≡ is_usable result }
-        ensures fault { OnDiskFault result (Rose (H.view host.old).disk_faults (H.view host.new).disk_faults) }
+        ensures leaves { DiskCalls (IsErrOf result KeepError.DiskFault) (H.view host.old) (H.view host.new) }
         ensures damaged { OnDamaged result ((entries : Entries) → holds self.old (H.view host.old) entries → ⊥) };
 
     /// What it holds stands on the disk.

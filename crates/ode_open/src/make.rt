@@ -1,11 +1,11 @@
 //! A file is made.
-ghost use Rattle.std.specs.Prelude.{◌≡◌, ◌++◌, [], ◌∷◌, ◌↔◌, List, ℕ, IfErr, IfOk, IsErr, IsErrOf, IsTrue, OnErr, OnOk};
+ghost use Rattle.std.specs.Prelude.{◌≡◌, ◌++◌, [], ◌∷◌, ◌↔◌, List, ℕ, IfErr, IfOk, IsErr, IsErrOf, IsTrue, OnOk};
 ghost use Rattle.ode_gate.specs.Gate.{open_gate};
 ghost use Rattle.ode_gate.specs.Headers.{header_bytes};
 ghost use Rattle.ode_gate.specs.Slots.{HasOpenSlot};
 ghost use Rattle.ode_gate.specs.declared.error.GateError.TheVariants as gate;
-ghost use Rattle.ode_host.specs.Causes.{Rose};
-ghost use Rattle.ode_host.specs.Host.{Keeps, Looks, Stands, Tells, written_over};
+ghost use Rattle.ode_host.specs.Causes.{RoseIf};
+ghost use Rattle.ode_host.specs.Host.{DiskCalls, Looks, Stands, Tells, written_over};
 ghost use Rattle.ode_value.specs.OneIntRecords.{rows};
 ghost use Rattle.ode_value.specs.Records.{snapshot};
 ghost use Rattle.ode_value.specs.OneIntWorld.{empty_one_int_world};
@@ -77,7 +77,7 @@ fn has_open_slot<H: Host>(host: &mut H) -> Result<bool, Failed>
     ensures is_open { IfOk result (λ b.
         (image : List ℕ) → Tells (H.view host.old) image → (IsTrue b ↔ HasOpenSlot image)) }
     ensures looks { Looks (H.view host.old) (H.view host.new) }
-    ensures cause { OnErr result (Rose (H.view host.old).disk_faults (H.view host.new).disk_faults) }
+    ensures cause { RoseIf (IsErr result) (H.view host.old).disk_faults (H.view host.new).disk_faults }
 {
     match read_header(host, &mut [0; 57]) {
         Ok(_) => Ok(true),
@@ -93,7 +93,7 @@ fn is_in_use<H: Host>(host: &mut H) -> Result<bool, Failed>
     ensures in_use { IfOk result (λ b.
         (image : List ℕ) → Tells (H.view host.old) image → (IsTrue b ↔ IsInUse image)) }
     ensures looks { Looks (H.view host.old) (H.view host.new) }
-    ensures cause { OnErr result (Rose (H.view host.old).disk_faults (H.view host.new).disk_faults) }
+    ensures cause { RoseIf (IsErr result) (H.view host.old).disk_faults (H.view host.new).disk_faults }
 {
     if host.size()? > LONGEST {
         return Ok(true);
@@ -105,9 +105,7 @@ fn is_in_use<H: Host>(host: &mut H) -> Result<bool, Failed>
 fn write_body<H: Host>(host: &mut H) -> Result<(), Failed>
     ensures done { OnOk result ((file : List ℕ) → Tells (H.view host.old) file → Tells (H.view host.new)
         (written_over (written_over file 2048 (0 ∷ [])) 4096 (snapshot (rows empty_one_int_world) ++ 0 ∷ []))) }
-    ensures keeps { Keeps (H.view host.old) (H.view host.new) }
-    ensures text { (H.view host.new).text ≡ (H.view host.old).text }
-    ensures cause { OnErr result (Rose (H.view host.old).disk_faults (H.view host.new).disk_faults) }
+    ensures leaves { DiskCalls (IsErr result) (H.view host.old) (H.view host.new) }
 {
     host.write_at(SLOT_1, &[SHUT])?;
     host.write_at(AREA_0, &EMPTY)
@@ -117,10 +115,8 @@ fn write_body<H: Host>(host: &mut H) -> Result<(), Failed>
 fn write_header<H: Host>(host: &mut H) -> Result<(), GateError>
     ensures done { OnOk result ((file : List ℕ) → Tells (H.view host.old) file → Stands
         (written_over (written_over file 1 (header_bytes first_header)) 0 (open_gate ∷ [])) (H.view host.new)) }
-    ensures keeps { Keeps (H.view host.old) (H.view host.new) }
-    ensures text { (H.view host.new).text ≡ (H.view host.old).text }
-    ensures cause { IfErr result (λ e. (e ≡ gate.DiskFault)
-        × Rose (H.view host.old).disk_faults (H.view host.new).disk_faults) }
+    ensures kind { IfErr result (λ e. e ≡ gate.DiskFault) }
+    ensures leaves { DiskCalls (IsErr result) (H.view host.old) (H.view host.new) }
 {
     fill_slot(host, 0, &FIRST, &mut [0; 57])?;
     open_slot(host, 0)
@@ -133,15 +129,13 @@ pub fn initialise<H: Host>(host: &mut H) -> Result<(), InitError>
         → (image : List ℕ) × Stands image (H.view host.new) × IsInitialised (snapshot (rows empty_one_int_world)) file image) }
     ensures holds { OnOk result ((file image : List ℕ) → Tells (H.view host.old) file
         → Tells (H.view host.new) image → Holds image empty_one_int_world) }
-    ensures keeps { Keeps (H.view host.old) (H.view host.new) }
-    ensures text { (H.view host.new).text ≡ (H.view host.old).text }
 
     ensures exists { IsErrOf result InitError.FileExists
         → (file : List ℕ) → Tells (H.view host.old) file → IsInUse file }
     ensures refused { (file : List ℕ) → Tells (H.view host.old) file → IsInUse file → IsErr result }
     ensures looks { IsErrOf result InitError.FileExists → Looks (H.view host.old) (H.view host.new) }
-    ensures cause { IsErrOf result InitError.DiskFault
-        → Rose (H.view host.old).disk_faults (H.view host.new).disk_faults }
+    ensures spared { (file : List ℕ) → Tells (H.view host.old) file → IsInUse file → Looks (H.view host.old) (H.view host.new) }
+    ensures leaves { DiskCalls (IsErrOf result InitError.DiskFault) (H.view host.old) (H.view host.new) }
 {
     if is_in_use(host)? {
         return Err(InitError::FileExists);

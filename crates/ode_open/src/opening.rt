@@ -7,7 +7,7 @@ ghost use Rattle.ode_areas.specs.Rows.{FitsRow};
 ghost use Rattle.ode_first_records.specs.State.{world_of};
 ghost use Rattle.ode_gate.specs.Headers.{IsHeader};
 ghost use Rattle.ode_gate.specs.Slots.{Counts, HasOpenSlot};
-ghost use Rattle.ode_host.specs.Causes.{Rose};
+ghost use Rattle.ode_host.specs.Causes.{RoseIf};
 ghost use Rattle.ode_host.specs.Host.{Looks, Stands, Tells};
 ghost use Rattle.ode_keep.specs.Entries.{Entries, record_bytes};
 ghost use Rattle.ode_value.specs.OneIntGood.{IsOneIntGood};
@@ -48,7 +48,7 @@ fn start_areas<H: Host>(alloc: Global, host: &mut H, header: &Header) -> Result<
         → HasMap header.now file entries → header.now.layout ≡ 1 → record_bytes entries ≤ 8388608 → ⊥ }
     ensures is_there { IsErrOf result OpenError.NoDatabase → ⊥ }
     ensures looks { Looks (H.view host.old) (H.view host.new) }
-    ensures cause { IsErrOf result OpenError.DiskFault → Rose (H.view host.old).disk_faults (H.view host.new).disk_faults }
+    ensures cause { RoseIf (IsErrOf result OpenError.DiskFault) (H.view host.old).disk_faults (H.view host.new).disk_faults }
 {
     if header.layout != TWO_AREAS {
         return Err(OpenError::Bad);
@@ -77,7 +77,7 @@ fn read_world<H: Host, K: Keep<H>>(
     ensures live { OnOk result (IsTrue (K.live keeper.new)) }
     ensures is_there { IsErrOf result OpenError.NoDatabase → ⊥ }
     ensures looks { Looks (H.view host.old) (H.view host.new) }
-    ensures cause { IsErrOf result OpenError.DiskFault → Rose (H.view host.old).disk_faults (H.view host.new).disk_faults }
+    ensures cause { RoseIf (IsErrOf result OpenError.DiskFault) (H.view host.old).disk_faults (H.view host.new).disk_faults }
 {
     let bytes = snapshot_of(alloc, keeper, host)?;
     match decode(alloc, &bytes)? {
@@ -102,7 +102,7 @@ pub fn open<H: Host>(alloc: Global, host: &mut H) -> Result<Opened, OpenError>
     ensures opened { IsErrOf result OpenError.Bad → (image : List ℕ) → Tells (H.view host.old) image → HasOpenSlot image }
     ensures bad { IsErrOf result OpenError.Bad → (image : List ℕ) (w : OneIntWorld) → Stands image (H.view host.old) → ¬ Holds image w }
     ensures looks { Looks (H.view host.old) (H.view host.new) }
-    ensures cause { IsErrOf result OpenError.DiskFault → Rose (H.view host.old).disk_faults (H.view host.new).disk_faults }
+    ensures cause { RoseIf (IsErrOf result OpenError.DiskFault) (H.view host.old).disk_faults (H.view host.new).disk_faults }
 {
     let header = read_header(host, &mut [0; 57])?;
     let mut keeper = start_areas(alloc, host, &header)?;

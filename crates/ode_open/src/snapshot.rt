@@ -4,7 +4,7 @@ ghost use Rattle.std.specs.List.{AllByRecursion};
 ghost use Rattle.std.specs.Option.{IfSome};
 ghost use Rattle.std.specs.Ordering.{is_le};
 ghost use Rattle.ode_areas.specs.Rows.{FitsRow};
-ghost use Rattle.ode_host.specs.Causes.{Rose};
+ghost use Rattle.ode_host.specs.Causes.{RoseIf};
 ghost use Rattle.ode_host.specs.Host.{Looks};
 ghost use Rattle.ode_keep.specs.Entries.{Entries};
 ghost use Rattle.ode_value.specs.Keys.{key_cmp};
@@ -81,7 +81,7 @@ fn first_from<H: Host, K: Keep<H>>(
     ensures bad { IsErrOf result OpenError.Bad → (entries : Entries) → K.holds keeper.old (H.view host.old) entries → ⊥ }
     ensures is_there { IsErrOf result OpenError.NoDatabase → ⊥ }
     ensures looks { Looks (H.view host.old) (H.view host.new) }
-    ensures cause { IsErrOf result OpenError.DiskFault → Rose (H.view host.old).disk_faults (H.view host.new).disk_faults }
+    ensures cause { RoseIf (IsErrOf result OpenError.DiskFault) (H.view host.old).disk_faults (H.view host.new).disk_faults }
 {
     let Some(least) = keeper.keys_from(host, key)? else {
         return Ok(None);
@@ -108,7 +108,7 @@ pub(crate) fn snapshot_of<H: Host, K: Keep<H>>(
     ensures bad { IsErrOf result OpenError.Bad → (entries : Entries) → K.holds keeper.old (H.view host.old) entries → ⊥ }
     ensures is_there { IsErrOf result OpenError.NoDatabase → ⊥ }
     ensures looks { Looks (H.view host.old) (H.view host.new) }
-    ensures cause { IsErrOf result OpenError.DiskFault → Rose (H.view host.old).disk_faults (H.view host.new).disk_faults }
+    ensures cause { RoseIf (IsErrOf result OpenError.DiskFault) (H.view host.old).disk_faults (H.view host.new).disk_faults }
 {
     let mut bytes = Vec::new(alloc);
     let mut from = Some(LEAST);

@@ -41,12 +41,6 @@ pub record Takes (old new : Reader) (b : ℕ) : Type 0 where
   pub allowed : new.allowed ≡ old.allowed - 1
   pub line : new.line ≡ line_after old.line b
 
--- the first of the bytes that are left was taken
-abbrev pub TakesByte : (rest : List ℕ) (new : Reader) (source : Option (List ℕ)) → Result (Option ℕ) ScriptError → Type 0
-TakesByte rest new source (Ok None) = (rest ≡ []) × HasLeft new source []
-TakesByte rest new source (Ok (Some b)) = (more : List ℕ) × (rest ≡ b ∷ more) × HasLeft new source more
-TakesByte rest new source (Err e) = Stops rest e
-
 -- what an error says of the pieces that are left
 abbrev pub EndsBy : Pieces → ScriptError → Type 0
 EndsBy pieces E.LongScript = pieces ≡ Ended LongScript

@@ -1,7 +1,7 @@
 //! Statements from a source.
-ghost use Rattle.std.specs.Prelude.{◌≡◌, ◌≤◌, ◌<◌, ◌+◌, ◌-◌, ◌^◌, ℕ, length, OnOk, IfOk, OnErr, IfErr, [], Some};
+ghost use Rattle.std.specs.Prelude.{◌≡◌, ◌≤◌, ◌<◌, ◌+◌, ◌-◌, ◌^◌, ℕ, length, OnOk, IfOk, IsErr, IfErr, [], Some};
 ghost use Rattle.ode_script.specs.Pieces.{is_blank, is_outside, place_after, depth_after, begun, with_byte, ends, has_code, last_piece};
-ghost use Rattle.ode_host.specs.Causes.{Rose};
+ghost use Rattle.ode_host.specs.Causes.{RoseIf};
 
 use ode_host::Source;
 use ode_value::List;
@@ -200,7 +200,7 @@ pub struct Reader {
 impl Reader {
     ghost use Rattle.std.specs.Prelude.{List as Items, IfSome, ◌∷◌};
     ghost use Rattle.ode_script.specs.Pieces.{script_limit};
-    ghost use Rattle.ode_script.specs.Left.{HasLeft, IsNext, Shows, Takes, TakesByte, SkipsBlanks, TakesPiece, IsStatement, IsWithin, held};
+    ghost use Rattle.ode_script.specs.Left.{HasLeft, IsNext, Shows, Takes, SkipsBlanks, TakesPiece, IsStatement, IsWithin, held};
 
     /// A reader at a script's first byte.
     pub fn new(alloc: Global) -> Reader
@@ -226,8 +226,7 @@ impl Reader {
             → OnOk result (self.new.end ≤ self.new.at → rest ≡ []) }
         ensures allowed { self.new.allowed ≡ self.old.allowed }
         ensures line { self.new.line ≡ self.old.line }
-        ensures later { S.faults source.old ≤ S.faults source.new }
-        ensures fault { OnErr result (Rose (S.faults source.old) (S.faults source.new)) }
+        ensures cause { RoseIf (IsErr result) (S.faults source.old) (S.faults source.new) }
         ensures kind { IfErr result (λ e. e ≡ ScriptError.ReadFault) }
     {
         if self.at < self.end {
@@ -250,9 +249,9 @@ impl Reader {
         ensures next { IfOk result (λ byte. IfSome byte (IsNext self.new)) }
         ensures allowed { self.new.allowed ≡ self.old.allowed }
         ensures line { self.new.line ≡ self.old.line }
-        ensures later { S.faults source.old ≤ S.faults source.new }
-        ensures fault { result ≡ Err ScriptError.ReadFault → Rose (S.faults source.old) (S.faults source.new) }
+        ensures cause { RoseIf (result ≡ Err ScriptError.ReadFault) (S.faults source.old) (S.faults source.new) }
         ensures long { result ≡ Err ScriptError.LongScript → self.new.allowed ≡ 0 }
+        ensures no_memory { result ≡ Err ScriptError.Memory → ⊥ }
     {
         self.fill(source)?;
         if self.at >= self.end {
@@ -277,33 +276,14 @@ impl Reader {
         }
     }
 
-    // The next byte, which is taken.
-    fn next_byte<S: Source>(&mut self, source: &mut S) -> Result<Option<u8>, ScriptError>
-        ensures byte { (rest : Items ℕ) → HasLeft self.old (S.left source.old) rest
-            → TakesByte rest self.new (S.left source.new) result }
-        ensures takes { IfOk result (λ byte. IfSome byte (Takes self.old self.new)) }
-        ensures allowed { self.new.allowed ≤ self.old.allowed }
-        ensures later { S.faults source.old ≤ S.faults source.new }
-        ensures fault { result ≡ Err ScriptError.ReadFault → Rose (S.faults source.old) (S.faults source.new) }
-        ensures long { result ≡ Err ScriptError.LongScript → (self.old.allowed ≡ 0) × (self.new.allowed ≡ 0) }
-    {
-        match self.peek(source)? {
-            Some(b) => {
-                self.take(b);
-                Ok(Some(b))
-            }
-            None => Ok(None),
-        }
-    }
-
     // Takes the blanks before the next piece.
     fn skip_blanks<S: Source>(&mut self, source: &mut S) -> Result<(), ScriptError>
         ensures blanks { (rest : Items ℕ) → HasLeft self.old (S.left source.old) rest
             → SkipsBlanks rest self.old self.new (S.left source.new) result }
         ensures allowed { self.new.allowed ≤ self.old.allowed }
-        ensures later { S.faults source.old ≤ S.faults source.new }
-        ensures fault { result ≡ Err ScriptError.ReadFault → Rose (S.faults source.old) (S.faults source.new) }
+        ensures cause { RoseIf (result ≡ Err ScriptError.ReadFault) (S.faults source.old) (S.faults source.new) }
         ensures long { result ≡ Err ScriptError.LongScript → self.new.allowed ≡ 0 }
+        ensures no_memory { result ≡ Err ScriptError.Memory → ⊥ }
     {
         while let Some(b) = self.peek(source)? {
             if !is_blank(b) {
@@ -314,22 +294,24 @@ impl Reader {
         Ok(())
     }
 
-    /// The next piece of the script, in whatever chunks its bytes come. After an error the reader isn't used again.
+    /// The next piece of the script, in whatever chunks its bytes come. After an error the reader isn't used again. A byte
+    /// is kept before it is taken, so that want of memory never stands in place of a script that is too long.
     pub fn read_statement<S: Source>(&mut self, source: &mut S) -> Result<Piece, ScriptError>
         ensures piece { (rest : Items ℕ) → HasLeft self.old (S.left source.old) rest
             → TakesPiece rest self.old self.new (S.left source.new) result }
         ensures fewer { IfOk result (λ piece. IsStatement piece → self.new.allowed < self.old.allowed) }
         ensures short { IfOk result (IsWithin self.old.allowed) }
         ensures later_allowed { self.new.allowed ≤ self.old.allowed }
-        ensures later { S.faults source.old ≤ S.faults source.new }
-        ensures fault { result ≡ Err ScriptError.ReadFault → Rose (S.faults source.old) (S.faults source.new) }
+        ensures cause { RoseIf (result ≡ Err ScriptError.ReadFault) (S.faults source.old) (S.faults source.new) }
         ensures long { result ≡ Err ScriptError.LongScript → self.new.allowed ≡ 0 }
+        ensures memory { result ≡ Err ScriptError.Memory → 0 < self.new.allowed }
     {
         self.skip_blanks(source)?;
         let mut part = Part::new(self.alloc, self.line);
-        while let Some(b) = self.next_byte(source)? {
+        while let Some(b) = self.peek(source)? {
             let is_last = part.ends(b);
             part.push(b)?;
+            self.take(b);
             if is_last {
                 return Ok(part.into_statement());
             }

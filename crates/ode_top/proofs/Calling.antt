@@ -56,7 +56,7 @@ module _ (image text : List ℕ) (old : View) (text_stands : (c o : List ℕ) �
       one_call Nothing old new P looks.time
       (λ d e c o left same. subst (λ (f : List ℕ). P f o) (sym same.0) (subst (λ (t : List ℕ). P d t) (sym same.1) (now_leaves P has d e left)))
 
-some_of : {A : Type 0} (o : Option A) → IsSome o → (x : A) × (o ≡ Some x)
+pub some_of : {A : Type 0} (o : Option A) → IsSome o → (x : A) × (o ≡ Some x)
 some_of None is = absurd (cc (is))
 some_of (Some x) is = (x, refl)
 

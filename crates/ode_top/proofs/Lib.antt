@@ -1,5 +1,6 @@
 pub mod AfterSome
 pub mod Calling
 pub mod CarriesPieces
+pub mod Leaving
 pub mod Runs
 pub mod Settles

@@ -1,7 +1,7 @@
 -- What a call of the program is answered with.
 use Rattle.std.specs.Prelude.{◌≡◌, ◌⊎◌, ℕ, List, ◌++◌, take, Option, Some, codes}
 use Rattle.ode_gate.specs.Slots.{HasOpenSlot}
-use Rattle.ode_host.specs.Host.{Stands, Tells}
+use Rattle.ode_host.specs.Host.{Spares, Stands, Tells}
 use Rattle.ode_host.specs.View.{View}
 use Rattle.ode_host.specs.declared.status.Status.{Status}
 use Rattle.ode_host.specs.declared.status.Status.TheVariants as status
@@ -107,3 +107,21 @@ IsNoRun status.Usage = ⊥
 IsNoRun status.ReadFault = ⊥
 IsNoRun status.LongStatement = ⊥
 IsNoRun status.LongScript = ⊥
+
+-- the statuses that have no line of their own, where nothing was run
+abbrev pub IsSilent : Status → Type 0
+IsSilent status.DiskFault = Unit {0}
+IsSilent status.Memory = Unit {0}
+IsSilent status.Ok = ⊥
+IsSilent status.Refused = ⊥
+IsSilent status.Usage = ⊥
+IsSilent status.BadFile = ⊥
+IsSilent status.ReadFault = ⊥
+IsSilent status.WriteFault = ⊥
+IsSilent status.LongStatement = ⊥
+IsSilent status.LongScript = ⊥
+
+-- Nothing was written, whatever the status, and nothing was printed where the status has no line of its own.
+pub record IsIdle (status : Status) (old new : View) : Type 0 where
+  pub spares : Spares old new
+  pub silent : IsSilent status → new.text ≡ old.text

@@ -2,8 +2,8 @@
 ghost use Rattle.std.specs.Prelude.{◌≡◌, ◌≢◌, ◌≤◌, ◌<◌, ◌^◌, ◌++◌, ◌⊎◌, ℕ, List as Items, IsTrue, length, Some, OnOk, OnErr, IfOk};
 ghost use Rattle.ode_first_records.specs.State.{world_of};
 ghost use Rattle.ode_engine.specs.Carried.{outcome_of, Keeps as StateKeeps};
-ghost use Rattle.ode_host.specs.Causes.{Rose};
-ghost use Rattle.ode_host.specs.Host.{Keeps, LeavesCut, LeavesOnly, Printed, Stands};
+ghost use Rattle.ode_host.specs.Causes.{RoseIf};
+ghost use Rattle.ode_host.specs.Host.{HostCalls, LeavesCut, LeavesOnly, Printed, Stands};
 ghost use Rattle.ode_value.specs.OneIntGood.{IsOneIntGood};
 ghost use Rattle.ode_value.specs.OneIntRecords.{rows};
 ghost use Rattle.ode_value.specs.Texts.{refused_line};
@@ -32,11 +32,9 @@ fn print_refusal<H: Host>(
     ensures any_moment { (file text : Items ℕ) → Stands file (H.view host.old) → (H.view host.old).text ≡ Some text
         → LeavesOnly (H.view host.old) (H.view host.new) (LeavesCut file text (refused_line line refusal.now)) }
     ensures stands { (file : Items ℕ) → Stands file (H.view host.old) → Stands file (H.view host.new) }
-    ensures told { (text : Items ℕ) → (H.view host.old).text ≡ Some text → (out : Items ℕ) × ((H.view host.new).text ≡ Some out) }
-    ensures keeps { Keeps (H.view host.old) (H.view host.new) }
+    ensures leaves { HostCalls (result ≡ Err Halt.DiskFault) (result ≡ Err Halt.WriteFault) (H.view host.old) (H.view host.new) }
     ensures disk { result ≡ Err Halt.DiskFault → ⊥ }
     ensures undamaged { result ≡ Err Halt.Damaged → ⊥ }
-    ensures print { result ≡ Err Halt.WriteFault → Rose (H.view host.old).print_faults (H.view host.new).print_faults }
 {
     let text = refused_line(alloc, line, refusal)?;
     match host.print(&text) {
@@ -78,13 +76,10 @@ pub fn carry_out<H: Host, K: Keep<H>>(
         (world_of state.old) (world_of state.new) (H.view host.old) (H.view host.new)) }
     ensures any_moment { (more : Items Done) (said : Items ℕ) → Serves (K.holds keeper.old) (H.view host.old) (world_of state.old) said
         → LeavesOnly (H.view host.old) (H.view host.new) (IsAfterSome K.means (piece_items (world_of state.old) line text.now ++ more) (world_of state.old) said) }
-    ensures told { (said : Items ℕ) → (H.view host.old).text ≡ Some said → (out : Items ℕ) × ((H.view host.new).text ≡ Some out) }
     ensures live { OnOk result (IsTrue (K.live keeper.new)) }
     ensures good { OnOk result (IsOneIntGood (world_of state.new)) }
     ensures undamaged { result ≡ Err Halt.Damaged → K.holds keeper.old (H.view host.old) (rows (world_of state.old)) → ⊥ }
-    ensures keeps { Keeps (H.view host.old) (H.view host.new) }
-    ensures disk { result ≡ Err Halt.DiskFault → Rose (H.view host.old).disk_faults (H.view host.new).disk_faults }
-    ensures print { result ≡ Err Halt.WriteFault → Rose (H.view host.old).print_faults (H.view host.new).print_faults }
+    ensures leaves { HostCalls (result ≡ Err Halt.DiskFault) (result ≡ Err Halt.WriteFault) (H.view host.old) (H.view host.new) }
 {
     let item = evaluate(alloc, state, text)?;
     match &item {
@@ -141,14 +136,10 @@ pub fn run_script<H: Host, K: Keep<H>, S: Source>(
         → IsEnding result → RanAs (K.holds keeper.new) (pieces script) (world_of state) text (S.left source.new) (H.view host.new) result }
     ensures any_moment { (script text : Items ℕ) → S.left source.old ≡ Some script → Serves (K.holds keeper.old) (H.view host.old) (world_of state) text
         → LeavesOnly (H.view host.old) (H.view host.new) (IsAfterSome K.means (run_items (world_of state) script) (world_of state) text) }
-    ensures told { (text : Items ℕ) → (H.view host.old).text ≡ Some text → (out : Items ℕ) × ((H.view host.new).text ≡ Some out) }
     ensures answers { K.holds keeper.old (H.view host.old) (rows (world_of state)) → IsRunStatus result }
     ensures statuses { IsRunStatus result ⊎ (result ≡ Status.BadFile) }
-    ensures keeps { Keeps (H.view host.old) (H.view host.new) }
-    ensures later { S.faults source.old ≤ S.faults source.new }
-    ensures disk { result ≡ Status.DiskFault → Rose (H.view host.old).disk_faults (H.view host.new).disk_faults }
-    ensures read { result ≡ Status.ReadFault → Rose (S.faults source.old) (S.faults source.new) }
-    ensures print { result ≡ Status.WriteFault → Rose (H.view host.old).print_faults (H.view host.new).print_faults }
+    ensures leaves { HostCalls (result ≡ Status.DiskFault) (result ≡ Status.WriteFault) (H.view host.old) (H.view host.new) }
+    ensures reads { RoseIf (result ≡ Status.ReadFault) (S.faults source.old) (S.faults source.new) }
 {
     let mut reader = Reader::new(alloc);
     let mut refused = false;

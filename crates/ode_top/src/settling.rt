@@ -1,8 +1,7 @@
 //! A transaction is settled: its changes first, then its text.
 ghost use Rattle.std.specs.Prelude.{◌≡◌, ◌≢◌, ◌≤◌, ℕ, List as Items, IsTrue, OnOk, Some};
 ghost use Rattle.ode_engine.specs.Puts.{IsSmall};
-ghost use Rattle.ode_host.specs.Causes.{Rose};
-ghost use Rattle.ode_host.specs.Host.{Keeps, LeavesOnly, Printed};
+ghost use Rattle.ode_host.specs.Host.{HostCalls, LeavesOnly, Printed};
 ghost use Rattle.ode_keep.specs.Entries.{Entries, applied, record_bytes};
 ghost use Rattle.ode_top.specs.Serves.{LeavesSettling};
 
@@ -60,13 +59,10 @@ pub fn settle<H: Host, K: Keep<H>>(
     ensures printed { OnOk result (Printed settled.now.text.items (H.view host.old) (H.view host.new)) }
     ensures any_moment { (entries : Entries) (text : Items ℕ) → K.holds keeper.old (H.view host.old) entries → (H.view host.old).text ≡ Some text
         → LeavesOnly (H.view host.old) (H.view host.new) (LeavesSettling K.means entries settled.now.batch text settled.now.text.items) }
-    ensures told { (text : Items ℕ) → (H.view host.old).text ≡ Some text → (out : Items ℕ) × ((H.view host.new).text ≡ Some out) }
     ensures live { OnOk result (IsTrue (K.live keeper.new)) }
     ensures undamaged { result ≡ Err Halt.Damaged → (entries : Entries) → K.holds keeper.old (H.view host.old) entries
         → record_bytes (applied settled.now.batch entries) ≤ 16777216 → ⊥ }
-    ensures keeps { Keeps (H.view host.old) (H.view host.new) }
-    ensures disk { result ≡ Err Halt.DiskFault → Rose (H.view host.old).disk_faults (H.view host.new).disk_faults }
-    ensures print { result ≡ Err Halt.WriteFault → Rose (H.view host.old).print_faults (H.view host.new).print_faults }
+    ensures leaves { HostCalls (result ≡ Err Halt.DiskFault) (result ≡ Err Halt.WriteFault) (H.view host.old) (H.view host.new) }
 {
     keeper.commit(host, &settled.batch)?;
     match host.print(&settled.text) {

@@ -1,4 +1,4 @@
-use Rattle.std.proofs.Common.{◌≡◌, ℕ, length, Err, ap, sym, subst, rules}
+use Rattle.std.proofs.Common.{◌≡◌, ◌∙◌, ℕ, length, Err, refl, ⊎_elim, ap, sym, subst, rules}
 use Rattle.std.proofs.lemmas.Bool.{OnFalse_at, OnTrue_at}
 use Rattle.std.proofs.lemmas.Result.{err_from_is_err_and}
 use Rattle.ode_host.proofs.Moments.{looks_joined, looks_none, tells_looks}
@@ -12,6 +12,7 @@ use Rattle.ode_areas.proofs.frames.replay_frames.Goals as goal
 pub frames-init : goal.frames-init
 frames-init g c = record {
   looks = looks_none (g.H.Host.view c.args.host.now);
+  faults = refl;
   so_far = λ file tells. none_yet c.args.start c.args.end c.args.map.now file;
 }
 
@@ -47,6 +48,7 @@ frames-preserved g c =
     let made = OnTrue_at c.if-not-branch.false c.in_ok-replay.ensures.whole in
     record {
       looks = looks_joined _ _ _ so_far.looks c.next_frame.ensures.looks;
+      faults = ⊎_elim (λ err. cc (err)) (λ same. same ∙ so_far.faults) c.in_ok-payload.ensures.cause.calm;
       so_far = λ file tells.
           let here : IsFramed c.args.end c.frames.at c.in-Some.payload file = (rw c.in-Some.is at c.in_ok-payload.ensures.found) file (tells_looks file _ _ so_far.looks tells) in
           let form : IsPayload made.0 c.in-Some.payload = rw (← c.as_slice.ensures) made.1 in

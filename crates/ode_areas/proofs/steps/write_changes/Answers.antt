@@ -31,5 +31,5 @@ returns-in_ok-move_over-in-Some-clause-any_moment g c entries changes stand move
     let new = g.H.Host.view c.add_frame-in-Some.new.host in
     let now = c.in_ok-move_over-in-Some.ensures.moved c.args.header.now c.args.journal.now entries stand m in
     joined old mid new (LeavesOldOrNew AreasMean entries changes old) first
-    (weaker mid new (LeavesOldOrNew AreasMean entries changes mid) (LeavesOldOrNew AreasMean entries changes old) (text_back entries changes old mid c.move_over.ensures.text)
+    (weaker mid new (LeavesOldOrNew AreasMean entries changes mid) (LeavesOldOrNew AreasMean entries changes old) (text_back entries changes old mid c.move_over.ensures.leaves.text)
     (c.add_frame-in-Some.ensures.any_moment h.header entries changes now is))

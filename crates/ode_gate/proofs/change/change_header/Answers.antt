@@ -26,7 +26,7 @@ returns-in_err-fill_slot-clause-any_moment g c image older follows stands =
     (λ opened. c.in_ok-close_slot.ensures.closed image stands.tells opened) in
     joined old mid new (LeavesHeader image older h old) so_far
     (weaker mid new (LeavesTorn (place_of h.slot + 1) 56 now.now mid) (LeavesHeader image older h old)
-    (fills image older h follows is_slot old mid now c.close_slot.ensures.text) (c.fill_slot.ensures.any_moment now.now now.stands))
+    (fills image older h follows is_slot old mid now c.close_slot.ensures.leaves.text) (c.fill_slot.ensures.any_moment now.now now.stands))
 
 pub returns-clause-any_moment : goal.returns-clause-any_moment
 returns-clause-any_moment g c image older follows stands =
@@ -42,11 +42,11 @@ returns-clause-any_moment g c image older follows stands =
     (λ opened. c.in_ok-close_slot.ensures.closed image stands.tells opened) in
     let further = joined old mid full (LeavesHeader image older h old) so_far
     (weaker mid full (LeavesTorn (place_of h.slot + 1) 56 now.now mid) (LeavesHeader image older h old)
-    (fills image older h follows is_slot old mid now c.close_slot.ensures.text) (c.fill_slot.ensures.any_moment now.now now.stands)) in
+    (fills image older h follows is_slot old mid now c.close_slot.ensures.leaves.text) (c.fill_slot.ensures.any_moment now.now now.stands)) in
     let filled_now = filled image older h follows is_slot mid full now (c.in_ok-fill_slot.ensures.filled now.now now.stands.tells) in
     joined old full new (LeavesHeader image older h old) further
     (weaker full new (LeavesTorn (place_of h.slot) 1 filled_now.now full) (LeavesHeader image older h old)
-    (opens_slot image older h follows is_slot old full filled_now (c.fill_slot.ensures.puts.text ∙ c.close_slot.ensures.text)) (c.open_slot.ensures.any_moment filled_now.now filled_now.stands))
+    (opens_slot image older h follows is_slot old full filled_now (c.fill_slot.ensures.puts.text ∙ c.close_slot.ensures.leaves.text)) (c.open_slot.ensures.any_moment filled_now.now filled_now.stands))
 
 pub returns-clause-changed : goal.returns-clause-changed
 returns-clause-changed g c =

@@ -24,3 +24,11 @@ returns-clause-any_moment g c image stands =
     let long : length (take 56 (drop 1 c.fill.new.buffer)) ≡ 56 = ap length (behind c.fill.new.buffer c.args.h.now c.fill.ensures) ∙ length-header_bytes c.args.h.now in
     subst (λ (k : ℕ). LeavesOnly old new (LeavesTorn (k + 1) 56 image old)) c.place_of.ensures
     (subst (λ (n : ℕ). LeavesOnly old new (LeavesTorn (c.place_of.result + 1) n image old)) long (c.write_synced.ensures.any_moment image stands))
+
+pub returns-in_err-write_synced-clause-any_moment : goal.returns-in_err-write_synced-clause-any_moment
+returns-in_err-write_synced-clause-any_moment g c image stands =
+    let old = g.H.Host.view c.args.host.now in
+    let new = g.H.Host.view c.write_synced.new.host in
+    let long : length (take 56 (drop 1 c.fill.new.buffer)) ≡ 56 = ap length (behind c.fill.new.buffer c.args.h.now c.fill.ensures) ∙ length-header_bytes c.args.h.now in
+    subst (λ (k : ℕ). LeavesOnly old new (LeavesTorn (k + 1) 56 image old)) c.place_of.ensures
+    (subst (λ (n : ℕ). LeavesOnly old new (LeavesTorn (c.place_of.result + 1) n image old)) long (c.write_synced.ensures.any_moment image stands))

@@ -1,5 +1,5 @@
 use Rattle.std.proofs.lemmas.Result.{err_from_is_err_and}
-use Rattle.std.proofs.Common.{◌≡◌, arith}
+use Rattle.std.proofs.Common.{◌≡◌, ◌∙◌, ⊎_elim, arith}
 use Rattle.ode_host.proofs.Moments.{looks_joined, tells_looks}
 use Rattle.ode_host.proofs.Filling.{took_more, is_all, at_end}
 use Rattle.ode_host.proofs.whole.read_whole.Goals as goal
@@ -26,6 +26,7 @@ loop-filled-preserved g c =
       within = omega (arith, c.read_more.auto.to, c.in_ok-count.ensures.bound);
       looks = looks_joined (view c.args.host.now) (view c.loop-filled.host) (view c.read_more.new.host) so_far.looks c.read_more.ensures.looks;
       fetched = λ some. omega (arith, so_far.fetched some, c.in_ok-count.ensures.fetched (so_far.looks.keeps.told some));
+      faults = ⊎_elim (λ err. cc (err)) (λ same. same ∙ so_far.faults) c.in_ok-count.ensures.cause.calm;
       bytes = λ file tells.
           took_more c.args.at c.loop-filled.filled c.in_ok-count.count c.loop-filled.to c.read_more.new.to file (so_far.bytes file tells) c.read_more.ensures.before
           (c.in_ok-count.ensures.gives.bytes file (tells_looks file _ _ so_far.looks tells));

@@ -7,6 +7,7 @@ invariant-loop-filled g l = record {
   within : l.filled ≤ length l.to;
   looks : Looks (g.H.Host.view l.initial.host) (g.H.Host.view l.host);
   fetched : Fetched l.filled (g.H.Host.view l.initial.host) (g.H.Host.view l.host);
+  faults : (g.H.Host.view l.host).disk_faults ≡ (g.H.Host.view l.initial.host).disk_faults;
   bytes : (file : List ℕ) → Tells (g.H.Host.view l.initial.host) file → take l.filled l.to ≡ take l.filled (drop l.at file);
 }
 

@@ -1,4 +1,4 @@
-use Rattle.std.proofs.Common.{◌≡◌, List, ℕ, length, Err, Ok, ap, subst, arith, rules}
+use Rattle.std.proofs.Common.{◌≡◌, List, ℕ, length, Err, Ok, ⊎_elim, ◌∙◌, ap, subst, arith, rules}
 use Rattle.std.proofs.lemmas.Result.{err_from_is_err_and}
 use Rattle.ode_host.proofs.Moments.{looks_joined, tells_looks}
 use Rattle.ode_journal.specs.declared.error.JournalError.TheVariants.{BadJournal}
@@ -68,6 +68,7 @@ frames-preserved g c =
     let len : c.len.result ≡ length payload = search rules in
     record {
       looks = looks_joined _ _ _ so_far.looks c.next_frame.ensures.looks;
+      faults = ⊎_elim (λ err. cc (err)) (λ same. same ∙ so_far.faults) c.in_ok-next_frame.ensures.cause.calm;
       place = rw items (omega (arith, so_far.place, len, gate_behind-push c.args.start frames payload));
       so_far = λ file tells.
           let next : IsFramed c.args.end c.frames.at payload file = (rw c.in-Some.is at c.in_ok-next_frame.ensures.found) file (tells_looks file _ _ so_far.looks tells) in

@@ -6,6 +6,7 @@ use Rattle.ode_journal.proofs.reading.scan.Given as goal
 abbrev pub invariant-frames : goal.invariant-frames
 invariant-frames g l = record {
   looks : Looks (g.H.Host.view l.initial.host) (g.H.Host.view l.host);
+  faults : (g.H.Host.view l.host).disk_faults ≡ (g.H.Host.view l.initial.host).disk_faults;
   place : l.at ≡ gate_behind l.start l.frames;
   so_far : (file : List ℕ) → Tells (g.H.Host.view l.initial.host) file → HasFrames l.start l.end l.frames file;
 }

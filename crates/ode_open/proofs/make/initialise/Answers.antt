@@ -26,3 +26,21 @@ returns-clause-refused g c file tells in_use =
     let yes = (c.in_ok-is_in_use.ensures.in_use file tells).1 in_use in
     let no = c.if-branch.false in
     cc (yes, no)
+
+pub returns-in_err-write_body-clause-spared : goal.returns-in_err-write_body-clause-spared
+returns-in_err-write_body-clause-spared g c file tells in_use =
+    let yes = (c.in_ok-is_in_use.ensures.in_use file tells).1 in_use in
+    let no = c.if-branch.false in
+    cc (yes, no)
+
+pub returns-in_err-write_header-clause-spared : goal.returns-in_err-write_header-clause-spared
+returns-in_err-write_header-clause-spared g c file tells in_use =
+    let yes = (c.in_ok-is_in_use.ensures.in_use file tells).1 in_use in
+    let no = c.if-branch.false in
+    cc (yes, no)
+
+pub returns-clause-spared : goal.returns-clause-spared
+returns-clause-spared g c file tells in_use =
+    let yes = (c.in_ok-is_in_use.ensures.in_use file tells).1 in_use in
+    let no = c.if-branch.false in
+    cc (yes, no)

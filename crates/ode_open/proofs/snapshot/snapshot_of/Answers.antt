@@ -1,4 +1,4 @@
-use Rattle.std.proofs.Common.{Option, subst, arith}
+use Rattle.std.proofs.Common.{◌∙◌, ⊎_elim, Option, subst, arith}
 use Rattle.ode_host.proofs.Moments.{looks_joined}
 use Rattle.ode_areas.specs.Rows.{FitsKey}
 use Rattle.ode_value.specs.declared.key.Key.{Key}
@@ -19,6 +19,7 @@ pub records-preserved : goal.records-preserved
 records-preserved g c = record {
   live = c.in_ok-least.ensures.live;
   looks = looks_joined _ _ _ c.records.invariant.looks c.first_from.ensures.looks;
+  faults = ⊎_elim (λ err. cc (err)) (λ same. same ∙ c.records.invariant.faults) c.in_ok-least.ensures.cause.calm;
   holds = λ entries holds. c.in_ok-least.ensures.holds entries (c.records.invariant.holds entries holds);
   read = λ entries holds fits.
       let law = g.met.K.Keep.stands c.args.keeper.now c.args.host.now entries holds in

@@ -1,9 +1,5 @@
-use Rattle.std.proofs.Common.{◌++◌}
 use Rattle.ode_top.proofs.Settles.{stands_printed}
 use Rattle.ode_top.proofs.run.print_refusal.Goals as goal
-
-pub returns-in-Ok-clause-told : goal.returns-in-Ok-clause-told
-returns-in-Ok-clause-told g c text printed = (text ++ c.deref.result.now, c.in-Ok.ensures.done text printed)
 
 pub returns-in-Ok-clause-stands : goal.returns-in-Ok-clause-stands
 returns-in-Ok-clause-stands g c file stands =

@@ -2,12 +2,18 @@ use Rattle.std.proofs.Common.{Err, ◌≡◌, ℕ, List, ◌++◌, Bool, arith, 
 use Rattle.std.specs.Prelude.{◌||◌}
 use Rattle.ode_first_records.specs.State.{world_of}
 use Rattle.ode_host.specs.declared.status.Status.{Status}
-use Rattle.ode_host.proofs.Moments.{keeps_joined, looks_none, started}
+use Rattle.ode_host.specs.declared.status.Status.TheVariants as status
+use Rattle.ode_host.proofs.Calls.{host_calls_as, host_calls_on, rose_as, rose_none, rose_on}
+use Rattle.ode_host.proofs.Moments.{started}
+use Rattle.ode_script.specs.declared.reader.ScriptError.TheVariants as error
 use Rattle.ode_script.specs.Left.{HasLeft}
 use Rattle.ode_script.specs.Pieces.{End, Pieces, Then, pieces, pieces_from, script_limit}
-use Rattle.ode_top.specs.Serves.{IsAfterSome, LeavesNothing, SoFar}
+use Rattle.ode_top.specs.declared.settling.Halt.TheVariants as halt
+use Rattle.ode_top.specs.Halts.{status_of_error, status_of_halt}
+use Rattle.ode_top.specs.Serves.{IsAfterSome, IsEnding, LeavesNothing, SoFar}
 use Rattle.ode_top.specs.Trace.{final, piece_items, run_items, status_at, text_of, trace}
 use Rattle.ode_top.proofs.AfterSome.{goes_further}
+use Rattle.ode_top.proofs.Leaving.{error_no_disk, error_no_print, error_read, halt_disk, halt_no_end, halt_no_read, halt_print, no_calls}
 use Rattle.ode_top.proofs.Runs.{end_leaves, ended_ran, error_ran, same_at, same_next}
 use Rattle.ode_top.proofs.run.run_script.Goals as goal
 use Rattle.ode_top.proofs.run.run_script.Goals.{then-refused, else-refused, then-refused-2, else-refused-2}
@@ -25,12 +31,11 @@ pieces-init g c = record {
   );
   records = λ holds. holds;
   moments = λ script text told serves. started (g.H.Host.view c.args.host.now) (IsAfterSome g.K.Keep.means (run_items (world_of c.args.state) script) (world_of c.args.state) text);
-  told = λ text printed. (text, printed);
   good = c.requires.good;
   live = c.requires.live;
   allowed = omega (arith, c.new-reader.ensures.allowed);
-  keeps = (looks_none (g.H.Host.view c.args.host.now)).keeps;
-  reads = omega arith;
+  leaves = no_calls ⊥ ⊥ (g.H.Host.view c.args.host.now) (λ none. none) (λ none. none);
+  reads = rose_none ⊥ (g.S.Source.faults c.args.source.now) (λ none. none);
 }
 
 pub returns-in-Ok-End-clause-ran : goal.returns-in-Ok-End-clause-ran
@@ -79,14 +84,12 @@ pieces-preserved g c = record {
       (taken.1 ∙ ap (λ (p : List ℕ). Then c.in-Ok-Statement.line p rest) (sym c.as_slice.ensures)) so_far.4
       (c.pieces.invariant.moments script text told serves)
       (c.in-Ok.ensures.any_moment (trace (final w items) rest) so_far.1 (record { records = c.pieces.invariant.records serves.records; printed = so_far.3 }));
-  told = λ text said.
-      let so_far = c.pieces.invariant.told text said in
-      c.in-Ok.ensures.told so_far.0 so_far.1;
   good = c.in-Ok.ensures.good;
   live = c.in-Ok.ensures.live;
   allowed = omega (arith, c.pieces.invariant.allowed, c.in-Ok-Statement.ensures.later_allowed);
-  keeps = keeps_joined _ _ _ c.pieces.invariant.keeps c.carry_out.ensures.keeps;
-  reads = omega (arith, c.pieces.invariant.reads, c.in-Ok-Statement.ensures.later);
+  leaves = host_calls_on ⊥ ⊥ ⊥ ⊥ _ _ _ (λ none. none) (λ none. none) c.pieces.invariant.leaves
+      (host_calls_as _ _ ⊥ ⊥ _ _ (λ is. cc (is)) absurd (λ is. cc (is)) absurd c.in-Ok.ensures.leaves);
+  reads = rose_on ⊥ ⊥ _ _ _ (λ none. none) c.pieces.invariant.reads (rose_as _ ⊥ _ _ (λ is. cc (is)) absurd c.in-Ok-Statement.ensures.cause);
 }
 
 pub returns-in-Err-carry_out-clause-any_moment : goal.returns-in-Err-carry_out-clause-any_moment
@@ -100,3 +103,39 @@ returns-in-Err-carry_out-clause-any_moment g c script text told serves =
     (taken.1 ∙ ap (λ (p : List ℕ). Then c.in-Ok-Statement.line p rest) (sym c.as_slice.ensures)) so_far.4
     (c.pieces.invariant.moments script text told serves)
     (c.in-Err-carry_out.ensures.any_moment (trace (final w items) rest) so_far.1 (record { records = c.pieces.invariant.records serves.records; printed = so_far.3 }))
+
+pub returns-in-Ok-End-clause-leaves : goal.returns-in-Ok-End-clause-leaves
+returns-in-Ok-End-clause-leaves g c =
+    let no_disk : c.if-refused.result ≡ status.DiskFault → ⊥ = elim c.if-refused.branch [ then-refused w ↦ (λ is. cc (is, w.result-is)) | else-refused w ↦ (λ is. cc (is, w.result-is)) ] in
+    let no_print : c.if-refused.result ≡ status.WriteFault → ⊥ = elim c.if-refused.branch [ then-refused w ↦ (λ is. cc (is, w.result-is)) | else-refused w ↦ (λ is. cc (is, w.result-is)) ] in
+    host_calls_as ⊥ ⊥ _ _ _ _ absurd no_disk absurd no_print c.pieces.invariant.leaves
+
+pub returns-in-Ok-End-clause-reads : goal.returns-in-Ok-End-clause-reads
+returns-in-Ok-End-clause-reads g c =
+    let no_read : c.if-refused.result ≡ status.ReadFault → ⊥ = elim c.if-refused.branch [ then-refused w ↦ (λ is. cc (is, w.result-is)) | else-refused w ↦ (λ is. cc (is, w.result-is)) ] in
+    rose_on ⊥ _ _ _ _ (λ none. none) c.pieces.invariant.reads (rose_as _ _ _ _ (λ is. cc (is)) (λ is. absurd (no_read is)) c.in-Ok-End.ensures.cause)
+
+pub returns-in-Err-clause-leaves : goal.returns-in-Err-clause-leaves
+returns-in-Err-clause-leaves g c =
+    host_calls_as ⊥ ⊥ _ _ _ _ absurd (λ is. error_no_disk c.in-Err.error (sym c.status_of_error.ensures ∙ is)) absurd (λ is. error_no_print c.in-Err.error (sym c.status_of_error.ensures ∙ is)) c.pieces.invariant.leaves
+
+pub returns-in-Err-clause-reads : goal.returns-in-Err-clause-reads
+returns-in-Err-clause-reads g c =
+    rose_on ⊥ _ _ _ _ (λ none. none) c.pieces.invariant.reads
+    (rose_as _ _ _ _ (λ is. let e : c.in-Err.error ≡ error.ReadFault = cc (is) in c.status_of_error.ensures ∙ ap status_of_error e) (λ is. ap Err (error_read c.in-Err.error (sym c.status_of_error.ensures ∙ is))) c.in-Err.ensures.cause)
+
+pub returns-in-Err-carry_out-clause-ran : goal.returns-in-Err-carry_out-clause-ran
+returns-in-Err-carry_out-clause-ran g c script text told serves is_ending = absurd (halt_no_end c.in-Err-carry_out.halt (subst IsEnding c.status.ensures is_ending))
+
+pub returns-in-Err-carry_out-clause-leaves : goal.returns-in-Err-carry_out-clause-leaves
+returns-in-Err-carry_out-clause-leaves g c =
+    host_calls_on ⊥ ⊥ _ _ _ _ _ (λ none. none) (λ none. none) c.pieces.invariant.leaves
+    (host_calls_as _ _ _ _ _ _
+    (λ is. let h : c.in-Err-carry_out.halt ≡ halt.DiskFault = cc (is) in c.status.ensures ∙ ap status_of_halt h) (λ is. ap Err (halt_disk c.in-Err-carry_out.halt (sym c.status.ensures ∙ is)))
+    (λ is. let h : c.in-Err-carry_out.halt ≡ halt.WriteFault = cc (is) in c.status.ensures ∙ ap status_of_halt h) (λ is. ap Err (halt_print c.in-Err-carry_out.halt (sym c.status.ensures ∙ is)))
+    c.in-Err-carry_out.ensures.leaves)
+
+pub returns-in-Err-carry_out-clause-reads : goal.returns-in-Err-carry_out-clause-reads
+returns-in-Err-carry_out-clause-reads g c =
+    rose_on ⊥ _ _ _ _ (λ none. none) c.pieces.invariant.reads
+    (rose_as _ _ _ _ (λ is. cc (is)) (λ is. absurd (halt_no_read c.in-Err-carry_out.halt (sym c.status.ensures ∙ is))) c.in-Ok-Statement.ensures.cause)

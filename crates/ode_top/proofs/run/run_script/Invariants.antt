@@ -1,6 +1,7 @@
 use Rattle.std.proofs.Common.{◌≡◌, ◌≤◌, IsTrue, ℕ, List, Some}
 use Rattle.ode_first_records.specs.State.{world_of}
-use Rattle.ode_host.specs.Host.{Keeps, LeavesOnly}
+use Rattle.ode_host.specs.Causes.{RoseIf}
+use Rattle.ode_host.specs.Host.{HostCalls, LeavesOnly}
 use Rattle.ode_script.specs.Left.{HasLeft}
 use Rattle.ode_script.specs.Pieces.{pieces, pieces_from}
 use Rattle.ode_value.specs.OneIntGood.{IsOneIntGood}
@@ -18,12 +19,11 @@ invariant-pieces g l = record {
   records : g.K.Keep.holds l.fn.keeper (g.H.Host.view l.fn.host) (rows (world_of l.fn.state)) → g.K.Keep.holds l.keeper (g.H.Host.view l.host) (rows (world_of l.state));
   moments : (script text : List ℕ) → g.S.Source.left l.fn.source ≡ Some script → Serves (g.K.Keep.holds l.fn.keeper) (g.H.Host.view l.fn.host) (world_of l.fn.state) text →
       LeavesOnly (g.H.Host.view l.fn.host) (g.H.Host.view l.host) (IsAfterSome g.K.Keep.means (run_items (world_of l.fn.state) script) (world_of l.fn.state) text);
-  told : (text : List ℕ) → (g.H.Host.view l.fn.host).text ≡ Some text → (out : List ℕ) × ((g.H.Host.view l.host).text ≡ Some out);
-  good : IsOneIntGood (world_of l.state);
+  good : IsGood (world_of l.state);
   live : IsTrue (g.K.Keep.live l.keeper);
   allowed : l.reader.allowed ≤ 67108864;
-  keeps : Keeps (g.H.Host.view l.fn.host) (g.H.Host.view l.host);
-  reads : g.S.Source.faults l.fn.source ≤ g.S.Source.faults l.source;
+  leaves : HostCalls ⊥ ⊥ (g.H.Host.view l.fn.host) (g.H.Host.view l.host);
+  reads : RoseIf ⊥ (g.S.Source.faults l.fn.source) (g.S.Source.faults l.source);
 }
 
 abbrev pub decreases-pieces : goal.decreases-pieces

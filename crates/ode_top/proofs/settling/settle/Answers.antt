@@ -1,17 +1,25 @@
-use Rattle.std.proofs.Common.{◌++◌, ◌∙◌, take, subst, ℕ, List}
+use Rattle.std.proofs.Common.{◌∙◌, refl, subst, ℕ, List}
 use Rattle.ode_host.specs.Host.{Prints}
+use Rattle.ode_host.proofs.Calls.{disk_host, host_calls_on, print_host, rose_as}
 use Rattle.ode_keep.specs.Entries.{applied}
 use Rattle.ode_top.proofs.Settles.{both_settle, commit_leaves, stands_printed}
 use Rattle.ode_top.proofs.settling.settle.Goals as goal
 
-pub returns-in-Ok-clause-told : goal.returns-in-Ok-clause-told
-returns-in-Ok-clause-told g c text printed =
-    (text ++ c.deref.result.now, c.in-Ok.ensures.done text (c.in_ok-commit.ensures.text ∙ printed))
+pub returns-in-Ok-clause-leaves : goal.returns-in-Ok-clause-leaves
+returns-in-Ok-clause-leaves g c =
+    let old = g.H.Host.view c.args.host.now in
+    let mid = g.H.Host.view c.commit.new.host in
+    host_calls_on ⊥ ⊥ _ _ old mid (g.H.Host.view c.print.new.self) (λ none. none) (λ none. none)
+    (disk_host _ ⊥ ⊥ old mid (λ is. cc (is)) absurd (λ none. none) c.in_ok-commit.ensures.leaves)
+    (print_host _ _ c.deref.result.now mid _ (λ is. cc (is)) c.print.ensures.prints (rose_as _ _ _ _ (λ is. cc (is)) (λ is. cc (is)) c.in-Ok.ensures.cause))
 
-pub returns-in-Err-clause-told : goal.returns-in-Err-clause-told
-returns-in-Err-clause-told g c text printed =
-    let cut = c.in-Err.ensures.cut text (c.in_ok-commit.ensures.text ∙ printed) in
-    (text ++ take cut.0 c.deref.result.now, cut.1)
+pub returns-in-Err-clause-leaves : goal.returns-in-Err-clause-leaves
+returns-in-Err-clause-leaves g c =
+    let old = g.H.Host.view c.args.host.now in
+    let mid = g.H.Host.view c.commit.new.host in
+    host_calls_on ⊥ ⊥ _ _ old mid (g.H.Host.view c.print.new.self) (λ none. none) (λ none. none)
+    (disk_host _ ⊥ ⊥ old mid (λ is. cc (is)) absurd (λ none. none) c.in_ok-commit.ensures.leaves)
+    (print_host _ _ c.deref.result.now mid _ (λ is. cc (is)) c.print.ensures.prints (rose_as _ _ _ _ (λ is. refl) (λ is. refl) c.in-Err.ensures.cause))
 
 pub returns-in-Ok-clause-any_moment : goal.returns-in-Ok-clause-any_moment
 returns-in-Ok-clause-any_moment g c entries text holds printed =
@@ -19,7 +27,7 @@ returns-in-Ok-clause-any_moment g c entries text holds printed =
     let there = g.met.K.Keep.stands c.commit.new.self c.commit.new.host (applied c.args.settled.now.batch entries) held in
     let prints = subst (λ (piece : List ℕ). Prints piece (g.H.Host.view c.commit.new.host) (g.H.Host.view c.print.new.self)) c.deref.ensures.value c.print.ensures.prints in
     both_settle g.K.Keep.means entries c.args.settled.now.batch there.0 text c.args.settled.now.text.items (g.H.Host.view c.args.host.now) (g.H.Host.view c.commit.new.host) (g.H.Host.view c.print.new.self)
-    (g.met.H.Host.text_stands c.commit.new.host) printed c.in_ok-commit.ensures.text (c.in_ok-commit.ensures.any_moment entries holds) there.1 there.2 prints
+    (g.met.H.Host.text_stands c.commit.new.host) printed c.in_ok-commit.ensures.leaves.text (c.in_ok-commit.ensures.any_moment entries holds) there.1 there.2 prints
 
 pub returns-in-Err-clause-any_moment : goal.returns-in-Err-clause-any_moment
 returns-in-Err-clause-any_moment g c entries text holds printed =
@@ -27,7 +35,7 @@ returns-in-Err-clause-any_moment g c entries text holds printed =
     let there = g.met.K.Keep.stands c.commit.new.self c.commit.new.host (applied c.args.settled.now.batch entries) held in
     let prints = subst (λ (piece : List ℕ). Prints piece (g.H.Host.view c.commit.new.host) (g.H.Host.view c.print.new.self)) c.deref.ensures.value c.print.ensures.prints in
     both_settle g.K.Keep.means entries c.args.settled.now.batch there.0 text c.args.settled.now.text.items (g.H.Host.view c.args.host.now) (g.H.Host.view c.commit.new.host) (g.H.Host.view c.print.new.self)
-    (g.met.H.Host.text_stands c.commit.new.host) printed c.in_ok-commit.ensures.text (c.in_ok-commit.ensures.any_moment entries holds) there.1 there.2 prints
+    (g.met.H.Host.text_stands c.commit.new.host) printed c.in_ok-commit.ensures.leaves.text (c.in_ok-commit.ensures.any_moment entries holds) there.1 there.2 prints
 
 pub returns-in_err-commit-clause-any_moment : goal.returns-in_err-commit-clause-any_moment
 returns-in_err-commit-clause-any_moment g c entries text holds printed =

@@ -1,5 +1,8 @@
-use Rattle.std.proofs.Common.{◌≡◌}
+use Rattle.std.proofs.Common.{◌≡◌, ◌∙◌, ⊎_elim, Some, ap, sym}
 use Rattle.ode_host.specs.declared.status.Status.TheVariants as status
+use Rattle.ode_top.specs.declared.call.Mode.{Mode}
+use Rattle.ode_host.proofs.Calls.{rose_none}
+use Rattle.ode_top.proofs.Leaving.{line_idle, line_leaves}
 use Rattle.ode_top.proofs.top.run_ode.Goals as goal
 
 pub returns-in-Init-clause-exists : goal.returns-in-Init-clause-exists
@@ -25,3 +28,24 @@ returns-in-None-clause-said g c is text said = c.end_with.ensures.printed (λ (c
 
 pub returns-in-Run-clause-no_world : goal.returns-in-Run-clause-no_world
 returns-in-Run-clause-no_world g c image asks tells none = c.run.ensures.no_world image tells none
+
+pub returns-in-Init-clause-spared : goal.returns-in-Init-clause-spared
+returns-in-Init-clause-spared g c file asks tells in_use = c.init.ensures.idle file tells in_use
+
+pub returns-in-Run-clause-idle : goal.returns-in-Run-clause-idle
+returns-in-Run-clause-idle g c image asks tells none = c.run.ensures.idle image tells none
+
+pub returns-in-None-clause-unused : goal.returns-in-None-clause-unused
+returns-in-None-clause-unused g c none = line_idle status.Usage c.end_with.result _ _ _ c.end_with.ensures.status c.end_with.ensures.prints c.end_with.ensures.cause (λ loud. loud)
+
+pub returns-in-None-clause-leaves : goal.returns-in-None-clause-leaves
+returns-in-None-clause-leaves g c = line_leaves status.Usage c.end_with.result _ _ _ c.end_with.ensures.status c.end_with.ensures.prints c.end_with.ensures.cause (λ is. cc (is))
+
+pub returns-in-None-clause-reads : goal.returns-in-None-clause-reads
+returns-in-None-clause-reads g c = rose_none _ _ (λ is. ⊎_elim (λ same. cc (same, is)) (λ cut. cc (cut, is)) c.end_with.ensures.status)
+
+pub returns-in-Run-clause-unread : goal.returns-in-Run-clause-unread
+returns-in-Run-clause-unread g c no_run =
+    let file = c.in-Some.call.file.now in
+    let words = rw c.in-Some.is at c.call_of.ensures in
+    absurd (no_run (file, sym words ∙ ap (λ (m : Mode). Some (m, file)) c.in-Run.is))

@@ -1,9 +1,10 @@
-use Rattle.std.proofs.Common.{◌≡◌, ◌∙◌, Err, ap, inl, inr, refl, subst}
+use Rattle.std.proofs.Common.{◌≡◌, ◌∙◌, ⊎_elim, Err, ap, inl, inr, refl, subst}
 use Rattle.std.specs.Prelude.{codes}
 use Rattle.ode_areas.specs.Image.{AreasMean}
 use Rattle.ode_first_records.specs.State.{world_of}
 use Rattle.ode_host.specs.Host.{LeavesOnly}
 use Rattle.ode_host.specs.declared.status.Status.TheVariants as status
+use Rattle.ode_host.proofs.Calls.{host_calls_on, rose_none}
 use Rattle.ode_host.proofs.Moments.{joined, tells_looks}
 use Rattle.ode_value.specs.Texts.{line}
 use Rattle.ode_value.specs.OneIntWorld.{OneIntWorld}
@@ -12,6 +13,7 @@ use Rattle.ode_top.specs.Serves.{IsAfterSome}
 use Rattle.ode_top.specs.Trace.{run_items}
 use Rattle.ode_top.proofs.AfterSome.{at_start}
 use Rattle.ode_top.proofs.Calling.{looks_leaves, never_bad, tells_same}
+use Rattle.ode_top.proofs.Leaving.{idle_looks, idle_on, line_idle, line_leaves, looks_host}
 use Rattle.ode_top.proofs.top.run_synced.Goals as goal
 
 pub returns-in-Ok-clause-ran : goal.returns-in-Ok-clause-ran
@@ -52,7 +54,7 @@ returns-in-Err-NoDatabase-clause-answers g c image w stands holds = absurd (rw c
 
 pub returns-in-Err-NoDatabase-clause-bad_file : goal.returns-in-Err-NoDatabase-clause-bad_file
 returns-in-Err-NoDatabase-clause-bad_file g c is image text stands said = record {
-  tells = tells_same image _ _ c.end_with.ensures.keeps c.end_with.ensures.image (tells_looks image _ _ c.open.ensures.looks stands.tells);
+  tells = tells_same image _ _ c.end_with.ensures.prints.keeps c.end_with.ensures.prints.image (tells_looks image _ _ c.open.ensures.looks stands.tells);
   said = line (codes "no database");
   reason = inl (c.in-Err-NoDatabase.ensures.none (ap Err c.in-Err-NoDatabase.field-0-is) image stands.tells, refl);
   printed = c.end_with.ensures.printed (λ (cut : c.end_with.result ≡ status.WriteFault). cc) text (c.open.ensures.looks.text ∙ said);
@@ -62,7 +64,7 @@ pub returns-in-Err-NoDatabase-clause-bad_file_cut : goal.returns-in-Err-NoDataba
 returns-in-Err-NoDatabase-clause-bad_file_cut g c is image text stands said none = record {
   said = line (codes "no database");
   reason = inl (c.in-Err-NoDatabase.ensures.none (ap Err c.in-Err-NoDatabase.field-0-is) image stands.tells, refl);
-  front = c.end_with.ensures.cut is (λ (same : status.BadFile ≡ status.WriteFault). cc) text (c.open.ensures.looks.text ∙ said);
+  front = c.end_with.ensures.cut is text (c.open.ensures.looks.text ∙ said);
 }
 
 pub returns-in-Err-Bad-clause-ran : goal.returns-in-Err-Bad-clause-ran
@@ -76,7 +78,7 @@ returns-in-Err-Bad-clause-answers g c image w stands holds = absurd (rw c.in-Err
 
 pub returns-in-Err-Bad-clause-bad_file : goal.returns-in-Err-Bad-clause-bad_file
 returns-in-Err-Bad-clause-bad_file g c is image text stands said = record {
-  tells = tells_same image _ _ c.end_with-in-Err-Bad.ensures.keeps c.end_with-in-Err-Bad.ensures.image (tells_looks image _ _ c.open.ensures.looks stands.tells);
+  tells = tells_same image _ _ c.end_with-in-Err-Bad.ensures.prints.keeps c.end_with-in-Err-Bad.ensures.prints.image (tells_looks image _ _ c.open.ensures.looks stands.tells);
   said = line (codes "bad file");
   reason = inr (c.in-Err-Bad.ensures.opened (ap Err c.in-Err-Bad.field-0-is) image stands.tells, λ w. c.in-Err-Bad.ensures.bad (ap Err c.in-Err-Bad.field-0-is) image w stands, refl);
   printed = c.end_with-in-Err-Bad.ensures.printed (λ (cut : c.end_with-in-Err-Bad.result ≡ status.WriteFault). cc) text (c.open.ensures.looks.text ∙ said);
@@ -86,7 +88,7 @@ pub returns-in-Err-Bad-clause-bad_file_cut : goal.returns-in-Err-Bad-clause-bad_
 returns-in-Err-Bad-clause-bad_file_cut g c is image text stands said none = record {
   said = line (codes "bad file");
   reason = inr (c.in-Err-Bad.ensures.opened (ap Err c.in-Err-Bad.field-0-is) image stands.tells, none, refl);
-  front = c.end_with-in-Err-Bad.ensures.cut is (λ (same : status.BadFile ≡ status.WriteFault). cc) text (c.open.ensures.looks.text ∙ said);
+  front = c.end_with-in-Err-Bad.ensures.cut is text (c.open.ensures.looks.text ∙ said);
 }
 
 pub returns-in-Err-DiskFault-clause-any_moment : goal.returns-in-Err-DiskFault-clause-any_moment
@@ -98,3 +100,60 @@ pub returns-in-Err-Memory-clause-any_moment : goal.returns-in-Err-Memory-clause-
 returns-in-Err-Memory-clause-any_moment g c bytes image text w left stands said holds =
     looks_leaves image text (g.H.Host.view c.args.host.now) (g.met.H.Host.text_stands c.args.host.now) stands.only said _ (IsAfterSome AreasMean (run_items w bytes) w text)
     (at_start AreasMean (run_items w bytes) w text image holds) c.open.ensures.looks
+
+pub returns-in-Ok-clause-idle : goal.returns-in-Ok-clause-idle
+returns-in-Ok-clause-idle g c image stands none = absurd (none (world_of c.in-Ok.opened.state) (c.in-Ok.ensures.sound image stands))
+
+pub returns-in-Ok-clause-leaves : goal.returns-in-Ok-clause-leaves
+returns-in-Ok-clause-leaves g c =
+    host_calls_on ⊥ ⊥ _ _ _ _ _ (λ none. none) (λ none. none)
+    (looks_host _ ⊥ ⊥ _ _ (λ is. cc (is)) absurd (λ none. none) c.open.ensures.looks c.in-Ok.ensures.cause) c.run_opened.ensures.leaves
+
+pub returns-in-Err-NoDatabase-clause-idle : goal.returns-in-Err-NoDatabase-clause-idle
+returns-in-Err-NoDatabase-clause-idle g c image stands none = (
+  idle_on c.end_with.result _ _ _ c.open.ensures.looks (line_idle status.BadFile c.end_with.result _ _ _ c.end_with.ensures.status c.end_with.ensures.prints c.end_with.ensures.cause (λ loud. loud)),
+  refl,
+)
+
+pub returns-in-Err-NoDatabase-clause-leaves : goal.returns-in-Err-NoDatabase-clause-leaves
+returns-in-Err-NoDatabase-clause-leaves g c =
+    host_calls_on ⊥ ⊥ _ _ _ _ _ (λ none. none) (λ none. none)
+    (looks_host _ ⊥ ⊥ _ _ (λ is. let e = rw c.in-Err-NoDatabase.field-0-is at is in cc (e)) absurd (λ none. none) c.open.ensures.looks c.in-Err-NoDatabase.ensures.cause)
+    (line_leaves status.BadFile c.end_with.result _ _ _ c.end_with.ensures.status c.end_with.ensures.prints c.end_with.ensures.cause (λ is. cc (is)))
+
+pub returns-in-Err-NoDatabase-clause-reads : goal.returns-in-Err-NoDatabase-clause-reads
+returns-in-Err-NoDatabase-clause-reads g c = rose_none _ _ (λ is. ⊎_elim (λ same. cc (same, is)) (λ cut. cc (cut, is)) c.end_with.ensures.status)
+
+pub returns-in-Err-Bad-clause-idle : goal.returns-in-Err-Bad-clause-idle
+returns-in-Err-Bad-clause-idle g c image stands none = (
+  idle_on c.end_with-in-Err-Bad.result _ _ _ c.open.ensures.looks (line_idle status.BadFile c.end_with-in-Err-Bad.result _ _ _ c.end_with-in-Err-Bad.ensures.status c.end_with-in-Err-Bad.ensures.prints c.end_with-in-Err-Bad.ensures.cause (λ loud. loud)),
+  refl,
+)
+
+pub returns-in-Err-Bad-clause-leaves : goal.returns-in-Err-Bad-clause-leaves
+returns-in-Err-Bad-clause-leaves g c =
+    host_calls_on ⊥ ⊥ _ _ _ _ _ (λ none. none) (λ none. none)
+    (looks_host _ ⊥ ⊥ _ _ (λ is. let e = rw c.in-Err-Bad.field-0-is at is in cc (e)) absurd (λ none. none) c.open.ensures.looks c.in-Err-Bad.ensures.cause)
+    (line_leaves status.BadFile c.end_with-in-Err-Bad.result _ _ _ c.end_with-in-Err-Bad.ensures.status c.end_with-in-Err-Bad.ensures.prints c.end_with-in-Err-Bad.ensures.cause (λ is. cc (is)))
+
+pub returns-in-Err-Bad-clause-reads : goal.returns-in-Err-Bad-clause-reads
+returns-in-Err-Bad-clause-reads g c = rose_none _ _ (λ is. ⊎_elim (λ same. cc (same, is)) (λ cut. cc (cut, is)) c.end_with-in-Err-Bad.ensures.status)
+
+pub returns-in-Err-DiskFault-clause-idle : goal.returns-in-Err-DiskFault-clause-idle
+returns-in-Err-DiskFault-clause-idle g c image stands none = (idle_looks status.DiskFault _ _ c.open.ensures.looks, refl)
+
+pub returns-in-Err-DiskFault-clause-leaves : goal.returns-in-Err-DiskFault-clause-leaves
+returns-in-Err-DiskFault-clause-leaves g c = looks_host _ _ _ _ _ (λ is. refl) (λ is. ap Err c.in-Err-DiskFault.field-0-is) (λ is. cc (is)) c.open.ensures.looks c.in-Err-DiskFault.ensures.cause
+
+pub returns-in-Err-DiskFault-clause-reads : goal.returns-in-Err-DiskFault-clause-reads
+returns-in-Err-DiskFault-clause-reads g c = rose_none _ _ (λ is. cc (is))
+
+pub returns-in-Err-Memory-clause-idle : goal.returns-in-Err-Memory-clause-idle
+returns-in-Err-Memory-clause-idle g c image stands none = (idle_looks status.Memory _ _ c.open.ensures.looks, refl)
+
+pub returns-in-Err-Memory-clause-leaves : goal.returns-in-Err-Memory-clause-leaves
+returns-in-Err-Memory-clause-leaves g c =
+    looks_host _ _ _ _ _ (λ is. let e = rw c.in-Err-Memory.field-0-is at is in cc (e)) (λ is. cc (is)) (λ is. cc (is)) c.open.ensures.looks c.in-Err-Memory.ensures.cause
+
+pub returns-in-Err-Memory-clause-reads : goal.returns-in-Err-Memory-clause-reads
+returns-in-Err-Memory-clause-reads g c = rose_none _ _ (λ is. cc (is))

@@ -9,6 +9,7 @@ returns-in-Ok-clause-prints c = record {
   time = elapses_of _ _ _ _ _ _ _ _ _ _ _ _ _ _ _ _ _ c.print.ensures.start c.print.ensures.time;
   written = search rules;
   fetched = search rules;
+  disk_faults = search rules;
 }
 
 pub returns-in-Err-clause-prints : goal.returns-in-Err-clause-prints
@@ -18,4 +19,5 @@ returns-in-Err-clause-prints c = record {
   time = elapses_of _ _ _ _ _ _ _ _ _ _ _ _ _ _ _ _ _ c.print.ensures.start c.print.ensures.time;
   written = search rules;
   fetched = search rules;
+  disk_faults = search rules;
 }

@@ -9,6 +9,7 @@ returns-in-Err-clause-looks c = record {
   text = ap Some c.sync.ensures.text;
   time = elapses_of _ _ _ _ _ _ _ _ _ _ _ _ _ _ _ _ _ c.sync.ensures.start c.sync.ensures.time;
   written = search rules;
+  print_faults = search rules;
 }
 
 pub returns-in-Ok-clause-looks : goal.returns-in-Ok-clause-looks
@@ -18,6 +19,7 @@ returns-in-Ok-clause-looks c = record {
   text = ap Some c.sync.ensures.text;
   time = elapses_of _ _ _ _ _ _ _ _ _ _ _ _ _ _ _ _ _ c.sync.ensures.start c.sync.ensures.time;
   written = search rules;
+  print_faults = search rules;
 }
 
 pub returns-in-Ok-clause-durable : goal.returns-in-Ok-clause-durable

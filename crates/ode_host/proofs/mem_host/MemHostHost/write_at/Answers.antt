@@ -9,6 +9,7 @@ returns-in-Ok-clause-writes c = record {
   time = elapses_of _ _ _ _ _ _ _ _ _ _ _ _ _ _ _ _ _ c.write.ensures.start c.write.ensures.time;
   written = search rules;
   fetched = search rules;
+  print_faults = search rules;
 }
 
 pub returns-in-Ok-2-clause-writes : goal.returns-in-Ok-2-clause-writes
@@ -18,4 +19,5 @@ returns-in-Ok-2-clause-writes c = record {
   time = elapses_of _ _ _ _ _ _ _ _ _ _ _ _ _ _ _ _ _ c.write.ensures.start c.write.ensures.time;
   written = search rules;
   fetched = search rules;
+  print_faults = search rules;
 }

@@ -1,8 +1,9 @@
-use Rattle.std.proofs.Common.{[], ◌∷◌, Err, length, sym, ap, ◌∙◌, arith, length-append}
+use Rattle.std.proofs.Common.{◌-◌, [], ◌∷◌, Err, length, sym, ap, ◌∙◌, ⊎_elim, arith, length-append}
 use Rattle.std.specs.Prelude.{◌&&◌}
 use Rattle.std.proofs.lemmas.Result.{err_from_is_err_and}
 use Rattle.ode_script.specs.Left.{starts_blank}
-use Rattle.ode_script.specs.Pieces.{Then, cut, pieces_from, is_empty}
+use Rattle.ode_script.specs.Pieces.{Then, cut, line_after, pieces_from, is_empty}
+use Rattle.ode_script.proofs.Chunks.{taken_left}
 use Rattle.ode_script.proofs.Cuts.{ends_by, takes_last, last_within, cut-last, cut-on, is_empty-append, depth_after-le}
 use Rattle.ode_script.proofs.reader.Reader.read_statement.Goals as goal
 
@@ -22,7 +23,7 @@ loop-part-init g c = record {
       );
   shallow = omega (arith, ap (λ p. p.depth) c.new-part.ensures, c.skip_blanks.new.self.countable);
   fewer = omega (arith, ap (λ p. length p.text) c.new-part.ensures, c.in_ok-skip_blanks.ensures.allowed);
-  later = c.in_ok-skip_blanks.ensures.later;
+  faults = ⊎_elim (λ err. cc (err)) (λ same. same) c.in_ok-skip_blanks.ensures.cause.calm;
 }
 
 pub returns-in_err-b-clause-piece : goal.returns-in_err-b-clause-piece
@@ -30,21 +31,22 @@ returns-in_err-b-clause-piece g c = λ rest left.
     let so_far = c.loop-part.invariant.left rest left in
     let p = err_from_is_err_and c.from_residual-in_err-b.result c.from_residual-in_err-b.ensures.1 in
     rw (p.1, p.2) (ends_by _ c.loop-part.part c.loop-part.self.allowed c.loop-part.self.line so_far.0 _ so_far.1 (c.in_err-b.ensures.byte so_far.0 so_far.3)
-    (λ is. (c.in_err-b.ensures.long (ap Err is)).0))
+    (λ is. sym c.in_err-b.ensures.allowed ∙ c.in_err-b.ensures.long (ap Err is)))
 
 pub returns-then-is_last-clause-piece : goal.returns-then-is_last-clause-piece
 returns-then-is_last-clause-piece g c = λ rest left.
     let so_far = c.loop-part.invariant.left rest left in
     let next = rw c.in-Some.is at (c.in_ok-b.ensures.byte so_far.0 so_far.3) in
-    let counts = rw c.in-Some.is at c.in_ok-b.ensures.takes in
+    let counts = c.take.ensures.counts in
     let inside = ap (λ r. is_empty c.loop-part.part.text && starts_blank r) (sym next.1) ∙ so_far.2 in
     rw c.into_statement.ensures (
       next.0,
       so_far.1 ∙ ap (cut c.loop-part.part c.loop-part.self.allowed c.loop-part.self.line) next.1
-          ∙ cut-last c.loop-part.self.allowed c.loop-part.self.line c.next_byte.new.self.allowed c.next_byte.new.self.line c.in-Some.b counts.some counts.allowed counts.line next.0
+          ∙ cut-last c.loop-part.self.allowed c.loop-part.self.line c.take.new.self.allowed c.take.new.self.line c.in-Some.b
+          (omega (arith, counts.some, c.in_ok-b.ensures.allowed)) (counts.allowed ∙ ap (λ n. n - 1) c.in_ok-b.ensures.allowed) (counts.line ∙ ap (λ l. line_after l c.in-Some.b) c.in_ok-b.ensures.line) next.0
           c.loop-part.part inside (sym c.if-is_last.ensures)
-          ∙ ap (λ p. Then p.line p.text (pieces_from c.next_byte.new.self.allowed c.next_byte.new.self.line next.0)) (sym c.in_ok-push.ensures),
-      next.2,
+          ∙ ap (λ p. Then p.line p.text (pieces_from c.take.new.self.allowed c.take.new.self.line next.0)) (sym c.in_ok-push.ensures),
+      taken_left c.peek.new.self c.take.new.self _ c.in-Some.b next.0 c.take.ensures.held next.2,
     )
 
 pub loop-part-preserved : goal.loop-part-preserved
@@ -52,30 +54,31 @@ loop-part-preserved g c = record {
   left = λ rest left.
       let so_far = c.loop-part.invariant.left rest left in
       let next = rw c.in-Some.is at (c.in_ok-b.ensures.byte so_far.0 so_far.3) in
-      let counts = rw c.in-Some.is at c.in_ok-b.ensures.takes in
+      let counts = c.take.ensures.counts in
       let inside = ap (λ r. is_empty c.loop-part.part.text && starts_blank r) (sym next.1) ∙ so_far.2 in (
         next.0,
         so_far.1 ∙ ap (cut c.loop-part.part c.loop-part.self.allowed c.loop-part.self.line) next.1
-            ∙ cut-on c.loop-part.self.allowed c.loop-part.self.line c.next_byte.new.self.allowed c.next_byte.new.self.line c.in-Some.b counts.some counts.allowed counts.line next.0
+            ∙ cut-on c.loop-part.self.allowed c.loop-part.self.line c.take.new.self.allowed c.take.new.self.line c.in-Some.b
+          (omega (arith, counts.some, c.in_ok-b.ensures.allowed)) (counts.allowed ∙ ap (λ n. n - 1) c.in_ok-b.ensures.allowed) (counts.line ∙ ap (λ l. line_after l c.in-Some.b) c.in_ok-b.ensures.line) next.0
             c.loop-part.part inside (sym c.if-is_last.ensures)
-            ∙ ap (λ p. cut p c.next_byte.new.self.allowed c.next_byte.new.self.line next.0) (sym c.in_ok-push.ensures),
+            ∙ ap (λ p. cut p c.take.new.self.allowed c.take.new.self.line next.0) (sym c.in_ok-push.ensures),
         ap (λ p. is_empty p.text && starts_blank next.0) c.in_ok-push.ensures ∙ ap (λ t. t && starts_blank next.0) (is_empty-append c.loop-part.part.text c.in-Some.b),
-        next.2,
+        taken_left c.peek.new.self c.take.new.self _ c.in-Some.b next.0 c.take.ensures.held next.2,
       );
   shallow =
-      let counts = rw c.in-Some.is at c.in_ok-b.ensures.takes in
-      omega (arith, counts.some, counts.allowed, ap (λ p. p.depth) c.in_ok-push.ensures, depth_after-le c.loop-part.part.place c.loop-part.part.depth c.in-Some.b);
+      let counts = c.take.ensures.counts in
+      omega (arith, counts.some, counts.allowed, c.in_ok-b.ensures.allowed, ap (λ p. p.depth) c.in_ok-push.ensures, depth_after-le c.loop-part.part.place c.loop-part.part.depth c.in-Some.b);
   fewer =
-      let counts = rw c.in-Some.is at c.in_ok-b.ensures.takes in
-      omega (arith, counts.some, counts.allowed, ap (λ p. length p.text) c.in_ok-push.ensures, length-append c.loop-part.part.text (c.in-Some.b ∷ []));
-  later = omega (arith, c.in_ok-b.ensures.later);
+      let counts = c.take.ensures.counts in
+      omega (arith, counts.some, counts.allowed, c.in_ok-b.ensures.allowed, ap (λ p. length p.text) c.in_ok-push.ensures, length-append c.loop-part.part.text (c.in-Some.b ∷ []));
+  faults = ⊎_elim (λ err. cc (err)) (λ same. same ∙ c.loop-part.invariant.faults) c.in_ok-b.ensures.cause.calm;
 }
 
 pub returns-clause-piece : goal.returns-clause-piece
 returns-clause-piece g c = λ rest left.
     let so_far = c.loop-part.invariant.left rest left in
     let none = rw c.in_default.is at (c.in_ok-b.ensures.byte so_far.0 so_far.3) in
-    takes_last rest c.args.self.now c.next_byte.new.self _ c.into_last.result
+    takes_last rest c.args.self.now c.peek.new.self _ c.into_last.result
     (so_far.1 ∙ ap (cut c.loop-part.part c.loop-part.self.allowed c.loop-part.self.line) none.0 ∙ c.into_last.ensures.piece) none.1
 
 pub returns-clause-fewer : goal.returns-clause-fewer

@@ -12,7 +12,7 @@ invariant-loop-part g l = record {
       × (is_empty l.part.text && starts_blank now ≡ false) × HasLeft l.self (g.S.Source.left l.source) now;
   shallow : l.part.depth + l.self.allowed < 2 ^ 64;
   fewer : length l.part.text + l.self.allowed ≤ l.fn.self.allowed;
-  later : g.S.Source.faults l.fn.source ≤ g.S.Source.faults l.source;
+  faults : g.S.Source.faults l.source ≡ g.S.Source.faults l.fn.source;
 }
 
 abbrev pub decreases-loop-part : goal.decreases-loop-part

@@ -1,4 +1,4 @@
-use Rattle.std.proofs.Common.{◌-◌, [], ◌∷◌, Err, refl, sym, ap, ◌∙◌, arith}
+use Rattle.std.proofs.Common.{◌-◌, [], ◌∷◌, Err, refl, sym, ap, ◌∙◌, ⊎_elim, arith}
 use Rattle.std.proofs.lemmas.Result.{err_from_is_err_and}
 use Rattle.ode_script.specs.Pieces.{begun, line_after, pieces_from}
 use Rattle.ode_script.proofs.Chunks.{taken_left}
@@ -25,7 +25,7 @@ loop-b-preserved g c = record {
         taken_left c.peek.new.self c.take.new.self _ c.in-Some.b next.0 c.take.ensures.held next.2,
       );
   allowed = omega (arith, c.take.ensures.counts.allowed, c.in_ok-b.ensures.allowed);
-  later = omega (arith, c.in_ok-b.ensures.later);
+  faults = ⊎_elim (λ err. cc (err)) (λ same. same ∙ c.loop-b.invariant.faults) c.in_ok-b.ensures.cause.calm;
 }
 
 pub returns-then-not-is_blank-clause-blanks : goal.returns-then-not-is_blank-clause-blanks

@@ -9,7 +9,7 @@ invariant-loop-b g l = record {
   left : (rest : List ℕ) → HasLeft l.fn.self (g.S.Source.left l.fn.source) rest
       → (now : List ℕ) × (pieces_from l.fn.self.allowed l.fn.self.line rest ≡ pieces_from l.self.allowed l.self.line now) × HasLeft l.self (g.S.Source.left l.source) now;
   allowed : l.self.allowed ≤ l.fn.self.allowed;
-  later : g.S.Source.faults l.fn.source ≤ g.S.Source.faults l.source;
+  faults : g.S.Source.faults l.source ≡ g.S.Source.faults l.fn.source;
 }
 
 abbrev pub decreases-loop-b : goal.decreases-loop-b
