@@ -4,7 +4,7 @@ use Rattle.std.specs.List.{filter, flat_map, enumerate_from, range_with_len}
 use Rattle.std.specs.Ordering.{int_eq}
 use Rattle.ode_value.specs.declared.event.Kind.{Kind}
 use Rattle.ode_value.specs.declared.event.Kind.TheVariants.{TimeEvery, TimeAt}
-use Rattle.ode_value.specs.World.{Position}
+use Rattle.ode_value.specs.Worlds.{Position}
 use Rattle.ode_timer.specs.declared.clock.TimeRow.{TimeRow}
 
 -- a kind is due at a Unix second

@@ -18,7 +18,7 @@ pub struct Clock {
 }
 
 impl Model for Clock {
-    ghost use Rattle.ode_value.specs.World.{Position};
+    ghost use Rattle.ode_value.specs.Worlds.{Position};
 
     ghost Value = { Position };
 
