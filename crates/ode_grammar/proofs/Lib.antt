@@ -1,0 +1,5 @@
+pub mod TerminalLaws
+pub mod Follows
+pub mod Least
+pub mod Runs
+pub mod Places
