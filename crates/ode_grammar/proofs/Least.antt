@@ -14,14 +14,17 @@ use Rattle.ode_grammar.specs.Texts.{plain, Derives, Done, Next, Make, Rule, Skip
 abbrev pub tokens_of : Part → List Terminal
 tokens_of part.Statement = terminal.Semi ∷ []
 tokens_of part.ClockText = terminal.Text ∷ []
-tokens_of part.InnerName = terminal.Assign ∷ terminal.Name ∷ terminal.Semi ∷ []
+tokens_of part.InnerName = terminal.OpenParen ∷ terminal.CloseParen ∷ terminal.Semi ∷ []
 tokens_of part.ReturnValue = terminal.Semi ∷ []
 tokens_of part.Chained = terminal.Name ∷ terminal.Dot ∷ terminal.Name ∷ terminal.OpenParen ∷ terminal.CloseParen ∷ []
 tokens_of part.CallDot = terminal.OpenParen ∷ terminal.CloseParen ∷ []
 tokens_of part.Sets = terminal.CloseParen ∷ []
 tokens_of part.MoreSets = terminal.CloseParen ∷ []
-tokens_of part.Rhs = terminal.Name ∷ []
-tokens_of part.ScriptRhs = terminal.Name ∷ []
+tokens_of part.Rhs = terminal.Name ∷ terminal.Semi ∷ []
+tokens_of part.ScriptRhs = terminal.Name ∷ terminal.Semi ∷ []
+tokens_of part.RhsDots = terminal.Semi ∷ []
+tokens_of part.RhsDot = terminal.Semi ∷ []
+tokens_of part.RhsName = terminal.Semi ∷ []
 tokens_of part.Class = terminal.Class ∷ terminal.Name ∷ terminal.OpenBrace ∷ terminal.CloseBrace ∷ []
 tokens_of part.FieldOrMethod = terminal.Semi ∷ []
 tokens_of part.MoreKinds = terminal.Semi ∷ []
@@ -75,21 +78,17 @@ clock_text_derives : {items : List Item} {ts : List Terminal} → Gives items ts
 unfolding after skipped
 clock_text_derives d = Rule {t = terminal.Text} part.ClockText ([]) refl d
 
-rhs_derives : {items : List Item} {ts : List Terminal} → Gives items ts → Gives (item.Part part.Rhs ∷ items) (tokens_of part.Rhs ++ ts)
+args_derives : {items : List Item} {ts : List Terminal} → Gives items ts → Gives (item.Part part.Args ∷ items) (tokens_of part.Args ++ ts)
 unfolding after skipped
-rhs_derives d = Rule {t = terminal.Name} part.Rhs (item.Part part.RhsName ∷ []) refl (Skip part.RhsName action.PlainName refl d)
+args_derives d = Rule {t = terminal.CloseParen} part.Args ([]) refl d
 
 inner_name_derives : {items : List Item} {ts : List Terminal} → Gives items ts → Gives (item.Part part.InnerName ∷ items) (tokens_of part.InnerName ++ ts)
 unfolding after skipped
-inner_name_derives d = Rule {t = terminal.Assign} part.InnerName (item.Part part.Rhs ∷ item.Token terminal.Semi ∷ item.Build action.Set ∷ []) refl (rhs_derives (Next terminal.Semi refl (Make action.Set d)))
+inner_name_derives d = Rule {t = terminal.OpenParen} part.InnerName (item.Build action.Arguments ∷ item.Part part.Args ∷ item.Build action.OwnCall ∷ item.Token terminal.Semi ∷ item.Build action.Do ∷ []) refl (Make action.Arguments (args_derives (Make action.OwnCall (Next terminal.Semi refl (Make action.Do d)))))
 
 return_value_derives : {items : List Item} {ts : List Terminal} → Gives items ts → Gives (item.Part part.ReturnValue ∷ items) (tokens_of part.ReturnValue ++ ts)
 unfolding after skipped
 return_value_derives d = Rule {t = terminal.Semi} part.ReturnValue (item.Build action.ReturnNothing ∷ []) refl (Make action.ReturnNothing d)
-
-args_derives : {items : List Item} {ts : List Terminal} → Gives items ts → Gives (item.Part part.Args ∷ items) (tokens_of part.Args ++ ts)
-unfolding after skipped
-args_derives d = Rule {t = terminal.CloseParen} part.Args ([]) refl d
 
 call_dot_derives : {items : List Item} {ts : List Terminal} → Gives items ts → Gives (item.Part part.CallDot ∷ items) (tokens_of part.CallDot ++ ts)
 unfolding after skipped
@@ -107,9 +106,25 @@ more_sets_derives : {items : List Item} {ts : List Terminal} → Gives items ts 
 unfolding after skipped
 more_sets_derives d = Rule {t = terminal.CloseParen} part.MoreSets ([]) refl d
 
+rhs_name_derives : {items : List Item} {ts : List Terminal} → Gives items ts → Gives (item.Part part.RhsName ∷ items) (tokens_of part.RhsName ++ ts)
+unfolding after skipped
+rhs_name_derives d = Rule {t = terminal.Semi} part.RhsName (item.Build action.Variable ∷ item.Build action.Plain ∷ []) refl (Make action.Variable (Make action.Plain d))
+
+rhs_derives : {items : List Item} {ts : List Terminal} → Gives items ts → Gives (item.Part part.Rhs ∷ items) (tokens_of part.Rhs ++ ts)
+unfolding after skipped
+rhs_derives d = Rule {t = terminal.Name} part.Rhs (item.Part part.RhsName ∷ []) refl (rhs_name_derives d)
+
+rhs_dots_derives : {items : List Item} {ts : List Terminal} → Gives items ts → Gives (item.Part part.RhsDots ∷ items) (tokens_of part.RhsDots ++ ts)
+unfolding after skipped
+rhs_dots_derives d = Rule {t = terminal.Semi} part.RhsDots (item.Build action.Plain ∷ []) refl (Make action.Plain d)
+
 script_rhs_derives : {items : List Item} {ts : List Terminal} → Gives items ts → Gives (item.Part part.ScriptRhs ∷ items) (tokens_of part.ScriptRhs ++ ts)
 unfolding after skipped
-script_rhs_derives d = Rule {t = terminal.Name} part.ScriptRhs (item.Build action.Variable ∷ item.Part part.RhsDots ∷ []) refl (Make action.Variable (Skip part.RhsDots action.Plain refl d))
+script_rhs_derives d = Rule {t = terminal.Name} part.ScriptRhs (item.Build action.Variable ∷ item.Part part.RhsDots ∷ []) refl (Make action.Variable (rhs_dots_derives d))
+
+rhs_dot_derives : {items : List Item} {ts : List Terminal} → Gives items ts → Gives (item.Part part.RhsDot ∷ items) (tokens_of part.RhsDot ++ ts)
+unfolding after skipped
+rhs_dot_derives d = Rule {t = terminal.Semi} part.RhsDot (item.Build action.Field ∷ item.Build action.Plain ∷ []) refl (Make action.Field (Make action.Plain d))
 
 class_derives : {items : List Item} {ts : List Terminal} → Gives items ts → Gives (item.Part part.Class ∷ items) (tokens_of part.Class ++ ts)
 unfolding after skipped
@@ -253,9 +268,9 @@ part_derives part.Sets d = sets_derives d
 part_derives part.MoreSets d = more_sets_derives d
 part_derives part.Rhs d = rhs_derives d
 part_derives part.ScriptRhs d = script_rhs_derives d
-part_derives part.RhsDots d = Skip part.RhsDots action.Plain refl d
-part_derives part.RhsDot d = Skip part.RhsDot action.PlainField refl d
-part_derives part.RhsName d = Skip part.RhsName action.PlainName refl d
+part_derives part.RhsDots d = rhs_dots_derives d
+part_derives part.RhsDot d = rhs_dot_derives d
+part_derives part.RhsName d = rhs_name_derives d
 part_derives part.Class d = class_derives d
 part_derives part.Parent d = Skip part.Parent action.NoParent refl d
 part_derives part.Members d = Skip part.Members action.Nothing refl d

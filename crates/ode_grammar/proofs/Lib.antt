@@ -3,3 +3,4 @@ pub mod Follows
 pub mod Least
 pub mod Runs
 pub mod Places
+pub mod Steps

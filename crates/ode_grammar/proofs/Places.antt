@@ -22,7 +22,7 @@ no_token = Leaf
 unit_one : (u : Unit {0}) → u ≡ tt
 unit_one u = refl
 
-map_same : (ts : List Terminal) → map (λ k. k) ts ≡ ts
+pub map_same : (ts : List Terminal) → map (λ k. k) ts ≡ ts
 map_same [] = refl
 map_same (t ∷ ts) = ap (λ us. t ∷ us) (map_same ts)
 

@@ -92,7 +92,7 @@ derived_goes {g = g} {m = m} {t = t} {ts = ts} {out = out} (Skip {items = items}
 
 -- ---- many tokens
 
-and_then_some : {A B : Type 0} (x : Option A) (f : A → Option B) (y : B) → option_and_then f x ≡ Some y → (z : A) × (x ≡ Some z) × (f z ≡ Some y)
+pub and_then_some : {A B : Type 0} (x : Option A) (f : A → Option B) (y : B) → option_and_then f x ≡ Some y → (z : A) × (x ≡ Some z) × (f z ≡ Some y)
 and_then_some None f y h = cc
 and_then_some (Some z) f y h = (z, refl, h)
 

@@ -85,9 +85,6 @@ after part.MoreArgs k = more_args_after k
 unfoldable pub skipped : Part → Option Action
 skipped part.Inners = Some action.Nothing
 skipped part.Else = Some action.Absent
-skipped part.RhsDots = Some action.Plain
-skipped part.RhsDot = Some action.PlainField
-skipped part.RhsName = Some action.PlainName
 skipped part.Parent = Some action.NoParent
 skipped part.Members = Some action.Nothing
 skipped part.Initial = Some action.NotInitial

@@ -33,7 +33,7 @@ done more = Token terminal.Semi ∷ Build action.Do ∷ more
 -- simple := do ";" | "show" rhs ";" | "say" expr ";" | "pdelete" expr ";" | "delversion" expr ";" | "deactivate" expr "," expr ";", without
 -- those that begin with a NAME
 abbrev pub simple : Item → List Item → Terminal → Option (List Item)
-simple rhs more terminal.Show = Some (rhs ∷ Token terminal.Semi ∷ Build action.Show ∷ more)
+simple rhs more terminal.Show = Some (rhs ∷ Build action.Show ∷ more)
 simple rhs more terminal.Say = Some (A part.Expr ∷ Token terminal.Semi ∷ Build action.Say ∷ more)
 simple rhs more terminal.PDelete = Some (A part.Expr ∷ Token terminal.Semi ∷ Build action.Delete ∷ more)
 simple rhs more terminal.DropVersion = Some (A part.Expr ∷ Token terminal.Semi ∷ Build action.DropVersion ∷ more)
@@ -73,7 +73,7 @@ abbrev pub next : List Item
 next = Build action.Append ∷ A part.Inners ∷ []
 
 abbrev pub inners_after : Terminal → Option (List Item)
-inners_after terminal.Let = Some (Token terminal.Name ∷ Token terminal.Assign ∷ A part.Rhs ∷ Token terminal.Semi ∷ Build action.Let ∷ next)
+inners_after terminal.Let = Some (Token terminal.Name ∷ Token terminal.Assign ∷ A part.Rhs ∷ Build action.Let ∷ next)
 inners_after terminal.Name = Some (A part.InnerName ∷ next)
 inners_after terminal.If = Some (Token terminal.OpenParen ∷ A part.Expr ∷ Token terminal.CloseParen ∷ body ++ A part.Else ∷ Build action.If ∷ next)
 inners_after terminal.Return = Some (A part.ReturnValue ∷ next)
@@ -81,7 +81,7 @@ inners_after terminal.TAbort = Some (Token terminal.Semi ∷ Build action.TAbort
 inners_after other = simple (A part.Rhs) next other
 
 abbrev pub inner_name_after : Terminal → Option (List Item)
-inner_name_after terminal.Assign = Some (A part.Rhs ∷ Token terminal.Semi ∷ Build action.Set ∷ [])
+inner_name_after terminal.Assign = Some (A part.Rhs ∷ Build action.Set ∷ [])
 inner_name_after terminal.OpenParen = Some (arguments ++ Build action.OwnCall ∷ done [])
 inner_name_after terminal.Dot = Some (Build action.Variable ∷ Token terminal.Name ∷ A part.CallDot ∷ Build action.Call ∷ done [])
 inner_name_after other = None
@@ -118,14 +118,21 @@ more_sets_after terminal.Comma = Some (Token terminal.Name ∷ field_set)
 more_sets_after terminal.CloseParen = Some []
 more_sets_after other = None
 
--- rhs := do | expr. An expression begins as a call by a reference may; behind a call nothing more can come.
+-- rhs := do | expr, always before a ";", which stands in these rows. An expression begins as a call by a reference may; behind a call nothing
+-- else can come.
+abbrev pub ending : List Item
+ending = Token terminal.Semi ∷ []
+
+abbrev pub plain : List Item
+plain = Build action.Plain ∷ ending
+
 abbrev pub right_side : List Item → Terminal → Option (List Item)
-right_side name terminal.Minus = Some (A part.Unary ∷ Build action.Sign ∷ behind_unary ++ Build action.Plain ∷ [])
-right_side name terminal.Not = Some (A part.Unary ∷ Build action.Sign ∷ behind_unary ++ Build action.Plain ∷ [])
+right_side name terminal.Minus = Some (A part.Unary ∷ Build action.Sign ∷ behind_unary ++ plain)
+right_side name terminal.Not = Some (A part.Unary ∷ Build action.Sign ∷ behind_unary ++ plain)
 right_side name terminal.Name = Some name
-right_side name terminal.PNew = changed [] terminal.PNew
-right_side name terminal.NewVersion = changed [] terminal.NewVersion
-right_side name terminal.Activate = changed [] terminal.Activate
+right_side name terminal.PNew = changed ending terminal.PNew
+right_side name terminal.NewVersion = changed ending terminal.NewVersion
+right_side name terminal.Activate = changed ending terminal.Activate
 right_side name other = atom (A part.RhsDots ∷ []) other
 
 abbrev pub rhs_after : Terminal → Option (List Item)
@@ -135,19 +142,19 @@ rhs_after k = right_side (A part.RhsName ∷ []) k
 abbrev pub script_rhs_after : Terminal → Option (List Item)
 script_rhs_after k = right_side (Build action.Variable ∷ A part.RhsDots ∷ []) k
 
-abbrev pub plain : List Item
-plain = Build action.Plain ∷ []
-
 abbrev pub rhs_dots_after : Terminal → Option (List Item)
 rhs_dots_after terminal.Dot = Some (Token terminal.Name ∷ A part.RhsDot ∷ [])
+rhs_dots_after terminal.Semi = Some (Build action.Plain ∷ [])
 rhs_dots_after other = operator [] plain other
 
 abbrev pub rhs_dot_after : Terminal → Option (List Item)
 rhs_dot_after terminal.Dot = Some (Build action.Field ∷ Token terminal.Name ∷ A part.RhsDot ∷ [])
-rhs_dot_after terminal.OpenParen = Some (arguments ++ Build action.Call ∷ [])
+rhs_dot_after terminal.Semi = Some (Build action.Field ∷ Build action.Plain ∷ [])
+rhs_dot_after terminal.OpenParen = Some (arguments ++ Build action.Call ∷ ending)
 rhs_dot_after other = operator (Build action.Field ∷ []) plain other
 
 abbrev pub rhs_name_after : Terminal → Option (List Item)
 rhs_name_after terminal.Dot = Some (Build action.Variable ∷ Token terminal.Name ∷ A part.RhsDot ∷ [])
-rhs_name_after terminal.OpenParen = Some (arguments ++ Build action.OwnCall ∷ [])
+rhs_name_after terminal.Semi = Some (Build action.Variable ∷ Build action.Plain ∷ [])
+rhs_name_after terminal.OpenParen = Some (arguments ++ Build action.OwnCall ∷ ending)
 rhs_name_after other = operator (Build action.Variable ∷ []) plain other

@@ -220,9 +220,6 @@ pub fn skipped(part: Part) -> Option<Action>
         | Part::Ands
         | Part::Ors => Some(Action::Nothing),
         Part::Else => Some(Action::Absent),
-        Part::RhsDots => Some(Action::Plain),
-        Part::RhsDot => Some(Action::PlainField),
-        Part::RhsName => Some(Action::PlainName),
         Part::Parent => Some(Action::NoParent),
         Part::Initial => Some(Action::NotInitial),
         Part::Lasting => Some(Action::Once),

@@ -25,9 +25,9 @@ pub enum Part {
     Sets,
     /// What follows such a field.
     MoreSets,
-    /// What a statement of a body sets or shows.
+    /// What a statement of a body sets or shows, and its semicolon.
     Rhs,
-    /// What a statement of a script shows.
+    /// What a statement of a script shows, and its semicolon.
     ScriptRhs,
     /// What follows an atom that begins a right side.
     RhsDots,
@@ -161,8 +161,6 @@ pub enum Action {
     AddSet,
     Plain,
     Binary,
-    PlainField,
-    PlainName,
     Parent,
     NoParent,
     Sort,

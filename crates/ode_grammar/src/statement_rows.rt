@@ -35,7 +35,6 @@ pub fn statement_after(terminal: Terminal) -> Option<&'static [Item]>
         Semi => Some(&[Build(Action::Empty)]),
         Show => Some(&[
             A(Part::ScriptRhs),
-            Token(Semi),
             Build(Action::Show),
             Build(Action::Simple),
         ]),
@@ -157,7 +156,6 @@ pub fn inners_after(terminal: Terminal) -> Option<&'static [Item]>
     match terminal {
         Show => Some(&[
             A(Part::Rhs),
-            Token(Semi),
             Build(Action::Show),
             Build(Action::Append),
             A(Part::Inners),
@@ -262,7 +260,6 @@ pub fn inners_after(terminal: Terminal) -> Option<&'static [Item]>
             Token(Name),
             Token(Assign),
             A(Part::Rhs),
-            Token(Semi),
             Build(Action::Let),
             Build(Action::Append),
             A(Part::Inners),
@@ -297,7 +294,7 @@ pub fn inner_name_after(terminal: Terminal) -> Option<&'static [Item]>
     ensures none { IfNone result (inner_name_after terminal ≡ None) }
 {
     match terminal {
-        Assign => Some(&[A(Part::Rhs), Token(Semi), Build(Action::Set)]),
+        Assign => Some(&[A(Part::Rhs), Build(Action::Set)]),
         OpenParen => Some(&[
             Build(Action::Arguments),
             A(Part::Args),
@@ -490,7 +487,7 @@ pub fn more_sets_after(terminal: Terminal) -> Option<&'static [Item]>
     }
 }
 
-/// What a statement of a body sets or shows.
+/// What a statement of a body sets or shows, and its semicolon.
 pub fn rhs_after(terminal: Terminal) -> Option<&'static [Item]>
     ensures some { IfSome result (λ items. rhs_after terminal ≡ Some items.now) }
     ensures none { IfNone result (rhs_after terminal ≡ None) }
@@ -502,9 +499,10 @@ pub fn rhs_after(terminal: Terminal) -> Option<&'static [Item]>
             Build(Action::Sets),
             A(Part::Sets),
             Build(Action::New),
+            Token(Semi),
         ]),
-        NewVersion => Some(&[A(Part::Expr), Build(Action::NewVersion)]),
-        Activate => Some(&[A(Part::Chained), Build(Action::Activate)]),
+        NewVersion => Some(&[A(Part::Expr), Build(Action::NewVersion), Token(Semi)]),
+        Activate => Some(&[A(Part::Chained), Build(Action::Activate), Token(Semi)]),
         Minus | Not => Some(&[
             A(Part::Unary),
             Build(Action::Sign),
@@ -514,6 +512,7 @@ pub fn rhs_after(terminal: Terminal) -> Option<&'static [Item]>
             A(Part::Ands),
             A(Part::Ors),
             Build(Action::Plain),
+            Token(Semi),
         ]),
         Name => Some(&[A(Part::RhsName)]),
         Leaf | Number | Seconds | Count | Text | Instant => Some(&[
@@ -537,7 +536,7 @@ pub fn rhs_after(terminal: Terminal) -> Option<&'static [Item]>
     }
 }
 
-/// What a statement of a script shows.
+/// What a statement of a script shows, and its semicolon.
 pub fn script_rhs_after(terminal: Terminal) -> Option<&'static [Item]>
     ensures some { IfSome result (λ items. script_rhs_after terminal ≡ Some items.now) }
     ensures none { IfNone result (script_rhs_after terminal ≡ None) }
@@ -549,9 +548,10 @@ pub fn script_rhs_after(terminal: Terminal) -> Option<&'static [Item]>
             Build(Action::Sets),
             A(Part::Sets),
             Build(Action::New),
+            Token(Semi),
         ]),
-        NewVersion => Some(&[A(Part::Expr), Build(Action::NewVersion)]),
-        Activate => Some(&[A(Part::Chained), Build(Action::Activate)]),
+        NewVersion => Some(&[A(Part::Expr), Build(Action::NewVersion), Token(Semi)]),
+        Activate => Some(&[A(Part::Chained), Build(Action::Activate), Token(Semi)]),
         Minus | Not => Some(&[
             A(Part::Unary),
             Build(Action::Sign),
@@ -561,6 +561,7 @@ pub fn script_rhs_after(terminal: Terminal) -> Option<&'static [Item]>
             A(Part::Ands),
             A(Part::Ors),
             Build(Action::Plain),
+            Token(Semi),
         ]),
         Name => Some(&[Build(Action::Variable), A(Part::RhsDots)]),
         Leaf | Number | Seconds | Count | Text | Instant => Some(&[
@@ -591,6 +592,7 @@ pub fn rhs_dots_after(terminal: Terminal) -> Option<&'static [Item]>
 {
     match terminal {
         Dot => Some(&[Token(Name), A(Part::RhsDot)]),
+        Semi => Some(&[Build(Action::Plain)]),
         Times => Some(&[
             A(Part::Unary),
             Build(Action::Binary),
@@ -600,6 +602,7 @@ pub fn rhs_dots_after(terminal: Terminal) -> Option<&'static [Item]>
             A(Part::Ands),
             A(Part::Ors),
             Build(Action::Plain),
+            Token(Semi),
         ]),
         Plus | Minus => Some(&[
             A(Part::Unary),
@@ -610,6 +613,7 @@ pub fn rhs_dots_after(terminal: Terminal) -> Option<&'static [Item]>
             A(Part::Ands),
             A(Part::Ors),
             Build(Action::Plain),
+            Token(Semi),
         ]),
         Compares => Some(&[
             A(Part::Unary),
@@ -619,6 +623,7 @@ pub fn rhs_dots_after(terminal: Terminal) -> Option<&'static [Item]>
             A(Part::Ands),
             A(Part::Ors),
             Build(Action::Plain),
+            Token(Semi),
         ]),
         AndAnd => Some(&[
             A(Part::Unary),
@@ -629,6 +634,7 @@ pub fn rhs_dots_after(terminal: Terminal) -> Option<&'static [Item]>
             A(Part::Ands),
             A(Part::Ors),
             Build(Action::Plain),
+            Token(Semi),
         ]),
         OrOr => Some(&[
             A(Part::Unary),
@@ -639,6 +645,7 @@ pub fn rhs_dots_after(terminal: Terminal) -> Option<&'static [Item]>
             Build(Action::Binary),
             A(Part::Ors),
             Build(Action::Plain),
+            Token(Semi),
         ]),
         _ => None,
     }
@@ -651,7 +658,13 @@ pub fn rhs_dot_after(terminal: Terminal) -> Option<&'static [Item]>
 {
     match terminal {
         Dot => Some(&[Build(Action::Field), Token(Name), A(Part::RhsDot)]),
-        OpenParen => Some(&[Build(Action::Arguments), A(Part::Args), Build(Action::Call)]),
+        Semi => Some(&[Build(Action::Field), Build(Action::Plain)]),
+        OpenParen => Some(&[
+            Build(Action::Arguments),
+            A(Part::Args),
+            Build(Action::Call),
+            Token(Semi),
+        ]),
         Times => Some(&[
             Build(Action::Field),
             A(Part::Unary),
@@ -662,6 +675,7 @@ pub fn rhs_dot_after(terminal: Terminal) -> Option<&'static [Item]>
             A(Part::Ands),
             A(Part::Ors),
             Build(Action::Plain),
+            Token(Semi),
         ]),
         Plus | Minus => Some(&[
             Build(Action::Field),
@@ -673,6 +687,7 @@ pub fn rhs_dot_after(terminal: Terminal) -> Option<&'static [Item]>
             A(Part::Ands),
             A(Part::Ors),
             Build(Action::Plain),
+            Token(Semi),
         ]),
         Compares => Some(&[
             Build(Action::Field),
@@ -683,6 +698,7 @@ pub fn rhs_dot_after(terminal: Terminal) -> Option<&'static [Item]>
             A(Part::Ands),
             A(Part::Ors),
             Build(Action::Plain),
+            Token(Semi),
         ]),
         AndAnd => Some(&[
             Build(Action::Field),
@@ -694,6 +710,7 @@ pub fn rhs_dot_after(terminal: Terminal) -> Option<&'static [Item]>
             A(Part::Ands),
             A(Part::Ors),
             Build(Action::Plain),
+            Token(Semi),
         ]),
         OrOr => Some(&[
             Build(Action::Field),
@@ -705,6 +722,7 @@ pub fn rhs_dot_after(terminal: Terminal) -> Option<&'static [Item]>
             Build(Action::Binary),
             A(Part::Ors),
             Build(Action::Plain),
+            Token(Semi),
         ]),
         _ => None,
     }
@@ -717,10 +735,12 @@ pub fn rhs_name_after(terminal: Terminal) -> Option<&'static [Item]>
 {
     match terminal {
         Dot => Some(&[Build(Action::Variable), Token(Name), A(Part::RhsDot)]),
+        Semi => Some(&[Build(Action::Variable), Build(Action::Plain)]),
         OpenParen => Some(&[
             Build(Action::Arguments),
             A(Part::Args),
             Build(Action::OwnCall),
+            Token(Semi),
         ]),
         Times => Some(&[
             Build(Action::Variable),
@@ -732,6 +752,7 @@ pub fn rhs_name_after(terminal: Terminal) -> Option<&'static [Item]>
             A(Part::Ands),
             A(Part::Ors),
             Build(Action::Plain),
+            Token(Semi),
         ]),
         Plus | Minus => Some(&[
             Build(Action::Variable),
@@ -743,6 +764,7 @@ pub fn rhs_name_after(terminal: Terminal) -> Option<&'static [Item]>
             A(Part::Ands),
             A(Part::Ors),
             Build(Action::Plain),
+            Token(Semi),
         ]),
         Compares => Some(&[
             Build(Action::Variable),
@@ -753,6 +775,7 @@ pub fn rhs_name_after(terminal: Terminal) -> Option<&'static [Item]>
             A(Part::Ands),
             A(Part::Ors),
             Build(Action::Plain),
+            Token(Semi),
         ]),
         AndAnd => Some(&[
             Build(Action::Variable),
@@ -764,6 +787,7 @@ pub fn rhs_name_after(terminal: Terminal) -> Option<&'static [Item]>
             A(Part::Ands),
             A(Part::Ors),
             Build(Action::Plain),
+            Token(Semi),
         ]),
         OrOr => Some(&[
             Build(Action::Variable),
@@ -775,6 +799,7 @@ pub fn rhs_name_after(terminal: Terminal) -> Option<&'static [Item]>
             Build(Action::Binary),
             A(Part::Ors),
             Build(Action::Plain),
+            Token(Semi),
         ]),
         _ => None,
     }
