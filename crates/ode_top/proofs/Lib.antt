@@ -3,3 +3,4 @@ pub mod Calling
 pub mod CarriesPieces
 pub mod Runs
 pub mod Settles
+pub mod Stable
