@@ -4,3 +4,4 @@ pub mod CarriesPieces
 pub mod Leaving
 pub mod Runs
 pub mod Settles
+pub mod Stable

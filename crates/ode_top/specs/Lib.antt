@@ -3,3 +3,5 @@ pub mod Calls
 pub mod Halts
 pub mod Serves
 pub mod Trace
+pub mod Runs
+pub mod Stability
