@@ -1,0 +1,4 @@
+pub mod HeightLaws
+pub mod Lowest
+pub mod Completions
+pub mod Depths

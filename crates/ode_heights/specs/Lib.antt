@@ -1,0 +1,4 @@
+pub mod Effects
+pub mod Heights
+pub mod Lowest
+pub mod Depths

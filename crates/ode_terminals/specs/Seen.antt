@@ -1,0 +1,73 @@
+-- What the grammar sees of a token of a text.
+use Rattle.std.specs.Prelude.{ℕ, ◌-◌, ◌^◌, ◌==◌, ◌||◌, ℤ, pos, negsuc, nat_lt, nat_le, cond, codes, List, [], ◌∷◌, take, drop}
+use Rattle.std.specs.Str.{bytes_eq}
+use Rattle.ode_lex.specs.declared.token.Mark.{Mark}
+use Rattle.ode_lex.specs.declared.token.Mark.TheVariants as mark
+use Rattle.ode_lex.specs.declared.token.Token.{Token}
+use Rattle.ode_lex.specs.declared.token.TokenKind.{TokenKind}
+use Rattle.ode_lex.specs.declared.token.TokenKind.TheVariants as kind
+use Rattle.ode_grammar.specs.declared.terminal.Terminal.{Terminal}
+use Rattle.ode_grammar.specs.declared.terminal.Terminal.TheVariants as terminal
+use Rattle.ode_terminals.specs.declared.seen.Place.{Place}
+use Rattle.ode_terminals.specs.declared.seen.Place.TheVariants.{Class, Script}
+use Rattle.ode_terminals.specs.Words.{word_terminal}
+
+abbrev pub mark_terminal : Mark → Terminal
+mark_terminal mark.OpenBrace = terminal.OpenBrace
+mark_terminal mark.CloseBrace = terminal.CloseBrace
+mark_terminal mark.OpenParen = terminal.OpenParen
+mark_terminal mark.CloseParen = terminal.CloseParen
+mark_terminal mark.Semi = terminal.Semi
+mark_terminal mark.Comma = terminal.Comma
+mark_terminal mark.Dot = terminal.Dot
+mark_terminal mark.Colon = terminal.Colon
+mark_terminal mark.Assign = terminal.Assign
+mark_terminal mark.Equal = terminal.Compares
+mark_terminal mark.NotEqual = terminal.Compares
+mark_terminal mark.Less = terminal.Compares
+mark_terminal mark.LessEqual = terminal.Compares
+mark_terminal mark.Greater = terminal.Compares
+mark_terminal mark.GreaterEqual = terminal.Compares
+mark_terminal mark.Plus = terminal.Plus
+mark_terminal mark.Minus = terminal.Minus
+mark_terminal mark.Star = terminal.Times
+mark_terminal mark.Slash = terminal.Times
+mark_terminal mark.Percent = terminal.Times
+mark_terminal mark.Not = terminal.Not
+mark_terminal mark.AndAnd = terminal.AndAnd
+mark_terminal mark.OrOr = terminal.OrOr
+mark_terminal mark.Arrow = terminal.Arrow
+
+-- a number by its range
+abbrev pub number_terminal : ℤ → Terminal
+number_terminal (pos n) =
+    cond (n == 0 || nat_le (2 ^ 32) n) terminal.Number (cond (nat_lt n 65536) terminal.Count terminal.Seconds)
+number_terminal (negsuc n) = terminal.Number
+
+-- `this` stands in no statement of a script, and a reference in no class
+abbrev pub this_terminal : Place → Terminal
+this_terminal Script = terminal.Stray
+this_terminal other = terminal.Leaf
+
+abbrev pub reference_terminal : Place → Terminal
+reference_terminal Class = terminal.Stray
+reference_terminal other = terminal.Leaf
+
+-- by the token's bytes; whether a text is an instant isn't asked here
+abbrev pub seen : Place → List ℕ → TokenKind → Terminal
+seen place bytes kind.Word = cond (bytes_eq bytes (codes "this")) (this_terminal place) (word_terminal bytes)
+seen place bytes (kind.Number n) = number_terminal n
+seen place bytes kind.Text = terminal.Text
+seen place bytes (kind.Reference r) = reference_terminal place
+seen place bytes (kind.Mark m) = mark_terminal m
+
+abbrev pub slice_of : List ℕ → Token → List ℕ
+slice_of text token = take (token.end - token.start) (drop token.start text)
+
+abbrev pub terminal_of : Place → List ℕ → Token → Terminal
+terminal_of place text token = seen place (slice_of text token) token.kind
+
+-- a statement that begins with `class` is a class, and any other a script's own
+abbrev pub place_of : List ℕ → List Token → Place
+place_of text [] = Script
+place_of text (token ∷ tokens) = cond (bytes_eq (slice_of text token) (codes "class")) Class Script

@@ -1,0 +1,8 @@
+//! What the grammar sees of lexed tokens.
+#![tactic(auto)]
+
+mod seen;
+mod words;
+
+pub use seen::{Place, place_of, terminal_of, terminals};
+pub use words::words_are_reserved;

@@ -1,0 +1,121 @@
+//! Tokens as the grammar sees them.
+ghost use Rattle.std.specs.Prelude.{◌≡◌, IfOk, map, length};
+ghost use Rattle.ode_terminals.specs.Seen.{mark_terminal, number_terminal, place_of, reference_terminal, seen, terminal_of, this_terminal};
+
+use crate::words::word_terminal;
+use ode_grammar::Terminal;
+use ode_lex::{Mark, Token, TokenKind, slice_of};
+use std::alloc::{AllocError, Global};
+
+/// Where a text stands: in a class, among a script's own statements, or where nothing is known of it.
+#[derive(Clone, Copy, Debug, PartialEq, Eq)]
+pub enum Place {
+    Anywhere,
+    Class,
+    Script,
+}
+
+fn mark_terminal(mark: Mark) -> Terminal
+    ensures { result ≡ mark_terminal mark }
+{
+    match mark {
+        Mark::OpenBrace => Terminal::OpenBrace,
+        Mark::CloseBrace => Terminal::CloseBrace,
+        Mark::OpenParen => Terminal::OpenParen,
+        Mark::CloseParen => Terminal::CloseParen,
+        Mark::Semi => Terminal::Semi,
+        Mark::Comma => Terminal::Comma,
+        Mark::Dot => Terminal::Dot,
+        Mark::Colon => Terminal::Colon,
+        Mark::Assign => Terminal::Assign,
+        Mark::Equal => Terminal::Compares,
+        Mark::NotEqual => Terminal::Compares,
+        Mark::Less => Terminal::Compares,
+        Mark::LessEqual => Terminal::Compares,
+        Mark::Greater => Terminal::Compares,
+        Mark::GreaterEqual => Terminal::Compares,
+        Mark::Plus => Terminal::Plus,
+        Mark::Minus => Terminal::Minus,
+        Mark::Star => Terminal::Times,
+        Mark::Slash => Terminal::Times,
+        Mark::Percent => Terminal::Times,
+        Mark::Not => Terminal::Not,
+        Mark::AndAnd => Terminal::AndAnd,
+        Mark::OrOr => Terminal::OrOr,
+        Mark::Arrow => Terminal::Arrow,
+    }
+}
+
+fn number_terminal(number: i64) -> Terminal
+    ensures { result ≡ number_terminal number }
+{
+    match number {
+        1..=65_535 => Terminal::Count,
+        65_536..=4_294_967_295 => Terminal::Seconds,
+        _ => Terminal::Number,
+    }
+}
+
+fn this_terminal(place: Place) -> Terminal
+    ensures { result ≡ this_terminal place }
+{
+    match place {
+        Place::Script => Terminal::Stray,
+        _ => Terminal::Leaf,
+    }
+}
+
+fn reference_terminal(place: Place) -> Terminal
+    ensures { result ≡ reference_terminal place }
+{
+    match place {
+        Place::Class => Terminal::Stray,
+        _ => Terminal::Leaf,
+    }
+}
+
+/// What the grammar sees of a token of a text that stands at this place. Each text is `Text`: whether it is an instant isn't asked here.
+pub fn terminal_of(place: Place, text: &[u8], token: Token) -> Terminal
+    ensures { result ≡ terminal_of place text.now token }
+{
+    let bytes = slice_of(text, token);
+    match token.kind {
+        TokenKind::Word => {
+            if bytes == b"this".as_slice() {
+                this_terminal(place)
+            } else {
+                word_terminal(bytes)
+            }
+        }
+        TokenKind::Number(number) => number_terminal(number),
+        TokenKind::Text => Terminal::Text,
+        TokenKind::Reference(_) => reference_terminal(place),
+        TokenKind::Mark(mark) => mark_terminal(mark),
+    }
+}
+
+/// What the grammar sees of the tokens of a text.
+pub fn terminals(
+    alloc: Global,
+    place: Place,
+    text: &[u8],
+    tokens: &[Token],
+) -> Result<Vec<Terminal>, AllocError>
+    ensures { IfOk result (λ seen. seen.items ≡ map (terminal_of place text.now) tokens.now) }
+{
+    let mut seen = Vec::with_capacity(alloc, tokens.len())?;
+    for token in tokens {
+        seen.push(terminal_of(place, text, *token))?;
+    }
+    Ok(seen)
+}
+
+/// Where a statement's text stands: in a class exactly where it begins with the word `class`.
+pub fn place_of(text: &[u8], tokens: &[Token]) -> Place
+    ensures { result ≡ place_of text.now tokens.now }
+{
+    match tokens {
+        [first, ..] if slice_of(text, *first) == b"class".as_slice() => Place::Class,
+        _ => Place::Script,
+    }
+}
