@@ -1,0 +1,4 @@
+pub mod Collapse
+pub mod Marking
+pub mod Minimal
+pub mod Sources
