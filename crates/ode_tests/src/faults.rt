@@ -2,6 +2,7 @@
 use crate::trial::{FIRST, FIRST_TEXT, Trial, call, failing, new_file, run, smooth, source};
 use ode_host::{Plan, Status};
 use std::alloc::{AllocError, Global};
+use std::process::Abort;
 use std::test::Fail;
 
 // The first script on an image, by a plan.
@@ -14,26 +15,6 @@ fn run_by(alloc: Global, image: &[u8], plan: Plan) -> Result<Trial, AllocError> 
 fn run_unread(alloc: Global, image: &[u8], number: u64) -> Result<Trial, AllocError> {
     let script = source(alloc, FIRST, &[number], 7)?;
     call(alloc, &["run", "f"], script, image, smooth(alloc))
-}
-
-#[test]
-fn a_script_that_cannot_be_read_is_a_read_fault(rt: HostRuntime) -> Result<(), Fail> {
-    let alloc = rt.alloc();
-    let file = new_file(alloc)?;
-    let ran = run_unread(alloc, &file, 0)?;
-    ran.is(&rt, "", Status::ReadFault, "a script that cannot be read");
-    assert_eq!(rt; ran.host.image(), file.as_slice());
-    Ok(())
-}
-
-#[test]
-fn a_disk_that_cannot_be_read_is_a_disk_fault(rt: HostRuntime) -> Result<(), Fail> {
-    let alloc = rt.alloc();
-    let file = new_file(alloc)?;
-    let ran = run_by(alloc, &file, failing(alloc, &[0], &[])?)?;
-    ran.is(&rt, "", Status::DiskFault, "a disk that cannot be read");
-    assert_eq!(rt; ran.host.image(), file.as_slice());
-    Ok(())
 }
 
 #[test]
@@ -68,6 +49,16 @@ const BEHIND: [&str; 3] = [
     "value 5\ntx 4 committed\n",
 ];
 
+// A run whose print of this number failed: what it printed, and what the next run says.
+fn is_kept(rt: &impl Abort, alloc: Global, ran: &Trial, number: usize) -> Result<(), Fail> {
+    let text = FRONTS.get(number).copied().ok_or("a fourth print")?;
+    ran.is(rt, text, Status::WriteFault, "a run that cannot print");
+    let again = run(alloc, ran.host.image(), "show #1.n;")?;
+    let text = BEHIND.get(number).copied().ok_or("a fourth print")?;
+    assert_eq!(rt; str::from_utf8(again.host.text()), Ok(text));
+    Ok(())
+}
+
 #[test]
 fn each_failing_print_is_a_write_fault_and_its_transaction_is_kept(
     rt: HostRuntime,
@@ -80,11 +71,7 @@ fn each_failing_print_is_a_write_fault_and_its_transaction_is_kept(
         if ran.status == Status::Ok {
             ran.is(&rt, FIRST_TEXT, Status::Ok, "a run that goes on");
         } else {
-            let text = FRONTS.get(cut).copied().ok_or("more than three prints")?;
-            ran.is(&rt, text, Status::WriteFault, "a run that cannot print");
-            let again = run(alloc, ran.host.image(), "show #1.n;")?;
-            let text = BEHIND.get(cut).copied().ok_or("more than three prints")?;
-            assert_eq!(rt; str::from_utf8(again.host.text()), Ok(text));
+            is_kept(&rt, alloc, &ran, cut)?;
             cut += 1;
         }
     }
@@ -112,44 +99,29 @@ fn each_failing_read_is_a_read_fault(rt: HostRuntime) -> Result<(), Fail> {
     Ok(())
 }
 
+// Two refusals, where the print of this number fails.
+fn refuse_twice(alloc: Global, image: &[u8], number: u64) -> Result<Trial, AllocError> {
+    let script = source(alloc, "x; y;", &[], 4096)?;
+    let plan = failing(alloc, &[], &[number])?;
+    call(alloc, &["run", "f"], script, image, plan)
+}
+
 #[test]
 fn a_refusal_that_cannot_be_printed_is_a_write_fault(rt: HostRuntime) -> Result<(), Fail> {
     let alloc = rt.alloc();
     let file = new_file(alloc)?;
-    let mut cut = 0;
-    for number in 0..16 {
-        let script = source(alloc, "x; y;", &[], 4096)?;
-        let plan = failing(alloc, &[], &[number])?;
-        let ran = call(alloc, &["run", "f"], script, &file, plan)?;
-        if ran.status != Status::Refused {
-            let text = ["", "refused 1 not built\n"]
-                .get(cut)
-                .copied()
-                .ok_or("a third print")?;
-            ran.is(
-                &rt,
-                text,
-                Status::WriteFault,
-                "a refusal that cannot be printed",
-            );
-            cut += 1;
-        }
+    let name = "a refusal that cannot be printed";
+    for (number, text) in [(0, ""), (1, "refused 1 not built\n")] {
+        let ran = refuse_twice(alloc, &file, number)?;
+        ran.is(&rt, text, Status::WriteFault, name);
     }
-    assert_eq!(rt; cut, 2);
     Ok(())
 }
 
 #[test]
 fn a_bad_file_whose_line_cannot_be_printed_is_a_write_fault(rt: HostRuntime) -> Result<(), Fail> {
     let alloc = rt.alloc();
-    let mut cut = 0u32;
-    for number in 0..16 {
-        let ran = run_by(alloc, &[], failing(alloc, &[], &[number])?)?;
-        if ran.status != Status::BadFile {
-            ran.is(&rt, "", Status::WriteFault, "a line that cannot be printed");
-            cut = cut.saturating_add(1);
-        }
-    }
-    assert_eq!(rt; cut, 1);
+    let ran = run_by(alloc, &[], failing(alloc, &[], &[0])?)?;
+    ran.is(&rt, "", Status::WriteFault, "a line that cannot be printed");
     Ok(())
 }

@@ -2,6 +2,7 @@
 use crate::trial::{FIRST, FIRST_TEXT, call, new_file, run, source};
 use ode_host::{Failed, Host, MemHost, Plan, Status, Torn};
 use std::alloc::{AllocError, Global};
+use std::process::Abort;
 use std::test::Fail;
 
 // Seven calls, the first that fails ends them.
@@ -62,13 +63,29 @@ const WAYS: [Torn; 5] = [
     Torn::Fill(b'?'),
 ];
 
+// A stop at this call leaves this image, and this text was printed.
+fn leaves(
+    rt: &impl Abort,
+    alloc: Global,
+    at: u64,
+    torn: Torn,
+    expected: (&[u8], &[u8]),
+) -> Result<(), AllocError> {
+    let (image, printed) = left(alloc, at, torn)?;
+    assert_eq!(rt; image.as_slice(), expected.0, "a stop at {at}, {torn:?}");
+    assert_eq!(rt;
+        printed.as_slice(),
+        expected.1,
+        "the text of a stop at {at}"
+    );
+    Ok(())
+}
+
 #[test]
 fn a_stop_tears_the_writes_behind_the_last_sync(rt: HostRuntime) -> Result<(), Fail> {
-    for (at, (images, text)) in LEFT.iter().enumerate() {
-        for (torn, expected) in WAYS.iter().zip(images) {
-            let (image, printed) = left(rt.alloc(), at as u64, *torn)?;
-            assert_eq!(rt; image.as_slice(), *expected, "a stop at {at}, {torn:?}");
-            assert_eq!(rt; printed.as_slice(), *text, "the text of a stop at {at}");
+    for (at, (images, text)) in (0..8u64).zip(LEFT.iter()) {
+        for (torn, image) in WAYS.iter().zip(images) {
+            leaves(&rt, rt.alloc(), at, *torn, (*image, *text))?;
         }
     }
     Ok(())
