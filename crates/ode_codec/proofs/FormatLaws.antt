@@ -1,5 +1,5 @@
 -- What is read from the front of bytes is spelled there, and what is spelled is read again.
-use Rattle.std.proofs.Common.{◌≡◌, ℕ, ℤ, suc, ◌+◌, ◌^◌, ◌<◌, ◌≤◌, Bool, true, false, cond, ltb, List, [], ◌∷◌, ◌++◌, length, get_or, take, drop, Option, Some, None, refl, sym, ap, subst, ◌∙◌, append_assoc, arith, inl, inr}
+use Rattle.std.proofs.Common.{◌≡◌, ℕ, ℤ, Fits, suc, ◌+◌, ◌^◌, ◌<◌, ◌≤◌, Bool, true, false, cond, ltb, List, [], ◌∷◌, ◌++◌, length, get_or, take, drop, Option, Some, None, refl, sym, ap, subst, ◌∙◌, append_assoc, arith, inl, inr}
 use Rattle.std.specs.Prelude.{FitsSigned, nat_lt, ◌==◌}
 use Rattle.std.specs.Int.{Width, w16, w32, w64, byte_len, from_be_bytes, to_be_bytes, cast_signed, cast_unsigned}
 use Rattle.std.proofs.lemmas.Bool.{cases_lt, ltb-false, le-ltb}
@@ -196,9 +196,12 @@ int_takes bytes x fits e =
     subst (λ (y : ℤ × List ℕ). Takes bytes (spell_int y.0) y.1 × FitsSigned w64 y.0) (same made x a.2)
       (record { parts = front.0.parts ∙ ap (λ (n : ℕ). to_be_bytes w64 n ++ a.0.1) (sym back); fits = front.0.fits }, read_sfits w64 a.0.0)
 
+below64 : {n : ℕ} → Fits w64 n → n < 2 ^ 64
+below64 fits = omega arith
+
 int_again : (n : ℤ) (rest : List ℕ) → FitsSigned w64 n → int_in (spell_int n ++ rest) ≡ Some (n, rest)
 int_again n rest fits =
-    ap (λ o. o >>= λ (m : ℕ × List ℕ). Some (cast_signed w64 m.0, m.1)) (format64.again (cast_unsigned w64 n) rest (Fits-of_z fits))
+    ap (λ o. o >>= λ (m : ℕ × List ℕ). Some (cast_signed w64 m.0, m.1)) (format64.again (cast_unsigned w64 n) rest (below64 (Fits-of_z fits)))
     ∙ ap (λ (m : ℤ). Some (m, rest)) (to_z-of_z w64 n fits)
 
 pub int_format : IsFormat ℤ spell_int int_in (FitsSigned w64)

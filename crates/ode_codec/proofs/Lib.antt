@@ -1,4 +1,7 @@
 mod Loop
+mod Joins
 mod Names
 mod FormatLaws
 mod ValueLaws
+mod RecordLaws
+mod Decodes

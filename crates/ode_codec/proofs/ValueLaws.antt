@@ -70,11 +70,11 @@ module _ (test : List ℕ → Bool) (spell : ℕ → List ℕ) (count : List ℕ
 
 -- ---- texts
 
-both_true : (a b : Bool) → (a && b) ≡ true → (a ≡ true) × (b ≡ true)
+pub both_true : (a b : Bool) → (a && b) ≡ true → (a ≡ true) × (b ≡ true)
 both_true true b h = (refl, h)
 both_true false b h = absurd cc
 
-none_there : (o : Option ℕ) → is_none o ≡ true → o ≡ None
+pub none_there : (o : Option ℕ) → is_none o ≡ true → o ≡ None
 none_there None h = refl
 none_there (Some n) h = absurd cc
 

@@ -28,10 +28,11 @@ abbrev pub values : List Value → List ℕ
 values vs = flat_map spelled_value vs
 
 -- the clock is all zeros behind its first byte where it isn't set
+abbrev pub clock_value : Counters → List ℕ
+clock_value c = truth c.clock_set ++ (u64 (cast_unsigned w64 c.instant) ++ (u64 c.object ++ u32 c.place))
+
 abbrev pub counters_value : Counters → List ℕ
-counters_value c =
-    u64 c.next_number ++ (u64 c.next_transaction ++ (u64 c.next_entry
-    ++ (truth c.clock_set ++ (u64 (cast_unsigned w64 c.instant) ++ (u64 c.object ++ u32 c.place)))))
+counters_value c = u64 c.next_number ++ (u64 c.next_transaction ++ (u64 c.next_entry ++ clock_value c))
 
 abbrev pub activation_value : Activation → List ℕ
 activation_value a = u32 a.class ++ (u16 a.trigger ++ (u16 a.state ++ (byte (length a.args) ++ values a.args)))
@@ -62,3 +63,6 @@ key_of (of.Object object class last) = key object_kind object 0
 key_of (of.Version object number parent fields) = key version_kind object number
 key_of (of.Activation a) = key activation_kind a.object a.number
 key_of (of.Entry number e) = key entry_kind number 0
+
+abbrev pub spelled : Record → Key × List ℕ
+spelled r = (key_of r, value_of r)

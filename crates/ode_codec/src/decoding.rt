@@ -1,7 +1,10 @@
 //! The record of a key and a value.
-ghost use Rattle.std.specs.Prelude.{◌≡◌, ◌^◌, IfOk, IfSome, None, Some, if◌then◌else◌};
+ghost use Rattle.ode_codec.specs.declared.record.Record.{Record as Row};
+ghost use Rattle.std.specs.Prelude.{◌≡◌, ◌^◌, IfOk, IfSome, List as Items, None, ℕ, Some, if◌then◌else◌};
 ghost use Rattle.std.specs.Int.{w16, w32, w64};
 ghost use Rattle.ode_codec.specs.Formats.{Gives, ended, fit};
+ghost use Rattle.ode_codec.specs.Rules.{IsRecord};
+ghost use Rattle.ode_codec.specs.Spelling.{spelled};
 ghost use Rattle.ode_codec.specs.Reading.{activation_under, class_head_under, class_piece_under, clock_in, counters_under};
 ghost use Rattle.ode_codec.specs.Reading.{entry_under, is_clock, is_counters, is_name, is_next, is_piece, name_in, object_under, record_under};
 ghost use Rattle.ode_codec.specs.Reading.{table_head_under, table_piece_under, version_under};
@@ -304,4 +307,23 @@ fn read_record(alloc: Global, key: Key, bytes: &[u8]) -> Result<Record, Unread>
         ACTIVATION => read_activation(alloc, key, bytes),
         ENTRY => read_entry(alloc, key, bytes),
     )
+}
+
+fn decoded(alloc: Global, key: Key, bytes: &[u8]) -> Result<Option<Record>, AllocError>
+    ensures { IfOk result (λ found. found ≡ record_under key bytes.now) }
+{
+    match read_record(alloc, key, bytes) {
+        Ok(found) => Ok(Some(found)),
+        Err(Unread::Outside) => Ok(None),
+        Err(Unread::Memory) => Err(AllocError),
+    }
+}
+
+/// The record whose spelling the key and the bytes are, and none where no record has that spelling.
+pub fn decode(alloc: Global, key: Key, bytes: &[u8]) -> Result<Option<Record>, AllocError>
+    ensures value { IfOk result (λ found. found ≡ record_under key bytes.now) }
+    ensures found { IfOk result (λ found. IfSome found (λ r. IsRecord r × ((key, bytes.now) ≡ spelled r))) }
+    ensures only { (r : Row) → IsRecord r → (key, bytes.now) ≡ spelled r → IfOk result (λ found. found ≡ Some r) }
+{
+    decoded(alloc, key, bytes)
 }

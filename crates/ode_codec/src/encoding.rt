@@ -1,15 +1,16 @@
 //! The key and the value of a record.
-ghost use Rattle.std.specs.Prelude.{◌≡◌, ◌++◌, ◌<◌, ◌^◌, length, IfOk, OnOk};
-ghost use Rattle.std.specs.Int.{w16, to_be_bytes};
+ghost use Rattle.std.specs.Prelude.{◌≡◌, ◌++◌, ◌<◌, ◌^◌, Some, length, IfOk, OnOk};
+ghost use Rattle.std.specs.Int.{w16, w64, cast_unsigned, to_be_bytes};
 ghost use Rattle.std.specs.Option.{unwrap_or};
 ghost use Rattle.ode_value.specs.Keys.{key};
 ghost use Rattle.ode_value.specs.Records.{byte, spelled_value};
-ghost use Rattle.ode_codec.specs.Rules.{IsKept};
-ghost use Rattle.ode_codec.specs.Spelling.{activation_value, counters_value, entry_value, key_of, truth, u16, u32, u64, value_of, values};
+ghost use Rattle.ode_codec.specs.Reading.{record_under};
+ghost use Rattle.ode_codec.specs.Rules.{IsKept, IsRecord};
+ghost use Rattle.ode_codec.specs.Spelling.{activation_value, clock_value, counters_value, entry_value, key_of, spelled, truth, u16, u32, u64, value_of, values};
 
 use crate::record::{Activation, Counters, Entry, Record};
 use ode_host::{put_i64, put_u8, put_u16, put_u32, put_u64};
-use ode_value::{Key, List, Name, Value};
+use ode_value::{Key, List, Name, Ref, Value};
 use std::alloc::{AllocError, Global};
 
 fn put_bool(out: &mut Vec<u8>, b: bool) -> Result<(), AllocError>
@@ -26,10 +27,11 @@ fn put_text(out: &mut Vec<u8>, text: &[u8]) -> Result<(), AllocError>
     out.extend_from_slice(text)
 }
 
-fn put_version_number(out: &mut Vec<u8>, version: Option<u32>) -> Result<(), AllocError>
-    ensures { OnOk result (out.new.items ≡ out.old.items ++ u32 (unwrap_or version 0)) }
+fn put_reference(out: &mut Vec<u8>, reference: Ref) -> Result<(), AllocError>
+    ensures { OnOk result (out.new.items ≡ out.old.items ++ (u64 reference.object ++ u32 (unwrap_or reference.version 0))) }
 {
-    put_u32(out, version.unwrap_or(0))
+    put_u64(out, reference.object)?;
+    put_u32(out, reference.version.unwrap_or(0))
 }
 
 fn put_value(out: &mut Vec<u8>, value: &Value) -> Result<(), AllocError>
@@ -50,8 +52,7 @@ fn put_value(out: &mut Vec<u8>, value: &Value) -> Result<(), AllocError>
         }
         Value::Reference(reference) => {
             put_u8(out, 3)?;
-            put_u64(out, reference.object)?;
-            put_version_number(out, reference.version)
+            put_reference(out, *reference)
         }
     }
 }
@@ -79,10 +80,22 @@ fn put_counters(out: &mut Vec<u8>, counters: &Counters) -> Result<(), AllocError
     put_u64(out, counters.next_number)?;
     put_u64(out, counters.next_transaction)?;
     put_u64(out, counters.next_entry)?;
+    put_clock(out, counters)
+}
+
+fn put_clock(out: &mut Vec<u8>, counters: &Counters) -> Result<(), AllocError>
+    ensures { OnOk result (out.new.items ≡ out.old.items ++ clock_value counters.now) }
+{
     put_bool(out, counters.clock_set)?;
-    put_i64(out, counters.instant)?;
+    put_instant(out, counters)?;
     put_u64(out, counters.object)?;
     put_u32(out, counters.place)
+}
+
+fn put_instant(out: &mut Vec<u8>, counters: &Counters) -> Result<(), AllocError>
+    ensures { OnOk result (out.new.items ≡ out.old.items ++ u64 (cast_unsigned w64 counters.now.instant)) }
+{
+    put_i64(out, counters.instant)
 }
 
 fn put_name(out: &mut Vec<u8>, name: &Name) -> Result<(), AllocError>
@@ -149,6 +162,14 @@ fn put_entry(out: &mut Vec<u8>, entry: &Entry) -> Result<(), AllocError>
     put_u64(out, entry.object)?;
     put_u32(out, entry.class)?;
     put_u16(out, entry.trigger)?;
+    put_firing(out, entry)
+}
+
+fn put_firing(out: &mut Vec<u8>, entry: &Entry) -> Result<(), AllocError>
+    requires { length entry.now.args < 2 ^ 8 }
+    ensures { OnOk result (out.new.items ≡ out.old.items
+        ++ (byte entry.now.generation ++ (byte (length entry.now.args) ++ values entry.now.args))) }
+{
     put_u8(out, entry.generation)?;
     put_args(out, entry.args.as_slice())
 }
@@ -169,10 +190,10 @@ fn make_key(kind: u8, a: u64, b: u64) -> Key
 }
 
 #[tactic(auto, unfolding(crate::specs::Spelling::key_of))]
-fn key_of(record: &Record) -> Key
-    ensures { result ≡ key_of record.now }
+fn key_of(one: &Record) -> Key
+    ensures { result ≡ key_of one.now }
 {
-    by_variant!(record;
+    by_variant!(one;
         Record::Counters(_) => make_key(Key::COUNTERS, 0, 0),
         Record::ClassHead { class, .. } => make_key(Key::CLASS_HEAD, u64::from(*class), 0),
         Record::ClassPiece { class, piece, .. } => make_key(Key::CLASS_PIECE, u64::from(*class), u64::from(*piece)),
@@ -188,11 +209,11 @@ fn key_of(record: &Record) -> Key
 }
 
 #[tactic(auto, unfolding(crate::specs::Spelling::value_of, crate::specs::Rules::IsKept))]
-fn put_record(out: &mut Vec<u8>, record: &Record) -> Result<(), AllocError>
-    requires { IsKept record.now }
-    ensures { OnOk result (out.new.items ≡ out.old.items ++ value_of record.now) }
+fn put_record(out: &mut Vec<u8>, one: &Record) -> Result<(), AllocError>
+    requires { IsKept one.now }
+    ensures { OnOk result (out.new.items ≡ out.old.items ++ value_of one.now) }
 {
-    by_variant!(record;
+    by_variant!(one;
         Record::Counters(counters) => put_counters(out, counters),
         Record::ClassHead { name, parent, text_length, triggers, .. } => {
             put_class_head(out, name, *parent, *text_length, *triggers)
@@ -205,4 +226,23 @@ fn put_record(out: &mut Vec<u8>, record: &Record) -> Result<(), AllocError>
         Record::Activation(activation) => put_activation(out, activation),
         Record::Entry { entry, .. } => put_entry(out, entry),
     )
+}
+
+fn encoded(alloc: Global, one: &Record) -> Result<(Key, List<u8>), AllocError>
+    requires { IsKept one.now }
+    ensures { IfOk result (λ row. row ≡ spelled one.now) }
+{
+    let mut out = Vec::new(alloc);
+    put_record(&mut out, one)?;
+    Ok((key_of(one), List::from_vec(out)))
+}
+
+/// The spelling of a record that keeps the numbers, lengths and zeros of its kind, and in which no reference has version 0 or
+/// is null with a version. From it the record is decoded again.
+pub fn encode(alloc: Global, one: &Record) -> Result<(Key, List<u8>), AllocError>
+    requires { IsKept one.now }
+    ensures spelled { IfOk result (λ row. row ≡ spelled one.now) }
+    ensures again { IsRecord one.now → IfOk result (λ row. record_under row.0 row.1 ≡ Some one.now) }
+{
+    encoded(alloc, one)
 }

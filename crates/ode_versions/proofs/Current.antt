@@ -3,7 +3,7 @@ use Rattle.std.proofs.Common.{◌≡◌, ◌-◌, ◌<◌, ◌≤◌, ◌==◌, 
 use Rattle.std.specs.List.{AllByRecursion, list_any}
 use Rattle.std.specs.Option.{option_map}
 use Rattle.std.proofs.lemmas.Bool.Decides.{nat_tests}
-use Rattle.ode_value.specs.World as world
+use Rattle.ode_value.specs.Versions as whole
 use Rattle.ode_versions.specs.Versions.{AreRising, RiseAbove, found, has_number, is_numbered, listed, newest_number, number_of}
 use Rattle.ode_versions.specs.declared.list.Version.{Version}
 use Rattle.ode_versions.specs.declared.list.VersionList.{VersionList}
@@ -58,20 +58,20 @@ newest_there [] d some = absurd (omega (arith, some))
 newest_there (v ∷ vs) d some = ap (λ n. has_number n (v ∷ vs)) (last_place v vs d) ∙ last_there v vs
 
 -- the same among versions with their fields
-pub newest_of : (vs : List world.Version) → newest_number (map listed vs) ≡ option_map number_of (world.newest vs)
+pub newest_of : (vs : List whole.Version) → newest_number (map listed vs) ≡ option_map number_of (whole.newest vs)
 newest_of [] = refl
 newest_of (v ∷ []) = refl
 newest_of (v ∷ w ∷ vs) = newest_of (w ∷ vs)
 
-numbered_step : (n m : ℕ) (rest : Bool) (later : Option world.Version) (v : world.Version) → v.number ≡ m → cond rest (Some n) None ≡ option_map number_of later
+numbered_step : (n m : ℕ) (rest : Bool) (later : Option whole.Version) (v : whole.Version) → v.number ≡ m → cond rest (Some n) None ≡ option_map number_of later
     → (b : Bool) → (m == n) ≡ b → cond (b || rest) (Some n) None ≡ option_map number_of (cond b (Some v) later)
 numbered_step n m rest later v is more true test = let same : m ≡ n = grind (arith, nat_tests) in ap (λ k. Some k) (sym same ∙ sym is)
 numbered_step n m rest later v is more false test = more
 
-pub numbered_of : (n : ℕ) (vs : List world.Version) → cond (has_number n (map listed vs)) (Some n) None ≡ option_map number_of (world.version_numbered n vs)
+pub numbered_of : (n : ℕ) (vs : List whole.Version) → cond (has_number n (map listed vs)) (Some n) None ≡ option_map number_of (whole.version_numbered n vs)
 numbered_of n [] = refl
-numbered_of n (v ∷ vs) = numbered_step n v.number (has_number n (map listed vs)) (world.version_numbered n vs) v refl (numbered_of n vs) (v.number == n) refl
+numbered_of n (v ∷ vs) = numbered_step n v.number (has_number n (map listed vs)) (whole.version_numbered n vs) v refl (numbered_of n vs) (v.number == n) refl
 
-pub found_of : (version : Option ℕ) (vs : List world.Version) (l : VersionList) → map listed vs ≡ l.versions → found version l ≡ option_map number_of (world.version_of version vs)
+pub found_of : (version : Option ℕ) (vs : List whole.Version) (l : VersionList) → map listed vs ≡ l.versions → found version l ≡ option_map number_of (whole.version_of version vs)
 found_of None vs l same = ap newest_number (sym same) ∙ newest_of vs
 found_of (Some n) vs l same = ap (λ ws. cond (has_number n ws) (Some n) None) (sym same) ∙ numbered_of n vs

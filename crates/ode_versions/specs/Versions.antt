@@ -1,15 +1,15 @@
 -- The versions of an object, without their fields.
 use Rattle.std.specs.Prelude.{ℕ, ◌+◌, ◌<◌, ◌≤◌, ◌==◌, List, [], ◌∷◌, ◌++◌, Bool, not, cond, length, Option, Some, None}
 use Rattle.std.specs.List.{AllByRecursion, filter, list_any}
-use Rattle.ode_value.specs.World as world
+use Rattle.ode_value.specs.Versions as whole
 use Rattle.ode_versions.specs.declared.list.Version.{Version}
 use Rattle.ode_versions.specs.declared.list.VersionList.{VersionList}
 
 -- a version without its fields
-abbrev pub listed : world.Version → Version
+abbrev pub listed : whole.Version → Version
 listed v = record { number = v.number; parent = v.parent }
 
-abbrev pub number_of : world.Version → ℕ
+abbrev pub number_of : whole.Version → ℕ
 number_of v = v.number
 
 -- the numbers rise, and all are above this one

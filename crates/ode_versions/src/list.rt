@@ -3,7 +3,7 @@ ghost use Rattle.std.specs.Prelude.{◌≡◌, ◌+◌, ◌==◌, ◌⊎◌, ◌
 ghost use Rattle.std.specs.List.{AllByRecursion};
 ghost use Rattle.std.specs.Option.{option_map};
 ghost use Rattle.ode_value.specs.Versions.{newest, version_of};
-ghost use Rattle.ode_value.specs.World as world;
+ghost use Rattle.ode_value.specs.Versions as whole;
 ghost use Rattle.ode_versions.specs.Versions.{AreRising, IsVersionList, derived, found, has_number, listed, newest_number, number_of, without};
 
 use crate::error::VersionError;
@@ -42,7 +42,7 @@ impl VersionList {
         ensures there { has_number result self.now.versions ≡ true }
         ensures greatest { AllByRecursion (λ v. v.number ≤ result) self.now.versions }
         ensures found { Some result ≡ found None self.now }
-        ensures denotes { (versions : Items world.Version) → map listed versions ≡ self.now.versions
+        ensures denotes { (versions : Items whole.Version) → map listed versions ≡ self.now.versions
             → Some result ≡ option_map number_of (newest versions) }
     {
         newest_in(self.versions.as_slice())
@@ -61,7 +61,7 @@ impl VersionList {
     pub fn find(&self, version: Option<u32>) -> Option<u32>
         requires { IsVersionList self.now }
         ensures found { result ≡ found version self.now }
-        ensures denotes { (versions : Items world.Version) → map listed versions ≡ self.now.versions
+        ensures denotes { (versions : Items whole.Version) → map listed versions ≡ self.now.versions
             → result ≡ option_map number_of (version_of version versions) }
     {
         self.found(version)
