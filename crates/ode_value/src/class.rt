@@ -51,16 +51,41 @@ impl Class {
     pub fn copy(&self, alloc: Global) -> Result<Class, AllocError>
         ensures { IfOk result (λ copy. copy ≡ self.now) }
     {
+        let (name, fields, kinds) = self.copy_head(alloc)?;
+        let (methods, constraints, triggers) = self.copy_bodies(alloc)?;
         Ok(Class {
             number: self.number,
-            name: self.name.copy(alloc)?,
+            name,
             parent: self.parent,
-            fields: self.fields.copy(alloc)?,
-            methods: self.methods.copy(alloc)?,
-            constraints: self.constraints.copy(alloc)?,
-            kinds: self.kinds.copy(alloc)?,
-            triggers: self.triggers.copy(alloc)?,
+            fields,
+            methods,
+            constraints,
+            kinds,
+            triggers,
         })
+    }
+
+    // Its name, its fields and the kinds that it lists.
+    fn copy_head(&self, alloc: Global) -> Result<(Name, List<Field>, List<Kind>), AllocError>
+        ensures { IfOk result (λ parts. parts ≡ (self.now.name, self.now.fields, self.now.kinds)) }
+    {
+        let name = self.name.copy(alloc)?;
+        let fields = self.fields.copy(alloc)?;
+        let kinds = self.kinds.copy(alloc)?;
+        Ok((name, fields, kinds))
+    }
+
+    // Its methods, constraints and triggers.
+    fn copy_bodies(
+        &self,
+        alloc: Global,
+    ) -> Result<(List<Method>, List<Constraint>, List<TriggerDecl>), AllocError>
+        ensures { IfOk result (λ parts. parts ≡ (self.now.methods, self.now.constraints, self.now.triggers)) }
+    {
+        let methods = self.methods.copy(alloc)?;
+        let constraints = self.constraints.copy(alloc)?;
+        let triggers = self.triggers.copy(alloc)?;
+        Ok((methods, constraints, triggers))
     }
 }
 

@@ -1,3 +1,6 @@
+ghost use Rattle.std.specs.Prelude.{◌≡◌};
+ghost use Rattle.ode_value.specs.Keys as keys;
+
 /// The key of a record. Keys are ordered by kind, then by their numbers.
 #[derive(Clone, Copy, Debug, PartialEq, Eq, PartialOrd, Ord)]
 pub struct Key {
@@ -27,3 +30,16 @@ impl Key {
     /// An entry of the queue: its number, and 0.
     pub const ENTRY: u8 = 9;
 }
+
+/// The kinds of the code are those of the definitions.
+pub fn kinds_agree()
+    ensures counters { Key.COUNTERS ≡ keys.counters_kind }
+    ensures class_head { Key.CLASS_HEAD ≡ keys.class_head_kind }
+    ensures class_piece { Key.CLASS_PIECE ≡ keys.class_piece_kind }
+    ensures table_head { Key.TABLE_HEAD ≡ keys.table_head_kind }
+    ensures table_piece { Key.TABLE_PIECE ≡ keys.table_piece_kind }
+    ensures object { Key.OBJECT ≡ keys.object_kind }
+    ensures version { Key.VERSION ≡ keys.version_kind }
+    ensures activation { Key.ACTIVATION ≡ keys.activation_kind }
+    ensures entry { Key.ENTRY ≡ keys.entry_kind }
+{}

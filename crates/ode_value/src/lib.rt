@@ -34,7 +34,7 @@ pub use examples::{
     fa_examples, instant_examples, plain_examples, printing_examples, relative_examples,
     sequence_examples, symbol_examples,
 };
-pub use key::Key;
+pub use key::{Key, kinds_agree};
 pub use laws::{
     lengths_are_counts, numbers_answer_for_views, numbers_stand_for_views, points_are_firings,
     symbols_are_marks,

@@ -1,4 +1,6 @@
 //! The limits of the machine, each once. The definitions have the same numbers in `specs/Limits.antt`.
+ghost use Rattle.std.specs.Prelude.{◌≡◌};
+ghost use Rattle.ode_value.specs.Limits as machine;
 
 /// Bytes of a name.
 pub const NAME_LIMIT: usize = 64;
@@ -46,3 +48,31 @@ pub const DUE_LIMIT: usize = 10_000;
 pub const STATEMENT_LIMIT: usize = 65_536;
 /// Bytes of a script.
 pub const SCRIPT_LIMIT: usize = 67_108_864;
+
+/// The limits of the code are those of the definitions.
+#[tactic(auto, unfolding(crate::specs::Limits::depth_limit, crate::specs::Limits::budget_limit, crate::specs::Limits::cascade_limit, crate::specs::Limits::output_limit, crate::specs::Limits::change_limit, crate::specs::Limits::value_limit, crate::specs::Limits::args_limit, crate::specs::Limits::version_limit, crate::specs::Limits::generation_limit, crate::specs::Limits::queue_limit, crate::specs::Limits::drain_limit, crate::specs::Limits::symbol_limit, crate::specs::Limits::class_limit, crate::specs::Limits::due_limit, crate::specs::Limits::statement_limit, crate::specs::Limits::script_limit))]
+pub fn limits_agree()
+    ensures name { NAME_LIMIT ≡ machine.name_limit }
+    ensures text { TEXT_LIMIT ≡ machine.text_limit }
+    ensures depth { DEPTH_LIMIT ≡ machine.depth_limit }
+    ensures budget { BUDGET_LIMIT ≡ machine.budget_limit }
+    ensures cascade { CASCADE_LIMIT ≡ machine.cascade_limit }
+    ensures output { OUTPUT_LIMIT ≡ machine.output_limit }
+    ensures change { CHANGE_LIMIT ≡ machine.change_limit }
+    ensures value { VALUE_LIMIT ≡ machine.value_limit }
+    ensures args { ARGS_LIMIT ≡ machine.args_limit }
+    ensures weight { WEIGHT_LIMIT ≡ machine.weight_limit }
+    ensures number { NUMBER_LIMIT ≡ machine.number_limit }
+    ensures transaction { TRANSACTION_LIMIT ≡ machine.transaction_limit }
+    ensures version { VERSION_LIMIT ≡ machine.version_limit }
+    ensures generation { GENERATION_LIMIT ≡ machine.generation_limit }
+    ensures queue { QUEUE_LIMIT ≡ machine.queue_limit }
+    ensures drain { DRAIN_LIMIT ≡ machine.drain_limit }
+    ensures choose { CHOOSE_LIMIT ≡ machine.choose_limit }
+    ensures symbol { SYMBOL_LIMIT ≡ machine.symbol_limit }
+    ensures state { STATE_LIMIT ≡ machine.state_limit }
+    ensures class_records { CLASS_LIMIT ≡ machine.class_limit }
+    ensures due { DUE_LIMIT ≡ machine.due_limit }
+    ensures statement { STATEMENT_LIMIT ≡ machine.statement_limit }
+    ensures script { SCRIPT_LIMIT ≡ machine.script_limit }
+{}

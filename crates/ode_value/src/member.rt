@@ -85,16 +85,28 @@ impl TriggerDecl {
     pub fn copy(&self, alloc: Global) -> Result<TriggerDecl, AllocError>
         ensures { IfOk result (λ copy. copy ≡ self.now) }
     {
+        let name = self.name.copy(alloc)?;
+        let (params, event, action) = self.copy_body(alloc)?;
         Ok(TriggerDecl {
-            name: self.name.copy(alloc)?,
+            name,
             initial: self.initial,
             perpetual: self.perpetual,
             whole: self.whole,
             mode: self.mode,
-            params: self.params.copy(alloc)?,
-            event: self.event.copy(alloc)?,
-            action: self.action.copy(alloc)?,
+            params,
+            event,
+            action,
         })
+    }
+
+    // What it watches for and what it does.
+    fn copy_body(&self, alloc: Global) -> Result<(List<Param>, EventExpr, List<Stmt>), AllocError>
+        ensures { IfOk result (λ parts. parts ≡ (self.now.params, self.now.event, self.now.action)) }
+    {
+        let params = self.params.copy(alloc)?;
+        let event = self.event.copy(alloc)?;
+        let action = self.action.copy(alloc)?;
+        Ok((params, event, action))
     }
 }
 

@@ -292,8 +292,14 @@ impl Stmt {
         ensures { IfOk result (λ copy. copy ≡ self.now) }
     {
         match self {
-            Stmt::Let(var, rhs) => Ok(Stmt::Let(var.copy(alloc)?, rhs.copy(alloc)?)),
-            Stmt::Set(var, rhs) => Ok(Stmt::Set(var.copy(alloc)?, rhs.copy(alloc)?)),
+            Stmt::Let(var, rhs) => {
+                let (var, rhs) = copy_assignment(alloc, var, rhs)?;
+                Ok(Stmt::Let(var, rhs))
+            }
+            Stmt::Set(var, rhs) => {
+                let (var, rhs) = copy_assignment(alloc, var, rhs)?;
+                Ok(Stmt::Set(var, rhs))
+            }
             Stmt::Do(rhs) => Ok(Stmt::Do(rhs.copy(alloc)?)),
             Stmt::If(test, first, second) => {
                 let test = test.copy(alloc)?;
@@ -304,15 +310,33 @@ impl Stmt {
             Stmt::Return(value) => Ok(Stmt::Return(value.copy_in(alloc)?)),
             Stmt::Delete(of) => Ok(Stmt::Delete(of.copy(alloc)?)),
             Stmt::DropVersion(of) => Ok(Stmt::DropVersion(of.copy(alloc)?)),
-            Stmt::Deactivate(of, number) => Ok(Stmt::Deactivate(
-                of.copy(alloc)?,
-                number.copy(alloc)?,
-            )),
+            Stmt::Deactivate(of, number) => {
+                let (of, number) = copy_two(alloc, of, number)?;
+                Ok(Stmt::Deactivate(of, number))
+            }
             Stmt::Show(rhs) => Ok(Stmt::Show(rhs.copy(alloc)?)),
             Stmt::Say(text) => Ok(Stmt::Say(text.copy(alloc)?)),
             Stmt::TAbort => Ok(Stmt::TAbort),
         }
     }
+}
+
+// What an assignment sets, and to what.
+fn copy_assignment(alloc: Global, var: &Var, rhs: &Rhs) -> Result<(Var, Rhs), AllocError>
+    ensures { IfOk result (λ parts. parts ≡ (var.now, rhs.now)) }
+{
+    let var = var.copy(alloc)?;
+    let rhs = rhs.copy(alloc)?;
+    Ok((var, rhs))
+}
+
+// Two expressions.
+fn copy_two(alloc: Global, e: &Expr, f: &Expr) -> Result<(Expr, Expr), AllocError>
+    ensures { IfOk result (λ parts. parts ≡ (e.now, f.now)) }
+{
+    let e = e.copy(alloc)?;
+    let f = f.copy(alloc)?;
+    Ok((e, f))
 }
 
 #[cycle(statements)]
