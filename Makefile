@@ -1,15 +1,21 @@
 PROGRAM := crates/ode/out/ode
 FILE := out/example.db
 
-.PHONY: example clean
+.PHONY: all example test clean
 
-# Builds the program, makes a new file, and runs the first example on it.
+# Proves and builds the program.
+all:
+	@mkdir -p out && rm -f out/built.db
+	cd crates/ode && rt run -- init "$(CURDIR)/out/built.db"
+	@echo "The program is $(PROGRAM): proved and built."
+
+# Makes a new file, and runs the first example on it: with the program, or where that isn't built by a try without proofs.
 example:
-	@mkdir -p $(dir $(FILE))
-	@rm -f $(FILE)
-	cd crates/ode && rt run -- init "$(CURDIR)/$(FILE)"
-	$(PROGRAM) run $(FILE) < examples/first.ode
-	@echo "The program is $(PROGRAM), and the file is $(FILE)."
+	@examples/first.sh $(PROGRAM) $(FILE)
+
+# The whole gate: every proof, test and must-fail edit, and then the real program on real files.
+test:
+	.ci/run
 
 # Removes all that was built, and what earlier checks kept: the next build proves everything again.
 clean:

@@ -5,7 +5,8 @@ use Rattle.std.specs.Map.{keys_of}
 use Rattle.std.specs.Option.{IfSome}
 use Rattle.std.specs.Ordering.{is_le}
 use Rattle.ode_value.specs.declared.key.Key.{Key}
-use Rattle.ode_keep.specs.Entries.{Entries, key_cmp, least_from}
+use Rattle.ode_keep.specs.Entries.{Entries, least_from}
+use Rattle.ode_value.specs.Keys.{key_cmp}
 
 found_at : (p : Key → Bool) (k : Key) (rest : Option Key) (b : Bool) → p k ≡ b → IfSome rest (λ q. p q ≡ true) → IfSome (cond b (Some k) rest) (λ q. p q ≡ true)
 found_at p k rest true is more = is

@@ -9,7 +9,8 @@ use Rattle.std.specs.declared.cmp.Ordering.TheVariants.{Less, Equal, Greater}
 use Rattle.ode_value.specs.declared.key.Key.{Key}
 use Rattle.ode_value.specs.Records.{Row}
 use Rattle.ode_gate.specs.declared.header.Header.{Header}
-use Rattle.ode_keep.specs.Entries.{Changes, Entries, applied, changed, key_cmp}
+use Rattle.ode_keep.specs.Entries.{Changes, Entries, applied, changed}
+use Rattle.ode_value.specs.Keys.{key_cmp}
 use Rattle.ode_keep.proofs.Applying.{applied_rising}
 use Rattle.ode_areas.specs.Image.{HasMap}
 use Rattle.ode_areas.specs.Payloads.{ArePayloads, FitsChange, IsPayload, replayed}

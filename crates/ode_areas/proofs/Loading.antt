@@ -8,7 +8,8 @@ use Rattle.std.specs.List.{AllByRecursion, flat_map}
 use Rattle.std.specs.List.Sorted.{IsStrictlySortedBy}
 use Rattle.ode_value.specs.declared.key.Key.{Key}
 use Rattle.ode_value.specs.Records.{Row, row_bytes, snapshot}
-use Rattle.ode_keep.specs.Entries.{Changes, Entries, HasRisingKeys, applied, changed, key_cmp}
+use Rattle.ode_keep.specs.Entries.{Changes, Entries, HasRisingKeys, applied, changed}
+use Rattle.ode_value.specs.Keys.{key_cmp}
 use Rattle.ode_keep.proofs.Keys.{key_total}
 use Rattle.ode_areas.specs.Rows.{FitsRow, FitsSnapshot, IsBrokenSnapshot}
 use Rattle.ode_areas.specs.Payloads.{FitsChange, IsPayload, change_bytes}

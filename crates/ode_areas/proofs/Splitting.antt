@@ -13,7 +13,8 @@ use Rattle.std.proofs.lemmas.Cmp.{eq_by_cmp_equiv, tied_itself}
 use Rattle.std.proofs.lemmas.List.{reverse-append}
 use Rattle.std.proofs.lemmas.Map.Entries.{option_filter, lookup-filter-values}
 use Rattle.ode_value.specs.declared.key.Key.{Key}
-use Rattle.ode_keep.specs.Entries.{Changes, Entries, HasRisingKeys, applied, changed, key_cmp, record_bytes, value_under}
+use Rattle.ode_keep.specs.Entries.{Changes, Entries, HasRisingKeys, applied, changed, record_bytes, value_under}
+use Rattle.ode_value.specs.Keys.{key_cmp}
 use Rattle.ode_keep.specs.Growth.{bytes_of, put_bytes, taken_bytes}
 use Rattle.ode_keep.proofs.Applying.{applied_at, applied_rising, changed_at, changed_rising}
 use Rattle.ode_keep.proofs.Growing.{applied_grows, removed_shrinks}

@@ -6,7 +6,8 @@ use Rattle.std.proofs.lemmas.Nat.{from_be_bytes-to_be_bytes_2, from_be_bytes-to_
 use Rattle.std.specs.Prelude.{slice_index}
 use Rattle.ode_host.specs.Fields.{number_at}
 use Rattle.ode_value.specs.declared.key.Key.{Key}
-use Rattle.ode_value.specs.Records.{Row, key, key_bytes, row_bytes}
+use Rattle.ode_value.specs.Records.{Row, key_bytes, row_bytes}
+use Rattle.ode_value.specs.Keys.{key}
 use Rattle.ode_areas.specs.Rows.{FitsKey, FitsRow}
 use Rattle.ode_areas.specs.Payloads.{FitsChange, change_bytes, spelled_change}
 

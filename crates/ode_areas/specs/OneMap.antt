@@ -11,7 +11,8 @@ use Rattle.ode_gate.proofs.Counting.{one_counts}
 use Rattle.ode_journal.specs.Frames.{HasFrames, HasGate, IsBad, IsFramed, IsJournal, IsShut, framed, gate_behind, spelled}
 use Rattle.ode_journal.proofs.Frames.{first_frame, other_frames}
 use Rattle.ode_journal.proofs.Unique.{bad_stops, framed_unique, journal_unique, shut_not_bad, shut_stops}
-use Rattle.ode_keep.specs.Entries.{Changes, Entries, HasRisingKeys, applied, key_cmp}
+use Rattle.ode_keep.specs.Entries.{Changes, Entries, HasRisingKeys, applied}
+use Rattle.ode_value.specs.Keys.{key_cmp}
 use Rattle.ode_keep.proofs.Applying.{applied_rising}
 use Rattle.ode_areas.specs.Rows.{FitsRow, FitsSnapshot, IsBrokenSnapshot, IsSnapshot}
 use Rattle.ode_areas.specs.Payloads.{ArePayloads, FitsChange, IsPayload, change_bytes, replayed, spelled_change}

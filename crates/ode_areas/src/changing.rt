@@ -4,7 +4,8 @@ ghost use Rattle.std.specs.BTreeMap.{insert_entry};
 ghost use Rattle.std.specs.List.{All};
 ghost use Rattle.std.specs.Map.{values_of};
 ghost use Rattle.std.specs.Option.{IfSome, option_copied};
-ghost use Rattle.ode_keep.specs.Entries.{Entries, HasRisingKeys, applied, changed, key_cmp, record_bytes, value_under};
+ghost use Rattle.ode_keep.specs.Entries.{Entries, HasRisingKeys, applied, changed, record_bytes, value_under};
+ghost use Rattle.ode_value.specs.Keys.{key_cmp};
 ghost use Rattle.ode_keep.specs.Growth.{bytes_of};
 ghost use Rattle.ode_areas.specs.Puts.{LeadBack, NeedNoRoom, puts, removals};
 

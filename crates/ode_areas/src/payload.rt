@@ -2,7 +2,8 @@
 ghost use Rattle.std.specs.Prelude.{◌≡◌, ◌++◌, IfOk, List, OnOk, Option, ℕ};
 ghost use Rattle.std.specs.Bool.{OnFalse, OnTrue};
 ghost use Rattle.std.specs.Option.{IfNone, IfSome, option_map};
-ghost use Rattle.ode_keep.specs.Entries.{Changes, applied, changed, key_cmp};
+ghost use Rattle.ode_keep.specs.Entries.{Changes, applied, changed};
+ghost use Rattle.ode_value.specs.Keys.{key_cmp};
 ghost use Rattle.ode_value.specs.declared.key.Key.{Key};
 ghost use Rattle.ode_areas.specs.Payloads.{FitsChange, IsPayload, change_bytes, spelled_change};
 ghost use Rattle.ode_areas.specs.Rising.{MayFollow};

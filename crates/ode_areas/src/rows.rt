@@ -1,7 +1,7 @@
 //! The records of a snapshot, as they lie in its bytes.
 ghost use Rattle.std.specs.Prelude.{◌≡◌, ◌<◌, ◌≤◌, ◌++◌, ◌↔◌, [], IfOk, IsTrue, List, ℕ, length, take};
 ghost use Rattle.std.specs.Option.{IfNone, IfSome};
-ghost use Rattle.ode_keep.specs.Entries.{key_cmp};
+ghost use Rattle.ode_value.specs.Keys.{key_cmp};
 ghost use Rattle.ode_value.specs.Records.{Row, key_bytes, row_bytes};
 ghost use Rattle.ode_areas.specs.Rising.{MayFollow};
 ghost use Rattle.ode_areas.specs.Rows.{FitsKey, FitsRow, IsBrokenSnapshot, IsSnapshot};

@@ -7,7 +7,8 @@ use Rattle.std.specs.Ordering.{nat_cmp, match_ordering, ordering_then}
 use Rattle.std.specs.declared.cmp.Ordering.{Ordering}
 use Rattle.ode_value.specs.declared.key.Key.{Key}
 use Rattle.ode_value.specs.Records.{Row}
-use Rattle.ode_keep.specs.Entries.{key_cmp, Entries, Changes, changed, applied}
+use Rattle.ode_value.specs.Keys.{key_cmp}
+use Rattle.ode_keep.specs.Entries.{Entries, Changes, changed, applied}
 
 -- each of these keys is below k
 abbrev pub Under : Key → Entries → Type 0

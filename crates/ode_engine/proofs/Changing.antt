@@ -4,9 +4,11 @@ use Rattle.std.specs.List.{All}
 use Rattle.std.specs.Map.{values_of}
 use Rattle.std.specs.Option.{IfSome}
 use Rattle.std.specs.declared.alloc.AllocError.{AllocError}
-use Rattle.ode_value.specs.Good.{IsGood}
-use Rattle.ode_value.specs.Records.{Row, counters_row, head_row, text_row, object_row, version_row, rows}
-use Rattle.ode_value.specs.World.{World, Declared}
+use Rattle.ode_value.specs.OneIntGood.{IsOneIntGood}
+use Rattle.ode_value.specs.Records.{Row, version_row}
+use Rattle.ode_value.specs.OneIntRecords.{counters_row, head_row, text_row, object_row, rows}
+use Rattle.ode_value.specs.OneIntWorld.{OneIntWorld}
+use Rattle.ode_value.specs.Worlds.{Declared}
 use Rattle.ode_keep.specs.Entries.{Changes, applied}
 use Rattle.ode_first_records.specs.declared.state.ObjectRow.{ObjectRow}
 use Rattle.ode_first_records.specs.declared.state.State.{State}
@@ -40,7 +42,7 @@ three_small a b c s t u = record { few = omega arith; short = each }
     each (suc (suc (suc k))) d below = absurd (omega arith)
 
 -- What a settled transaction keeps, where its batch is known.
-keeps_by : (i : Item) (w v : World) (changes batch : Changes) → HasBatch i batch → batch ≡ changes → IsSmall changes → (IsGood w → applied changes (rows w) ≡ rows v) → Keeps i w v
+keeps_by : (i : Item) (w v : OneIntWorld) (changes batch : Changes) → HasBatch i batch → batch ≡ changes → IsSmall changes → (IsOneIntGood w → applied changes (rows w) ≡ rows v) → Keeps i w v
 keeps_by (Refused r) w v changes batch has is small makes = absurd has
 keeps_by (Settled s) w v changes batch has is small makes =
     let same = has ∙ is in
@@ -50,17 +52,17 @@ keeps_by (Settled s) w v changes batch has is small makes =
     }
 
 -- the counters alone
-pub counters_keep : (r : Result Item AllocError) (w u : World) (s : State) (batch : Changes) → IfOk r (λ i. HasBatch i (with_counters batch (world_of s))) → batch ≡ [] → OnOk r (world_of s ≡ counted u)
+pub counters_keep : (r : Result Item AllocError) (w u : OneIntWorld) (s : State) (batch : Changes) → IfOk r (λ i. HasBatch i (with_counters batch (world_of s))) → batch ≡ [] → OnOk r (world_of s ≡ counted u)
     → u.classes ≡ w.classes → u.objects ≡ w.objects → IfOk r (λ i. Keeps i w (world_of s))
 counters_keep (Err e) w u s batch has none is classes objects = tt
 counters_keep (Ok i) w u s batch has none is classes objects =
     keeps_by i w (world_of s) (putting (counters_row (world_of s) ∷ [])) (with_counters batch (world_of s)) has
     (ap (λ (b : Changes). with_counters b (world_of s)) none)
     (one_small (counters_row (world_of s)) (omega arith))
-    (λ good. counters_change w (world_of s) (ap (λ (x : World). x.classes) is ∙ classes) (ap (λ (x : World). x.objects) is ∙ objects))
+    (λ good. counters_change w (world_of s) (ap (λ (x : OneIntWorld). x.classes) is ∙ classes) (ap (λ (x : OneIntWorld). x.objects) is ∙ objects))
 
 -- a class more
-pub class_keeps : (r : Result Item AllocError) (w u : World) (s : State) (c : Declared) (batch : Changes) → IfOk r (λ i. HasBatch i (with_counters batch (world_of s))) → batch ≡ putting (head_row c ∷ text_row c ∷ [])
+pub class_keeps : (r : Result Item AllocError) (w u : OneIntWorld) (s : State) (c : Declared) (batch : Changes) → IfOk r (λ i. HasBatch i (with_counters batch (world_of s))) → batch ≡ putting (head_row c ∷ text_row c ∷ [])
     → OnOk r (world_of s ≡ counted u) → u.classes ≡ w.classes ++ c ∷ [] → u.objects ≡ w.objects → c.class.number ≡ length w.classes + 1
     → length (head_row c).1 ≤ 3968 → length (text_row c).1 ≤ 3968 → IfOk r (λ i. Keeps i w (world_of s))
 class_keeps (Err e) w u s c batch has are is classes objects new head text = tt
@@ -68,10 +70,10 @@ class_keeps (Ok i) w u s c batch has are is classes objects new head text =
     keeps_by i w (world_of s) (putting (counters_row (world_of s) ∷ head_row c ∷ text_row c ∷ [])) (with_counters batch (world_of s)) has
     (ap (λ (b : Changes). with_counters b (world_of s)) are)
     (three_small (counters_row (world_of s)) (head_row c) (text_row c) (omega arith) head text)
-    (λ good. class_changes w (world_of s) c good (ap (λ (x : World). x.classes) is ∙ classes) (ap (λ (x : World). x.objects) is ∙ objects) new)
+    (λ good. class_changes w (world_of s) c good (ap (λ (x : OneIntWorld). x.classes) is ∙ classes) (ap (λ (x : OneIntWorld). x.objects) is ∙ objects) new)
 
 -- an object more, with its first version
-pub object_keeps : (r : Result Item AllocError) (w u : World) (s : State) (row : ObjectRow) (batch : Changes) → IfOk r (λ i. HasBatch i (with_counters batch (world_of s)))
+pub object_keeps : (r : Result Item AllocError) (w u : OneIntWorld) (s : State) (row : ObjectRow) (batch : Changes) → IfOk r (λ i. HasBatch i (with_counters batch (world_of s)))
     → batch ≡ putting (object_row (object_of row) ∷ version_row row.id (first_version row.held) ∷ [])
     → OnOk r (world_of s ≡ counted u) → u.classes ≡ w.classes → u.objects ≡ w.objects ++ object_of row ∷ [] → row.id ≡ w.next → IfOk r (λ i. Keeps i w (world_of s))
 object_keeps (Err e) w u s row batch has are is classes objects new = tt
@@ -80,4 +82,4 @@ object_keeps (Ok i) w u s row batch has are is classes objects new =
     (ap (λ (b : Changes). with_counters b (world_of s)) are)
     (three_small (counters_row (world_of s)) (object_row (object_of row)) (version_row row.id (first_version row.held)) (omega arith) (omega arith) (omega arith))
     (λ good. object_changes w (world_of s) (object_of row) (first_version row.held) good
-    (ap (λ (x : World). x.classes) is ∙ classes) (ap (λ (x : World). x.objects) is ∙ objects) new refl refl)
+    (ap (λ (x : OneIntWorld). x.classes) is ∙ classes) (ap (λ (x : OneIntWorld). x.objects) is ∙ objects) new refl refl)

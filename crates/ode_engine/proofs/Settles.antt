@@ -2,14 +2,14 @@
 use Rattle.std.proofs.Common.{◌≡◌, ◌≤◌, ◌<◌, ℕ, ℤ, ◌+◌, List, [], ◌∷◌, ◌++◌, cond, length, map, Result, Ok, Err, IfOk, sym, ◌∙◌, ap, arith}
 use Rattle.std.proofs.lemmas.Bool.{lt-ltb, le-ltb}
 use Rattle.std.specs.declared.alloc.AllocError.{AllocError}
-use Rattle.ode_value.specs.Commands.{Outcome, Refused}
+use Rattle.ode_value.specs.OneIntCommands.{OneIntOutcome, Refused}
 use Rattle.ode_value.specs.declared.reason.Refusal.{Refusal}
 use Rattle.ode_engine.specs.declared.machine.Item.TheVariants as item
-use Rattle.ode_value.specs.Good.{number_limit, weight_limit}
-use Rattle.ode_value.specs.Machine.{commit, abort, settle, declaring, creating, int_declared, int_object}
-use Rattle.ode_value.specs.Records.{weight}
+use Rattle.ode_value.specs.Limits.{number_limit, weight_limit}
+use Rattle.ode_value.specs.OneIntMachine.{commit, abort, settle, declaring, creating, int_declared, int_object}
+use Rattle.ode_value.specs.OneIntRecords.{weight}
 use Rattle.ode_value.specs.Texts.{class_line, new_line}
-use Rattle.ode_value.specs.World.{World}
+use Rattle.ode_value.specs.OneIntWorld.{OneIntWorld}
 use Rattle.ode_value.specs.declared.reason.Reason.TheVariants.{Space}
 use Rattle.ode_first_records.specs.declared.state.ClassRow.{ClassRow}
 use Rattle.ode_first_records.specs.declared.state.ObjectRow.{ObjectRow}
@@ -21,14 +21,14 @@ use Rattle.ode_engine.specs.Weights.{class_weight}
 use Rattle.ode_engine.proofs.StateWeights.{weight_declared, weight_created, map_push, length_map}
 
 -- a world above the limit aborts, and one within it commits
-settles_heavy : (first now : World) (text : List ℕ) → weight_limit < weight now → settle first now text ≡ abort first now Space text
+settles_heavy : (first now : OneIntWorld) (text : List ℕ) → weight_limit < weight now → settle first now text ≡ abort first now Space text
 settles_heavy first now text heavy = ap (λ b. cond b (abort first now Space text) (commit first now text)) (lt-ltb weight_limit (weight now) heavy)
 
-settles_light : (first now : World) (text : List ℕ) → weight now ≤ weight_limit → settle first now text ≡ commit first now text
+settles_light : (first now : OneIntWorld) (text : List ℕ) → weight now ≤ weight_limit → settle first now text ≡ commit first now text
 settles_light first now text light = ap (λ b. cond b (abort first now Space text) (commit first now text)) (le-ltb weight_limit (weight now) light)
 
 module _ (s : State) (class : ℕ) (held : ℤ) (left : s.next < number_limit) where
-  abbrev with_object : World
+  abbrev with_object : OneIntWorld
   with_object = record (world_of s) { objects = map object_of s.objects ++ int_object s.next class held ∷ []; next = s.next + 1 }
 
   begun : creating (world_of s) class held ≡ settle (world_of s) with_object (new_line s.next)
@@ -52,7 +52,7 @@ module _ (s : State) (class : ℕ) (held : ℤ) (left : s.next < number_limit) w
       ∙ sym (begun ∙ settles_light (world_of s) with_object (new_line s.next) (omega (arith, weighs, light)))
 
 module _ (s : State) (name field : List ℕ) where
-  abbrev with_class : World
+  abbrev with_class : OneIntWorld
   with_class = record (world_of s) { classes = map class_of s.classes ++ int_declared (length (map class_of s.classes) + 1) name field ∷ [] }
 
   heavier : weight with_class ≡ weight (world_of s) + class_weight name field
@@ -75,11 +75,11 @@ module _ (s : State) (name field : List ℕ) where
       ∙ sym (settles_light (world_of s) with_class (class_line name) (omega (arith, heavier, light)))
 
 -- another form of the outcome
-pub comes_to : (r : Result Item AllocError) (w : World) (a b : Outcome) → a ≡ b → IfOk r (λ item. outcome_of item w ≡ a) → IfOk r (λ item. outcome_of item w ≡ b)
+pub comes_to : (r : Result Item AllocError) (w : OneIntWorld) (a b : OneIntOutcome) → a ≡ b → IfOk r (λ item. outcome_of item w ≡ a) → IfOk r (λ item. outcome_of item w ≡ b)
 comes_to (Ok item) w a b same is = is ∙ same
 comes_to (Err e) w a b same is = tt
 
 -- a refusal that is the machine's
-pub refused_as : (r : Result Item AllocError) (w : World) (refusal : Refusal) (o : Outcome) → IfOk r (λ i. i ≡ item.Refused refusal) → o ≡ Refused refusal → IfOk r (λ i. outcome_of i w ≡ o)
+pub refused_as : (r : Result Item AllocError) (w : OneIntWorld) (refusal : Refusal) (o : OneIntOutcome) → IfOk r (λ i. i ≡ item.Refused refusal) → o ≡ Refused refusal → IfOk r (λ i. outcome_of i w ≡ o)
 refused_as (Ok i) w refusal o is same = ap (λ j. outcome_of j w) is ∙ sym same
 refused_as (Err e) w refusal o is same = tt

@@ -3,7 +3,8 @@ use Rattle.std.proofs.Common.{◌≡◌, ◌≤◌, ℕ, suc, ◌+◌, ◌*◌, 
 use Rattle.std.specs.Int.{w16, w32, to_be_bytes}
 use Rattle.std.specs.List.{flat_map}
 use Rattle.ode_value.specs.PrintedClasses.{decl_text}
-use Rattle.ode_value.specs.Records.{Row, byte, total_weight, row_weight, weight, head_row, text_row, object_row, version_rows}
+use Rattle.ode_value.specs.Records.{Row, byte, total_weight, row_weight}
+use Rattle.ode_value.specs.OneIntRecords.{weight, head_row, text_row, object_row, version_rows}
 use Rattle.ode_value.proofs.PrintLaws.{int_decl_length}
 use Rattle.ode_first_records.specs.declared.state.ClassRow.{ClassRow}
 use Rattle.ode_first_records.specs.declared.state.ObjectRow.{ObjectRow}

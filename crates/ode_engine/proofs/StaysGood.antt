@@ -9,10 +9,12 @@ use Rattle.std.proofs.lemmas.Slice.Eq.{bytes_eq-Decides}
 use Rattle.ode_value.specs.declared.class.Class.{Class}
 use Rattle.ode_value.specs.declared.reason.Reason.{Reason}
 use Rattle.ode_value.specs.declared.reason.Reason.TheVariants.{Space}
-use Rattle.ode_value.specs.Good.{IsGood, AreClasses, AreObjects, IsBuiltClass, IsBuiltObject, number_limit, weight_limit}
-use Rattle.ode_value.specs.Machine.{Settled, commit, abort, settle, int_declared, int_object, declaring, creating, showing}
-use Rattle.ode_value.specs.Commands.{Outcome, Refused, Settles, one, built, declare, create, create_of, create_in, show, show_of, show_value, field_of, shown_path, assignments, declared_field, carried, command}
-use Rattle.ode_value.specs.Records.{Row, total_weight, weight, head_row, text_row, object_row, version_rows}
+use Rattle.ode_value.specs.OneIntGood.{IsOneIntGood, AreBuiltClasses, AreBuiltObjects, IsBuiltClass, IsBuiltObject}
+use Rattle.ode_value.specs.Limits.{number_limit, weight_limit}
+use Rattle.ode_value.specs.OneIntMachine.{OneIntSettled, commit, abort, settle, int_declared, int_object, declaring, creating, showing}
+use Rattle.ode_value.specs.OneIntCommands.{OneIntOutcome, Refused, Settles, one, built, declare, create, create_of, create_in, show, show_of, show_value, field_of, shown_path, assignments, declared_field, carried, command}
+use Rattle.ode_value.specs.Records.{Row, total_weight}
+use Rattle.ode_value.specs.OneIntRecords.{weight, head_row, text_row, object_row, version_rows}
 use Rattle.ode_value.specs.Texts.{class_line, new_line, value_line}
 use Rattle.ode_value.specs.Words.{is_free}
 use Rattle.ode_value.specs.declared.reason.CheckError.TheVariants.{UnknownName, Duplicate}
@@ -25,10 +27,11 @@ use Rattle.ode_value.specs.declared.statement.Stmt.{Stmt}
 use Rattle.ode_value.specs.declared.statement.Stmt.TheVariants.{Do, Show}
 use Rattle.ode_value.specs.declared.value.Value.{Value}
 use Rattle.ode_value.specs.Proper.{IsProper, IsProperStmt}
-use Rattle.ode_value.specs.World.{World, Declared, Object, class_named, class_numbered, slot_of, object_at}
+use Rattle.ode_value.specs.OneIntWorld.{OneIntWorld, OneIntObject, object_at}
+use Rattle.ode_value.specs.Worlds.{Declared, class_named, class_numbered, slot_of}
 
 -- a commit of a good world, and an abort from one
-pub good_commit : (first now : World) (text : List ℕ) → IsGood now → now.transaction ≡ first.transaction → first.transaction < number_limit → IsGood (commit first now text).0
+pub good_commit : (first now : OneIntWorld) (text : List ℕ) → IsOneIntGood now → now.transaction ≡ first.transaction → first.transaction < number_limit → IsOneIntGood (commit first now text).0
 good_commit first now text g same left = record {
   classes = g.classes;
   objects = g.objects;
@@ -40,11 +43,11 @@ good_commit first now text g same left = record {
   small = g.small;
 }
 
-further : (classes : List Declared) (low next more : ℕ) (os : List Object) → next ≤ more → AreObjects classes low next os → AreObjects classes low more os
+further : (classes : List Declared) (low next more : ℕ) (os : List OneIntObject) → next ≤ more → AreBuiltObjects classes low next os → AreBuiltObjects classes low more os
 further classes low next more [] le objects = omega arith
 further classes low next more (o ∷ os) le objects = (objects.0, objects.1, objects.2, further classes (o.id + 1) next more os le objects.3)
 
-pub good_abort : (first now : World) (why : Reason) (text : List ℕ) → IsGood first → first.next ≤ now.next → now.next ≤ number_limit → first.transaction < number_limit → IsGood (abort first now why text).0
+pub good_abort : (first now : OneIntWorld) (why : Reason) (text : List ℕ) → IsOneIntGood first → first.next ≤ now.next → now.next ≤ number_limit → first.transaction < number_limit → IsOneIntGood (abort first now why text).0
 good_abort first now why text g later within left = record {
   classes = g.classes;
   objects = further first.classes 0 first.next now.next first.objects later g.objects;
@@ -61,12 +64,12 @@ by_test true = inl refl
 by_test false = inr refl
 
 -- a transaction that settles leaves a good world, if the present one is good where it isn't too heavy
-pub good_settle : (first now : World) (text : List ℕ) → IsGood first → (weight now ≤ weight_limit → IsGood now) → now.transaction ≡ first.transaction → first.next ≤ now.next → now.next ≤ number_limit → first.transaction < number_limit
-    → IsGood (settle first now text).0
+pub good_settle : (first now : OneIntWorld) (text : List ℕ) → IsOneIntGood first → (weight now ≤ weight_limit → IsOneIntGood now) → now.transaction ≡ first.transaction → first.next ≤ now.next → now.next ≤ number_limit → first.transaction < number_limit
+    → IsOneIntGood (settle first now text).0
 good_settle first now text g here same later within left =
     ⊎_elim
-    (λ heavy. subst (λ (s : Settled). IsGood s.0) (sym (ap (λ b. cond b (abort first now Space text) (commit first now text)) heavy)) (good_abort first now Space text g later within left))
-    (λ light. subst (λ (s : Settled). IsGood s.0) (sym (ap (λ b. cond b (abort first now Space text) (commit first now text)) light)) (good_commit first now text (here (ltb-false weight_limit (weight now) light)) same left))
+    (λ heavy. subst (λ (s : OneIntSettled). IsOneIntGood s.0) (sym (ap (λ b. cond b (abort first now Space text) (commit first now text)) heavy)) (good_abort first now Space text g later within left))
+    (λ light. subst (λ (s : OneIntSettled). IsOneIntGood s.0) (sym (ap (λ b. cond b (abort first now Space text) (commit first now text)) light)) (good_commit first now text (here (ltb-false weight_limit (weight now) light)) same left))
     (by_test (nat_lt weight_limit (weight now)))
 
 -- two names that are tested either way round
@@ -87,7 +90,7 @@ named_push name (d ∷ ds) c none other =
     let head = named_head name d ds none in
     ap (λ t. cond t (Some d.class) (class_named name (ds ++ c ∷ []))) head.0 ∙ named_push name ds c head.1 other
 
-classes_push : (n : ℕ) (cs : List Declared) (c : Declared) → AreClasses n cs → c.class.number ≡ n + length cs → n + length cs < 2 ^ 32 → class_named c.class.name cs ≡ None → IsBuiltClass c → AreClasses n (cs ++ c ∷ [])
+classes_push : (n : ℕ) (cs : List Declared) (c : Declared) → AreBuiltClasses n cs → c.class.number ≡ n + length cs → n + length cs < 2 ^ 32 → class_named c.class.name cs ≡ None → IsBuiltClass c → AreBuiltClasses n (cs ++ c ∷ [])
 classes_push n [] c are number small new built = (omega arith, omega arith, refl, built, tt)
 classes_push n (d ∷ ds) c are number small new built =
     let head = named_head c.class.name d ds new in
@@ -103,11 +106,11 @@ numbered_more : (k : ℕ) (cs ds : List Declared) → IsSome (class_numbered k c
 numbered_more k [] ds known = absurd (cc)
 numbered_more k (c ∷ cs) ds known = kept k c cs (cs ++ ds) (c.class.number == k) refl (λ h. numbered_more k cs ds h) known
 
-objects_more : (cs ds : List Declared) (low next : ℕ) (os : List Object) → AreObjects cs low next os → AreObjects (cs ++ ds) low next os
+objects_more : (cs ds : List Declared) (low next : ℕ) (os : List OneIntObject) → AreBuiltObjects cs low next os → AreBuiltObjects (cs ++ ds) low next os
 objects_more cs ds low next [] are = are
 objects_more cs ds low next (o ∷ os) are = (are.0, numbered_more o.class cs ds are.1, are.2, objects_more cs ds (o.id + 1) next os are.3)
 
-objects_push : (cs : List Declared) (low next : ℕ) (os : List Object) (o : Object) → AreObjects cs low next os → o.id ≡ next → IsSome (class_numbered o.class cs) → IsBuiltObject o → AreObjects cs low (next + 1) (os ++ o ∷ [])
+objects_push : (cs : List Declared) (low next : ℕ) (os : List OneIntObject) (o : OneIntObject) → AreBuiltObjects cs low next os → o.id ≡ next → IsSome (class_numbered o.class cs) → IsBuiltObject o → AreBuiltObjects cs low (next + 1) (os ++ o ∷ [])
 objects_push cs low next [] o are is known built = (omega arith, known, built, omega arith)
 objects_push cs low next (p ∷ ps) o are is known built = (are.0, are.1, are.2, objects_push cs (p.id + 1) next ps o are.3 is known built)
 
@@ -141,7 +144,7 @@ heads_weigh : (cs : List Declared) → length cs ≤ total_weight (map head_row 
 heads_weigh [] = omega arith
 heads_weigh (c ∷ cs) = omega (arith, heads_weigh cs)
 
-classes_weigh : (w : World) → length w.classes ≤ weight w
+classes_weigh : (w : OneIntWorld) → length w.classes ≤ weight w
 classes_weigh w =
     let heads = map head_row w.classes in
     let texts = map text_row w.classes in
@@ -149,7 +152,7 @@ classes_weigh w =
     let versions = flat_map version_rows w.objects in
     omega (arith, heads_weigh w.classes, heavy_append (heads ++ texts ++ objects) versions, heavy_append (heads ++ texts) objects, heavy_append heads texts)
 
-pub good_declaring : (w : World) (name field : List ℕ) → IsGood w → w.transaction < number_limit → class_named name w.classes ≡ None → is_free name ≡ true → is_free field ≡ true → IsGood (declaring w name field).0
+pub good_declaring : (w : OneIntWorld) (name field : List ℕ) → IsOneIntGood w → w.transaction < number_limit → class_named name w.classes ≡ None → is_free name ≡ true → is_free field ≡ true → IsOneIntGood (declaring w name field).0
 good_declaring w name field g left new free free_field =
     let c = int_declared (length w.classes + 1) name field in
     let now = record w { classes = w.classes ++ c ∷ [] } in
@@ -167,14 +170,14 @@ good_declaring w name field g left new free free_field =
     })
     refl (omega arith) g.next.1 left
 
-pub good_creating : (w : World) (class : ℕ) (n : ℤ) → IsGood w → w.transaction < number_limit → IsSome (class_numbered class w.classes) → FitsSigned w64 n → IsGood (creating w class n).0
+pub good_creating : (w : OneIntWorld) (class : ℕ) (n : ℤ) → IsOneIntGood w → w.transaction < number_limit → IsSome (class_numbered class w.classes) → FitsSigned w64 n → IsOneIntGood (creating w class n).0
 good_creating w class n g left known fits =
     let o = int_object w.next class n in
     let now = record w { objects = w.objects ++ o ∷ []; next = w.next + 1 } in
     ⊎_elim
     (λ below.
     let within : w.next < number_limit = ltb-true w.next number_limit below in
-    subst (λ (s : Settled). IsGood s.0) (sym (ap (λ b. cond b (settle w now (new_line w.next)) (abort w w Space [])) below))
+    subst (λ (s : OneIntSettled). IsOneIntGood s.0) (sym (ap (λ b. cond b (settle w now (new_line w.next)) (abort w w Space [])) below))
     (good_settle w now (new_line w.next) g
     (λ light. record {
       classes = g.classes;
@@ -188,32 +191,32 @@ good_creating w class n g left known fits =
     })
     refl (omega arith) (omega arith) left))
     (λ spent.
-    subst (λ (s : Settled). IsGood s.0) (sym (ap (λ b. cond b (settle w now (new_line w.next)) (abort w w Space [])) spent))
+    subst (λ (s : OneIntSettled). IsOneIntGood s.0) (sym (ap (λ b. cond b (settle w now (new_line w.next)) (abort w w Space [])) spent))
     (good_abort w w Space [] g (omega arith) g.next.1 left))
     (by_test (nat_lt w.next number_limit))
 
-pub good_showing : (w : World) (v : Value) → IsGood w → w.transaction < number_limit → IsGood (showing w v).0
+pub good_showing : (w : OneIntWorld) (v : Value) → IsOneIntGood w → w.transaction < number_limit → IsOneIntGood (showing w v).0
 good_showing w v g left = good_settle w w (value_line v) g (λ light. g) refl (omega arith) g.next.1 left
 
 zero_fits : FitsSigned w64 (pos 0)
 zero_fits = record { sfits = lit< tt }
 
 -- What a statement settles.
-module _ (w : World) (t : Settled) (g : IsGood w) where
-  abbrev Settling : Outcome → Type 0
-  Settling o = o ≡ Settles (t ∷ []) → IsGood t.0
+module _ (w : OneIntWorld) (t : OneIntSettled) (g : IsOneIntGood w) where
+  abbrev Settling : OneIntOutcome → Type 0
+  Settling o = o ≡ Settles (t ∷ []) → IsOneIntGood t.0
 
   refuses : (r : Refusal) → Settling (Refused r)
   refuses r is = absurd (cc)
 
-  settles : (s : Settled) → IsGood s.0 → Settling (one s)
-  settles s good is = let same : s ≡ t = cc in subst (λ (x : Settled). IsGood x.0) same good
+  settles : (s : OneIntSettled) → IsOneIntGood s.0 → Settling (one s)
+  settles s good is = let same : s ≡ t = cc in subst (λ (x : OneIntSettled). IsOneIntGood x.0) same good
 
-  choice : (b : Bool) (x y : Outcome) → (b ≡ true → Settling x) → (b ≡ false → Settling y) → Settling (cond b x y)
+  choice : (b : Bool) (x y : OneIntOutcome) → (b ≡ true → Settling x) → (b ≡ false → Settling y) → Settling (cond b x y)
   choice true x y first second = first refl
   choice false x y first second = second refl
 
-  built_good : {A : Type 0} (o : Option A) (carry : A → Outcome) → ((a : A) → o ≡ Some a → w.transaction < number_limit → Settling (carry a)) → Settling (built w o carry)
+  built_good : {A : Type 0} (o : Option A) (carry : A → OneIntOutcome) → ((a : A) → o ≡ Some a → w.transaction < number_limit → Settling (carry a)) → Settling (built w o carry)
   built_good None carry good = refuses NotBuilt
   built_good (Some a) carry good = choice (nat_lt w.transaction number_limit) (carry a) (Refused NumbersSpent) (λ left. good a refl (ltb-true w.transaction number_limit left)) (λ spent. refuses NumbersSpent)
 
@@ -240,7 +243,7 @@ module _ (w : World) (t : Settled) (g : IsGood w) where
   value_good name None left = refuses (Check (UnknownName name))
   value_good name (Some v) left = settles (showing w v) (good_showing w v g left)
 
-  show_good : (id : ℕ) (name : List ℕ) (o : Option Object) → w.transaction < number_limit → Settling (show_of w id name o)
+  show_good : (id : ℕ) (name : List ℕ) (o : Option OneIntObject) → w.transaction < number_limit → Settling (show_of w id name o)
   show_good id name None left = refuses (NoObject id)
   show_good id name (Some o) left = value_good name (field_of w o name) left
 

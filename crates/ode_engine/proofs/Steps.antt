@@ -9,10 +9,15 @@ use Rattle.std.specs.declared.cmp.Ordering.{Ordering}
 use Rattle.std.specs.declared.cmp.Ordering.TheVariants.{Equal, Greater}
 use Rattle.std.specs.BTreeMap.{insert_entry}
 use Rattle.ode_value.specs.declared.key.Key.{Key}
-use Rattle.ode_value.specs.Good.{AreClasses, AreObjects, IsGood}
-use Rattle.ode_value.specs.Records.{Row, key, rows, counters_row, head_row, text_row, object_row, version_row, version_rows}
-use Rattle.ode_value.specs.World.{World, Declared, Object, Version}
-use Rattle.ode_keep.specs.Entries.{key_cmp, Entries, applied}
+use Rattle.ode_value.specs.OneIntGood.{AreBuiltClasses, AreBuiltObjects, IsOneIntGood}
+use Rattle.ode_value.specs.Records.{Row, version_row}
+use Rattle.ode_value.specs.Keys.{key}
+use Rattle.ode_value.specs.OneIntRecords.{rows, counters_row, head_row, text_row, object_row, version_rows}
+use Rattle.ode_value.specs.OneIntWorld.{OneIntWorld, OneIntObject}
+use Rattle.ode_value.specs.Worlds.{Declared}
+use Rattle.ode_value.specs.Versions.{Version}
+use Rattle.ode_value.specs.Keys.{key_cmp}
+use Rattle.ode_keep.specs.Entries.{Entries, applied}
 use Rattle.ode_engine.specs.Puts.{putting}
 use Rattle.ode_engine.proofs.Between.{Under, OfKind, lower_kind, higher_kind, kind_append, under_append, over_append, insert_between}
 
@@ -22,19 +27,19 @@ above kind n m b c same lower =
     ap (λ (o : Ordering). ordering_then o (ordering_then (nat_cmp n m) (nat_cmp b c))) same
     ∙ ap (λ (o : Ordering). ordering_then o (nat_cmp b c)) (sym (nat_cmp_is n m Greater lower))
 
-heads_under : (n m : ℕ) (cs : List Declared) → AreClasses m cs → m + length cs ≤ n → Under (key 2 n 0) (map head_row cs)
+heads_under : (n m : ℕ) (cs : List Declared) → AreBuiltClasses m cs → m + length cs ≤ n → Under (key 2 n 0) (map head_row cs)
 heads_under n m [] are up_to = tt
 heads_under n m (c ∷ cs) are up_to = (above 2 n c.class.number 0 0 refl (omega (arith, are.0, up_to)), heads_under n (m + 1) cs are.4 (omega (arith, up_to)))
 
-texts_under : (n m : ℕ) (cs : List Declared) → AreClasses m cs → m + length cs ≤ n → Under (key 3 n 0) (map text_row cs)
+texts_under : (n m : ℕ) (cs : List Declared) → AreBuiltClasses m cs → m + length cs ≤ n → Under (key 3 n 0) (map text_row cs)
 texts_under n m [] are up_to = tt
 texts_under n m (c ∷ cs) are up_to = (above 3 n c.class.number 0 0 refl (omega (arith, are.0, up_to)), texts_under n (m + 1) cs are.4 (omega (arith, up_to)))
 
-up_to_next : (classes : List Declared) (low next : ℕ) (os : List Object) → AreObjects classes low next os → low ≤ next
+up_to_next : (classes : List Declared) (low next : ℕ) (os : List OneIntObject) → AreBuiltObjects classes low next os → low ≤ next
 up_to_next classes low next [] are = are
 up_to_next classes low next (o ∷ os) are = omega (arith, are.0, up_to_next classes (o.id + 1) next os are.3)
 
-objects_under : (classes : List Declared) (low next : ℕ) (os : List Object) → AreObjects classes low next os → Under (key 6 next 0) (map object_row os)
+objects_under : (classes : List Declared) (low next : ℕ) (os : List OneIntObject) → AreBuiltObjects classes low next os → Under (key 6 next 0) (map object_row os)
 objects_under classes low next [] are = tt
 objects_under classes low next (o ∷ os) are =
     (above 6 next o.id 0 0 refl (omega (arith, up_to_next classes (o.id + 1) next os are.3)), objects_under classes (o.id + 1) next os are.3)
@@ -43,7 +48,7 @@ own_under : (next id : ℕ) (vs : List Version) → id < next → Under (key 7 n
 own_under next id [] lower = tt
 own_under next id (v ∷ vs) lower = (above 7 next id 1 v.number refl lower, own_under next id vs lower)
 
-versions_under : (classes : List Declared) (low next : ℕ) (os : List Object) → AreObjects classes low next os → Under (key 7 next 1) (flat_map version_rows os)
+versions_under : (classes : List Declared) (low next : ℕ) (os : List OneIntObject) → AreBuiltObjects classes low next os → Under (key 7 next 1) (flat_map version_rows os)
 versions_under classes low next [] are = tt
 versions_under classes low next (o ∷ os) are =
     under_append (key 7 next 1) (version_rows o) (flat_map version_rows os)
@@ -58,7 +63,7 @@ texts_kind : (cs : List Declared) → OfKind 3 (map text_row cs)
 texts_kind [] = tt
 texts_kind (c ∷ cs) = (refl, texts_kind cs)
 
-objects_kind : (os : List Object) → OfKind 6 (map object_row os)
+objects_kind : (os : List OneIntObject) → OfKind 6 (map object_row os)
 objects_kind [] = tt
 objects_kind (o ∷ os) = (refl, objects_kind os)
 
@@ -66,19 +71,19 @@ own_kind : (id : ℕ) (vs : List Version) → OfKind 7 (map (version_row id) vs)
 own_kind id [] = tt
 own_kind id (v ∷ vs) = (refl, own_kind id vs)
 
-versions_kind : (os : List Object) → OfKind 7 (flat_map version_rows os)
+versions_kind : (os : List OneIntObject) → OfKind 7 (flat_map version_rows os)
 versions_kind [] = tt
 versions_kind (o ∷ os) = kind_append 7 (version_rows o) (flat_map version_rows os) (own_kind o.id o.versions) (versions_kind os)
 
 -- the counters alone
-pub counters_change : (w v : World) → v.classes ≡ w.classes → v.objects ≡ w.objects → applied (putting (counters_row v ∷ [])) (rows w) ≡ rows v
+pub counters_change : (w v : OneIntWorld) → v.classes ≡ w.classes → v.objects ≡ w.objects → applied (putting (counters_row v ∷ [])) (rows w) ≡ rows v
 counters_change w v classes objects = rw (classes, objects) refl
 
 -- four lists, grouped from the right
 regroup : (a b c d : Entries) → a ++ b ++ c ++ d ≡ a ++ (b ++ (c ++ d))
 regroup a b c d = append_assoc (a ++ b) c d ∙ append_assoc a b (c ++ d)
 
-module _ (cs : List Declared) (os : List Object) (next : ℕ) (are_classes : AreClasses 1 cs) (are_objects : AreObjects cs 0 next os) (first : Row) (counts : first.0.kind ≡ 1) where
+module _ (cs : List Declared) (os : List OneIntObject) (next : ℕ) (are_classes : AreBuiltClasses 1 cs) (are_objects : AreBuiltObjects cs 0 next os) (first : Row) (counts : first.0.kind ≡ 1) where
   abbrev F : Entries
   F = first ∷ []
 
@@ -140,7 +145,7 @@ module _ (cs : List Declared) (os : List Object) (next : ℕ) (are_classes : Are
         ∙ rw (map-append head_row cs (c ∷ []), map-append text_row cs (c ∷ [])) refl
 
   -- an object, whose number is the next one, with its first version
-  module _ (o : Object) (v : Version) (new : o.id ≡ next) (versions : o.versions ≡ v ∷ []) (numbered : v.number ≡ 1) where
+  module _ (o : OneIntObject) (v : Version) (new : o.id ≡ next) (versions : o.versions ≡ v ∷ []) (numbered : v.number ≡ 1) where
     abbrev r : Row
     r = object_row o
 
@@ -179,12 +184,12 @@ module _ (cs : List Declared) (os : List Object) (next : ℕ) (are_classes : Are
         ∙ rw (map-append object_row os (o ∷ []), flat_map-append version_rows os (o ∷ []), versions) refl
 
 -- A class more, or an object more, and other counters.
-pub class_changes : (w v : World) (c : Declared) → IsGood w → v.classes ≡ w.classes ++ c ∷ [] → v.objects ≡ w.objects → c.class.number ≡ length w.classes + 1
+pub class_changes : (w v : OneIntWorld) (c : Declared) → IsOneIntGood w → v.classes ≡ w.classes ++ c ∷ [] → v.objects ≡ w.objects → c.class.number ≡ length w.classes + 1
     → applied (putting (counters_row v ∷ head_row c ∷ text_row c ∷ [])) (rows w) ≡ rows v
 class_changes w v c good classes objects new =
     with_class w.classes w.objects w.next good.classes good.objects (counters_row v) refl c new ∙ rw (classes, objects) refl
 
-pub object_changes : (w v : World) (o : Object) (version : Version) → IsGood w → v.classes ≡ w.classes → v.objects ≡ w.objects ++ o ∷ [] → o.id ≡ w.next → o.versions ≡ version ∷ [] → version.number ≡ 1
+pub object_changes : (w v : OneIntWorld) (o : OneIntObject) (version : Version) → IsOneIntGood w → v.classes ≡ w.classes → v.objects ≡ w.objects ++ o ∷ [] → o.id ≡ w.next → o.versions ≡ version ∷ [] → version.number ≡ 1
     → applied (putting (counters_row v ∷ object_row o ∷ version_row o.id version ∷ [])) (rows w) ≡ rows v
 object_changes w v o version good classes objects new versions numbered =
     with_object w.classes w.objects w.next good.classes good.objects (counters_row v) refl o version new versions numbered ∙ rw (classes, objects) refl

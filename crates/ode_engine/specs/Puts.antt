@@ -4,7 +4,7 @@ use Rattle.std.specs.List.{All}
 use Rattle.std.specs.Map.{values_of}
 use Rattle.std.specs.Option.{IfSome}
 use Rattle.ode_value.specs.Records.{Row}
-use Rattle.ode_value.specs.World.{Version}
+use Rattle.ode_value.specs.Versions.{Version}
 use Rattle.ode_value.specs.declared.value.Value.TheVariants as value
 use Rattle.ode_keep.specs.Entries.{Changes}
 

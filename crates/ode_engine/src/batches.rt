@@ -3,8 +3,9 @@ ghost use Rattle.std.specs.Prelude.{◌≡◌, [], ◌∷◌, Some, IfOk, OnOk};
 ghost use Rattle.std.specs.BTreeMap.{insert_entry};
 ghost use Rattle.ode_first_records.specs.State.{class_of, object_of, world_of};
 ghost use Rattle.ode_engine.specs.Puts.{first_version, putting};
-ghost use Rattle.ode_keep.specs.Entries.{key_cmp};
-ghost use Rattle.ode_value.specs.Records.{counters_row, head_row, object_row, text_row, version_row};
+ghost use Rattle.ode_value.specs.Keys.{key_cmp};
+ghost use Rattle.ode_value.specs.OneIntRecords.{counters_row, head_row, object_row, text_row};
+ghost use Rattle.ode_value.specs.Records.{version_row};
 
 use ode_first_records::{
     ClassRow, ObjectRow, State, counters_value, head_value, object_value, text_value, version_value,

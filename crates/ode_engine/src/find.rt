@@ -1,7 +1,8 @@
 //! Classes and objects by name and number.
 ghost use Rattle.std.specs.Prelude.{◌≡◌, map};
 ghost use Rattle.std.specs.Option.{option_copied, option_map};
-ghost use Rattle.ode_value.specs.World.{class_named, class_numbered, object_at};
+ghost use Rattle.ode_value.specs.Worlds.{class_named, class_numbered};
+ghost use Rattle.ode_value.specs.OneIntWorld.{object_at};
 ghost use Rattle.ode_first_records.specs.State.{class_of, object_of};
 
 use ode_first_records::{ClassRow, ObjectRow};

@@ -1,7 +1,7 @@
 //! The parts of statements of the built forms.
 ghost use Rattle.std.specs.Prelude.{◌≡◌};
 ghost use Rattle.std.specs.Option.{option_copied, option_map};
-ghost use Rattle.ode_value.specs.Commands.{declared_field, assignments, shown_path, only_field, literal_at, int_in, object_in, assigned_int};
+ghost use Rattle.ode_value.specs.OneIntCommands.{declared_field, assignments, shown_path, only_field, literal_at, int_in, object_in, assigned_int};
 ghost use Rattle.ode_value.specs.declared.statement.Expr.{out-Expr};
 
 use ode_value::{ClassDecl, Expr, Member, Name, Sort, Value};

@@ -1,11 +1,11 @@
 //! Statements carried out on a state in memory.
 ghost use Rattle.std.specs.Prelude.{◌≡◌, ◌≤◌, ◌<◌, ◌+◌, [], map, IfOk, OnOk, MatchResult};
 ghost use Rattle.std.specs.Option.{option_map};
-ghost use Rattle.ode_value.specs.Commands.{Refused, one, declare, create, show, field_of, carried, command};
-ghost use Rattle.ode_value.specs.Good.{number_limit, weight_limit};
-ghost use Rattle.ode_value.specs.Machine.{commit, abort, declaring, creating, showing};
-ghost use Rattle.ode_value.specs.Records.{weight};
-ghost use Rattle.ode_value.specs.World.{World};
+ghost use Rattle.ode_value.specs.OneIntCommands.{Refused, one, declare, create, show, field_of, carried, command};
+ghost use Rattle.ode_value.specs.Limits.{number_limit, weight_limit};
+ghost use Rattle.ode_value.specs.OneIntMachine.{commit, abort, declaring, creating, showing};
+ghost use Rattle.ode_value.specs.OneIntRecords.{weight};
+ghost use Rattle.ode_value.specs.OneIntWorld.{OneIntWorld};
 ghost use Rattle.ode_value.specs.declared.reason.CheckError.TheVariants.{UnknownName};
 ghost use Rattle.ode_value.specs.declared.reason.Reason.TheVariants.{Space};
 ghost use Rattle.ode_value.specs.declared.reason.Refusal.TheVariants.{Check};
@@ -316,7 +316,7 @@ fn resolve<'a>(
     name: &'a Name,
     assigned: Option<Assignment<'a>>,
 ) -> Result<Start, &'a Name>
-    ensures { (w : World) → w.classes ≡ map class_of classes.now →
+    ensures { (w : OneIntWorld) → w.classes ≡ map class_of classes.now →
         MatchResult result (λ start. create w name.now (assigned_of assigned.entry) ≡ one (creating w start.class start.held)) (λ unknown. create w name.now (assigned_of assigned.entry) ≡ Refused (Check (UnknownName unknown.now))) }
 {
     let Some(class) = class_named(classes, name) else {

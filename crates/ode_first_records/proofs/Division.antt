@@ -2,7 +2,8 @@
 use Rattle.std.proofs.Common.{◌≡◌, ℕ, ◌==◌, List, [], ◌∷◌, ◌++◌, map, true, false, refl, ap, ◌∙◌, append_assoc}
 use Rattle.std.specs.List.{flat_map, list_all, list_any}
 use Rattle.std.proofs.lemmas.List.Folds.{list_any-append}
-use Rattle.ode_value.specs.Records.{Row, rows, counters_row, head_row, text_row, object_row, version_rows}
+use Rattle.ode_value.specs.Records.{Row}
+use Rattle.ode_value.specs.OneIntRecords.{rows, counters_row, head_row, text_row, object_row, version_rows}
 use Rattle.ode_first_records.specs.declared.state.ObjectRow.{ObjectRow}
 use Rattle.ode_first_records.specs.declared.state.State.{State}
 use Rattle.ode_first_records.specs.Reading.{head_of, text_of, whole_of, version_of}

@@ -5,8 +5,9 @@ use Rattle.std.specs.Int.{w16, w32, w64, cast_signed, cast_unsigned}
 use Rattle.std.proofs.lemmas.Int.{ints, to_z-of_z}
 use Rattle.std.proofs.lemmas.Nat.{from_be_bytes-to_be_bytes_2, from_be_bytes-to_be_bytes_4, from_be_bytes-to_be_bytes_8}
 use Rattle.ode_host.specs.Fields.{number_at}
-use Rattle.ode_value.specs.Records.{Row, row_bytes, counters_row}
-use Rattle.ode_value.specs.World.{World}
+use Rattle.ode_value.specs.Records.{Row, row_bytes}
+use Rattle.ode_value.specs.OneIntRecords.{counters_row}
+use Rattle.ode_value.specs.OneIntWorld.{OneIntWorld}
 use Rattle.ode_first_records.specs.Reading.{IsRow, key_of, FitsCounters, FitsObject, version_of, whole_of}
 use Rattle.ode_first_records.specs.declared.state.ObjectRow.{ObjectRow}
 
@@ -38,5 +39,5 @@ held_of_object o h = ap (cast_signed w64) (from_be_bytes-to_be_bytes_8 (cast_uns
 
 -- ---- the counters
 
-pub numbers_of : (w : World) → FitsCounters w → (number_at w64 (counters_row w).1 0 ≡ w.next) × (number_at w64 (counters_row w).1 8 ≡ w.transaction) × (number_at w64 (counters_row w).1 16 ≡ w.next_entry)
+pub numbers_of : (w : OneIntWorld) → FitsCounters w → (number_at w64 (counters_row w).1 0 ≡ w.next) × (number_at w64 (counters_row w).1 8 ≡ w.transaction) × (number_at w64 (counters_row w).1 16 ≡ w.next_entry)
 numbers_of w h = (from_be_bytes-to_be_bytes_8 w.next h.next, from_be_bytes-to_be_bytes_8 w.transaction h.transaction, from_be_bytes-to_be_bytes_8 w.next_entry h.next_entry)

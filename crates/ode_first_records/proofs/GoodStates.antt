@@ -4,9 +4,11 @@ use Rattle.std.specs.Prelude.{IsSome, codes}
 use Rattle.std.specs.List.{AllByRecursion}
 use Rattle.std.proofs.lemmas.Bool.Decides.{Decides-eqb}
 use Rattle.ode_value.specs.declared.class.Class.{Class}
-use Rattle.ode_value.specs.Good.{IsGood, AreClasses, AreObjects}
-use Rattle.ode_value.specs.Records.{Row, rows, counters_row}
-use Rattle.ode_value.specs.World.{World, Declared, Object, class_numbered}
+use Rattle.ode_value.specs.OneIntGood.{IsOneIntGood, AreBuiltClasses, AreBuiltObjects}
+use Rattle.ode_value.specs.Records.{Row}
+use Rattle.ode_value.specs.OneIntRecords.{rows, counters_row}
+use Rattle.ode_value.specs.OneIntWorld.{OneIntWorld, OneIntObject}
+use Rattle.ode_value.specs.Worlds.{Declared, class_numbered}
 use Rattle.ode_first_records.specs.declared.state.ClassRow.{ClassRow}
 use Rattle.ode_first_records.specs.declared.state.ObjectRow.{ObjectRow}
 use Rattle.ode_first_records.specs.declared.state.State.{State}
@@ -23,7 +25,7 @@ pub record Classes (number : ℕ) (cs : List Declared) : Type 0 where
   pub same : map class_of list ≡ cs
   pub fit : FitClasses number list
 
-pub classes_of : (number : ℕ) (cs : List Declared) → AreClasses number cs → Classes number cs
+pub classes_of : (number : ℕ) (cs : List Declared) → AreBuiltClasses number cs → Classes number cs
 classes_of number [] h = record { list = []; same = refl; fit = tt }
 classes_of number (c ∷ cs) h =
     let others = classes_of (number + 1) cs h.4 in
@@ -53,22 +55,22 @@ by_test : (b : Bool) (k n : ℕ) (c : Class) (others : Option Class) → (b ≡ 
 by_test true k n c others same low rest some = let e = same refl in omega arith
 by_test false k n c others same low rest some = rest some
 
-pub class_low : (number : ℕ) (cs : List Declared) (k : ℕ) → AreClasses number cs → IsSome (class_numbered k cs) → k < 2 ^ 32
+pub class_low : (number : ℕ) (cs : List Declared) (k : ℕ) → AreBuiltClasses number cs → IsSome (class_numbered k cs) → k < 2 ^ 32
 class_low number [] k h some = absurd cc
 class_low number (c ∷ cs) k h some = by_test (c.class.number == k) k number c.class (class_numbered k cs) (λ e. sym h.0 ∙ (Decides-eqb c.class.number k).0 e) h.1 (class_low (number + 1) cs k h.4) some
 
 -- ---- objects
 
-pub record Objects (os : List Object) : Type 0 where
+pub record Objects (os : List OneIntObject) : Type 0 where
   pub list : List ObjectRow
   pub same : map object_of list ≡ os
   pub fit : AllByRecursion FitsObject list
 
-pub rises : (cs : List Declared) (low next : ℕ) (os : List Object) → AreObjects cs low next os → low ≤ next
+pub rises : (cs : List Declared) (low next : ℕ) (os : List OneIntObject) → AreBuiltObjects cs low next os → low ≤ next
 rises cs low next [] h = h
 rises cs low next (o ∷ os) h = omega (arith, h.0, rises cs (o.id + 1) next os h.3)
 
-pub objects_of : (cs : List Declared) (low next : ℕ) (os : List Object) → next < 2 ^ 64 → AreClasses 1 cs → AreObjects cs low next os → Objects os
+pub objects_of : (cs : List Declared) (low next : ℕ) (os : List OneIntObject) → next < 2 ^ 64 → AreBuiltClasses 1 cs → AreBuiltObjects cs low next os → Objects os
 objects_of cs low next [] fits classes h = record { list = []; same = refl; fit = tt }
 objects_of cs low next (o ∷ os) fits classes h =
     let others = objects_of cs (o.id + 1) next os fits classes h.3 in
@@ -83,12 +85,12 @@ objects_of cs low next (o ∷ os) fits classes h =
 
 -- ---- worlds
 
-pub record IsOf (w : World) : Type 0 where
+pub record IsOf (w : OneIntWorld) : Type 0 where
   pub state : State
   pub same : world_of state ≡ w
   pub fits : FitsState state
 
-pub state_of_good : (w : World) → IsGood w → IsOf w
+pub state_of_good : (w : OneIntWorld) → IsOneIntGood w → IsOf w
 state_of_good w good =
     let classes = classes_of 1 w.classes good.classes in
     let objects = objects_of w.classes 0 w.next w.objects (omega (arith, good.next)) good.classes good.objects in

@@ -2,7 +2,8 @@
 use Rattle.std.proofs.Common.{◌≡◌, ℕ, ◌+◌, ◌*◌, ◌≤◌, List, [], ◌∷◌, ◌++◌, length, map, refl, ap, arith, length-append}
 use Rattle.std.proofs.lemmas.List.{length-map}
 use Rattle.std.specs.List.{flat_map}
-use Rattle.ode_value.specs.Records.{Row, row_bytes, snapshot, row_weight, total_weight, weight, rows, head_row, text_row, object_row, version_rows}
+use Rattle.ode_value.specs.Records.{Row, row_bytes, snapshot, row_weight, total_weight}
+use Rattle.ode_value.specs.OneIntRecords.{weight, rows, head_row, text_row, object_row, version_rows}
 use Rattle.ode_first_records.specs.declared.state.ObjectRow.{ObjectRow}
 use Rattle.ode_first_records.specs.declared.state.State.{State}
 use Rattle.ode_first_records.specs.State.{class_of, object_of, world_of}

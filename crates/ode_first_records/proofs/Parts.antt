@@ -3,7 +3,8 @@ use Rattle.std.proofs.Common.{◌≡◌, ℕ, ◌+◌, List, ◌++◌, length, a
 use Rattle.std.specs.Prelude.{codes}
 use Rattle.std.specs.Int.{w16, w32, to_be_bytes}
 use Rattle.ode_value.specs.PrintedClasses.{decl_text}
-use Rattle.ode_value.specs.Records.{byte, head_row}
+use Rattle.ode_value.specs.Records.{byte}
+use Rattle.ode_value.specs.OneIntRecords.{head_row}
 use Rattle.ode_value.proofs.PrintLaws.{int_decl_text}
 use Rattle.ode_first_records.specs.declared.state.ClassRow.{ClassRow}
 use Rattle.ode_first_records.specs.State.{class_of}

@@ -8,8 +8,9 @@ use Rattle.std.proofs.lemmas.List.{append-nil, take_more}
 use Rattle.std.proofs.lemmas.Result.{on_ok_weaker}
 use Rattle.std.specs.List.{flat_map}
 use Rattle.std.proofs.lemmas.List.Concat.{flat_map-append}
-use Rattle.ode_value.specs.World.{World}
-use Rattle.ode_value.specs.Records.{Row, row_bytes, snapshot, rows, counters_row, head_row, text_row, object_row, version_rows}
+use Rattle.ode_value.specs.OneIntWorld.{OneIntWorld}
+use Rattle.ode_value.specs.Records.{Row, row_bytes, snapshot}
+use Rattle.ode_value.specs.OneIntRecords.{rows, counters_row, head_row, text_row, object_row, version_rows}
 
 -- what is written after two writes
 pub put_more : {T E : Type 0} (r : Result T E) (old a mid b now : List ℕ) → mid ≡ old ++ a → OnOk r (now ≡ mid ++ b) → OnOk r (now ≡ old ++ (a ++ b))
@@ -40,7 +41,7 @@ pub put_five : (old a b c d e s1 s2 s3 s4 s5 : List ℕ) → s1 ≡ old ++ a →
 put_five old a b c d e s1 s2 s3 s4 s5 h1 h2 h3 h4 h5 = rw (h5, h4, h3, h2, h1) (simp append_assoc)
 
 -- a snapshot in its five parts
-pub snapshot_rows : (w : World) → snapshot (rows w)
+pub snapshot_rows : (w : OneIntWorld) → snapshot (rows w)
     ≡ row_bytes (counters_row w) ++ (snapshot (map head_row w.classes) ++ (snapshot (map text_row w.classes) ++ (snapshot (map object_row w.objects) ++ snapshot (flat_map version_rows w.objects))))
 snapshot_rows w =
     let cs = w.classes in

@@ -3,7 +3,8 @@ use Rattle.std.specs.Prelude.{◌≡◌, ◌<◌, ◌≤◌, ◌+◌, ◌^◌, �
 use Rattle.std.specs.Int.{w64}
 use Rattle.std.specs.List.{list_any}
 use Rattle.std.specs.Str.{bytes_eq}
-use Rattle.ode_value.specs.Good.{IsCounter, number_limit}
+use Rattle.ode_value.specs.OneIntGood.{IsCounter}
+use Rattle.ode_value.specs.Limits.{number_limit}
 use Rattle.ode_value.specs.Words.{is_free}
 use Rattle.ode_first_records.specs.declared.state.ClassRow.{ClassRow}
 use Rattle.ode_first_records.specs.declared.state.ObjectRow.{ObjectRow}

@@ -5,9 +5,11 @@ use Rattle.std.specs.List.{AllByRecursion}
 use Rattle.ode_host.specs.Fields.{number_at}
 use Rattle.ode_value.specs.declared.key.Key.{Key}
 use Rattle.ode_value.specs.declared.value.Value.TheVariants as value
-use Rattle.ode_value.specs.Records.{Row, key, head_row, text_row, object_row, version_row}
+use Rattle.ode_value.specs.Records.{Row, version_row}
+use Rattle.ode_value.specs.Keys.{key}
+use Rattle.ode_value.specs.OneIntRecords.{head_row, text_row, object_row}
 use Rattle.ode_value.specs.Words.{is_free}
-use Rattle.ode_value.specs.World.{World}
+use Rattle.ode_value.specs.OneIntWorld.{OneIntWorld}
 use Rattle.ode_first_records.specs.declared.records.Record.{Record}
 use Rattle.ode_first_records.specs.declared.state.ClassRow.{ClassRow}
 use Rattle.ode_first_records.specs.declared.state.ObjectRow.{ObjectRow}
@@ -47,7 +49,7 @@ pub record FitsObject (o : ObjectRow) : Type 0 where
   pub held : FitsSigned w64 o.held
 
 -- next numbers that fit their fields
-pub record FitsCounters (w : World) : Type 0 where
+pub record FitsCounters (w : OneIntWorld) : Type 0 where
   pub next : w.next < 2 ^ 64
   pub transaction : w.transaction < 2 ^ 64
   pub next_entry : w.next_entry < 2 ^ 64

@@ -2,8 +2,8 @@
 ghost use Rattle.std.specs.Prelude.{◌≡◌, ◌↔◌, IsTrue, map};
 ghost use Rattle.std.specs.List.{list_any};
 ghost use Rattle.std.specs.Str.{bytes_eq};
-ghost use Rattle.ode_value.specs.Good.{AreClasses, AreObjects, IsGood};
-ghost use Rattle.ode_value.specs.Records.{weight};
+ghost use Rattle.ode_value.specs.OneIntGood.{AreBuiltClasses, AreBuiltObjects, IsOneIntGood};
+ghost use Rattle.ode_value.specs.OneIntRecords.{weight};
 ghost use Rattle.ode_first_records.specs.Checks.{HasCounters, Leads, Rises};
 ghost use Rattle.ode_first_records.specs.State.{class_of, object_of, world_of};
 
@@ -34,7 +34,7 @@ fn leads(class: &ClassRow, number: usize, others: &[ClassRow]) -> bool
 
 // Each name is compared with all later ones, which the limit on the weight bounds.
 fn are_classes(classes: &[ClassRow]) -> bool
-    ensures { IsTrue result ↔ AreClasses 1 (map class_of classes.now) }
+    ensures { IsTrue result ↔ AreBuiltClasses 1 (map class_of classes.now) }
 {
     for (index, class) in classes.iter().enumerate() {
         if !leads(class, index + 1, &classes[index + 1..]) {
@@ -55,8 +55,8 @@ fn rises(object: &ObjectRow, low: u64, next: u64, classes: usize) -> bool
 
 // The classes are numbered from 1, so their count tells which numbers are known.
 fn are_objects(objects: &[ObjectRow], classes: &[ClassRow], next: u64) -> bool
-    requires { AreClasses 1 (map class_of classes.now) }
-    ensures { IsTrue result ↔ AreObjects (map class_of classes.now) 0 next (map object_of objects.now) }
+    requires { AreBuiltClasses 1 (map class_of classes.now) }
+    ensures { IsTrue result ↔ AreBuiltObjects (map class_of classes.now) 0 next (map object_of objects.now) }
 {
     let mut low = 0;
     for object in objects {
@@ -82,7 +82,7 @@ fn has_counters(state: &State) -> bool
 /// Whether a state of this total weight is that of a good world.
 pub fn is_good(state: &State, total: u64) -> bool
     requires { total ≡ weight (world_of state.now) }
-    ensures { IsTrue result ↔ IsGood (world_of state.now) }
+    ensures { IsTrue result ↔ IsOneIntGood (world_of state.now) }
 {
     let classes = state.classes.as_slice();
     let objects = state.objects.as_slice();

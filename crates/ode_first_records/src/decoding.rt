@@ -1,10 +1,11 @@
 //! The state whose snapshot some bytes are.
 ghost use Rattle.std.specs.Prelude.{◌≡◌, ◌==◌, List, ℕ, ◌++◌, length, map, true, false, IfOk, IfSome, IsSomeAnd};
 ghost use Rattle.std.specs.List.{AllByRecursion, list_all, list_any, prefix_len};
-ghost use Rattle.ode_value.specs.Records.{Row, counters_row, rows, snapshot};
-ghost use Rattle.ode_value.specs.Good.{IsGood};
+ghost use Rattle.ode_value.specs.Records.{Row, snapshot};
+ghost use Rattle.ode_value.specs.OneIntRecords.{counters_row, rows};
+ghost use Rattle.ode_value.specs.OneIntGood.{IsOneIntGood};
 ghost use Rattle.ode_value.specs.Words.{is_free};
-ghost use Rattle.ode_value.specs.World.{World};
+ghost use Rattle.ode_value.specs.OneIntWorld.{OneIntWorld};
 ghost use Rattle.ode_first_records.specs.declared.state.ClassRow.{ClassRow};
 ghost use Rattle.ode_first_records.specs.declared.state.ObjectRow.{ObjectRow};
 ghost use Rattle.ode_first_records.specs.declared.state.State.{State};
@@ -167,7 +168,7 @@ fn object_rows(
 
 // The next numbers of an object, a transaction and an entry.
 fn next_numbers(counters: &[u8]) -> Option<(u64, u64, u64)>
-    ensures { (w : World) → FitsCounters w → counters.now ≡ (counters_row w).1
+    ensures { (w : OneIntWorld) → FitsCounters w → counters.now ≡ (counters_row w).1
         → IsSomeAnd result (λ n. n ≡ (w.next, w.transaction, w.next_entry)) }
 {
     let next = take_u64(counters, 0)?;
@@ -218,9 +219,9 @@ fn read_state(alloc: Global, bytes: &[u8]) -> Result<Option<State>, AllocError>
 
 /// The state whose snapshot the bytes are, where they are the snapshot of a good one.
 pub fn decode(alloc: Global, bytes: &[u8]) -> Result<Option<State>, AllocError>
-    ensures found { (w : World) → IsGood w → bytes.now ≡ snapshot (rows w)
+    ensures found { (w : OneIntWorld) → IsOneIntGood w → bytes.now ≡ snapshot (rows w)
         → IfOk result (λ o. IsSomeAnd o (λ s. world_of s ≡ w)) }
-    ensures sound { IfOk result (λ o. IfSome o (λ s. IsGood (world_of s) × (bytes.now ≡ snapshot (rows (world_of s))))) }
+    ensures sound { IfOk result (λ o. IfSome o (λ s. IsOneIntGood (world_of s) × (bytes.now ≡ snapshot (rows (world_of s))))) }
 {
     let Some(state) = read_state(alloc, bytes)? else {
         return Ok(None);

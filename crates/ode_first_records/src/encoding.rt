@@ -2,9 +2,10 @@
 ghost use Rattle.std.specs.Prelude.{◌≡◌, ◌*◌, ◌≤◌, ◌++◌, length, map, IfOk, OnOk};
 ghost use Rattle.std.specs.Int.{w16, w32, to_be_bytes};
 ghost use Rattle.std.specs.List.{flat_map};
-ghost use Rattle.ode_value.specs.Records.{counters_row, head_row, object_row, rows, text_row, version_rows};
+ghost use Rattle.ode_value.specs.OneIntRecords.{counters_row, head_row, object_row, rows, text_row, version_rows};
 ghost use Rattle.ode_value.specs.PrintedClasses.{decl_text};
-ghost use Rattle.ode_value.specs.Records.{key_bytes, row_bytes, snapshot, spelled_value, weight};
+ghost use Rattle.ode_value.specs.Records.{key_bytes, row_bytes, snapshot, spelled_value};
+ghost use Rattle.ode_value.specs.OneIntRecords.{weight};
 ghost use Rattle.ode_first_records.specs.State.{class_of, object_of, world_of};
 
 use crate::state::{ClassRow, ObjectRow, State};

@@ -11,7 +11,8 @@ use Rattle.std.proofs.lemmas.Map.{lookup-none}
 use Rattle.std.proofs.lemmas.Map.Entries.{none_past_head, lookup-filter-keys}
 use Rattle.std.proofs.lemmas.Map.Keys.{IsDistinct-tail}
 use Rattle.ode_value.specs.declared.key.Key.{Key}
-use Rattle.ode_keep.specs.Entries.{Changes, Entries, HasRisingKeys, applied, changed, key_cmp, value_under}
+use Rattle.ode_keep.specs.Entries.{Changes, Entries, HasRisingKeys, applied, changed, value_under}
+use Rattle.ode_value.specs.Keys.{key_cmp}
 use Rattle.ode_keep.proofs.Keys.{key_total, same_key, distinct_keys}
 use Rattle.ode_keep.proofs.Maps.{back, lookup_put, one_gone, rising_put, rising_some}
 

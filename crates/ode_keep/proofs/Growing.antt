@@ -11,7 +11,8 @@ use Rattle.std.proofs.lemmas.Map.{lookup-none}
 use Rattle.std.proofs.lemmas.Map.Entries.{none_below_head}
 use Rattle.ode_value.specs.declared.key.Key.{Key}
 use Rattle.ode_value.specs.Records.{Row}
-use Rattle.ode_keep.specs.Entries.{Changes, Entries, HasRisingKeys, applied, changed, key_cmp, record_bytes, value_under}
+use Rattle.ode_keep.specs.Entries.{Changes, Entries, HasRisingKeys, applied, changed, record_bytes, value_under}
+use Rattle.ode_value.specs.Keys.{key_cmp}
 use Rattle.ode_keep.specs.Growth.{bytes_of, put_bytes, taken_bytes}
 use Rattle.ode_keep.proofs.Keys.{key_total}
 use Rattle.ode_keep.proofs.Applying.{changed_at, changed_rising, taken_out}

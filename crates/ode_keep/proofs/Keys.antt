@@ -12,7 +12,8 @@ use Rattle.std.proofs.lemmas.Cmp.{nat_cmp_total, on_total, then_total}
 use Rattle.std.proofs.lemmas.Map.Keys.{IsDistinct-from_sorted}
 use Rattle.std.proofs.lemmas.Map.Lookups.{exact_unsigned}
 use Rattle.ode_value.specs.declared.key.Key.{Key}
-use Rattle.ode_keep.specs.Entries.{HasRisingKeys, key_cmp}
+use Rattle.ode_keep.specs.Entries.{HasRisingKeys}
+use Rattle.ode_value.specs.Keys.{key_cmp}
 use Rattle.ode_keep.proofs.Maps.{equal_from}
 
 pub key_total : IsTotalOrder key_cmp

@@ -10,7 +10,8 @@ use Rattle.std.specs.declared.cmp.Ordering.TheVariants.{Less}
 use Rattle.std.proofs.lemmas.Cmp.{tied_itself}
 use Rattle.ode_value.specs.declared.key.Key.{Key}
 use Rattle.ode_value.specs.Records.{Row}
-use Rattle.ode_keep.specs.Entries.{Entries, HasRisingKeys, key_cmp, least_from, value_under}
+use Rattle.ode_keep.specs.Entries.{Entries, HasRisingKeys, least_from, value_under}
+use Rattle.ode_value.specs.Keys.{key_cmp}
 use Rattle.ode_keep.proofs.Keys.{key_total, same_key}
 
 -- a key of the entries that is at or above k, and below no other such

@@ -4,14 +4,10 @@ use Rattle.std.specs.BTreeMap.{is_at, insert_entry}
 use Rattle.std.specs.List.{filter, find}
 use Rattle.std.specs.List.Sorted.{IsStrictlySortedBy}
 use Rattle.std.specs.Map.{lookup, keys_of}
-use Rattle.std.specs.Ordering.{nat_cmp, ordering_then, is_le}
-use Rattle.std.specs.declared.cmp.Ordering.{Ordering}
+use Rattle.std.specs.Ordering.{is_le}
 use Rattle.ode_value.specs.declared.key.Key.{Key}
+use Rattle.ode_value.specs.Keys.{key_cmp}
 use Rattle.ode_value.specs.Records.{Row, total_weight}
-
--- by kind, then by the first number, then by the second
-abbrev pub key_cmp : Key → Key → Ordering
-key_cmp k l = ordering_then (nat_cmp k.kind l.kind) (ordering_then (nat_cmp k.a l.a) (nat_cmp k.b l.b))
 
 -- each key is below the next
 abbrev pub HasRisingKeys : {X : Type 0} → List (Key × X) → Type 0

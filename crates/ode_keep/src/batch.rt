@@ -2,7 +2,8 @@
 ghost use Rattle.std.specs.Prelude.{◌≡◌, [], ◌↔◌, cond, length, IsTrue, OnErr, OnOk};
 ghost use Rattle.std.specs.BTreeMap.{insert_entry, is_at};
 ghost use Rattle.ode_value.specs.declared.key.Key.{Key};
-ghost use Rattle.ode_keep.specs.Entries.{Changes, Entries, HasRisingKeys, applied, key_cmp, value_under};
+ghost use Rattle.ode_keep.specs.Entries.{Changes, Entries, HasRisingKeys, applied, value_under};
+ghost use Rattle.ode_value.specs.Keys.{key_cmp};
 
 use ode_value::{Key, List};
 use std::alloc::{AllocError, Global};

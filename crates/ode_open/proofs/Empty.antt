@@ -1,9 +1,9 @@
 -- The empty database.
 use Rattle.std.proofs.Common.{refl, arith, lit≤}
-use Rattle.ode_value.specs.Good.{IsGood}
-use Rattle.ode_value.specs.World.{empty_world}
+use Rattle.ode_value.specs.OneIntGood.{IsOneIntGood}
+use Rattle.ode_value.specs.OneIntWorld.{empty_one_int_world}
 
-pub good_empty : IsGood empty_world
+pub good_empty : IsOneIntGood empty_one_int_world
 good_empty = record {
   classes = tt;
   objects = omega arith;

@@ -14,13 +14,13 @@ use Rattle.ode_gate.proofs.Counting.{one_counts}
 use Rattle.ode_host.specs.Host.{Stands}
 use Rattle.ode_host.specs.View.{View}
 use Rattle.ode_keep.specs.Entries.{Entries}
-use Rattle.ode_value.specs.Good.{IsGood}
-use Rattle.ode_value.specs.Records.{rows}
-use Rattle.ode_value.specs.World.{World}
+use Rattle.ode_value.specs.OneIntGood.{IsOneIntGood}
+use Rattle.ode_value.specs.OneIntRecords.{rows}
+use Rattle.ode_value.specs.OneIntWorld.{OneIntWorld}
 use Rattle.ode_open.specs.Holds.{Holds}
 use Rattle.ode_open.proofs.Telling.{tells_one}
 
-module _ (image : List ℕ) (w : World) (holds : Holds image w) (h : Header) (counts : Counts image h) where
+module _ (image : List ℕ) (w : OneIntWorld) (holds : Holds image w) (h : Header) (counts : Counts image h) where
   same : holds.records.header ≡ h
   same = one_counts image holds.records.header h holds.records.counts counts
 
@@ -37,7 +37,7 @@ pub fit_rows : (h : Header) (image : List ℕ) (entries : Entries) → HasMap h 
 fit_rows h image entries has = (map_fits h image entries has).rows
 
 -- the keeper's records are the world's
-pub held_sound : (keeper : Areas) (view : View) (image : List ℕ) (w : World) → IsGood w → Stands image view → AreasHold keeper view (rows w) → Holds image w
+pub held_sound : (keeper : Areas) (view : View) (image : List ℕ) (w : OneIntWorld) → IsOneIntGood w → Stands image view → AreasHold keeper view (rows w) → Holds image w
 held_sound keeper view image w good stands held =
     let law = stands_law keeper view (rows w) held in record {
       good = good;

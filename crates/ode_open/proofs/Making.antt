@@ -14,8 +14,9 @@ use Rattle.ode_gate.specs.Headers.{IsHeader, IsOfAreas, header_bytes}
 use Rattle.ode_gate.specs.Slots.{Counts, Spells, open_body, slot_at}
 use Rattle.ode_gate.proofs.Spelling.{length-header_bytes}
 use Rattle.ode_keep.specs.Entries.{Entries, HasRisingKeys}
-use Rattle.ode_value.specs.Records.{rows, snapshot}
-use Rattle.ode_value.specs.World.{empty_world}
+use Rattle.ode_value.specs.OneIntRecords.{rows}
+use Rattle.ode_value.specs.Records.{snapshot}
+use Rattle.ode_value.specs.OneIntWorld.{empty_one_int_world}
 use Rattle.ode_areas.specs.Image.{body_of}
 use Rattle.ode_areas.specs.Rows.{IsSnapshot}
 use Rattle.ode_open.specs.Holds.{Holds}
@@ -111,7 +112,7 @@ module _ (body file : List ℕ) (whole : length body ≡ 64) where
   }
 
 -- the one record of an empty database stands in order
-one_rises : (es : Entries) → es ≡ rows empty_world → HasRisingKeys es
+one_rises : (es : Entries) → es ≡ rows empty_one_int_world → HasRisingKeys es
 unfolding IsStrictlySortedBy
 one_rises es is = subst HasRisingKeys (sym is) (tt, tt)
 
@@ -122,7 +123,7 @@ first_rules = record { format = refl; generation = (omega arith, omega arith); l
     areas = record { layout = refl; area = inl (refl, refl); journal = refl; room = omega arith }
 
 -- a file that was just made holds the empty database
-module _ (file image : List ℕ) (is : IsInitialised (snapshot (rows empty_world)) file image) where
+module _ (file image : List ℕ) (is : IsInitialised (snapshot (rows empty_one_int_world)) file image) where
   first_counts : Counts image first_header
   first_counts = record {
     slot = omega arith;
@@ -132,16 +133,16 @@ module _ (file image : List ℕ) (is : IsInitialised (snapshot (rows empty_world
     };
   }
 
-  one_row : IsSnapshot (rows empty_world) (body_of first_header image)
+  one_row : IsSnapshot (rows empty_one_int_world) (body_of first_header image)
   one_row = record {
     spelled = is.stands;
     fits = record {
       rows = (record { key = record { kind = omega arith; a = omega arith; b = omega arith }; value = omega arith }, tt);
-      rising = one_rises (rows empty_world) refl;
+      rising = one_rises (rows empty_one_int_world) refl;
     };
   }
 
-  pub initialised_holds : Holds image empty_world
+  pub initialised_holds : Holds image empty_one_int_world
   initialised_holds = record {
     good = good_empty;
     records = record {
@@ -149,7 +150,7 @@ module _ (file image : List ℕ) (is : IsInitialised (snapshot (rows empty_world
       counts = first_counts;
       areas = record { layout = refl; area = inl (refl, refl); journal = refl; room = omega arith };
       has = record {
-        body = rows empty_world;
+        body = rows empty_one_int_world;
         snapshot = one_row;
         frames = [];
         journal = record {

@@ -8,7 +8,7 @@ use Rattle.ode_gate.specs.declared.error.GateError.{GateError}
 use Rattle.ode_gate.specs.declared.error.GateError.TheVariants as gate
 use Rattle.ode_keep.specs.declared.error.KeepError.{KeepError}
 use Rattle.ode_keep.specs.declared.error.KeepError.TheVariants as keep
-use Rattle.ode_value.specs.World.{World}
+use Rattle.ode_value.specs.OneIntWorld.{OneIntWorld}
 use Rattle.ode_open.specs.declared.error.OpenError.{OpenError}
 use Rattle.ode_open.specs.declared.error.OpenError.TheVariants.{Memory, DiskFault, NoDatabase, Bad}
 use Rattle.ode_open.specs.declared.opening.Opened.{Opened}
@@ -42,11 +42,11 @@ IsOutside NoDatabase = ⊥
 IsOutside Bad = ⊥
 
 -- the records are read as this world, unless the outside fails
-abbrev pub ReadsAs : Result State OpenError → World → Type 0
+abbrev pub ReadsAs : Result State OpenError → OneIntWorld → Type 0
 ReadsAs (Ok state) w = world_of state ≡ w
 ReadsAs (Err e) w = IsOutside e
 
 -- the file is opened as this world, unless the outside fails
-abbrev pub OpensAs : Result Opened OpenError → World → Type 0
+abbrev pub OpensAs : Result Opened OpenError → OneIntWorld → Type 0
 OpensAs (Ok opened) w = world_of opened.state ≡ w
 OpensAs (Err e) w = IsOutside e

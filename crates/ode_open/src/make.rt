@@ -6,8 +6,9 @@ ghost use Rattle.ode_gate.specs.Slots.{HasOpenSlot};
 ghost use Rattle.ode_gate.specs.declared.error.GateError.TheVariants as gate;
 ghost use Rattle.ode_host.specs.Causes.{RoseIf};
 ghost use Rattle.ode_host.specs.Host.{DiskCalls, Looks, Stands, Tells, written_over};
-ghost use Rattle.ode_value.specs.Records.{rows, snapshot};
-ghost use Rattle.ode_value.specs.World.{empty_world};
+ghost use Rattle.ode_value.specs.OneIntRecords.{rows};
+ghost use Rattle.ode_value.specs.Records.{snapshot};
+ghost use Rattle.ode_value.specs.OneIntWorld.{empty_one_int_world};
 ghost use Rattle.ode_open.specs.Holds.{Holds};
 ghost use Rattle.ode_open.specs.Making.{IsInUse, IsInitialised, first_header};
 
@@ -103,7 +104,7 @@ fn is_in_use<H: Host>(host: &mut H) -> Result<bool, Failed>
 // Shuts slot 1, and writes the snapshot of an empty database with a shut gate behind it.
 fn write_body<H: Host>(host: &mut H) -> Result<(), Failed>
     ensures done { OnOk result ((file : List ℕ) → Tells (H.view host.old) file → Tells (H.view host.new)
-        (written_over (written_over file 2048 (0 ∷ [])) 4096 (snapshot (rows empty_world) ++ 0 ∷ []))) }
+        (written_over (written_over file 2048 (0 ∷ [])) 4096 (snapshot (rows empty_one_int_world) ++ 0 ∷ []))) }
     ensures leaves { DiskCalls (IsErr result) (H.view host.old) (H.view host.new) }
 {
     host.write_at(SLOT_1, &[SHUT])?;
@@ -125,9 +126,9 @@ fn write_header<H: Host>(host: &mut H) -> Result<(), GateError>
 /// `DiskFault` some of it may be.
 pub fn initialise<H: Host>(host: &mut H) -> Result<(), InitError>
     ensures made { OnOk result ((file : List ℕ) → Tells (H.view host.old) file
-        → (image : List ℕ) × Stands image (H.view host.new) × IsInitialised (snapshot (rows empty_world)) file image) }
+        → (image : List ℕ) × Stands image (H.view host.new) × IsInitialised (snapshot (rows empty_one_int_world)) file image) }
     ensures holds { OnOk result ((file image : List ℕ) → Tells (H.view host.old) file
-        → Tells (H.view host.new) image → Holds image empty_world) }
+        → Tells (H.view host.new) image → Holds image empty_one_int_world) }
 
     ensures exists { IsErrOf result InitError.FileExists
         → (file : List ℕ) → Tells (H.view host.old) file → IsInUse file }

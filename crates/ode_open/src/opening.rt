@@ -10,9 +10,9 @@ ghost use Rattle.ode_gate.specs.Slots.{Counts, HasOpenSlot};
 ghost use Rattle.ode_host.specs.Causes.{RoseIf};
 ghost use Rattle.ode_host.specs.Host.{Looks, Stands, Tells};
 ghost use Rattle.ode_keep.specs.Entries.{Entries, record_bytes};
-ghost use Rattle.ode_value.specs.Good.{IsGood};
-ghost use Rattle.ode_value.specs.Records.{rows};
-ghost use Rattle.ode_value.specs.World.{World};
+ghost use Rattle.ode_value.specs.OneIntGood.{IsOneIntGood};
+ghost use Rattle.ode_value.specs.OneIntRecords.{rows};
+ghost use Rattle.ode_value.specs.OneIntWorld.{OneIntWorld};
 ghost use Rattle.ode_open.specs.Holds.{Holds};
 ghost use Rattle.ode_open.specs.Answers.{OpensAs, ReadsAs};
 
@@ -67,11 +67,11 @@ fn read_world<H: Host, K: Keep<H>>(
     host: &mut H,
 ) -> Result<State, OpenError>
     requires live { IsTrue (K.live keeper.old) }
-    ensures found { (entries : Entries) (w : World) → K.holds keeper.old (H.view host.old) entries
-        → AllByRecursion FitsRow entries → IsGood w → entries ≡ rows w → ReadsAs result w }
+    ensures found { (entries : Entries) (w : OneIntWorld) → K.holds keeper.old (H.view host.old) entries
+        → AllByRecursion FitsRow entries → IsOneIntGood w → entries ≡ rows w → ReadsAs result w }
     ensures records { IfOk result (λ state. (entries : Entries) → K.holds keeper.old (H.view host.old) entries
         → AllByRecursion FitsRow entries → entries ≡ rows (world_of state)) }
-    ensures good { IfOk result (λ state. IsGood (world_of state)) }
+    ensures good { IfOk result (λ state. IsOneIntGood (world_of state)) }
     ensures holds { OnOk result ((entries : Entries) → K.holds keeper.old (H.view host.old) entries
         → K.holds keeper.new (H.view host.new) entries) }
     ensures live { OnOk result (IsTrue (K.live keeper.new)) }
@@ -89,18 +89,18 @@ fn read_world<H: Host, K: Keep<H>>(
 /// Reads the world that the file holds. Nothing is written, and nothing is synced: the caller does that first.
 pub fn open<H: Host>(alloc: Global, host: &mut H) -> Result<Opened, OpenError>
     // A file that stands is opened as the world that it holds, and as no other.
-    ensures found { (image : List ℕ) (w : World) → Stands image (H.view host.old) → Holds image w → OpensAs result w }
+    ensures found { (image : List ℕ) (w : OneIntWorld) → Stands image (H.view host.old) → Holds image w → OpensAs result w }
     ensures sound { IfOk result (λ o. (image : List ℕ) → Stands image (H.view host.old) → Holds image (world_of o.state)) }
     ensures keeper { IfOk result (λ o. (image : List ℕ) → Stands image (H.view host.old)
         → AreasHold o.keeper (H.view host.new) (rows (world_of o.state))) }
     ensures live { IfOk result (λ o. IsTrue (is_live o.keeper)) }
-    ensures good { IfOk result (λ o. IsGood (world_of o.state)) }
+    ensures good { IfOk result (λ o. IsOneIntGood (world_of o.state)) }
 
     ensures none { IsErrOf result OpenError.NoDatabase → (image : List ℕ) → Tells (H.view host.old) image → ¬ HasOpenSlot image }
     ensures shut { (image : List ℕ) → Tells (H.view host.old) image → ¬ HasOpenSlot image
         → IsErrOf result OpenError.NoDatabase ⊎ IsErrOf result OpenError.DiskFault }
     ensures opened { IsErrOf result OpenError.Bad → (image : List ℕ) → Tells (H.view host.old) image → HasOpenSlot image }
-    ensures bad { IsErrOf result OpenError.Bad → (image : List ℕ) (w : World) → Stands image (H.view host.old) → ¬ Holds image w }
+    ensures bad { IsErrOf result OpenError.Bad → (image : List ℕ) (w : OneIntWorld) → Stands image (H.view host.old) → ¬ Holds image w }
     ensures looks { Looks (H.view host.old) (H.view host.new) }
     ensures cause { RoseIf (IsErrOf result OpenError.DiskFault) (H.view host.old).disk_faults (H.view host.new).disk_faults }
 {

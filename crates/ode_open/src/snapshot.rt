@@ -6,7 +6,8 @@ ghost use Rattle.std.specs.Ordering.{is_le};
 ghost use Rattle.ode_areas.specs.Rows.{FitsRow};
 ghost use Rattle.ode_host.specs.Causes.{RoseIf};
 ghost use Rattle.ode_host.specs.Host.{Looks};
-ghost use Rattle.ode_keep.specs.Entries.{Entries, key_cmp};
+ghost use Rattle.ode_keep.specs.Entries.{Entries};
+ghost use Rattle.ode_value.specs.Keys.{key_cmp};
 ghost use Rattle.ode_value.specs.Records.{key_bytes, row_bytes, snapshot};
 ghost use Rattle.ode_open.specs.Walking.{IsFirstFrom, rank, rank_from};
 

@@ -1,4 +1,5 @@
-//! Tests of whole runs over a disk and an output in memory.
+//! Tests of whole runs over a disk and an output in memory: faults, stops, and images made by hand. Scripts and what they
+//! print are cases of `ode_cases`.
 #![tactic(auto)]
 
 #[cfg(test)]
@@ -14,15 +15,9 @@ mod journal;
 #[cfg(test)]
 mod limits;
 #[cfg(test)]
-mod names;
-#[cfg(test)]
 mod new_files;
 #[cfg(test)]
 mod pickups;
-#[cfg(test)]
-mod refusals;
-#[cfg(test)]
-mod scripts;
 #[cfg(test)]
 mod stops;
 #[cfg(test)]

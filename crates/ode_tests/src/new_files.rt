@@ -44,16 +44,6 @@ fn a_new_file_has_its_header_its_counters_and_shut_gates(rt: HostRuntime) -> Res
 }
 
 #[test]
-fn a_second_init_is_refused_and_writes_nothing(rt: HostRuntime) -> Result<(), Fail> {
-    let alloc = rt.alloc();
-    let file = new_file(alloc)?;
-    let again = init(alloc, &file, smooth(alloc))?;
-    again.is(&rt, "file exists\n", Status::BadFile, "a second init");
-    assert_eq!(rt; again.host.image(), file.as_slice());
-    Ok(())
-}
-
-#[test]
 fn other_bytes_of_a_short_file_stay(rt: HostRuntime) -> Result<(), Fail> {
     let alloc = rt.alloc();
     for length in [4161, 4162, 5000, 8192usize] {

@@ -130,28 +130,6 @@ pub fn calls_of(alloc: Global, image: &[u8], script: &str) -> Result<u64, AllocE
     Ok(0)
 }
 
-/// A script, what it prints, and how it ends.
-#[derive(Clone, Copy)]
-pub struct Case {
-    pub script: &'static str,
-    pub text: &'static str,
-    pub status: Status,
-}
-
-/// Each script does so on this image.
-pub fn each_is(
-    rt: &impl Abort,
-    alloc: Global,
-    image: &[u8],
-    cases: &[Case],
-) -> Result<(), AllocError> {
-    for case in cases {
-        let ran = run(alloc, image, case.script)?;
-        ran.is(rt, case.text, case.status, case.script);
-    }
-    Ok(())
-}
-
 /// A class, an object of it, and its field.
 pub const FIRST: &str = "class P { int n; }; pnew P(n = 5); show #1.n;";
 

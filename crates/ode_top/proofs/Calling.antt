@@ -10,8 +10,8 @@ use Rattle.ode_host.specs.declared.status.Status.TheVariants as status
 use Rattle.ode_host.proofs.Moments.{one_call, tells_looks}
 use Rattle.ode_open.specs.Holds.{Holds}
 use Rattle.ode_script.specs.Pieces.{pieces}
-use Rattle.ode_value.specs.Records.{rows}
-use Rattle.ode_value.specs.World.{World}
+use Rattle.ode_value.specs.OneIntRecords.{rows}
+use Rattle.ode_value.specs.OneIntWorld.{OneIntWorld}
 use Rattle.ode_top.specs.Answers.{IsMachineRun}
 use Rattle.ode_top.specs.Halts.{IsRunStatus}
 use Rattle.ode_top.specs.Serves.{CutShort, Holding, IsAfterSome, RanAs}
@@ -20,8 +20,8 @@ use Rattle.ode_top.proofs.AfterSome.{at_start}
 use Rattle.ode_top.proofs.Settles.{same_text}
 
 -- a run has ended as the machine's, and what its keeper holds stands on the disk
-pub machine_run : (holds : Holding) (bytes text : List ℕ) (w : World) (left : Option (List ℕ)) (view : View) (status : Status)
-    → ((w : World) → holds view (rows w) → (file : List ℕ) × Stands file view × AreasMean file (rows w))
+pub machine_run : (holds : Holding) (bytes text : List ℕ) (w : OneIntWorld) (left : Option (List ℕ)) (view : View) (status : Status)
+    → ((w : OneIntWorld) → holds view (rows w) → (file : List ℕ) × Stands file view × AreasMean file (rows w))
     → RanAs holds (pieces bytes) w text left view status → IsMachineRun bytes w text left view status
 machine_run holds bytes text w left view status stands ran =
     let there = stands (run_world w bytes) ran.serves.records in
@@ -61,7 +61,7 @@ some_of None is = absurd (cc (is))
 some_of (Some x) is = (x, refl)
 
 -- What the disk reads as at the end of a run, and what is printed by then, is what a stop there leaves.
-module _ (items : List Item) (w : World) (text image : List ℕ) (old new : View)
+module _ (items : List Item) (w : OneIntWorld) (text image : List ℕ) (old new : View)
     (may_stay : (file out : List ℕ) → Tells new file → new.text ≡ Some out → new.left new.moment file out)
     (tells : Tells old image) (keeps : Keeps old new) where
   pub exit_cut : (out : List ℕ) → new.text ≡ Some out → LeavesOnly old new (IsAfterSome AreasMean items w text)
@@ -84,7 +84,7 @@ module _ (items : List Item) (w : World) (text image : List ℕ) (old new : View
       }
 
 -- nothing was done
-pub none_cut : (items : List Item) (w : World) (text image : List ℕ) (view : View) → Tells view image → Holds image w → view.text ≡ Some text → CutShort items w text view
+pub none_cut : (items : List Item) (w : OneIntWorld) (text image : List ℕ) (view : View) → Tells view image → Holds image w → view.text ≡ Some text → CutShort items w text view
 none_cut items w text image view tells holds said = record { image = image; out = text; tells = tells; said = said; moment = at_start AreasMean items w text image holds }
 
 -- a call that leaves the image leaves what is told

@@ -5,17 +5,17 @@ use Rattle.ode_host.specs.View.{View}
 use Rattle.ode_host.proofs.Moments.{weaker}
 use Rattle.ode_keep.specs.Entries.{Changes, Entries, applied, record_bytes}
 use Rattle.ode_open.specs.Holds.{HoldsBy}
-use Rattle.ode_value.specs.Commands.{Refused, Settles}
-use Rattle.ode_value.specs.Good.{IsGood}
-use Rattle.ode_value.specs.Records.{rows}
+use Rattle.ode_value.specs.OneIntCommands.{Refused, Settles}
+use Rattle.ode_value.specs.OneIntGood.{IsOneIntGood}
+use Rattle.ode_value.specs.OneIntRecords.{rows}
 use Rattle.ode_value.specs.Texts.{refused_line}
-use Rattle.ode_value.specs.World.{World}
+use Rattle.ode_value.specs.OneIntWorld.{OneIntWorld}
 use Rattle.ode_value.specs.declared.reason.Refusal.{Refusal}
 use Rattle.ode_top.specs.Serves.{Carries, Holding, IsAfterSome, LeavesSettling, Meaning}
 use Rattle.ode_top.specs.Trace.{Item, items_of, piece_items, piece_outcome}
 use Rattle.ode_top.proofs.AfterSome.{at_settling, in_refusal}
 
-module _ (line : ℕ) (piece : List ℕ) (old new : World) (before now : View) where
+module _ (line : ℕ) (piece : List ℕ) (old new : OneIntWorld) (before now : View) where
   -- a refusal leaves the records and prints its line
   pub refused_carries : (held holds : Holding) (refusal : Refusal) → Refused refusal ≡ piece_outcome old piece → new ≡ old
       → (held before (rows old) → holds now (rows old))
@@ -25,7 +25,7 @@ module _ (line : ℕ) (piece : List ℕ) (old new : World) (before now : View) w
       subst P (ap (items_of line) outcome) (record {
         world = kept;
         stated = refl;
-        records = λ was. subst (λ (w : World). holds now (rows w)) (sym kept) (still was);
+        records = λ was. subst (λ (w : OneIntWorld). holds now (rows w)) (sym kept) (still was);
         printed = λ text was. printed text was ∙ ap (λ (l : List ℕ). Some (text ++ l)) (sym (append-nil (refused_line line refusal)));
       })
 
@@ -44,7 +44,7 @@ module _ (line : ℕ) (piece : List ℕ) (old new : World) (before now : View) w
 
   module _ (means : Meaning) (more : List Item) (text : List ℕ) where
     -- a stop while a refusal's line is printed
-    pub refused_leaves : (refusal : Refusal) (file : List ℕ) → Refused refusal ≡ piece_outcome old piece → IsGood old → means file (rows old)
+    pub refused_leaves : (refusal : Refusal) (file : List ℕ) → Refused refusal ≡ piece_outcome old piece → IsOneIntGood old → means file (rows old)
         → LeavesOnly before now (LeavesCut file text (refused_line line refusal)) → LeavesOnly before now (IsAfterSome means (piece_items old line piece ++ more) old text)
     refused_leaves refusal file outcome good is run =
         let P : List Item → Type 0 = λ items. LeavesOnly before now (IsAfterSome means (items ++ more) old text) in
@@ -54,7 +54,7 @@ module _ (line : ℕ) (piece : List ℕ) (old new : World) (before now : View) w
         run)
 
     -- a stop while a transaction is settled
-    pub settled_leaves : (said : List ℕ) (changes : Changes) → Settles ((new, said) ∷ []) ≡ piece_outcome old piece → IsGood old → IsGood new → applied changes (rows old) ≡ rows new
+    pub settled_leaves : (said : List ℕ) (changes : Changes) → Settles ((new, said) ∷ []) ≡ piece_outcome old piece → IsOneIntGood old → IsOneIntGood new → applied changes (rows old) ≡ rows new
         → LeavesOnly before now (LeavesSettling means (rows old) changes text said) → LeavesOnly before now (IsAfterSome means (piece_items old line piece ++ more) old text)
     settled_leaves said changes outcome good good_new makes run =
         let P : List Item → Type 0 = λ items. LeavesOnly before now (IsAfterSome means (items ++ more) old text) in
@@ -64,5 +64,5 @@ module _ (line : ℕ) (piece : List ℕ) (old new : World) (before now : View) w
         run)
 
 -- the records of a good world aren't too large for a keeper
-pub within : (changes : Changes) (old new : World) → IsGood new → applied changes (rows old) ≡ rows new → record_bytes (applied changes (rows old)) ≤ 16777216
+pub within : (changes : Changes) (old new : OneIntWorld) → IsOneIntGood new → applied changes (rows old) ≡ rows new → record_bytes (applied changes (rows old)) ≤ 16777216
 within changes old new good makes = omega (arith, ap record_bytes makes, good.small)

@@ -16,6 +16,7 @@ use Rattle.ode_top.specs.declared.settling.Halt.{Halt}
 use Rattle.ode_top.specs.declared.settling.Halt.TheVariants as halt
 use Rattle.ode_top.specs.Answers.{IsIdle, IsSilent}
 use Rattle.ode_top.specs.Halts.{halt_of, status_of_error, status_of_halt}
+use Rattle.ode_top.specs.Serves.{IsEnding}
 use Rattle.ode_top.proofs.Calling.{some_of}
 
 -- nothing was called
@@ -63,6 +64,12 @@ halt_no_read halt.Memory is = cc (is)
 halt_no_read halt.DiskFault is = cc (is)
 halt_no_read halt.WriteFault is = cc (is)
 halt_no_read halt.Damaged is = cc (is)
+
+pub halt_no_end : (h : Halt) → IsEnding (status_of_halt h) → ⊥
+halt_no_end halt.Memory is = is
+halt_no_end halt.DiskFault is = is
+halt_no_end halt.WriteFault is = is
+halt_no_end halt.Damaged is = is
 
 pub error_no_disk : (e : ScriptError) → status_of_error e ≡ status.DiskFault → ⊥
 error_no_disk error.Memory is = cc (is)

@@ -5,9 +5,10 @@ use Rattle.ode_host.specs.Host.{Spares, Stands, Tells}
 use Rattle.ode_host.specs.View.{View}
 use Rattle.ode_host.specs.declared.status.Status.{Status}
 use Rattle.ode_host.specs.declared.status.Status.TheVariants as status
-use Rattle.ode_value.specs.Records.{snapshot, rows}
+use Rattle.ode_value.specs.Records.{snapshot}
+use Rattle.ode_value.specs.OneIntRecords.{rows}
 use Rattle.ode_value.specs.Texts.{line}
-use Rattle.ode_value.specs.World.{World, empty_world}
+use Rattle.ode_value.specs.OneIntWorld.{OneIntWorld, empty_one_int_world}
 use Rattle.ode_top.specs.Calls.{call_of}
 use Rattle.ode_open.specs.Holds.{Holds}
 use Rattle.ode_open.specs.Making.{IsInUse, IsInitialised}
@@ -24,7 +25,7 @@ usage_line = line (codes "usage: ode (init|run|check|dump) FILE | ode gen FILE N
 
 -- The file holds this world, and so does each that a stop from now on leaves, as long as nothing more is written; this is
 -- what was printed.
-pub record EndsWith (view : View) (w : World) (text : List ℕ) : Type 0 where
+pub record EndsWith (view : View) (w : OneIntWorld) (text : List ℕ) : Type 0 where
   pub image : List ℕ
   pub stands : Stands image view
   pub holds : Holds image w
@@ -32,7 +33,7 @@ pub record EndsWith (view : View) (w : World) (text : List ℕ) : Type 0 where
 
 -- The run of a whole script from a world, behind this text, is the machine's: its status, its text, and the world that
 -- the file then holds. Nothing of the script is left where it was read to its end.
-pub record IsMachineRun (script : List ℕ) (w : World) (text : List ℕ) (left : Option (List ℕ)) (view : View) (status : Status) : Type 0 where
+pub record IsMachineRun (script : List ℕ) (w : OneIntWorld) (text : List ℕ) (left : Option (List ℕ)) (view : View) (status : Status) : Type 0 where
   pub stated : status ≡ run_status w script
   pub ends : EndsWith view (run_world w script) (text ++ run_text w script)
   pub nothing : LeavesNothing status left
@@ -42,8 +43,8 @@ pub record IsMachineRun (script : List ℕ) (w : World) (text : List ℕ) (left 
 pub record IsMade (file text : List ℕ) (view : View) : Type 0 where
   pub image : List ℕ
   pub stands : Stands image view
-  pub made : IsInitialised (snapshot (rows empty_world)) file image
-  pub holds : Holds image empty_world
+  pub made : IsInitialised (snapshot (rows empty_one_int_world)) file image
+  pub holds : Holds image empty_one_int_world
   pub printed : view.text ≡ Some (text ++ line (codes "ready"))
 
 -- The file was in use, stayed as it was, and it was said.
@@ -56,7 +57,7 @@ pub record IsRefused (file text : List ℕ) (view : View) : Type 0 where
 abbrev pub SaysWhy : List ℕ → List ℕ → Type 0
 SaysWhy image said =
     ((¬ HasOpenSlot image) × (said ≡ line (codes "no database")))
-    ⊎ (HasOpenSlot image × ((w : World) → ¬ Holds image w) × (said ≡ line (codes "bad file")))
+    ⊎ (HasOpenSlot image × ((w : OneIntWorld) → ¬ Holds image w) × (said ≡ line (codes "bad file")))
 
 -- The file holds no world, stayed as it was, and it was said.
 pub record IsBadFile (image text : List ℕ) (view : View) : Type 0 where

@@ -8,9 +8,9 @@ use Rattle.ode_host.specs.declared.status.Status.TheVariants.{Ok, Refused, Usage
 use Rattle.ode_keep.specs.Entries.{Changes, Entries, applied}
 use Rattle.ode_open.specs.Holds.{HoldsBy}
 use Rattle.ode_script.specs.Pieces.{Pieces}
-use Rattle.ode_value.specs.Good.{IsGood}
-use Rattle.ode_value.specs.Records.{rows}
-use Rattle.ode_value.specs.World.{World}
+use Rattle.ode_value.specs.OneIntGood.{IsOneIntGood}
+use Rattle.ode_value.specs.OneIntRecords.{rows}
+use Rattle.ode_value.specs.OneIntWorld.{OneIntWorld}
 use Rattle.ode_top.specs.Trace.{Item, trace, final, after, text_of, text_until, any_refused, ending, status_at}
 
 -- what a keeper holds on a host of which something is known, and what an image stands for
@@ -21,13 +21,13 @@ abbrev pub Meaning : Type 1
 Meaning = List ℕ → Entries → Type 0
 
 -- a keeper has the records of this world, and this is what was printed
-pub record Serves (holds : Holding) (view : View) (w : World) (text : List ℕ) : Type 0 where
+pub record Serves (holds : Holding) (view : View) (w : OneIntWorld) (text : List ℕ) : Type 0 where
   pub records : holds view (rows w)
   pub printed : view.text ≡ Some text
 
 -- A run of these items is at one of its moments: the image holds the world after some of its settled transactions, and
 -- what is printed is a front of what is printed up to the next one, never more than the image has.
-pub record IsAfterSome (means : Meaning) (items : List Item) (w : World) (text image out : List ℕ) : Type 0 where
+pub record IsAfterSome (means : Meaning) (items : List Item) (w : OneIntWorld) (text image out : List ℕ) : Type 0 where
   pub settled : ℕ
   pub holds : HoldsBy means image (after settled w items)
   pub front : List ℕ
@@ -61,15 +61,15 @@ LeavesNothing Refused left = left ≡ Some []
 LeavesNothing _ left = Unit {0}
 
 -- A run of these pieces from a world, with this text printed before it, has ended as the machine's.
-pub record RanAs (holds : Holding) (ps : Pieces) (w : World) (text : List ℕ) (left : Option (List ℕ)) (view : View) (status : Status) : Type 0 where
+pub record RanAs (holds : Holding) (ps : Pieces) (w : OneIntWorld) (text : List ℕ) (left : Option (List ℕ)) (view : View) (status : Status) : Type 0 where
   pub stated : status ≡ status_at (ending ps) (any_refused (trace w ps))
-  pub good : IsGood (final w (trace w ps))
+  pub good : IsOneIntGood (final w (trace w ps))
   pub serves : Serves holds view (final w (trace w ps)) (text ++ text_of (trace w ps))
   pub nothing : LeavesNothing status left
 
 -- So far a run of these pieces did the items before, which left this world, this text, and whether one was refused; what
 -- is left to do is the trace of the pieces that are left.
-pub record SoFar (whole : Pieces) (start : World) (text0 : List ℕ) (ps : Pieces) (w : World) (text : List ℕ) (refused : Bool) : Type 0 where
+pub record SoFar (whole : Pieces) (start : OneIntWorld) (text0 : List ℕ) (ps : Pieces) (w : OneIntWorld) (text : List ℕ) (refused : Bool) : Type 0 where
   pub before : List Item
   pub split : trace start whole ≡ before ++ trace w ps
   pub ends : ending whole ≡ ending ps
@@ -78,14 +78,14 @@ pub record SoFar (whole : Pieces) (start : World) (text0 : List ℕ) (ps : Piece
   pub stated : refused ≡ any_refused before
 
 -- One piece, which comes to these items, is carried out.
-pub record Carries (held holds : Holding) (items : List Item) (refused : Bool) (old new : World) (before now : View) : Type 0 where
+pub record Carries (held holds : Holding) (items : List Item) (refused : Bool) (old new : OneIntWorld) (before now : View) : Type 0 where
   pub world : new ≡ final old items
   pub stated : refused ≡ any_refused items
   pub records : held before (rows old) → holds now (rows new)
   pub printed : (text : List ℕ) → before.text ≡ Some text → now.text ≡ Some (text ++ text_of items)
 
 -- A run of these items was cut short at one of its moments.
-pub record CutShort (items : List Item) (w : World) (text : List ℕ) (view : View) : Type 0 where
+pub record CutShort (items : List Item) (w : OneIntWorld) (text : List ℕ) (view : View) : Type 0 where
   pub image : List ℕ
   pub out : List ℕ
   pub tells : Tells view image

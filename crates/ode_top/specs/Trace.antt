@@ -2,9 +2,9 @@
 use Rattle.std.specs.Prelude.{ℕ, zero, suc, List, [], ◌∷◌, ◌++◌, map, Bool, true, false, cond, Option, Some, None}
 use Rattle.ode_host.specs.declared.status.Status.{Status}
 use Rattle.ode_host.specs.declared.status.Status.TheVariants as status
-use Rattle.ode_value.specs.Commands.{Outcome, Refused, Settles, command}
+use Rattle.ode_value.specs.OneIntCommands.{OneIntOutcome, Refused, Settles, command}
 use Rattle.ode_value.specs.Texts.{refused_line}
-use Rattle.ode_value.specs.World.{World}
+use Rattle.ode_value.specs.OneIntWorld.{OneIntWorld}
 use Rattle.ode_value.specs.declared.reason.Refusal.TheVariants.{NotBuilt}
 use Rattle.ode_value.specs.declared.statement.Statement.{Statement}
 use Rattle.ode_script.specs.Pieces.{Ending, End, LongScript, Pieces, Then, Ended, pieces}
@@ -12,32 +12,32 @@ use Rattle.ode_first_syntax.specs.Statements.{statement_of}
 
 -- a settled transaction with its text, or a refusal's line
 pub data Item : Type 0 where
-  Settled : (world : World) (text : List ℕ) → Item
+  Settled : (world : OneIntWorld) (text : List ℕ) → Item
   Refusal : (line : List ℕ) → Item
 
 -- what a piece comes to
-abbrev pub outcome_of_statement : World → Option Statement → Outcome
+abbrev pub outcome_of_statement : OneIntWorld → Option Statement → OneIntOutcome
 outcome_of_statement w None = Refused NotBuilt
 outcome_of_statement w (Some s) = command w s
 
-abbrev pub piece_outcome : World → List ℕ → Outcome
+abbrev pub piece_outcome : OneIntWorld → List ℕ → OneIntOutcome
 piece_outcome w text = outcome_of_statement w (statement_of text)
 
-abbrev pub items_of : ℕ → Outcome → List Item
+abbrev pub items_of : ℕ → OneIntOutcome → List Item
 items_of line (Refused refusal) = Refusal (refused_line line refusal) ∷ []
 items_of line (Settles transactions) = map (λ t. Settled t.0 t.1) transactions
 
-abbrev pub piece_items : World → ℕ → List ℕ → List Item
+abbrev pub piece_items : OneIntWorld → ℕ → List ℕ → List Item
 piece_items w line text = items_of line (piece_outcome w text)
 
 -- the world that the last settled transaction leaves
-abbrev pub final : World → List Item → World
+abbrev pub final : OneIntWorld → List Item → OneIntWorld
 final w [] = w
 final w (Settled world text ∷ items) = final world items
 final w (Refusal line ∷ items) = final w items
 
 -- the items of the pieces, in order
-abbrev pub trace : World → Pieces → List Item
+abbrev pub trace : OneIntWorld → Pieces → List Item
 trace w (Then line text rest) = piece_items w line text ++ trace (final w (piece_items w line text)) rest
 trace w (Ended ending) = []
 
@@ -53,7 +53,7 @@ any_refused (Settled world text ∷ items) = any_refused items
 any_refused (Refusal line ∷ items) = true
 
 -- the world after so many settled transactions, and all that is printed before the next one
-abbrev pub after : ℕ → World → List Item → World
+abbrev pub after : ℕ → OneIntWorld → List Item → OneIntWorld
 after k w [] = w
 after k w (Refusal line ∷ items) = after k w items
 after zero w (Settled world text ∷ items) = w
@@ -75,14 +75,14 @@ status_at End refused = cond refused status.Refused status.Ok
 status_at LongScript refused = status.LongScript
 
 -- a run of a whole script from a world
-abbrev pub run_items : World → List ℕ → List Item
+abbrev pub run_items : OneIntWorld → List ℕ → List Item
 run_items w script = trace w (pieces script)
 
-abbrev pub run_text : World → List ℕ → List ℕ
+abbrev pub run_text : OneIntWorld → List ℕ → List ℕ
 run_text w script = text_of (run_items w script)
 
-abbrev pub run_world : World → List ℕ → World
+abbrev pub run_world : OneIntWorld → List ℕ → OneIntWorld
 run_world w script = final w (run_items w script)
 
-abbrev pub run_status : World → List ℕ → Status
+abbrev pub run_status : OneIntWorld → List ℕ → Status
 run_status w script = status_at (ending (pieces script)) (any_refused (run_items w script))

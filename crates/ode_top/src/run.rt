@@ -4,8 +4,8 @@ ghost use Rattle.ode_first_records.specs.State.{world_of};
 ghost use Rattle.ode_engine.specs.Carried.{outcome_of, Keeps as StateKeeps};
 ghost use Rattle.ode_host.specs.Causes.{RoseIf};
 ghost use Rattle.ode_host.specs.Host.{HostCalls, LeavesCut, LeavesOnly, Printed, Stands};
-ghost use Rattle.ode_value.specs.Good.{IsGood};
-ghost use Rattle.ode_value.specs.Records.{rows};
+ghost use Rattle.ode_value.specs.OneIntGood.{IsOneIntGood};
+ghost use Rattle.ode_value.specs.OneIntRecords.{rows};
 ghost use Rattle.ode_value.specs.Texts.{refused_line};
 ghost use Rattle.ode_script.specs.Pieces.{pieces};
 ghost use Rattle.ode_top.specs.Halts.{IsRunStatus, status_of_error};
@@ -13,9 +13,9 @@ ghost use Rattle.ode_top.specs.Serves.{Carries, IsAfterSome, IsEnding, RanAs, Se
 ghost use Rattle.ode_top.specs.Trace.{Item as Done, piece_items, piece_outcome, run_items};
 
 use crate::settling::{Halt, settle};
-use ode_first_syntax::parse_statement;
-use ode_first_records::State;
 use ode_engine::{Item, command};
+use ode_first_records::State;
+use ode_first_syntax::parse_statement;
 use ode_host::{Failed, Host, Source, Status};
 use ode_keep::Keep;
 use ode_script::{Piece, Reader, ScriptError, refused_line};
@@ -45,11 +45,11 @@ fn print_refusal<H: Host>(
 
 // What a piece comes to in memory.
 fn evaluate(alloc: Global, state: &mut State, text: &[u8]) -> Result<Item, AllocError>
-    requires good { IsGood (world_of state.old) }
+    requires good { IsOneIntGood (world_of state.old) }
     requires short { length text.now < 2 ^ 32 }
     ensures outcome { IfOk result (λ item. outcome_of item (world_of state.new) ≡ piece_outcome (world_of state.old) text.now) }
     ensures keeps { IfOk result (λ item. StateKeeps item (world_of state.old) (world_of state.new)) }
-    ensures good { OnOk result (IsGood (world_of state.new)) }
+    ensures good { OnOk result (IsOneIntGood (world_of state.new)) }
 {
     match parse_statement(alloc, text)? {
         Some(statement) => {
@@ -70,14 +70,14 @@ pub fn carry_out<H: Host, K: Keep<H>>(
     text: &[u8],
 ) -> Result<bool, Halt>
     requires live { IsTrue (K.live keeper.old) }
-    requires good { IsGood (world_of state.old) }
+    requires good { IsOneIntGood (world_of state.old) }
     requires short { length text.now < 2 ^ 32 }
     ensures carries { IfOk result (λ refused. Carries (K.holds keeper.old) (K.holds keeper.new) (piece_items (world_of state.old) line text.now) refused
         (world_of state.old) (world_of state.new) (H.view host.old) (H.view host.new)) }
     ensures any_moment { (more : Items Done) (said : Items ℕ) → Serves (K.holds keeper.old) (H.view host.old) (world_of state.old) said
         → LeavesOnly (H.view host.old) (H.view host.new) (IsAfterSome K.means (piece_items (world_of state.old) line text.now ++ more) (world_of state.old) said) }
     ensures live { OnOk result (IsTrue (K.live keeper.new)) }
-    ensures good { OnOk result (IsGood (world_of state.new)) }
+    ensures good { OnOk result (IsOneIntGood (world_of state.new)) }
     ensures undamaged { result ≡ Err Halt.Damaged → K.holds keeper.old (H.view host.old) (rows (world_of state.old)) → ⊥ }
     ensures leaves { HostCalls (result ≡ Err Halt.DiskFault) (result ≡ Err Halt.WriteFault) (H.view host.old) (H.view host.new) }
 {
@@ -131,7 +131,7 @@ pub fn run_script<H: Host, K: Keep<H>, S: Source>(
     mut state: State,
 ) -> Status
     requires live { IsTrue (K.live keeper.old) }
-    requires good { IsGood (world_of state) }
+    requires good { IsOneIntGood (world_of state) }
     ensures ran { (script text : Items ℕ) → S.left source.old ≡ Some script → Serves (K.holds keeper.old) (H.view host.old) (world_of state) text
         → IsEnding result → RanAs (K.holds keeper.new) (pieces script) (world_of state) text (S.left source.new) (H.view host.new) result }
     ensures any_moment { (script text : Items ℕ) → S.left source.old ≡ Some script → Serves (K.holds keeper.old) (H.view host.old) (world_of state) text

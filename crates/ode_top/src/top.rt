@@ -8,9 +8,9 @@ ghost use Rattle.ode_host.specs.FirstSync.{SyncedRun};
 ghost use Rattle.ode_host.specs.Host.{HostCalls, LeavesOnly, Prints, Stands, Tells};
 ghost use Rattle.ode_open.specs.Holds.{Holds};
 ghost use Rattle.ode_open.specs.Making.{IsInUse};
-ghost use Rattle.ode_value.specs.Good.{IsGood};
-ghost use Rattle.ode_value.specs.Records.{rows};
-ghost use Rattle.ode_value.specs.World.{World};
+ghost use Rattle.ode_value.specs.OneIntGood.{IsOneIntGood};
+ghost use Rattle.ode_value.specs.OneIntRecords.{rows};
+ghost use Rattle.ode_value.specs.OneIntWorld.{OneIntWorld};
 ghost use Rattle.ode_top.specs.Answers.{Asks, IsBadFile, IsBadFileCut, IsIdle, IsInitCut, IsInitStatus, IsMachineRun, IsMade, IsNoRun, IsRefused, IsSilent, SaidFront, usage_line};
 ghost use Rattle.ode_top.specs.Calls.{bytes_of, call_of};
 ghost use Rattle.ode_top.specs.Halts.{IsRunStatus};
@@ -71,7 +71,7 @@ fn run_opened<H: Host, S: Source>(
     opened: Opened,
 ) -> Status
     requires live { IsTrue (is_live opened.keeper) }
-    requires good { IsGood (world_of opened.state) }
+    requires good { IsOneIntGood (world_of opened.state) }
     ensures ran { (bytes text : Items ℕ) → S.left script.old ≡ Some bytes → Serves (AreasHold opened.keeper) (H.view host.old) (world_of opened.state) text
         → IsEnding result → IsMachineRun bytes (world_of opened.state) text (S.left script.new) (H.view host.new) result }
     ensures any_moment { (bytes text : Items ℕ) → S.left script.old ≡ Some bytes → Serves (AreasHold opened.keeper) (H.view host.old) (world_of opened.state) text
@@ -90,20 +90,20 @@ fn run_opened<H: Host, S: Source>(
 
 // A run over a file that a sync has just left as it reads.
 fn run_synced<H: Host, S: Source>(alloc: Global, script: &mut S, host: &mut H) -> Status
-    ensures ran { (bytes image text : Items ℕ) (w : World) → S.left script.old ≡ Some bytes
+    ensures ran { (bytes image text : Items ℕ) (w : OneIntWorld) → S.left script.old ≡ Some bytes
         → Stands image (H.view host.old) → (H.view host.old).text ≡ Some text → Holds image w → IsEnding result
         → IsMachineRun bytes w text (S.left script.new) (H.view host.new) result }
-    ensures any_moment { (bytes image text : Items ℕ) (w : World) → S.left script.old ≡ Some bytes
+    ensures any_moment { (bytes image text : Items ℕ) (w : OneIntWorld) → S.left script.old ≡ Some bytes
         → Stands image (H.view host.old) → (H.view host.old).text ≡ Some text → Holds image w
         → LeavesOnly (H.view host.old) (H.view host.new) (IsAfterSome AreasMean (run_items w bytes) w text) }
-    ensures answers { (image : Items ℕ) (w : World) → Stands image (H.view host.old) → Holds image w → IsRunStatus result }
+    ensures answers { (image : Items ℕ) (w : OneIntWorld) → Stands image (H.view host.old) → Holds image w → IsRunStatus result }
     ensures bad_file { result ≡ Status.BadFile → (image text : Items ℕ) → Stands image (H.view host.old) → (H.view host.old).text ≡ Some text
         → IsBadFile image text (H.view host.new) }
-    ensures no_world { (image : Items ℕ) → Stands image (H.view host.old) → ((w : World) → ¬ Holds image w) → IsNoRun result }
-    ensures idle { (image : Items ℕ) → Stands image (H.view host.old) → ((w : World) → ¬ Holds image w)
+    ensures no_world { (image : Items ℕ) → Stands image (H.view host.old) → ((w : OneIntWorld) → ¬ Holds image w) → IsNoRun result }
+    ensures idle { (image : Items ℕ) → Stands image (H.view host.old) → ((w : OneIntWorld) → ¬ Holds image w)
         → IsIdle result (H.view host.old) (H.view host.new) × (S.left script.new ≡ S.left script.old) }
     ensures bad_file_cut { result ≡ Status.WriteFault → (image text : Items ℕ) → Stands image (H.view host.old) → (H.view host.old).text ≡ Some text
-        → ((w : World) → ¬ Holds image w) → IsBadFileCut image text (H.view host.new) }
+        → ((w : OneIntWorld) → ¬ Holds image w) → IsBadFileCut image text (H.view host.new) }
     ensures not_usage { result ≢ Status.Usage }
     ensures leaves { HostCalls (result ≡ Status.DiskFault) (result ≡ Status.WriteFault) (H.view host.old) (H.view host.new) }
     ensures reads { RoseIf (result ≡ Status.ReadFault) (S.faults script.old) (S.faults script.new) }
@@ -119,23 +119,23 @@ fn run_synced<H: Host, S: Source>(alloc: Global, script: &mut S, host: &mut H) -
 
 // A run begins with a sync, so that what it reads is what a stop leaves.
 fn run<H: Host, S: Source>(alloc: Global, script: &mut S, host: &mut H) -> Status
-    ensures ran { (bytes image text : Items ℕ) (w : World) → S.left script.old ≡ Some bytes
+    ensures ran { (bytes image text : Items ℕ) (w : OneIntWorld) → S.left script.old ≡ Some bytes
         → Tells (H.view host.old) image → (H.view host.old).text ≡ Some text → Holds image w → IsEnding result
         → IsMachineRun bytes w text (S.left script.new) (H.view host.new) result }
-    ensures cut { (bytes image text : Items ℕ) (w : World) → S.left script.old ≡ Some bytes
+    ensures cut { (bytes image text : Items ℕ) (w : OneIntWorld) → S.left script.old ≡ Some bytes
         → Tells (H.view host.old) image → (H.view host.old).text ≡ Some text → Holds image w → IsCut result
         → CutShort (run_items w bytes) w text (H.view host.new) }
-    ensures stops { (bytes image text : Items ℕ) (w : World) → S.left script.old ≡ Some bytes
+    ensures stops { (bytes image text : Items ℕ) (w : OneIntWorld) → S.left script.old ≡ Some bytes
         → Tells (H.view host.old) image → (H.view host.old).text ≡ Some text → Holds image w
         → SyncedRun (H.view host.old) (H.view host.new) image (result ≡ Status.DiskFault) (IsAfterSome AreasMean (run_items w bytes) w text) }
-    ensures answers { (image : Items ℕ) (w : World) → Tells (H.view host.old) image → Holds image w → IsRunStatus result }
+    ensures answers { (image : Items ℕ) (w : OneIntWorld) → Tells (H.view host.old) image → Holds image w → IsRunStatus result }
     ensures bad_file { result ≡ Status.BadFile → (image text : Items ℕ) → Tells (H.view host.old) image → (H.view host.old).text ≡ Some text
         → IsBadFile image text (H.view host.new) }
-    ensures no_world { (image : Items ℕ) → Tells (H.view host.old) image → ((w : World) → ¬ Holds image w) → IsNoRun result }
-    ensures idle { (image : Items ℕ) → Tells (H.view host.old) image → ((w : World) → ¬ Holds image w)
+    ensures no_world { (image : Items ℕ) → Tells (H.view host.old) image → ((w : OneIntWorld) → ¬ Holds image w) → IsNoRun result }
+    ensures idle { (image : Items ℕ) → Tells (H.view host.old) image → ((w : OneIntWorld) → ¬ Holds image w)
         → IsIdle result (H.view host.old) (H.view host.new) × (S.left script.new ≡ S.left script.old) }
     ensures bad_file_cut { result ≡ Status.WriteFault → (image text : Items ℕ) → Tells (H.view host.old) image → (H.view host.old).text ≡ Some text
-        → ((w : World) → ¬ Holds image w) → IsBadFileCut image text (H.view host.new) }
+        → ((w : OneIntWorld) → ¬ Holds image w) → IsBadFileCut image text (H.view host.new) }
     ensures not_usage { result ≢ Status.Usage }
     ensures leaves { HostCalls (result ≡ Status.DiskFault) (result ≡ Status.WriteFault) (H.view host.old) (H.view host.new) }
     ensures reads { RoseIf (result ≡ Status.ReadFault) (S.faults script.old) (S.faults script.new) }
@@ -155,31 +155,31 @@ pub fn run_ode<H: Host, S: Source>(
     host: &mut H,
 ) -> Status
     // A run on a file that holds a world is the machine's, whatever the script and the chunks that it comes in.
-    ensures run { (bytes image text : Items ℕ) (w : World) → Asks Mode.Run (bytes_of words.now.items) → S.left script.old ≡ Some bytes
+    ensures run { (bytes image text : Items ℕ) (w : OneIntWorld) → Asks Mode.Run (bytes_of words.now.items) → S.left script.old ≡ Some bytes
         → Tells (H.view host.old) image → (H.view host.old).text ≡ Some text → Holds image w → IsEnding result
         → IsMachineRun bytes w text (S.left script.new) (H.view host.new) result }
     // Where the disk, the output or the script fails or memory is short, the file holds the world after some of the settled
     // transactions, and what is printed is a front of what these print, or a refusal's line behind them.
-    ensures cut { (bytes image text : Items ℕ) (w : World) → Asks Mode.Run (bytes_of words.now.items) → S.left script.old ≡ Some bytes
+    ensures cut { (bytes image text : Items ℕ) (w : OneIntWorld) → Asks Mode.Run (bytes_of words.now.items) → S.left script.old ≡ Some bytes
         → Tells (H.view host.old) image → (H.view host.old).text ≡ Some text → Holds image w → IsCut result
         → CutShort (run_items w bytes) w text (H.view host.new) }
     // So does a stop at any moment from the first sync on, at which the file is as it was at the start. Before it, a stop
     // leaves what it might have left at the start. The sync lies within the run, unless the disk failed.
-    ensures stops { (bytes image text : Items ℕ) (w : World) → Asks Mode.Run (bytes_of words.now.items) → S.left script.old ≡ Some bytes
+    ensures stops { (bytes image text : Items ℕ) (w : OneIntWorld) → Asks Mode.Run (bytes_of words.now.items) → S.left script.old ≡ Some bytes
         → Tells (H.view host.old) image → (H.view host.old).text ≡ Some text → Holds image w
         → SyncedRun (H.view host.old) (H.view host.new) image (result ≡ Status.DiskFault) (IsAfterSome AreasMean (run_items w bytes) w text) }
     // On such a file a run ends as the machine does, by a fault, or for want of memory.
-    ensures answers { (image : Items ℕ) (w : World) → Asks Mode.Run (bytes_of words.now.items)
+    ensures answers { (image : Items ℕ) (w : OneIntWorld) → Asks Mode.Run (bytes_of words.now.items)
         → Tells (H.view host.old) image → Holds image w → IsRunStatus result }
     ensures bad_file { result ≡ Status.BadFile → Asks Mode.Run (bytes_of words.now.items)
         → (image text : Items ℕ) → Tells (H.view host.old) image → (H.view host.old).text ≡ Some text → IsBadFile image text (H.view host.new) }
     ensures no_world { (image : Items ℕ) → Asks Mode.Run (bytes_of words.now.items) → Tells (H.view host.old) image
-        → ((w : World) → ¬ Holds image w) → IsNoRun result }
+        → ((w : OneIntWorld) → ¬ Holds image w) → IsNoRun result }
     // Where the file holds no world nothing is written, nothing of the script is taken, and nothing is printed but the line.
     ensures idle { (image : Items ℕ) → Asks Mode.Run (bytes_of words.now.items) → Tells (H.view host.old) image
-        → ((w : World) → ¬ Holds image w) → IsIdle result (H.view host.old) (H.view host.new) × (S.left script.new ≡ S.left script.old) }
+        → ((w : OneIntWorld) → ¬ Holds image w) → IsIdle result (H.view host.old) (H.view host.new) × (S.left script.new ≡ S.left script.old) }
     ensures bad_file_cut { result ≡ Status.WriteFault → Asks Mode.Run (bytes_of words.now.items) → (image text : Items ℕ)
-        → Tells (H.view host.old) image → (H.view host.old).text ≡ Some text → ((w : World) → ¬ Holds image w)
+        → Tells (H.view host.old) image → (H.view host.old).text ≡ Some text → ((w : OneIntWorld) → ¬ Holds image w)
         → IsBadFileCut image text (H.view host.new) }
 
     ensures made { result ≡ Status.Ok → Asks Mode.Init (bytes_of words.now.items)

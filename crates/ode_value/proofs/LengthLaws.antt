@@ -6,7 +6,7 @@ use Rattle.std.specs.List.{flat_map}
 use Rattle.std.specs.Option.{unwrap_or}
 use Rattle.ode_value.specs.Lengths.{value_length, values_length, version_length}
 use Rattle.ode_value.specs.Records.{byte, spelled_value, row_weight, version_row}
-use Rattle.ode_value.specs.World.{Version}
+use Rattle.ode_value.specs.Versions.{Version}
 use Rattle.ode_value.specs.declared.value.Value.{Value}
 use Rattle.ode_value.specs.declared.value.Value.TheVariants as value
 

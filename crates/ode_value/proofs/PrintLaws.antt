@@ -17,7 +17,7 @@ use Rattle.ode_value.specs.declared.statement.Stmt.{the_lemmas as stmt_lemmas}
 use Rattle.ode_value.specs.declared.statement.Stmt.TheOpen as stmt
 use Rattle.ode_value.specs.declared.statement.Stmt.TheVariants as s
 use Rattle.ode_value.specs.declared.value.Value.{Value}
-use Rattle.ode_value.specs.Good.{int_tree}
+use Rattle.ode_value.specs.OneIntGood.{int_tree}
 use Rattle.ode_value.specs.Printing.{Printed, printed, printed_of, printed_event, printed_event_of, operand, no_operator, kind_text}
 use Rattle.ode_value.specs.PrintedClasses.{decl_text, stmt_text, stmt_text_of}
 

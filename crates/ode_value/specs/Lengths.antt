@@ -1,6 +1,7 @@
--- How many bytes records take: the 17 of a key, and the value's.
-use Rattle.std.specs.Prelude.{ℕ, ◌+◌, ◌*◌, ◌/◌, List, length}
+-- How many bytes records take: those of a key, and the value's.
+use Rattle.std.specs.Prelude.{ℕ, ◌+◌, ◌-◌, ◌*◌, ◌/◌, List, length}
 use Rattle.std.specs.List.{sum_by}
+use Rattle.ode_value.specs.Limits.{value_limit}
 use Rattle.ode_value.specs.declared.value.Value.{Value}
 use Rattle.ode_value.specs.declared.value.Value.TheVariants as value
 
@@ -11,19 +12,25 @@ value_length (value.Bool b) = 2
 value_length (value.Text t) = 3 + length t
 value_length (value.Reference r) = 13
 
+-- values together
 abbrev pub values_length : List Value → ℕ
 values_length values = sum_by value_length values
 
+-- the bytes of a key: its kind, and two numbers
+abbrev pub key_length : ℕ
+key_length = 17
+
 -- a record whose value has this length
 abbrev pub record_length : ℕ → ℕ
-record_length n = 17 + n
+record_length n = key_length + n
 
--- A text or a table is cut into pieces of 3,968 bytes, of which the last may be shorter.
+-- A text or a table is cut into pieces as long as a value may be, of which the last may be shorter.
 abbrev pub piece_count : ℕ → ℕ
-piece_count n = (n + 3967) / 3968
+piece_count n = (n + (value_limit - 1)) / value_limit
 
+-- the records of the pieces of so many bytes
 abbrev pub pieces_length : ℕ → ℕ
-pieces_length n = 17 * piece_count n + n
+pieces_length n = key_length * piece_count n + n
 
 -- numbers of two bytes for each state and symbol, and a byte for each state
 abbrev pub table_length : ℕ → ℕ → ℕ
@@ -41,12 +48,19 @@ class_length name text = record_length (11 + length name) + pieces_length text
 abbrev pub trigger_length : ℕ → ℕ → ℕ
 trigger_length states symbols = record_length 3 + pieces_length (table_length states symbols)
 
+-- an object
 abbrev pub object_length : ℕ
 object_length = record_length 8
 
-abbrev pub version_length : List Value → ℕ
-version_length fields = record_length (6 + values_length fields)
+-- the value of a version, by its fields
+abbrev pub version_size : List Value → ℕ
+version_size fields = 6 + values_length fields
 
+-- a version
+abbrev pub version_length : List Value → ℕ
+version_length fields = record_length (version_size fields)
+
+-- an activation
 abbrev pub activation_length : List Value → ℕ
 activation_length args = record_length (9 + values_length args)
 

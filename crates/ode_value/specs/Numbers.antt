@@ -2,10 +2,13 @@
 use Rattle.std.specs.Prelude.{ℕ, nat_le, ◌&&◌, Bool, true}
 use Rattle.ode_value.specs.declared.event.EventExpr.{EventExpr, fold-EventExpr}
 use Rattle.ode_value.specs.declared.event.EventExpr.TheOpen as event
+use Rattle.ode_value.specs.Limits.{choose_limit}
 
+-- the range of one number
 abbrev pub in_range : ℕ → Bool
-in_range n = nat_le 1 n && nat_le n 65535
+in_range n = nat_le 1 n && nat_le n choose_limit
 
+-- the condition by one level of the expression
 abbrev pub numbers_of : event.EventExpr-F Bool → Bool
 numbers_of (event.Leaf kind mask) = true
 numbers_of event.Any = true
@@ -20,6 +23,6 @@ numbers_of (event.Choose n e) = in_range n && e
 numbers_of (event.Every n e) = in_range n && e
 numbers_of (event.Fa e f g) = e && (f && g)
 
--- each number of a `choose` or an `every` is from 1 to 65,535
+-- each number of a `choose` or an `every` is in its range
 unfoldable pub has_numbers : EventExpr → Bool
 has_numbers = fold-EventExpr Bool numbers_of

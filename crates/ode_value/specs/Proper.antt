@@ -1,7 +1,7 @@
 -- Statements whose names can be names, and whose numbers fit.
 use Rattle.std.specs.Prelude.{◌≡◌, ℕ, ℤ, List, true, Some, FitsSigned}
 use Rattle.std.specs.Int.{w64}
-use Rattle.ode_value.specs.Commands.{declared_field, assignments}
+use Rattle.ode_value.specs.OneIntCommands.{declared_field, assignments}
 use Rattle.ode_value.specs.Words.{is_free}
 use Rattle.ode_value.specs.declared.statement.Rhs.TheVariants.{New}
 use Rattle.ode_value.specs.declared.statement.Statement.{Statement}

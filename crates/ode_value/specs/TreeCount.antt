@@ -3,6 +3,7 @@ use Rattle.std.specs.Prelude.{ℕ, zero, suc, nat_le, cond, List, [], ◌∷◌,
 use Rattle.std.specs.List.{list_any, range_with_len}
 use Rattle.ode_value.specs.declared.event.EventExpr.{EventExpr}
 use Rattle.ode_value.specs.declared.tree.State.{State}
+use Rattle.ode_value.specs.Limits.{state_limit}
 use Rattle.ode_value.specs.Marks.{Mark}
 use Rattle.ode_value.specs.Symbols.{symbol_count, symbol_mark}
 use Rattle.ode_value.specs.TreeOrder.{same_tree}
@@ -22,7 +23,7 @@ grown_by steps first zero = first ∷ []
 grown_by steps first (suc n) = grow_by steps (grown_by steps first n)
 
 unfoldable pub count_by_steps : List (State → State) → State → ℕ
-count_by_steps steps first = length (grown_by steps first 512)
+count_by_steps steps first = length (grown_by steps first state_limit)
 
 -- the count over these marks
 abbrev pub count_over : EventExpr → List Mark → ℕ
@@ -35,6 +36,6 @@ symbol_marks e = map (symbol_mark e) (range_with_len 0 (symbol_count e))
 abbrev pub tree_count : EventExpr → ℕ
 tree_count e = count_over e (symbol_marks e)
 
--- a count up to 512
+-- a count up to the limit on states
 abbrev pub counted : ℕ → Option ℕ
-counted n = cond (nat_le n 512) (Some n) None
+counted n = cond (nat_le n state_limit) (Some n) None

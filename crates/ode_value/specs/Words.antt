@@ -2,6 +2,7 @@
 use Rattle.std.specs.Prelude.{ℕ, List, [], ◌∷◌, length, Bool, false, ◌&&◌, not, nat_le, codes}
 use Rattle.std.specs.List.{list_any, list_all}
 use Rattle.std.specs.Str.{bytes_eq}
+use Rattle.ode_value.specs.Limits.{name_limit}
 use Rattle.ode_value.specs.Text.{is_name_byte}
 
 -- words that the language keeps for itself
@@ -20,10 +21,10 @@ reserved =
 abbrev pub is_digit : ℕ → Bool
 is_digit b = nat_le 48 b && nat_le b 57
 
--- a name byte that is no digit, then name bytes, at most 64 of them
+-- a name byte that is no digit, then name bytes, not too many of them
 abbrev pub is_word : List ℕ → Bool
 is_word [] = false
-is_word (b ∷ bs) = not (is_digit b) && list_all is_name_byte (b ∷ bs) && nat_le (length (b ∷ bs)) 64
+is_word (b ∷ bs) = not (is_digit b) && list_all is_name_byte (b ∷ bs) && nat_le (length (b ∷ bs)) name_limit
 
 -- a word that isn't reserved
 abbrev pub is_free : List ℕ → Bool

@@ -10,7 +10,9 @@ mod event;
 mod examples;
 mod key;
 mod laws;
+pub mod limits;
 mod list;
+mod machine;
 mod member;
 mod name;
 mod operator;
@@ -38,6 +40,7 @@ pub use laws::{
     symbols_are_marks,
 };
 pub use list::{Copied, List};
+pub use machine::empty_transactions;
 pub use member::{Constraint, Method, TriggerDecl};
 pub use name::Name;
 pub use operator::{BinOp, UnOp};

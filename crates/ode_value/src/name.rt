@@ -2,6 +2,7 @@ ghost use Rattle.std.specs.Prelude.{◌≡◌, ◌↔◌, IfOk, IfSome, IsTrue, 
 ghost use Rattle.std.specs.Str.{bytes_eq};
 ghost use Rattle.ode_value.specs.Text.{IsName, is_name_byte};
 
+use crate::limits::NAME_LIMIT;
 use crate::list::Copied;
 use crate::text::OdeText;
 use std::alloc::{AllocError, Global};
@@ -41,7 +42,7 @@ fn bad_name_byte(bytes: &[u8]) -> Option<usize>
 fn is_name(bytes: &[u8]) -> bool
     ensures { IsTrue result ↔ IsName bytes.now }
 {
-    !bytes.is_empty() && bytes.len() <= 64 && bad_name_byte(bytes).is_none()
+    !bytes.is_empty() && bytes.len() <= NAME_LIMIT && bad_name_byte(bytes).is_none()
 }
 
 impl Name {

@@ -1,6 +1,7 @@
 ghost use Rattle.std.specs.Prelude.{◌≡◌, ◌≤◌, ◌<◌, ℕ, length, position, ◌↔◌, IfErr, IfOk, Some, OnOk, MatchResult, ⊤};
 ghost use Rattle.ode_value.specs.Text.{IsText, is_bad_byte};
 
+use crate::limits::TEXT_LIMIT;
 use crate::list::{Copied, List};
 use std::alloc::{AllocError, Global};
 use std::marker::Model;
@@ -55,13 +56,13 @@ impl OdeText {
     pub fn new(alloc: Global, bytes: &[u8]) -> Result<OdeText, TextError>
         ensures ok { IfOk result (λ t. t ≡ bytes.now) }
         ensures text { OnOk result (IsText bytes.now) }
-        ensures too_long { (result ≡ Err TextError.TooLong) ↔ (2048 < length bytes.now) }
+        ensures too_long { (result ≡ Err TextError.TooLong) ↔ (TEXT_LIMIT < length bytes.now) }
         ensures bad { IfErr result (λ e. (at : ℕ) → e ≡ TextError.BadByte at → position is_bad_byte bytes.now ≡ Some at) }
-        ensures first_bad { (at : ℕ) → length bytes.now ≤ 2048 → position is_bad_byte bytes.now ≡ Some at
+        ensures first_bad { (at : ℕ) → length bytes.now ≤ TEXT_LIMIT → position is_bad_byte bytes.now ≡ Some at
             → result ≡ Err (TextError.BadByte at) }
         ensures ok_or_memory { MatchResult result (λ _. ⊤) (λ e. e ≡ TextError.Memory) ↔ IsText bytes.now }
     {
-        if bytes.len() > 2048 {
+        if bytes.len() > TEXT_LIMIT {
             return Err(TextError::TooLong);
         }
         if let Some(at) = bad_byte(bytes) {

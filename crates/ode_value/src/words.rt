@@ -5,6 +5,7 @@ ghost use Rattle.ode_value.specs.Text.{is_name_byte};
 ghost use Rattle.std.specs.List.{list_any, list_all};
 ghost use Rattle.std.specs.Str.{bytes_eq};
 
+use crate::limits::NAME_LIMIT;
 use crate::name::is_name_byte;
 
 /// The words that the language keeps for itself.
@@ -88,7 +89,7 @@ fn has_name_bytes(bytes: &[u8]) -> bool
 pub fn is_word(bytes: &[u8]) -> bool
     ensures { result ≡ is_word bytes.now }
 {
-    if bytes.is_empty() || is_digit(bytes[0]) || bytes.len() > 64 {
+    if bytes.is_empty() || is_digit(bytes[0]) || bytes.len() > NAME_LIMIT {
         return false;
     }
     has_name_bytes(bytes)

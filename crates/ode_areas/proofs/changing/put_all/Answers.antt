@@ -1,6 +1,7 @@
 use Rattle.std.proofs.Common.{◌≡◌, ◌∷◌, List, ℕ, Option, ◌∙◌, ap, sym}
 use Rattle.std.specs.BTreeMap.{insert_entry}
-use Rattle.ode_keep.specs.Entries.{Changes, Entries, applied, key_cmp}
+use Rattle.ode_keep.specs.Entries.{Changes, Entries, applied}
+use Rattle.ode_value.specs.Keys.{key_cmp}
 use Rattle.ode_areas.specs.Puts.{puts}
 use Rattle.ode_areas.proofs.Splitting.{led_one_more, led_same}
 use Rattle.ode_areas.proofs.changing.put_all.Goals as goal

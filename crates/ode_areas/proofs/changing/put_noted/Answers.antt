@@ -3,7 +3,8 @@ use Rattle.std.specs.Prelude.{IsSome}
 use Rattle.std.specs.BTreeMap.{insert_entry}
 use Rattle.std.specs.Option.{IfSome}
 use Rattle.ode_value.specs.declared.key.Key.{Key}
-use Rattle.ode_keep.specs.Entries.{Entries, changed, key_cmp, value_under}
+use Rattle.ode_keep.specs.Entries.{Entries, changed, value_under}
+use Rattle.ode_value.specs.Keys.{key_cmp}
 use Rattle.ode_areas.proofs.Splitting.{needs_none, put_undone}
 use Rattle.ode_areas.proofs.changing.put_noted.Goals as goal
 

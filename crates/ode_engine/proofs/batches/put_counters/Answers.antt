@@ -1,7 +1,7 @@
 use Rattle.std.proofs.Common.{ℕ, List, Some, ◌∙◌, ap}
 use Rattle.std.specs.BTreeMap.{insert_entry}
-use Rattle.ode_keep.specs.Entries.{key_cmp}
-use Rattle.ode_value.specs.Records.{key}
+use Rattle.ode_value.specs.Keys.{key_cmp}
+use Rattle.ode_value.specs.Keys.{key}
 use Rattle.ode_engine.proofs.batches.put_counters.Goals as goal
 
 pub returns : goal.returns

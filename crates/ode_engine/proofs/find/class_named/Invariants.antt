@@ -1,5 +1,5 @@
 use Rattle.std.proofs.Common.{◌≡◌, map, drop}
-use Rattle.ode_value.specs.World.{class_named}
+use Rattle.ode_value.specs.Worlds.{class_named}
 use Rattle.ode_first_records.specs.State.{class_of}
 use Rattle.ode_engine.proofs.find.class_named.Given as goal
 

@@ -1,5 +1,5 @@
 use Rattle.std.proofs.Common.{◌≡◌, map, drop}
-use Rattle.ode_value.specs.World.{object_at}
+use Rattle.ode_value.specs.OneIntWorld.{object_at}
 use Rattle.ode_first_records.specs.State.{object_of}
 use Rattle.ode_engine.proofs.find.object_at.Given as goal
 

@@ -1,9 +1,9 @@
 use Rattle.std.proofs.Common.{map, ◌++◌, ◌∙◌, ap, arith, ◌+◌, ◌<◌, ◌≤◌, refl}
 use Rattle.std.specs.Int.{w64}
 use Rattle.std.proofs.lemmas.Int.{to_z-of_z}
-use Rattle.ode_value.specs.Commands.{one}
-use Rattle.ode_value.specs.Good.{weight_limit}
-use Rattle.ode_value.specs.Records.{weight}
+use Rattle.ode_value.specs.OneIntCommands.{one}
+use Rattle.ode_value.specs.Limits.{weight_limit}
+use Rattle.ode_value.specs.OneIntRecords.{weight}
 use Rattle.ode_value.specs.Texts.{new_line}
 use Rattle.ode_first_records.specs.declared.state.ObjectRow.{ObjectRow}
 use Rattle.ode_first_records.specs.State.{object_of, world_of}

@@ -1,7 +1,7 @@
 use Rattle.std.proofs.Common.{map, ℕ, sym, ◌++◌, ◌∷◌, [], ◌∙◌, ap, arith, ◌+◌, ◌<◌, ◌≤◌, length, refl}
-use Rattle.ode_value.specs.Commands.{one}
-use Rattle.ode_value.specs.Good.{weight_limit}
-use Rattle.ode_value.specs.Records.{head_row, text_row, weight}
+use Rattle.ode_value.specs.OneIntCommands.{one}
+use Rattle.ode_value.specs.Limits.{weight_limit}
+use Rattle.ode_value.specs.OneIntRecords.{head_row, text_row, weight}
 use Rattle.ode_value.specs.Texts.{class_line}
 use Rattle.ode_first_records.specs.declared.state.ClassRow.{ClassRow}
 use Rattle.ode_first_records.specs.State.{class_of, world_of}

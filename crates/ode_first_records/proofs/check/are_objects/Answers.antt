@@ -1,5 +1,5 @@
 use Rattle.std.proofs.Common.{map, get_or, length, sym, ◌∙◌, arith}
-use Rattle.ode_value.specs.Good.{AreObjects}
+use Rattle.ode_value.specs.OneIntGood.{AreBuiltObjects}
 use Rattle.ode_first_records.specs.Checks.{Rises}
 use Rattle.ode_first_records.specs.State.{class_of, object_of}
 use Rattle.ode_first_records.proofs.Checking.{objects_step, objects_never, no_object}
@@ -11,7 +11,7 @@ returns-then-not-rises c =
     let os = c.args.objects.now in
     let i = c.loop-object.object-index in
     let never = λ (h : Rises c.loop-object.low c.args.next (length cs) (get_or os i no_object)). let clash = sym c.if-not-rises.true ∙ c.rises.ensures.1 h in absurd cc in
-    (λ f. absurd cc, λ a. absurd (objects_never (AreObjects (map class_of cs) 0 c.args.next (map object_of os)) cs c.loop-object.low c.args.next os i no_object c.requires c.loop-object-test.true never c.loop-object.invariant.same a))
+    (λ f. absurd cc, λ a. absurd (objects_never (AreBuiltObjects (map class_of cs) 0 c.args.next (map object_of os)) cs c.loop-object.low c.args.next os i no_object c.requires c.loop-object-test.true never c.loop-object.invariant.same a))
 
 pub loop-object-preserved : goal.loop-object-preserved
 loop-object-preserved c =
@@ -21,5 +21,5 @@ loop-object-preserved c =
     let rises = c.rises.ensures.0 c.if-not-rises.false in
     record {
       low = omega (arith, rises.below);
-      same = objects_step (AreObjects (map class_of cs) 0 c.args.next (map object_of os)) cs c.loop-object.low c.args.next os i no_object c.requires c.loop-object-test.true rises c.loop-object.invariant.same;
+      same = objects_step (AreBuiltObjects (map class_of cs) 0 c.args.next (map object_of os)) cs c.loop-object.low c.args.next os i no_object c.requires c.loop-object-test.true rises c.loop-object.invariant.same;
     }

@@ -1,5 +1,5 @@
 use Rattle.std.proofs.Common.{◌≡◌, ◌∙◌, Vec, Global, map, ap}
-use Rattle.ode_value.specs.Records.{rows}
+use Rattle.ode_value.specs.OneIntRecords.{rows}
 use Rattle.ode_first_records.specs.declared.records.Record.{Record}
 use Rattle.ode_first_records.specs.Reading.{row_of}
 use Rattle.ode_first_records.specs.State.{world_of}

@@ -1,5 +1,6 @@
 use Rattle.std.proofs.Common.{List, map}
-use Rattle.ode_value.specs.Records.{head_row, row_bytes, snapshot}
+use Rattle.ode_value.specs.OneIntRecords.{head_row}
+use Rattle.ode_value.specs.Records.{row_bytes, snapshot}
 use Rattle.ode_first_records.specs.declared.state.ClassRow.{ClassRow}
 use Rattle.ode_first_records.specs.State.{class_of}
 use Rattle.ode_first_records.proofs.Rows.{written_more, snapshot_push}

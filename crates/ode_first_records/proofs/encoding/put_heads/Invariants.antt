@@ -1,5 +1,6 @@
 use Rattle.std.proofs.Common.{◌≡◌, ◌++◌, map, take}
-use Rattle.ode_value.specs.Records.{head_row, snapshot}
+use Rattle.ode_value.specs.OneIntRecords.{head_row}
+use Rattle.ode_value.specs.Records.{snapshot}
 use Rattle.ode_first_records.specs.State.{class_of}
 use Rattle.ode_first_records.proofs.encoding.put_heads.Given as goal
 

@@ -1,7 +1,8 @@
 use Rattle.std.proofs.Common.{List, ℕ, ◌++◌, ◌∙◌, map, sym, ap}
 use Rattle.std.specs.List.{flat_map}
 use Rattle.std.proofs.lemmas.Result.{on_ok_weaker}
-use Rattle.ode_value.specs.Records.{snapshot, head_row, text_row, object_row, version_rows}
+use Rattle.ode_value.specs.Records.{snapshot}
+use Rattle.ode_value.specs.OneIntRecords.{head_row, text_row, object_row, version_rows}
 use Rattle.ode_first_records.specs.declared.state.ClassRow.{ClassRow}
 use Rattle.ode_first_records.specs.declared.state.ObjectRow.{ObjectRow}
 use Rattle.ode_first_records.specs.State.{class_of, object_of, world_of}

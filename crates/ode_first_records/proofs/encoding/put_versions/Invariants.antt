@@ -1,6 +1,7 @@
 use Rattle.std.proofs.Common.{◌≡◌, ◌++◌, map, take}
 use Rattle.std.specs.List.{flat_map}
-use Rattle.ode_value.specs.Records.{version_rows, snapshot}
+use Rattle.ode_value.specs.OneIntRecords.{version_rows}
+use Rattle.ode_value.specs.Records.{snapshot}
 use Rattle.ode_first_records.specs.State.{object_of}
 use Rattle.ode_first_records.proofs.encoding.put_versions.Given as goal
 

@@ -1,8 +1,9 @@
 use Rattle.std.proofs.Common.{[], ◌∷◌, ◌++◌}
 use Rattle.std.proofs.lemmas.Result.{on_ok_weaker}
 use Rattle.ode_host.specs.Host.{written_over}
-use Rattle.ode_value.specs.Records.{rows, snapshot}
-use Rattle.ode_value.specs.World.{empty_world}
+use Rattle.ode_value.specs.OneIntRecords.{rows}
+use Rattle.ode_value.specs.Records.{snapshot}
+use Rattle.ode_value.specs.OneIntWorld.{empty_one_int_world}
 use Rattle.ode_open.proofs.Telling.{wrote_tells}
 use Rattle.ode_open.proofs.make.write_body.Goals as goal
 
@@ -11,5 +12,5 @@ returns-clause-done g c =
     on_ok_weaker c.write_at-2.result
     (λ wrote file tells.
     let first = wrote_tells 2048 (0 ∷ []) file _ _ c.write_at.ensures.writes.keeps c.in_ok-write_at.ensures.done tells in
-    wrote_tells 4096 (snapshot (rows empty_world) ++ 0 ∷ []) (written_over file 2048 (0 ∷ [])) _ _ c.write_at-2.ensures.writes.keeps wrote first)
+    wrote_tells 4096 (snapshot (rows empty_one_int_world) ++ 0 ∷ []) (written_over file 2048 (0 ∷ [])) _ _ c.write_at-2.ensures.writes.keeps wrote first)
     c.write_at-2.ensures.done

@@ -5,7 +5,7 @@ use Rattle.ode_first_records.specs.State.{world_of}
 use Rattle.ode_gate.proofs.Counting.{open_from_counts}
 use Rattle.ode_host.proofs.Moments.{looks_joined, stands_looks, tells_looks}
 use Rattle.ode_keep.specs.Entries.{Entries}
-use Rattle.ode_value.specs.Records.{rows}
+use Rattle.ode_value.specs.OneIntRecords.{rows}
 use Rattle.ode_open.specs.declared.error.OpenError.{OpenError}
 use Rattle.ode_open.specs.declared.error.OpenError.TheVariants.{Bad, DiskFault, NoDatabase}
 use Rattle.ode_open.specs.Answers.{IsOutside, gate_error}

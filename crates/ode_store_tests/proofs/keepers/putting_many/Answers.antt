@@ -1,7 +1,7 @@
 use Rattle.std.proofs.Common.{length, ◌≤◌, ap, arith, Some}
 use Rattle.std.specs.Option.{IfSome}
 use Rattle.std.proofs.lemmas.Map.Views.{All-values-insert_entry}
-use Rattle.ode_keep.specs.Entries.{key_cmp}
+use Rattle.ode_value.specs.Keys.{key_cmp}
 use Rattle.ode_store_tests.proofs.keepers.putting_many.Goals as goal
 
 pub loop-a-preserved : goal.loop-a-preserved

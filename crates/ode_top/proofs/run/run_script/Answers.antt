@@ -10,10 +10,10 @@ use Rattle.ode_script.specs.Left.{HasLeft}
 use Rattle.ode_script.specs.Pieces.{End, Pieces, Then, pieces, pieces_from, script_limit}
 use Rattle.ode_top.specs.declared.settling.Halt.TheVariants as halt
 use Rattle.ode_top.specs.Halts.{status_of_error, status_of_halt}
-use Rattle.ode_top.specs.Serves.{IsAfterSome, LeavesNothing, SoFar}
+use Rattle.ode_top.specs.Serves.{IsAfterSome, IsEnding, LeavesNothing, SoFar}
 use Rattle.ode_top.specs.Trace.{final, piece_items, run_items, status_at, text_of, trace}
 use Rattle.ode_top.proofs.AfterSome.{goes_further}
-use Rattle.ode_top.proofs.Leaving.{error_no_disk, error_no_print, error_read, halt_disk, halt_no_read, halt_print, no_calls}
+use Rattle.ode_top.proofs.Leaving.{error_no_disk, error_no_print, error_read, halt_disk, halt_no_end, halt_no_read, halt_print, no_calls}
 use Rattle.ode_top.proofs.Runs.{end_leaves, ended_ran, error_ran, same_at, same_next}
 use Rattle.ode_top.proofs.run.run_script.Goals as goal
 use Rattle.ode_top.proofs.run.run_script.Goals.{then-refused, else-refused, then-refused-2, else-refused-2}
@@ -123,6 +123,9 @@ pub returns-in-Err-clause-reads : goal.returns-in-Err-clause-reads
 returns-in-Err-clause-reads g c =
     rose_on ⊥ _ _ _ _ (λ none. none) c.pieces.invariant.reads
     (rose_as _ _ _ _ (λ is. let e : c.in-Err.error ≡ error.ReadFault = cc (is) in c.status_of_error.ensures ∙ ap status_of_error e) (λ is. ap Err (error_read c.in-Err.error (sym c.status_of_error.ensures ∙ is))) c.in-Err.ensures.cause)
+
+pub returns-in-Err-carry_out-clause-ran : goal.returns-in-Err-carry_out-clause-ran
+returns-in-Err-carry_out-clause-ran g c script text told serves is_ending = absurd (halt_no_end c.in-Err-carry_out.halt (subst IsEnding c.status.ensures is_ending))
 
 pub returns-in-Err-carry_out-clause-leaves : goal.returns-in-Err-carry_out-clause-leaves
 returns-in-Err-carry_out-clause-leaves g c =

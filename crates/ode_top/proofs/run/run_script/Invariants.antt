@@ -4,8 +4,8 @@ use Rattle.ode_host.specs.Causes.{RoseIf}
 use Rattle.ode_host.specs.Host.{HostCalls, LeavesOnly}
 use Rattle.ode_script.specs.Left.{HasLeft}
 use Rattle.ode_script.specs.Pieces.{pieces, pieces_from}
-use Rattle.ode_value.specs.Good.{IsGood}
-use Rattle.ode_value.specs.Records.{rows}
+use Rattle.ode_value.specs.OneIntGood.{IsOneIntGood}
+use Rattle.ode_value.specs.OneIntRecords.{rows}
 use Rattle.ode_top.specs.Serves.{IsAfterSome, Serves, SoFar}
 use Rattle.ode_top.specs.Trace.{run_items}
 use Rattle.ode_top.proofs.run.run_script.Given as goal

@@ -1,5 +1,6 @@
-use Rattle.std.proofs.Common.{◌≡◌, ⊎_elim}
+use Rattle.std.proofs.Common.{◌≡◌, ◌∙◌, ⊎_elim, Some, ap, sym}
 use Rattle.ode_host.specs.declared.status.Status.TheVariants as status
+use Rattle.ode_top.specs.declared.call.Mode.{Mode}
 use Rattle.ode_host.proofs.Calls.{rose_none}
 use Rattle.ode_top.proofs.Leaving.{line_idle, line_leaves}
 use Rattle.ode_top.proofs.top.run_ode.Goals as goal
@@ -42,3 +43,9 @@ returns-in-None-clause-leaves g c = line_leaves status.Usage c.end_with.result _
 
 pub returns-in-None-clause-reads : goal.returns-in-None-clause-reads
 returns-in-None-clause-reads g c = rose_none _ _ (λ is. ⊎_elim (λ same. cc (same, is)) (λ cut. cc (cut, is)) c.end_with.ensures.status)
+
+pub returns-in-Run-clause-unread : goal.returns-in-Run-clause-unread
+returns-in-Run-clause-unread g c no_run =
+    let file = c.in-Some.call.file.now in
+    let words = rw c.in-Some.is at c.call_of.ensures in
+    absurd (no_run (file, sym words ∙ ap (λ (m : Mode). Some (m, file)) c.in-Run.is))

@@ -1,7 +1,7 @@
 use Rattle.ode_areas.specs.Holding.{Holds as AreasHold}
 use Rattle.ode_areas.specs.Laws.{stands_law}
 use Rattle.ode_first_records.specs.State.{world_of}
-use Rattle.ode_value.specs.Records.{rows}
+use Rattle.ode_value.specs.OneIntRecords.{rows}
 use Rattle.ode_top.proofs.Calling.{machine_run, never_usage}
 use Rattle.ode_top.proofs.top.run_opened.Goals as goal
 

@@ -7,7 +7,7 @@ use Rattle.ode_host.specs.declared.status.Status.TheVariants as status
 use Rattle.ode_host.proofs.Calls.{host_calls_on, rose_none}
 use Rattle.ode_host.proofs.Moments.{joined, tells_looks}
 use Rattle.ode_value.specs.Texts.{line}
-use Rattle.ode_value.specs.World.{World}
+use Rattle.ode_value.specs.OneIntWorld.{OneIntWorld}
 use Rattle.ode_top.specs.Answers.{IsMachineRun}
 use Rattle.ode_top.specs.Serves.{IsAfterSome}
 use Rattle.ode_top.specs.Trace.{run_items}
@@ -19,7 +19,7 @@ use Rattle.ode_top.proofs.top.run_synced.Goals as goal
 pub returns-in-Ok-clause-ran : goal.returns-in-Ok-clause-ran
 returns-in-Ok-clause-ran g c bytes image text w left stands said holds ending =
     let same : world_of c.in-Ok.opened.state ≡ w = c.in-Ok.ensures.found image w stands holds in
-    subst (λ (v : World). IsMachineRun bytes v text (g.S.Source.left c.run_opened.new.script) (g.H.Host.view c.run_opened.new.host) c.run_opened.result) same
+    subst (λ (v : OneIntWorld). IsMachineRun bytes v text (g.S.Source.left c.run_opened.new.script) (g.H.Host.view c.run_opened.new.host) c.run_opened.result) same
     (c.run_opened.ensures.ran bytes text left (record { records = c.in-Ok.ensures.keeper image stands; printed = c.open.ensures.looks.text ∙ said }) ending)
 
 pub returns-in-Ok-clause-any_moment : goal.returns-in-Ok-clause-any_moment
@@ -28,7 +28,7 @@ returns-in-Ok-clause-any_moment g c bytes image text w left stands said holds =
     joined _ _ _ (IsAfterSome AreasMean (run_items w bytes) w text)
     (looks_leaves image text (g.H.Host.view c.args.host.now) (g.met.H.Host.text_stands c.args.host.now) stands.only said _ (IsAfterSome AreasMean (run_items w bytes) w text)
     (at_start AreasMean (run_items w bytes) w text image holds) c.open.ensures.looks)
-    (subst (λ (v : World). LeavesOnly (g.H.Host.view c.open.new.host) (g.H.Host.view c.run_opened.new.host) (IsAfterSome AreasMean (run_items v bytes) v text)) same
+    (subst (λ (v : OneIntWorld). LeavesOnly (g.H.Host.view c.open.new.host) (g.H.Host.view c.run_opened.new.host) (IsAfterSome AreasMean (run_items v bytes) v text)) same
     (c.run_opened.ensures.any_moment bytes text left (record { records = c.in-Ok.ensures.keeper image stands; printed = c.open.ensures.looks.text ∙ said })))
 
 pub returns-in-Ok-clause-answers : goal.returns-in-Ok-clause-answers

@@ -1,7 +1,7 @@
 use Rattle.std.proofs.Common.{◌≡◌, Option, is_le, subst, sym, true}
 use Rattle.std.specs.Option.{IfSome}
 use Rattle.ode_value.specs.declared.key.Key.{Key}
-use Rattle.ode_keep.specs.Entries.{key_cmp}
+use Rattle.ode_value.specs.Keys.{key_cmp}
 use Rattle.ode_areas.proofs.Above.{least_above}
 use Rattle.ode_areas.proofs.keeping.AreasKeep.keys_from.Goals as goal
 

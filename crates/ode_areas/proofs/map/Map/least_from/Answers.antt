@@ -4,7 +4,8 @@ use Rattle.std.specs.List.{filter, slice_get}
 use Rattle.std.specs.Option.{option_map}
 use Rattle.std.specs.Ordering.{is_le}
 use Rattle.ode_value.specs.declared.key.Key.{Key}
-use Rattle.ode_keep.specs.Entries.{Entries, key_cmp, least_from}
+use Rattle.ode_keep.specs.Entries.{Entries, least_from}
+use Rattle.ode_value.specs.Keys.{key_cmp}
 use Rattle.ode_areas.proofs.InMemory.{first_passing}
 use Rattle.ode_areas.proofs.map.Map.least_from.Goals as goal
 

@@ -1,6 +1,7 @@
 use Rattle.std.proofs.Common.{◌≡◌, Some, sym, ap, ◌∙◌, arith}
 use Rattle.std.specs.BTreeMap.{is_at}
-use Rattle.ode_keep.specs.Entries.{key_cmp, record_bytes, value_under}
+use Rattle.ode_value.specs.Keys.{key_cmp}
+use Rattle.ode_keep.specs.Entries.{record_bytes, value_under}
 use Rattle.ode_keep.specs.Growth.{bytes_of}
 use Rattle.ode_keep.proofs.Growing.{removed_shrinks}
 use Rattle.ode_keep.proofs.Applying.{taken_out}

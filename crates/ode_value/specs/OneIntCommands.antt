@@ -1,4 +1,4 @@
--- What a statement of a built form comes to: one refusal, or the transactions that it settles.
+-- What a statement of the first path comes to: one refusal, or the transactions that it settles.
 use Rattle.std.specs.Prelude.{ℕ, ℤ, pos, List, [], ◌∷◌, cond, nat_lt, is_some, Option, Some, None, slice_get}
 use Rattle.std.specs.Option.{option_and_then, option_map}
 use Rattle.ode_value.specs.declared.class.Class.{Class}
@@ -18,14 +18,16 @@ use Rattle.ode_value.specs.declared.statement.Stmt.{Stmt}
 use Rattle.ode_value.specs.declared.statement.Stmt.TheVariants.{Do, Show}
 use Rattle.ode_value.specs.declared.value.Value.{Value}
 use Rattle.ode_value.specs.declared.value.Value.TheVariants as value
-use Rattle.ode_value.specs.Good.{number_limit}
-use Rattle.ode_value.specs.Machine.{Settled, declaring, creating, showing}
-use Rattle.ode_value.specs.World.{World, Object, Version, class_named, class_numbered, slot_of, object_at, version_of}
+use Rattle.ode_value.specs.Limits.{number_limit}
+use Rattle.ode_value.specs.OneIntMachine.{OneIntSettled, declaring, creating, showing}
+use Rattle.ode_value.specs.OneIntWorld.{OneIntWorld, OneIntObject, object_at}
+use Rattle.ode_value.specs.Versions.{Version, version_of}
+use Rattle.ode_value.specs.Worlds.{class_named, class_numbered, slot_of}
 
 -- one refusal, and nothing changed; or the settled transactions, in order
-pub data Outcome : Type 0 where
-  Refused : (refusal : Refusal) → Outcome
-  Settles : (transactions : List Settled) → Outcome
+pub data OneIntOutcome : Type 0 where
+  Refused : (refusal : Refusal) → OneIntOutcome
+  Settles : (transactions : List OneIntSettled) → OneIntOutcome
 
 -- The parts of the three built forms, where a tree is of that form.
 
@@ -78,53 +80,53 @@ shown_path x = path_at (out-Expr x)
 
 -- What each form comes to, where numbers are left.
 
-abbrev pub one : Settled → Outcome
+abbrev pub one : OneIntSettled → OneIntOutcome
 one s = Settles (s ∷ [])
 
 -- a class's name is new
-abbrev pub declare : World → List ℕ → List ℕ → Outcome
+abbrev pub declare : OneIntWorld → List ℕ → List ℕ → OneIntOutcome
 declare w name field = cond (is_some (class_named name w.classes)) (Refused (Check (Duplicate name))) (one (declaring w name field))
 
 -- the int that a new object begins with: 0, or what its field is set to
-abbrev pub create_in : World → Class → Option (List ℕ × ℤ) → Outcome
+abbrev pub create_in : OneIntWorld → Class → Option (List ℕ × ℤ) → OneIntOutcome
 create_in w c None = one (creating w c.number (pos 0))
 create_in w c (Some a) = cond (is_some (slot_of a.0 c.fields)) (one (creating w c.number a.1)) (Refused (Check (UnknownName a.0)))
 
-abbrev pub create_of : World → List ℕ → Option (List ℕ × ℤ) → Option Class → Outcome
+abbrev pub create_of : OneIntWorld → List ℕ → Option (List ℕ × ℤ) → Option Class → OneIntOutcome
 create_of w name assigned None = Refused (Check (UnknownName name))
 create_of w name assigned (Some c) = create_in w c assigned
 
-abbrev pub create : World → List ℕ → Option (List ℕ × ℤ) → Outcome
+abbrev pub create : OneIntWorld → List ℕ → Option (List ℕ × ℤ) → OneIntOutcome
 create w name assigned = create_of w name assigned (class_named name w.classes)
 
 -- the value of a field of the object's newest version
-abbrev pub field_of : World → Object → List ℕ → Option Value
+abbrev pub field_of : OneIntWorld → OneIntObject → List ℕ → Option Value
 field_of w o name =
     option_and_then (λ (c : Class). option_and_then (λ (at : ℕ). option_and_then (λ (v : Version). slice_get v.fields at) (version_of None o.versions)) (slot_of name c.fields))
     (class_numbered o.class w.classes)
 
-abbrev pub show_value : World → List ℕ → Option Value → Outcome
+abbrev pub show_value : OneIntWorld → List ℕ → Option Value → OneIntOutcome
 show_value w name None = Refused (Check (UnknownName name))
 show_value w name (Some v) = one (showing w v)
 
-abbrev pub show_of : World → ℕ → List ℕ → Option Object → Outcome
+abbrev pub show_of : OneIntWorld → ℕ → List ℕ → Option OneIntObject → OneIntOutcome
 show_of w id name None = Refused (NoObject id)
 show_of w id name (Some o) = show_value w name (field_of w o name)
 
-abbrev pub show : World → ℕ → List ℕ → Outcome
+abbrev pub show : OneIntWorld → ℕ → List ℕ → OneIntOutcome
 show w id name = show_of w id name (object_at id w.objects)
 
 -- a form that isn't built, and a built one when no transaction's number is left
-abbrev pub built : {A : Type 0} → World → Option A → (A → Outcome) → Outcome
+abbrev pub built : {A : Type 0} → OneIntWorld → Option A → (A → OneIntOutcome) → OneIntOutcome
 built w None carry = Refused NotBuilt
 built w (Some a) carry = cond (nat_lt w.transaction number_limit) (carry a) (Refused NumbersSpent)
 
-abbrev pub carried : World → Stmt → Outcome
+abbrev pub carried : OneIntWorld → Stmt → OneIntOutcome
 carried w (Do (rhs.New name fields)) = built w (assignments fields) (λ assigned. create w name assigned)
 carried w (Show (rhs.Plain x)) = built w (shown_path x) (λ (path : ℕ × List ℕ). show w path.0 path.1)
 carried w _ = Refused NotBuilt
 
-abbrev pub command : World → Statement → Outcome
+abbrev pub command : OneIntWorld → Statement → OneIntOutcome
 command w (Declares d) = built w (declared_field d) (λ (field : List ℕ). declare w d.name field)
 command w (Simple s) = carried w s
 command w _ = Refused NotBuilt

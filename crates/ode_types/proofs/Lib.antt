@@ -1,0 +1,3 @@
+pub mod CheckedClasses
+pub mod ClassLists
+pub mod Places

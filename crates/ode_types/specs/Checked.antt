@@ -1,0 +1,10 @@
+-- A class that was checked.
+use Rattle.std.specs.Prelude.{◌≡◌, List, Ok}
+use Rattle.ode_value.specs.declared.class.Class.{Class}
+use Rattle.ode_value.specs.declared.statement.ClassDecl.{ClassDecl}
+use Rattle.ode_types.specs.Static.{check_class}
+
+-- it is what a tree came to, against these classes
+pub record IsChecked (known : List Class) (c : Class) : Type 0 where
+  pub tree : ClassDecl
+  pub checks : check_class known tree ≡ Ok c

@@ -1,0 +1,145 @@
+-- The first pass over a class: names, class names in sorts, kinds and numbers, without bodies.
+use Rattle.std.specs.Prelude.{ℕ, ◌+◌, List, [], ◌∷◌, ◌++◌, length, codes, Bool, true, false, not, ◌&&◌, ◌||◌, nat_le, ◌==◌, is_some, is_none, Option, Some, None, Ok}
+use Rattle.std.specs.List.{list_any, filter_map}
+use Rattle.std.specs.Option.{option_map, option_map_or}
+use Rattle.std.specs.Str.{bytes_eq}
+use Rattle.ode_value.specs.declared.binding.Param.{Param}
+use Rattle.ode_value.specs.declared.class.Class.{Class}
+use Rattle.ode_value.specs.declared.event.Kind.{Kind}
+use Rattle.ode_value.specs.declared.event.Kind.TheVariants as kind
+use Rattle.ode_value.specs.declared.member.Method.{Method}
+use Rattle.ode_value.specs.declared.reason.CheckError.TheVariants.{UnknownName, Duplicate, WrongSort, NotInherited, TooMany}
+use Rattle.ode_value.specs.declared.statement.ClassDecl.{ClassDecl}
+use Rattle.ode_value.specs.declared.statement.Member.{Member}
+use Rattle.ode_value.specs.declared.statement.Member.TheVariants as member
+use Rattle.ode_value.specs.declared.statement.Sort.{Sort}
+use Rattle.ode_value.specs.declared.statement.Sort.TheVariants as sort
+use Rattle.ode_value.specs.Same.{same_kind, same_sort}
+use Rattle.ode_types.specs.Checks.{Check, ◌>>=◌, ◌>>◌, needs, found, through}
+use Rattle.ode_types.specs.Events.{kind_method}
+use Rattle.ode_types.specs.Families.{class_named, ancestors_of, line_of, field_named, method_named, constraint_named, trigger_named}
+use Rattle.ode_types.specs.Limits.{field_limit, trigger_limit, ancestor_limit}
+
+-- a class without members of its own: the next number, and what it inherits
+abbrev pub without_members : List Class → List ℕ → Option Class → Class
+without_members known name parent = record {
+  number = length known + 1;
+  name = name;
+  parent = option_map (λ (p : Class). p.number) parent;
+  fields = option_map_or (λ (p : Class). p.fields) parent [];
+  methods = [];
+  constraints = [];
+  kinds = option_map_or (λ (p : Class). p.kinds) parent [];
+  triggers = [];
+}
+
+-- with one more member
+abbrev pub with_member : Class → Member → Class
+with_member c (member.Field name s) = record c { fields = c.fields ++ record { name = name; sort = s } ∷ [] }
+with_member c (member.Method m) = record c { methods = c.methods ++ m ∷ [] }
+with_member c (member.Constraint x) = record c { constraints = c.constraints ++ x ∷ [] }
+with_member c (member.Events kinds) = record c { kinds = c.kinds ++ kinds }
+with_member c (member.Trigger t) = record c { triggers = c.triggers ++ t ∷ [] }
+
+-- the parent is declared, where the class has one
+abbrev pub parent_in : List Class → Option (List ℕ) → Check (Option Class)
+parent_in known None = Ok None
+parent_in known (Some name) = do
+  p ← found (UnknownName name) (class_named known name)
+  Ok (Some p)
+
+-- the class's name is new, and its parent is declared
+abbrev pub begins : List Class → ClassDecl → Check Class
+begins known d = do
+  needs (Duplicate d.name) (is_none (class_named known d.name))
+  parent ← parent_in known d.parent
+  Ok (without_members known d.name parent)
+
+-- the kind's last word, or the method's name
+abbrev pub kind_word : Kind → List ℕ
+kind_word kind.Create = codes "create"
+kind_word kind.Delete = codes "delete"
+kind_word (kind.Before name) = name
+kind_word (kind.After name) = name
+kind_word kind.TBegin = codes "tbegin"
+kind_word kind.TComplete = codes "tcomplete"
+kind_word kind.TCommit = codes "tcommit"
+kind_word kind.TAbort = codes "tabort"
+kind_word (kind.TimeEvery n) = codes "every"
+kind_word (kind.TimeAt t) = codes "at"
+
+-- the name of a method
+abbrev pub method_name : Member → Option (List ℕ)
+method_name (member.Method m) = Some m.name
+method_name _ = None
+
+-- two methods have the same result and parameter sorts
+abbrev pub same_params : List Param → List Param → Bool
+same_params [] [] = true
+same_params (p ∷ ps) (q ∷ qs) = same_sort p.sort q.sort && same_params ps qs
+same_params _ _ = false
+
+abbrev pub same_shape : Method → Method → Bool
+same_shape m n = same_sort m.result n.result && same_params m.params n.params
+
+module _ (known : List Class) (d : ClassDecl) where
+  -- a class in a sort is declared earlier, or is the class itself
+  abbrev pub knows_sort : Sort → Check (Unit {0})
+  knows_sort (sort.Reference name) = needs (UnknownName name) (bytes_eq name d.name || is_some (class_named known name))
+  knows_sort _ = Ok tt
+
+  -- parameters differ
+  abbrev pub knows_param : List (List ℕ) → Param → Check (List (List ℕ))
+  knows_param before p = do
+    knows_sort p.sort
+    needs (Duplicate p.name) (not (list_any (bytes_eq p.name) before))
+    Ok (p.name ∷ before)
+
+  abbrev pub knows_params : List Param → Check (Unit {0})
+  knows_params params = do
+    _ ← through knows_param [] params
+    Ok tt
+
+  -- a method of this name is among the members, or an ancestor has one
+  abbrev pub has_method : Class → List ℕ → Bool
+  has_method c name = list_any (bytes_eq name) (filter_map method_name d.members) || is_some (method_named (ancestors_of known c) name)
+
+  -- a kind isn't listed yet, and names a method where it names one
+  abbrev pub lists : Class → Kind → Check Class
+  lists c k = do
+    needs (Duplicate (kind_word k)) (not (list_any (same_kind k) c.kinds))
+    needs (UnknownName (kind_word k)) (option_map_or (has_method c) (kind_method k) true)
+    Ok (with_member c (member.Events (k ∷ [])))
+
+  -- a member, behind those that the class has so far
+  abbrev pub declares : Class → Member → Check Class
+  declares c (member.Field name s) = do
+    knows_sort s
+    needs (Duplicate name) (is_none (field_named c.fields name))
+    Ok (with_member c (member.Field name s))
+  declares c (member.Method m) = do
+    knows_sort m.result
+    needs (Duplicate m.name) (is_none (method_named (c ∷ []) m.name))
+    needs (NotInherited m.name) (option_map_or (same_shape m) (method_named (ancestors_of known c) m.name) true)
+    knows_params m.params
+    Ok (with_member c (member.Method m))
+  declares c (member.Constraint x) = do
+    needs (Duplicate x.name) (is_none (constraint_named (line_of known c) x.name))
+    Ok (with_member c (member.Constraint x))
+  declares c (member.Events kinds) = through lists c kinds
+  declares c (member.Trigger t) = do
+    needs (Duplicate t.name) (is_none (trigger_named (line_of known c) t.name))
+    knows_params t.params
+    needs (WrongSort t.name) (not t.initial || length t.params == 0)
+    Ok (with_member c (member.Trigger t))
+
+  -- a class is within the limits
+  abbrev pub is_small : Class → Bool
+  is_small c = nat_le (length c.fields) field_limit && nat_le (length c.triggers) trigger_limit && nat_le (length (ancestors_of known c)) ancestor_limit
+
+  -- all members
+  abbrev pub declared : Class → Check Class
+  declared start = do
+    c ← through declares start d.members
+    needs (TooMany d.name) (is_small c)
+    Ok c

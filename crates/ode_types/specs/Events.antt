@@ -1,0 +1,85 @@
+-- Event expressions: the kinds and masks of their leaves.
+use Rattle.std.specs.Prelude.{ℕ, List, [], Bool, Option, Some, None, Ok, false}
+use Rattle.std.specs.List.{list_any}
+use Rattle.std.specs.Option.{option_and_then, option_map_or}
+use Rattle.ode_value.specs.declared.binding.Param.{Param}
+use Rattle.ode_value.specs.declared.class.Class.{Class}
+use Rattle.ode_value.specs.declared.event.EventExpr.{EventExpr, fold-EventExpr}
+use Rattle.ode_value.specs.declared.event.EventExpr.TheOpen as event
+use Rattle.ode_value.specs.declared.event.EventExpr.TheVariants as checked
+use Rattle.ode_value.specs.declared.event.Kind.{Kind}
+use Rattle.ode_value.specs.declared.event.Kind.TheVariants as kind
+use Rattle.ode_value.specs.declared.member.Method.{Method}
+use Rattle.ode_value.specs.declared.statement.Expr.{Expr}
+use Rattle.ode_value.specs.declared.statement.Sort.TheVariants as sort
+use Rattle.ode_value.specs.Same.{same_kind}
+use Rattle.ode_types.specs.Checks.{Check, ◌>>=◌, ◌>>◌, needs}
+use Rattle.ode_types.specs.Families.{line_of, method_named}
+use Rattle.ode_types.specs.Scopes.{Scope, wrong, plain_scope, with_params}
+use Rattle.ode_types.specs.Typing.{fitting}
+
+-- a check of an event expression
+abbrev pub Listing : Type 0
+Listing = Scope → Check EventExpr
+
+-- the method that a kind names
+abbrev pub kind_method : Kind → Option (List ℕ)
+kind_method (kind.Before name) = Some name
+kind_method (kind.After name) = Some name
+kind_method _ = None
+
+-- the parameters of an event: those of the nearest method that its kind names
+abbrev pub event_params : Scope → Kind → List Param
+event_params scope k =
+    let line = option_map_or (line_of scope.classes) scope.class [] in
+    option_map_or (λ (m : Method). m.params) (option_and_then (method_named line) (kind_method k)) []
+
+-- the class lists a kind, or an ancestor does
+abbrev pub is_listed : Scope → Kind → Bool
+is_listed scope k = option_map_or (λ (c : Class). list_any (same_kind k) c.kinds) scope.class false
+
+-- a mask, which sees the event's parameters behind the trigger's, and is plain
+abbrev pub mask : Kind → Option Expr → Scope → Check (Option Expr)
+mask k None scope = Ok None
+mask k (Some e) scope = do
+  test ← fitting sort.Bool e (plain_scope (with_params (event_params scope k) scope))
+  Ok (Some test)
+
+-- two parts, from left to right
+abbrev pub two : (EventExpr → EventExpr → EventExpr) → Listing → Listing → Listing
+two make e f scope = do
+  a ← e scope
+  b ← f scope
+  Ok (make a b)
+
+-- one part
+abbrev pub one : (EventExpr → EventExpr) → Listing → Listing
+one make e scope = do
+  a ← e scope
+  Ok (make a)
+
+-- one level of an event expression
+abbrev pub listing_of : event.EventExpr-F Listing → Listing
+listing_of (event.Leaf k m) scope = do
+  needs (wrong scope) (is_listed scope k)
+  test ← mask k m scope
+  Ok (checked.Leaf k test)
+listing_of event.Any scope = Ok checked.Any
+listing_of event.First scope = Ok checked.First
+listing_of (event.Not e) scope = one checked.Not e scope
+listing_of (event.And e f) scope = two checked.And e f scope
+listing_of (event.Or e f) scope = two checked.Or e f scope
+listing_of (event.Relative e f) scope = two checked.Relative e f scope
+listing_of (event.Prior e f) scope = two checked.Prior e f scope
+listing_of (event.Sequence e f) scope = two checked.Sequence e f scope
+listing_of (event.Choose n e) scope = one (checked.Choose n) e scope
+listing_of (event.Every n e) scope = one (checked.Every n) e scope
+listing_of (event.Fa e f g) scope = do
+  a ← e scope
+  b ← f scope
+  c ← g scope
+  Ok (checked.Fa a b c)
+
+-- a whole one
+unfoldable pub listed : EventExpr → Listing
+listed = fold-EventExpr Listing listing_of

@@ -1,0 +1,14 @@
+pub mod Bodies
+pub mod Checked
+pub mod Checks
+pub mod Declaring
+pub mod Events
+pub mod Families
+pub mod Indexed
+pub mod Limits
+pub mod Literals
+pub mod Rights
+pub mod Scopes
+pub mod Sorts
+pub mod Static
+pub mod Typing

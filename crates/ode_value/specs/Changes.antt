@@ -1,0 +1,79 @@
+-- What every change of records asks for, and what acts look at before one.
+use Rattle.std.specs.Prelude.{ℕ, ◌+◌, List, [], ◌∷◌, map, length, Bool, true, nat_lt, nat_le, ◌&&◌, is_some}
+use Rattle.std.specs.List.{fold}
+use Rattle.std.specs.Ordering.{match_ordering}
+use Rattle.ode_value.specs.declared.key.Key.{Key}
+use Rattle.ode_value.specs.declared.reason.Reason.TheVariants.{NoObject, Size, Space}
+use Rattle.ode_value.specs.declared.value.Ref.{Ref}
+use Rattle.ode_value.specs.Objects.{Activation}
+use Rattle.ode_value.specs.Keys.{key_cmp, version_key, activation_key}
+use Rattle.ode_value.specs.Versions.{Version}
+use Rattle.ode_value.specs.Acts.{Act, Deed, ◌>>=◌, ◌>>◌, needs, does, finds, gives, computes, alters}
+use Rattle.ode_value.specs.Limits.{change_limit, value_limit, number_limit}
+use Rattle.ode_value.specs.Transactions.{Tx}
+use Rattle.ode_value.specs.Worlds.{Object, Bones, with_object}
+use Rattle.ode_value.specs.Denoting.{object_at, denoted}
+
+-- a set of keys, in rising order, with one more
+abbrev pub with_key : List Key → Key → List Key
+with_key [] k = k ∷ []
+with_key (l ∷ ls) k = match_ordering (key_cmp k l) (k ∷ l ∷ ls) (l ∷ ls) (l ∷ with_key ls k)
+
+-- the keys of an object's versions
+abbrev pub version_keys : Object → List Key
+version_keys o = map (λ (v : Version). version_key o.id v.number) o.versions
+
+-- the keys of its activations
+abbrev pub activation_keys : Object → List Key
+activation_keys o = map (λ (a : Activation). activation_key o.id a.number) o.activations
+
+-- a number is left for an object or an activation
+abbrev pub has_number : Bones → Bool
+has_number b = nat_lt b.next number_limit
+
+-- for a change that draws no number
+abbrev pub draws_none : Bones → Bool
+draws_none b = true
+
+module _ {O A : Type 0} where
+  -- how many keys the change list holds, one for each entry that was collected among them
+  abbrev pub key_count : Tx O A → ℕ
+  key_count x = length x.keys + x.gathered
+
+  -- holds these keys too
+  abbrev pub holding : List Key → Tx O A → Tx O A
+  holding keys x = record x { keys = fold with_key x.keys keys }
+
+  -- Every change, by its keys, the length of its longest value and the number that it draws: first its size, then its space; then
+  -- its keys are held.
+  abbrev pub changes : List Key → ℕ → (Bones → Bool) → Deed O A
+  changes keys size draws = do
+    needs Size (λ x. nat_le size value_limit && nat_le (key_count (holding keys x)) change_limit)
+    needs Space (λ x. draws x.now.bones)
+    does (holding keys)
+
+  -- the live object of a number
+  abbrev pub object : ℕ → Act O A Object
+  object id = finds (λ b. object_at b id)
+
+  -- its class
+  abbrev pub class_of : ℕ → Act O A ℕ
+  class_of id = do
+    o ← object id
+    gives o.class
+
+  -- whether it is there
+  abbrev pub is_live : ℕ → Tx O A → Bool
+  is_live id x = is_some (object_at x.now.bones id)
+
+  -- it is there
+  abbrev pub lives : ℕ → Deed O A
+  lives id = needs (NoObject id) (is_live id)
+
+  -- the version that a reference denotes
+  abbrev pub version : Ref → Act O A Version
+  version r = computes (λ b. denoted b r)
+
+  -- an object is changed
+  abbrev pub alters_object : ℕ → (Object → Object) → Deed O A
+  alters_object id change = alters (λ b. record b { objects = with_object id change b.objects })

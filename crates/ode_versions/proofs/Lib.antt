@@ -1,0 +1,3 @@
+mod Current
+mod Removal
+mod Growth
