@@ -1,6 +1,7 @@
 -- Bytes that were read ahead.
-use Rattle.std.proofs.Common.{◌≡◌, ◌≤◌, ◌<◌, ℕ, ◌+◌, ◌-◌, List, ◌++◌, take, drop, sym, ◌∙◌, ap, arith, take-append-drop}
+use Rattle.std.proofs.Common.{◌≡◌, ◌≤◌, ◌<◌, ℕ, ◌+◌, ◌-◌, List, [], ◌∷◌, ◌++◌, length, nat_eq, slice_index_or, true, false, take, drop, sym, ◌∙◌, ap, arith, take-append-drop}
 use Rattle.std.proofs.lemmas.List.{drop-drop, drop-take, take-take}
+use Rattle.std.proofs.lemmas.Bool.Decides.{nat_tests}
 use Rattle.std.proofs.Math.Seq.{take-add}
 use Rattle.ode_host.specs.Host.{Looks}
 use Rattle.ode_host.specs.View.{View}
@@ -32,3 +33,16 @@ joined_read have n at new file le first second =
 -- behind a read
 pub reads_on : (file : List ℕ) (a b : View) (old new : Block) → Looks a b → StaysOf a old new → TellsAhead a old file → TellsAhead b new file
 reads_on file a b old new looks stays reads = record { tells = tells_looks file a b looks reads.tells; ahead = stays file reads.tells reads.ahead }
+
+-- the byte that was read stands there
+pub gate_read : (at : ℕ) (to file : List ℕ) → length to ≡ 1 → to ≡ take 1 (drop at file) → drop at file ≡ slice_index_or to 0 0 ∷ drop (at + 1) file
+gate_read at to file one is = first (drop at file) to one is ∙ ap (λ (l : List ℕ). slice_index_or to 0 0 ∷ l) (drop-drop 1 at file) where
+  first : (l to : List ℕ) → length to ≡ 1 → to ≡ take 1 l → l ≡ slice_index_or to 0 0 ∷ drop 1 l
+  first [] to one is = let none : to ≡ [] = is in absurd (omega (arith, one, ap length none))
+  first (x ∷ l) to one is = let e : to ≡ x ∷ [] = is in ap (λ (v : ℕ). v ∷ l) (sym (ap (λ (v : List ℕ). slice_index_or v 0 0) e))
+
+pub is_gate : (x gate : ℕ) → nat_eq x gate ≡ true → x ≡ gate
+is_gate x gate is = grind (arith, nat_tests, is)
+
+pub no_gate : (x gate : ℕ) → nat_eq x gate ≡ false → x ≡ gate → ⊥
+no_gate x gate is same = grind (arith, nat_tests, is, same)

@@ -10,7 +10,7 @@ use Rattle.ode_journal.proofs.reading.scan.Goals as goal
 
 pub returns-in_err-next_frame-clause-bad : goal.returns-in_err-next_frame-clause-bad
 returns-in_err-next_frame-clause-bad g c =
-    let p = err_from_is_err_and c.from_residual.result c.from_residual.ensures.1 in
+    let p = err_from_is_err_and c.from_residual-in_err-next_frame.result c.from_residual-in_err-next_frame.ensures.1 in
     rw (p.1, p.2) (λ place e file tells.
     let so_far = c.frames.invariant in
     let same : c.in_err-next_frame.field-0.0 ≡ BadJournal place = cc (e) in
@@ -19,7 +19,7 @@ returns-in_err-next_frame-clause-bad g c =
 
 pub returns-in_err-next_frame-clause-whole : goal.returns-in_err-next_frame-clause-whole
 returns-in_err-next_frame-clause-whole g c =
-    let p = err_from_is_err_and c.from_residual.result c.from_residual.ensures.1 in
+    let p = err_from_is_err_and c.from_residual-in_err-next_frame.result c.from_residual-in_err-next_frame.ensures.1 in
     rw (p.1, p.2) (λ file frames tells is.
     let so_far = c.frames.invariant in
     exact_scan c.args.start c.args.end file (Err c.in_err-next_frame.field-0.0) tt
@@ -31,7 +31,7 @@ returns-in_err-next_frame-clause-whole g c =
 
 pub returns-in_err-next_frame-clause-broken : goal.returns-in_err-next_frame-clause-broken
 returns-in_err-next_frame-clause-broken g c =
-    let p = err_from_is_err_and c.from_residual.result c.from_residual.ensures.1 in
+    let p = err_from_is_err_and c.from_residual-in_err-next_frame.result c.from_residual-in_err-next_frame.ensures.1 in
     rw (p.1, p.2) (λ file place tells is.
     let so_far = c.frames.invariant in
     exact_broken c.args.start c.args.end file (Err c.in_err-next_frame.field-0.0) tt
