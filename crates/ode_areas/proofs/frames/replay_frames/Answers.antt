@@ -19,7 +19,7 @@ frames-init g c = record {
 
 pub returns-in_err-payload-clause-bad : goal.returns-in_err-payload-clause-bad
 returns-in_err-payload-clause-bad g c =
-    let p = err_from_is_err_and c.from_residual.result c.from_residual.ensures.1 in
+    let p = err_from_is_err_and c.from_residual-in_err-payload.result c.from_residual-in_err-payload.ensures.1 in
     rw (p.1, p.2) (λ place e file tells.
     let so_far = c.frames.invariant in
     let same : c.in_err-payload.field-0.0 ≡ BadJournal place = cc (e) in
