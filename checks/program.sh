@@ -337,6 +337,89 @@ else
     skip 'a full device: there is no /dev/full'
 fi
 
+# --- a large file
+
+# 5,000 classes, each a transaction of its own.
+seq 5000 | sed 's/.*/class C& { int n; };/' > classes.ode
+fresh classes.db
+run run classes.db < classes.ode
+ended '5,000 classes' 0
+is '5,000 transactions are printed' [ "$(grep -c '^tx [0-9]* committed$' text)" -eq 5000 ]
+run run classes.db <<< 'pnew C5000(n = 7); show #1.n;'
+said 'the last class is there' 0 $'new #1\ntx 5001 committed\nvalue 7\ntx 5002 committed\n'
+
+# The length of the first record of the snapshot, one too low, in front of a long journal.
+cp classes.db damaged.db
+printf '\x2C' | dd of=damaged.db bs=1 seek=$((4096 + 18)) conv=notrunc 2> errors
+cp damaged.db damaged.before
+run run damaged.db < declare.ode
+said 'a damaged record is no want of memory' 3 $'bad file\n'
+is 'the damaged file is as it was' cmp damaged.db damaged.before
+
+# --- the calls that the system sees
+
+# traced FILE WORD..: a run on this file under strace, with these words for it; its calls are in the file `trace`.
+traced() {
+    local file=$1
+    shift
+    timeout -k 5 60 strace -o trace "$@" ./ode run "$file" > text 2> errors
+    status=$?
+}
+
+# calls: the names of the calls that were traced, in their order, without the reads.
+calls() {
+    sed -n 's/^\([a-z0-9]*\)(.*/\1/p' trace | grep -v '^pread64$' | tr '\n' ' '
+}
+
+# in_order COUNT: one sync at the opening, and for each of so many transactions its frame, a sync, its gate, a sync and its
+# text.
+in_order() {
+    local wanted='fdatasync ' round
+    for round in $(seq "$1"); do
+        wanted+='pwrite64 fdatasync pwrite64 fdatasync write '
+    done
+    if [ "$(calls)" != "$wanted" ]; then
+        echo "  $(calls)"
+        return 1
+    fi
+}
+
+# reads_most COUNT: the run read at most so many times.
+reads_most() {
+    local count
+    count=$(grep -c '^pread64(' trace)
+    if [ "$count" -gt "$1" ]; then
+        echo "  $count reads"
+        return 1
+    fi
+}
+
+if command -v strace > strace.path && strace -o trace true 2> errors; then
+    watched=trace=pread64,pwrite64,write,fdatasync,fsync,lseek
+    fresh traced.db
+    run run traced.db < declare.ode
+    yes 'pnew P(n = 5);' | head -n 10 > ten.ode
+    traced traced.db -e "$watched" < ten.ode
+    ended 'a run under strace' 0
+    is 'two syncs a transaction, one at the opening, and the writes in their order' in_order 10
+    traced classes.db -e "$watched" < /dev/null
+    is 'a journal of 5,000 transactions is read in blocks' reads_most 24
+
+    # Behind a sync that failed the next one answers that all is well, so it is never made.
+    for number in 1 2 3; do
+        cp traced.db sync.db
+        traced sync.db -e trace=fdatasync -e "inject=fdatasync:error=EIO:when=$number" < ten.ode
+        ended "sync $number fails" 4
+        is "sync $number is not tried again" [ "$(grep -c '^fdatasync(' trace)" -eq "$number" ]
+    done
+    traced traced.db -e trace=pread64 -e inject=pread64:error=EIO:when=2 < ten.ode
+    ended 'a read of the file fails' 4
+    traced traced.db -P /dev/null -e trace=openat -e inject=openat:error=EMFILE < ten.ode
+    ended 'a place of a standard stream is not taken' 4
+else
+    skip 'the calls that the system sees: strace does not run here'
+fi
+
 # --- a run that is killed
 
 # What a run of 20,000 times `pnew P(n = 5);` prints from this transaction and this object on.

@@ -19,7 +19,7 @@ invariant-pieces g l = record {
   records : g.K.Keep.holds l.fn.keeper (g.H.Host.view l.fn.host) (rows (world_of l.fn.state)) → g.K.Keep.holds l.keeper (g.H.Host.view l.host) (rows (world_of l.state));
   moments : (script text : List ℕ) → g.S.Source.left l.fn.source ≡ Some script → Serves (g.K.Keep.holds l.fn.keeper) (g.H.Host.view l.fn.host) (world_of l.fn.state) text →
       LeavesOnly (g.H.Host.view l.fn.host) (g.H.Host.view l.host) (IsAfterSome g.K.Keep.means (run_items (world_of l.fn.state) script) (world_of l.fn.state) text);
-  good : IsGood (world_of l.state);
+  good : IsOneIntGood (world_of l.state);
   live : IsTrue (g.K.Keep.live l.keeper);
   allowed : l.reader.allowed ≤ 67108864;
   leaves : HostCalls ⊥ ⊥ (g.H.Host.view l.fn.host) (g.H.Host.view l.host);

@@ -1,5 +1,8 @@
-use Rattle.std.proofs.Common.{◌≡◌, ◌∙◌, ⊎_elim, Some, ap, sym}
+use Rattle.std.proofs.Common.{◌≡◌, ◌∙◌, ⊎_elim, List, Some, ap, sym}
 use Rattle.ode_host.specs.declared.status.Status.TheVariants as status
+use Rattle.std.specs.declared.string.String.{String}
+use Rattle.std.specs.declared.alloc.Global.{Global}
+use Rattle.ode_top.specs.Calls.{bytes_of, call_of}
 use Rattle.ode_top.specs.declared.call.Mode.{Mode}
 use Rattle.ode_host.proofs.Calls.{rose_none}
 use Rattle.ode_top.proofs.Leaving.{line_idle, line_leaves}
@@ -48,4 +51,4 @@ pub returns-in-Run-clause-unread : goal.returns-in-Run-clause-unread
 returns-in-Run-clause-unread g c no_run =
     let file = c.in-Some.call.file.now in
     let words = rw c.in-Some.is at c.call_of.ensures in
-    absurd (no_run (file, sym words ∙ ap (λ (m : Mode). Some (m, file)) c.in-Run.is))
+    absurd (no_run (file, ap (λ (l : List (String Global)). call_of (bytes_of l)) (sym c.deref.ensures.value) ∙ sym words ∙ ap (λ (m : Mode). Some (m, file)) c.in-Run.is))

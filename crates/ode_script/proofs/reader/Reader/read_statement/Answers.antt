@@ -59,7 +59,7 @@ loop-part-preserved g c = record {
         next.0,
         so_far.1 ∙ ap (cut c.loop-part.part c.loop-part.self.allowed c.loop-part.self.line) next.1
             ∙ cut-on c.loop-part.self.allowed c.loop-part.self.line c.take.new.self.allowed c.take.new.self.line c.in-Some.b
-          (omega (arith, counts.some, c.in_ok-b.ensures.allowed)) (counts.allowed ∙ ap (λ n. n - 1) c.in_ok-b.ensures.allowed) (counts.line ∙ ap (λ l. line_after l c.in-Some.b) c.in_ok-b.ensures.line) next.0
+            (omega (arith, counts.some, c.in_ok-b.ensures.allowed)) (counts.allowed ∙ ap (λ n. n - 1) c.in_ok-b.ensures.allowed) (counts.line ∙ ap (λ l. line_after l c.in-Some.b) c.in_ok-b.ensures.line) next.0
             c.loop-part.part inside (sym c.if-is_last.ensures)
             ∙ ap (λ p. cut p c.take.new.self.allowed c.take.new.self.line next.0) (sym c.in_ok-push.ensures),
         ap (λ p. is_empty p.text && starts_blank next.0) c.in_ok-push.ensures ∙ ap (λ t. t && starts_blank next.0) (is_empty-append c.loop-part.part.text c.in-Some.b),
