@@ -1,7 +1,7 @@
 PROGRAM := crates/ode/out/ode
 FILE := out/example.db
 
-.PHONY: all example test clean
+.PHONY: all example test documents clean
 
 # Proves and builds the program.
 all:
@@ -11,11 +11,15 @@ all:
 
 # Makes a new file, and runs the first example on it: with the program, or where that isn't built by a try without proofs.
 example:
-	@examples/first.sh $(PROGRAM) $(FILE)
+	@checks/example.sh $(PROGRAM) $(FILE)
 
 # The whole gate: every proof, test and must-fail edit, and then the real program on real files.
 test:
 	.ci/run
+
+# Whether each name in the documents still stands where they say.
+documents:
+	@checks/documents.py
 
 # Removes all that was built, and what earlier checks kept: the next build proves everything again.
 clean:

@@ -1,14 +1,13 @@
 -- A record that comes between others.
-use Rattle.std.proofs.Common.{◌≡◌, ◌<◌, ◌≤◌, ◌⊎◌, inl, inr, ⊎_elim, ℕ, ◌+◌, List, [], ◌∷◌, ◌++◌, length, map, Some, None, refl, sym, ◌∙◌, ap, arith, append_assoc}
+use Rattle.std.proofs.Common.{◌≡◌, ◌<◌, ℕ, List, [], ◌∷◌, ◌++◌, refl, sym, ◌∙◌, ap, arith}
 use Rattle.std.specs.BTreeMap.{insert_entry}
-use Rattle.std.specs.declared.cmp.Ordering.TheVariants.{Less, Equal, Greater}
+use Rattle.std.specs.declared.cmp.Ordering.TheVariants.{Less, Greater}
 use Rattle.std.specs.Cmp.{nat_cmp_is}
 use Rattle.std.specs.Ordering.{nat_cmp, match_ordering, ordering_then}
 use Rattle.std.specs.declared.cmp.Ordering.{Ordering}
 use Rattle.ode_value.specs.declared.key.Key.{Key}
-use Rattle.ode_value.specs.Records.{Row}
 use Rattle.ode_value.specs.Keys.{key_cmp}
-use Rattle.ode_keep.specs.Entries.{Entries, Changes, changed, applied}
+use Rattle.ode_keep.specs.Entries.{Entries}
 
 -- each of these keys is below k
 abbrev pub Under : Key → Entries → Type 0

@@ -1,5 +1,5 @@
 -- Records that a batch puts under their keys.
-use Rattle.std.specs.Prelude.{◌≤◌, ℕ, ℤ, List, [], ◌∷◌, length, Some, None}
+use Rattle.std.specs.Prelude.{◌≤◌, ℤ, List, [], ◌∷◌, length, Some, None}
 use Rattle.std.specs.List.{All}
 use Rattle.std.specs.Map.{values_of}
 use Rattle.std.specs.Option.{IfSome}

@@ -24,6 +24,7 @@ pub mod Keys
 pub mod Language
 pub mod Lengths
 pub mod Limits
+pub mod MachineExamples
 pub mod Making
 pub mod Marks
 pub mod Masks

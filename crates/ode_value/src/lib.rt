@@ -40,7 +40,10 @@ pub use laws::{
     symbols_are_marks,
 };
 pub use list::{Copied, List};
-pub use machine::empty_transactions;
+pub use machine::{
+    a_fresh_world_is_good, actions_at_the_last_level, changes_are_tested_in_order, dropped_firings,
+    empty_transactions, once_only_triggers_after_an_abort,
+};
 pub use member::{Constraint, Method, TriggerDecl};
 pub use name::Name;
 pub use operator::{BinOp, UnOp};

@@ -1,0 +1,112 @@
+#!/usr/bin/env python3
+"""Looks whether the documents still say what is there: checks/documents.py
+
+Each name in docs/GLOSSARY.md and docs/MACHINE.md stands in its file, each clause in docs/PROVED.md in its crate, each crate
+of crates.txt in docs/ARCHITECTURE.md, and the README has at most 1,000 words. Prints what doesn't; the status is then 1.
+"""
+
+import glob
+import os
+import re
+import sys
+
+TOP = os.path.dirname(os.path.dirname(os.path.abspath(__file__)))
+WORDS = 1000
+faults = []
+
+
+def read(*names):
+    return "\n".join(open(name, encoding="utf-8").read() for name in names)
+
+
+def document(name):
+    return read(f"{TOP}/docs/{name}.md").split("\n")
+
+
+def rows(lines):
+    """The rows of tables, each with the number of its line: cells in which bars are written `\\|`."""
+    for number, line in enumerate(lines, 1):
+        if line.startswith("| `") or line.startswith("| ") and not set(line) <= set("|- "):
+            yield number, [cell.strip() for cell in re.split(r"(?<!\\)\|", line)[1:-1]]
+
+
+def quoted(text):
+    return re.findall(r"`([^`]+)`", text)
+
+
+def spec(crate, name):
+    """The file that a cell names: a path, or a name among the definitions of a crate."""
+    for path in (f"crates/{name}", f"crates/{crate}/specs/{name}", f"crates/{crate}/{name}", f"crates/ode_timer/specs/{name}"):
+        for end in ("", ".antt"):
+            if os.path.isfile(f"{TOP}/{path}{end}"):
+                return f"{TOP}/{path}{end}"
+    return None
+
+
+def is_named(name, text):
+    return re.search(rf"(?<!\w){re.escape(name)}(?!\w)", text)
+
+
+def look(document, number, crate, files, names, also=()):
+    paths = [spec(crate, file) for file in files]
+    for file, path in zip(files, paths):
+        if path is None:
+            faults.append(f"{document}:{number}: there is no file {file}")
+    text = read(*[path for path in paths if path], *also)
+    for name in names:
+        if not is_named(name, text):
+            faults.append(f"{document}:{number}: {name} doesn't stand in {', '.join(files)}")
+
+
+def glossary():
+    lines = document("GLOSSARY")
+    first = next(i for i, line in enumerate(lines) if line.startswith("## Definitions"))
+    last = next(i for i, line in enumerate(lines) if i > first and line.startswith("## "))
+    crate = ""
+    for i in range(first, last):
+        crate = (re.match(r"\*\*(ode\w*)\*\*", lines[i]) or [crate, crate])[1]
+        for _, cells in rows(lines[i : i + 1]):
+            if len(cells) == 3 and cells[0] != "File":
+                also = glob.glob(f"{TOP}/crates/ode_types/specs/*.antt") if "beside it" in cells[0] else ()
+                look("docs/GLOSSARY.md", i + 1, crate, quoted(cells[0]), quoted(cells[2]), also)
+
+
+def machine():
+    for number, cells in rows(document("MACHINE")):
+        if cells[0] != "Rule":
+            files = quoted(cells[2]) if len(cells) > 2 else ["Limits"]
+            look("docs/MACHINE.md", number, "ode_value", files, quoted(cells[1]))
+
+
+def proved():
+    crate = ""
+    for number, line in enumerate(document("PROVED"), 1):
+        if line.startswith("## What is only tested"):
+            return
+        named = re.match(r"## .*: (ode\w*)$|\*\*(ode\w*)\*\*", line)
+        crate = (named[1] or named[2]) if named else crate
+        text = read(*glob.glob(f"{TOP}/crates/{crate}/src/**/*.rt", recursive=True)) if crate else ""
+        for clauses in re.findall(r"\[([^\]]*`[^\]]*)\]", line):
+            for name in quoted(clauses):
+                if not re.search(rf"ensures\*? {name} \{{", text):
+                    faults.append(f"docs/PROVED.md:{number}: {crate} has no clause {name}")
+
+
+def crates():
+    text = "\n".join(document("ARCHITECTURE"))
+    for line in read(f"{TOP}/crates.txt").split("\n"):
+        name = line.split(":")[0].split(" ")[0]
+        if name and not name.startswith("#") and f"| {name} |" not in text:
+            faults.append(f"docs/ARCHITECTURE.md: {name} isn't there")
+
+
+def readme():
+    count = len(read(f"{TOP}/README.md").split())
+    if count > WORDS:
+        faults.append(f"README.md: {count} words")
+
+
+for part in (glossary, machine, proved, crates, readme):
+    part()
+print("\n".join(faults + [f"{len(faults)} faults"]))
+sys.exit(1 if faults else 0)

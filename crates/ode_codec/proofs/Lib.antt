@@ -1,0 +1,4 @@
+mod Loop
+mod Names
+mod FormatLaws
+mod ValueLaws

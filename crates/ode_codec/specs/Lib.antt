@@ -1,0 +1,5 @@
+pub mod Formats
+pub mod Values
+pub mod Spelling
+pub mod Rules
+pub mod Reading

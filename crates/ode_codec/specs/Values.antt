@@ -1,0 +1,65 @@
+-- Reading values.
+use Rattle.std.specs.Prelude.{◌≡◌, ℕ, zero, suc, List, [], ◌∷◌, Bool, true, false, length, take, drop, Option, Some, None, nat_lt, nat_le, ◌==◌, ◌&&◌, if◌then◌else◌, position}
+use Rattle.std.specs.Option.{is_none}
+use Rattle.std.specs.Int.{w16, w32, w64}
+use Rattle.ode_value.specs.Text.{is_bad_byte}
+use Rattle.ode_value.specs.declared.value.Ref.{Ref}
+use Rattle.ode_value.specs.declared.value.Value.{Value}
+use Rattle.ode_value.specs.declared.value.Value.TheVariants as value
+use Rattle.ode_codec.specs.Formats.{◌>>=◌, byte_in, int_in, number_in, part_of, truth_in}
+
+-- at most 2,048 bytes, none of them bad
+abbrev pub is_text : List ℕ → Bool
+is_text bytes = nat_le (length bytes) 2048 && is_none (position is_bad_byte bytes)
+
+unfoldable pub text_in : List ℕ → Option (List ℕ × List ℕ)
+text_in bytes = do
+  n ← number_in w16 bytes
+  part_of is_text n.0 n.1
+
+-- a reference: version 0 is none, and null is all zeros
+abbrev pub reference_of : ℕ → ℕ → Option Ref
+reference_of object version =
+    if version == 0 then Some (record { object = object; version = None })
+    else if object == 0 then None
+    else Some (record { object = object; version = Some version })
+
+unfoldable pub reference_in : List ℕ → Option (Ref × List ℕ)
+reference_in bytes = do
+  object ← number_in w64 bytes
+  version ← number_in w32 object.1
+  r ← reference_of object.0 version.0
+  Some (r, version.1)
+
+-- what stands behind a tag
+unfoldable pub content_in : ℕ → List ℕ → Option (Value × List ℕ)
+content_in tag bytes =
+    if tag == 0 then (int_in bytes >>= λ n. Some (value.Int n.0, n.1))
+    else if tag == 1 then (truth_in bytes >>= λ b. Some (value.Bool b.0, b.1))
+    else if tag == 2 then (text_in bytes >>= λ t. Some (value.Text t.0, t.1))
+    else if tag == 3 then (reference_in bytes >>= λ r. Some (value.Reference r.0, r.1))
+    else None
+
+unfoldable pub value_in : List ℕ → Option (Value × List ℕ)
+value_in bytes = do
+  tag ← byte_in bytes
+  content_in tag.0 tag.1
+
+-- so many values
+unfoldable pub values_in : ℕ → List ℕ → Option (List Value × List ℕ)
+values_in zero bytes = Some ([], bytes)
+values_in (suc n) bytes = do
+  first ← value_in bytes
+  others ← values_in n first.1
+  Some (first.0 ∷ others.0, others.1)
+
+-- values behind their count of two bytes, or of one
+unfoldable pub fields_in : List ℕ → Option (List Value × List ℕ)
+fields_in bytes = do
+  n ← number_in w16 bytes
+  values_in n.0 n.1
+
+unfoldable pub args_in : List ℕ → Option (List Value × List ℕ)
+args_in bytes = do
+  n ← byte_in bytes
+  values_in n.0 n.1

@@ -1,0 +1,89 @@
+//! The records of a database.
+
+use ode_value::{List, Name, Value};
+
+/// The next numbers of an object or activation, of a transaction and of an entry; and how far the clock has come: an instant,
+/// an object and a place in its class's list of kinds, all zero where it isn't set.
+#[derive(Clone, Copy, Debug, PartialEq, Eq)]
+pub struct Counters {
+    pub next_number: u64,
+    pub next_transaction: u64,
+    pub next_entry: u64,
+    pub clock_set: bool,
+    pub instant: i64,
+    pub object: u64,
+    pub place: u32,
+}
+
+/// An activation of a trigger, which its class and its place there name. The state is that of the trigger's table.
+#[derive(Drop)]
+pub struct Activation {
+    pub object: u64,
+    pub number: u64,
+    pub class: u32,
+    pub trigger: u16,
+    pub state: u16,
+    pub args: List<Value>,
+}
+
+/// A firing that waits to run as a transaction of its own.
+#[derive(Drop)]
+pub struct Entry {
+    pub object: u64,
+    pub class: u32,
+    pub trigger: u16,
+    pub generation: u8,
+    pub args: List<Value>,
+}
+
+/// A record.
+#[derive(Drop)]
+pub enum Record {
+    Counters(Counters),
+    /// A class: its name, its parent or 0, the length of its printed text and the count of its triggers.
+    ClassHead {
+        class: u32,
+        name: Name,
+        parent: u32,
+        text_length: u32,
+        triggers: u16,
+    },
+    /// A piece of a class's printed text, counted from 0.
+    ClassPiece {
+        class: u32,
+        piece: u32,
+        bytes: List<u8>,
+    },
+    /// A trigger's table: its states and its symbols.
+    TableHead {
+        class: u32,
+        trigger: u16,
+        states: u16,
+        symbols: u8,
+    },
+    /// A piece of the bytes of a trigger's table, counted from 0.
+    TablePiece {
+        class: u32,
+        trigger: u16,
+        piece: u16,
+        bytes: List<u8>,
+    },
+    /// An object: its class and the last number that a version of it ever had.
+    Object {
+        object: u64,
+        class: u32,
+        last: u32,
+    },
+    /// A version: its number, the number of its parent or 0, and its fields.
+    Version {
+        object: u64,
+        number: u32,
+        parent: u32,
+        fields: List<Value>,
+    },
+    Activation(Activation),
+    Entry {
+        number: u64,
+        entry: Entry,
+    },
+}

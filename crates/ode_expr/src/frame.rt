@@ -1,0 +1,46 @@
+//! What expressions are evaluated over.
+ghost use Rattle.std.specs.Prelude.{◌≡◌, Option, slice_get};
+ghost use Rattle.std.specs.Option.{option_copied};
+ghost use Rattle.ode_value.specs.Evaluation.{Frame as Scene, field_of};
+ghost use Rattle.ode_value.specs.Worlds.{Bones};
+ghost use Rattle.ode_expr.specs.Answers.{Answers, number_of, stopped_by};
+
+use crate::stop::EvalStop;
+use ode_value::{Ref, Value};
+
+/// What an expression is evaluated over: the reference that its body was called by, its parameters and locals, and the objects.
+pub trait Frame {
+    /// What a read of it may stop by besides a fault.
+    type Stop: Copy;
+
+    /// It shows this world: what is read of it is what the world has.
+    ghost shows: { Self → Bones → Type 0 };
+
+    /// The reference, and the parameters and locals.
+    ghost scene: { Self → Scene };
+
+    /// What it stopped by.
+    ghost stopped: { Self → Option Self.Stop };
+
+    /// The parameter or local in a slot.
+    fn local(&self, slot: u16) -> Option<&Value>
+        ensures { option_copied result ≡ slice_get (scene self.now).locals slot };
+
+    /// The reference that the body was called by.
+    fn this(&self) -> Ref
+        ensures { result ≡ (scene self.now).this };
+
+    /// A field of the version that a reference denotes.
+    fn read_field(&mut self, of: Ref, slot: u16) -> Result<Value, EvalStop<Self::Stop>>
+        ensures value { (b : Bones) → shows self.old b → Answers (field_of b slot of) result }
+        ensures stopped { stopped self.new ≡ stopped_by result (stopped self.old) }
+        ensures shows { (b : Bones) → shows self.old b → shows self.new b }
+        ensures scene { scene self.new ≡ scene self.old };
+
+    /// The number of the version that a reference denotes.
+    fn current(&mut self, of: Ref) -> Result<u32, EvalStop<Self::Stop>>
+        ensures value { (b : Bones) → shows self.old b → Answers (number_of b of) result }
+        ensures stopped { stopped self.new ≡ stopped_by result (stopped self.old) }
+        ensures shows { (b : Bones) → shows self.old b → shows self.new b }
+        ensures scene { scene self.new ≡ scene self.old };
+}

@@ -1,0 +1,18 @@
+//! The grammar: expressions, event expressions, classes and statements, over classes of tokens.
+#![tactic(auto)]
+
+mod class_rows;
+mod event_rows;
+mod expression_rows;
+mod grammar;
+mod item;
+mod reader;
+mod stack;
+mod statement_rows;
+mod terminal;
+
+pub use grammar::{after, skipped};
+pub use item::{Action, Item, Part};
+pub use reader::{Extent, Start, extent_of, items_of};
+pub use stack::Stack;
+pub use terminal::Terminal;

@@ -1,0 +1,105 @@
+//! What the grammar tells apart of the tokens.
+ghost use Rattle.std.specs.Prelude.{◌≡◌};
+ghost use Rattle.ode_grammar.specs.Terminals.{same_terminal};
+
+/// What the grammar sees of a token: a class of tokens that stand at the same places. A mark or a word that has a place of its own is a class alone.
+#[derive(Clone, Copy, Debug, PartialEq, Eq)]
+pub enum Terminal {
+    /// `true`, `false`, `null`, and where it may stand `this` or a reference.
+    Leaf,
+    /// A number that is 0 or above 2^32 - 1.
+    Number,
+    /// A number from 65,536 to 2^32 - 1.
+    Seconds,
+    /// A number from 1 to 65,535.
+    Count,
+    /// A text that is no instant.
+    Text,
+    /// A text that is an instant.
+    Instant,
+    /// A word that isn't reserved.
+    Name,
+    /// `this` or a reference where it can't stand.
+    Stray,
+    OpenBrace,
+    CloseBrace,
+    OpenParen,
+    CloseParen,
+    Semi,
+    Comma,
+    Dot,
+    Colon,
+    Assign,
+    Arrow,
+    Not,
+    Minus,
+    Plus,
+    /// `*`, `/` or `%`.
+    Times,
+    /// `==`, `!=`, `<`, `<=`, `>` or `>=`.
+    Compares,
+    AndAnd,
+    OrOr,
+    Abort,
+    Activate,
+    After,
+    And,
+    Any,
+    At,
+    Before,
+    Begin,
+    Choose,
+    Class,
+    Clock,
+    Commit,
+    Constraint,
+    Create,
+    Deactivate,
+    Delete,
+    DropVersion,
+    Else,
+    Event,
+    Every,
+    Fa,
+    First,
+    If,
+    Initial,
+    /// `once` or `perpetual`.
+    Lasting,
+    Let,
+    /// `immediate`, `deferred`, `dependent` or `independent`.
+    Mode,
+    NewVersion,
+    Or,
+    PDelete,
+    PNew,
+    Prior,
+    Ref,
+    Relative,
+    Return,
+    Say,
+    /// `committed` or `whole`.
+    Scope,
+    Sequence,
+    Show,
+    Soft,
+    /// `int`, `bool` or `text`.
+    SortWord,
+    TAbort,
+    TBegin,
+    TCommit,
+    TComplete,
+    Time,
+    Trigger,
+    Version,
+    Void,
+}
+
+impl Terminal {
+    /// Whether the two are one.
+    pub fn is(self, other: Terminal) -> bool
+        ensures { result ≡ same_terminal self other }
+    {
+        self as u8 == other as u8
+    }
+}

@@ -1,0 +1,223 @@
+//! Classes and their members.
+ghost use Rattle.std.specs.Prelude.{◌≡◌, ◌++◌, codes, cond, map, OnOk, IfOk, drop};
+ghost use Rattle.ode_value.specs.Printing.{kind_text, with_commas};
+ghost use Rattle.ode_value.specs.PrintedClasses.{constraint_text, decl_text, in_braces, member_text, method_text, mode_text, param_text, params_text, parent_text, sort_text, trigger_text, trigger_words};
+ghost use Rattle.ode_print.specs.Joined.{behind};
+
+use crate::event::{put_event, put_kind};
+use crate::expression::put_expr;
+use crate::put::put;
+use crate::statement::put_body;
+use ode_value::{
+    ClassDecl, Constraint, Kind, List, Member, Method, Mode, Name, Param, Sort, TriggerDecl,
+};
+use std::alloc::{AllocError, Global};
+
+fn put_sort(out: &mut Vec<u8>, sort: &Sort) -> Result<(), AllocError>
+    ensures { OnOk result (out.new.items ≡ out.old.items ++ sort_text sort.now) }
+{
+    match sort {
+        Sort::Int => put(out, b"int"),
+        Sort::Bool => put(out, b"bool"),
+        Sort::Text => put(out, b"text"),
+        Sort::Reference(class) => {
+            put(out, b"ref ")?;
+            put(out, class.as_bytes())?;
+            Ok(())
+        }
+        Sort::Void => put(out, b"void"),
+    }
+}
+
+fn put_param(out: &mut Vec<u8>, param: &Param) -> Result<(), AllocError>
+    ensures { OnOk result (out.new.items ≡ out.old.items ++ param_text param.now) }
+{
+    put_sort(out, &param.sort)?;
+    put(out, b" ")?;
+    put(out, param.name.as_bytes())?;
+    Ok(())
+}
+
+// Puts what follows the first one at the end.
+fn put_more_params(out: &mut Vec<u8>, rest: &[Param]) -> Result<(), AllocError>
+    ensures { OnOk result (out.new.items ≡ out.old.items ++ behind (codes ", ") (map param_text rest.now)) }
+{
+    for param in rest {
+        put(out, b", ")?;
+        put_param(out, param)?;
+    }
+    Ok(())
+}
+
+fn put_param_list(out: &mut Vec<u8>, params: &[Param]) -> Result<(), AllocError>
+    ensures { OnOk result (out.new.items ≡ out.old.items ++ with_commas (map param_text params.now)) }
+{
+    let Some((first, rest)) = params.split_first() else {
+        return Ok(());
+    };
+    put_param(out, first)?;
+    put_more_params(out, rest)?;
+    Ok(())
+}
+
+fn put_params(out: &mut Vec<u8>, params: &[Param]) -> Result<(), AllocError>
+    ensures { OnOk result (out.new.items ≡ out.old.items ++ params_text params.now) }
+{
+    put(out, b"(")?;
+    put_param_list(out, params)?;
+    put(out, b")")?;
+    Ok(())
+}
+
+fn put_method(alloc: Global, out: &mut Vec<u8>, method: &Method) -> Result<(), AllocError>
+    ensures { OnOk result (out.new.items ≡ out.old.items ++ method_text method.now) }
+{
+    put_sort(out, &method.result)?;
+    put(out, b" ")?;
+    put(out, method.name.as_bytes())?;
+    put_params(out, method.params.as_slice())?;
+    put(out, b" ")?;
+    put_body(alloc, out, method.body.as_slice())?;
+    Ok(())
+}
+
+// Puts one text or the other at the end.
+fn put_choice(out: &mut Vec<u8>, yes: bool, text: &[u8], other: &[u8]) -> Result<(), AllocError>
+    ensures { OnOk result (out.new.items ≡ out.old.items ++ cond yes text.now other.now) }
+{
+    if yes { put(out, text) } else { put(out, other) }
+}
+
+fn put_constraint(
+    alloc: Global,
+    out: &mut Vec<u8>,
+    constraint: &Constraint,
+) -> Result<(), AllocError>
+    ensures { OnOk result (out.new.items ≡ out.old.items ++ constraint_text constraint.now) }
+{
+    put_choice(out, constraint.soft, b"soft ", b"")?;
+    put(out, b"constraint ")?;
+    put(out, constraint.name.as_bytes())?;
+    put(out, b": ")?;
+    put_expr(alloc, out, &constraint.test)?;
+    put(out, b";")?;
+    Ok(())
+}
+
+// Puts what follows the first one at the end.
+fn put_more_kinds(alloc: Global, out: &mut Vec<u8>, rest: &[Kind]) -> Result<(), AllocError>
+    ensures { OnOk result (out.new.items ≡ out.old.items ++ behind (codes ", ") (map kind_text rest.now)) }
+{
+    for kind in rest {
+        put(out, b", ")?;
+        put_kind(alloc, out, kind)?;
+    }
+    Ok(())
+}
+
+fn put_kinds(alloc: Global, out: &mut Vec<u8>, kinds: &[Kind]) -> Result<(), AllocError>
+    ensures { OnOk result (out.new.items ≡ out.old.items ++ with_commas (map kind_text kinds.now)) }
+{
+    let Some((first, rest)) = kinds.split_first() else {
+        return Ok(());
+    };
+    put_kind(alloc, out, first)?;
+    put_more_kinds(alloc, out, rest)?;
+    Ok(())
+}
+
+fn put_mode(out: &mut Vec<u8>, mode: Mode) -> Result<(), AllocError>
+    ensures { OnOk result (out.new.items ≡ out.old.items ++ mode_text mode) }
+{
+    match mode {
+        Mode::Immediate => put(out, b"immediate "),
+        Mode::Deferred => put(out, b"deferred "),
+        Mode::Dependent => put(out, b"dependent "),
+        Mode::Independent => put(out, b"independent "),
+    }
+}
+
+fn put_trigger_words(out: &mut Vec<u8>, trigger: &TriggerDecl) -> Result<(), AllocError>
+    ensures { OnOk result (out.new.items ≡ out.old.items ++ trigger_words trigger.now) }
+{
+    put(out, b"trigger ")?;
+    put_choice(out, trigger.initial, b"initial ", b"")?;
+    put_choice(out, trigger.perpetual, b"perpetual ", b"once ")?;
+    put_choice(out, trigger.whole, b"whole ", b"committed ")?;
+    put_mode(out, trigger.mode)?;
+    Ok(())
+}
+
+fn put_trigger(alloc: Global, out: &mut Vec<u8>, trigger: &TriggerDecl) -> Result<(), AllocError>
+    ensures { OnOk result (out.new.items ≡ out.old.items ++ trigger_text trigger.now) }
+{
+    put_trigger_words(out, trigger)?;
+    put(out, trigger.name.as_bytes())?;
+    put_params(out, trigger.params.as_slice())?;
+    put(out, b": ")?;
+    put_event(alloc, out, &trigger.event)?;
+    put(out, b" ==> ")?;
+    put_body(alloc, out, trigger.action.as_slice())?;
+    Ok(())
+}
+
+fn put_member(alloc: Global, out: &mut Vec<u8>, member: &Member) -> Result<(), AllocError>
+    ensures { OnOk result (out.new.items ≡ out.old.items ++ member_text member.now) }
+{
+    match member {
+        Member::Field(name, sort) => {
+            put_sort(out, sort)?;
+            put(out, b" ")?;
+            put(out, name.as_bytes())?;
+            put(out, b";")?;
+            Ok(())
+        }
+        Member::Method(method) => put_method(alloc, out, method),
+        Member::Constraint(constraint) => put_constraint(alloc, out, constraint),
+        Member::Events(kinds) => {
+            put(out, b"event ")?;
+            put_kinds(alloc, out, kinds.as_slice())?;
+            put(out, b";")?;
+            Ok(())
+        }
+        Member::Trigger(trigger) => put_trigger(alloc, out, trigger),
+    }
+}
+
+fn put_members(alloc: Global, out: &mut Vec<u8>, members: &[Member]) -> Result<(), AllocError>
+    ensures { OnOk result (out.new.items ≡ out.old.items ++ in_braces (map member_text members.now)) }
+{
+    put(out, b"{")?;
+    for member in members {
+        put(out, b" ")?;
+        put_member(alloc, out, member)?;
+    }
+    put(out, b" }")?;
+    Ok(())
+}
+
+fn put_parent(out: &mut Vec<u8>, parent: &Option<Name>) -> Result<(), AllocError>
+    ensures { OnOk result (out.new.items ≡ out.old.items ++ parent_text parent.now) }
+{
+    match parent {
+        None => Ok(()),
+        Some(name) => {
+            put(out, b" : ")?;
+            put(out, name.as_bytes())?;
+            Ok(())
+        }
+    }
+}
+
+/// The text of a class: its members in order, each once.
+pub fn print_class(alloc: Global, class: &ClassDecl) -> Result<List<u8>, AllocError>
+    ensures { IfOk result (λ text. text ≡ decl_text class.now) }
+{
+    let mut out = Vec::new(alloc);
+    put(&mut out, b"class ")?;
+    put(&mut out, class.name.as_bytes())?;
+    put_parent(&mut out, &class.parent)?;
+    put(&mut out, b" ")?;
+    put_members(alloc, &mut out, class.members.as_slice())?;
+    Ok(List::from_vec(out))
+}

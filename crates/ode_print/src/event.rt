@@ -1,0 +1,186 @@
+//! Event expressions.
+ghost use Rattle.std.specs.Prelude.{◌≡◌, ◌++◌, codes, OnOk, IfOk};
+ghost use Rattle.ode_value.specs.Printing.{event_text, in_brackets, kind_text, mask_text, operand, printed_event};
+ghost use Rattle.ode_value.specs.Decimal.{digits_of};
+
+use crate::expression::put_operand;
+use crate::instant::put_instant;
+use crate::put::put;
+use crate::value::put_number;
+use ode_value::{EventExpr, Expr, Kind, List};
+use std::alloc::{AllocError, Global};
+
+/// Puts the text of a kind at the end.
+pub fn put_kind(alloc: Global, out: &mut Vec<u8>, kind: &Kind) -> Result<(), AllocError>
+    ensures { OnOk result (out.new.items ≡ out.old.items ++ kind_text kind.now) }
+{
+    match kind {
+        Kind::Create => put(out, b"after create"),
+        Kind::Delete => put(out, b"before delete"),
+        Kind::Before(method) => put_named(out, b"before ", method.as_bytes()),
+        Kind::After(method) => put_named(out, b"after ", method.as_bytes()),
+        Kind::TBegin => put(out, b"after tbegin"),
+        Kind::TComplete => put(out, b"before tcomplete"),
+        Kind::TCommit => put(out, b"after tcommit"),
+        Kind::TAbort => put(out, b"after tabort"),
+        Kind::TimeEvery(seconds) => {
+            put(out, b"time every ")?;
+            put_number(alloc, out, u64::from(*seconds))
+        }
+        Kind::TimeAt(second) => {
+            put(out, b"time at \"")?;
+            put_instant(out, *second)?;
+            put(out, b"\"")?;
+            Ok(())
+        }
+    }
+}
+
+/// Puts two texts at the end.
+pub fn put_named(out: &mut Vec<u8>, word: &[u8], name: &[u8]) -> Result<(), AllocError>
+    ensures { OnOk result (out.new.items ≡ out.old.items ++ (word.now ++ name.now)) }
+{
+    put(out, word)?;
+    put(out, name)?;
+    Ok(())
+}
+
+fn put_mask(alloc: Global, out: &mut Vec<u8>, mask: &Option<Expr>) -> Result<(), AllocError>
+    ensures { OnOk result (out.new.items ≡ out.old.items ++ mask_text mask.now) }
+{
+    match mask {
+        None => Ok(()),
+        Some(test) => {
+            put(out, b" && ")?;
+            put_operand(alloc, out, test)?;
+            Ok(())
+        }
+    }
+}
+
+/// Puts the text of an event expression at the end.
+#[cycle(events)]
+#[tactic(auto, using(crate::proofs::Levels::joined_events))]
+pub fn put_event(alloc: Global, out: &mut Vec<u8>, e: &EventExpr) -> Result<(), AllocError>
+    ensures { OnOk result (out.new.items ≡ out.old.items ++ event_text e.now) }
+{
+    match e {
+        EventExpr::Leaf(kind, mask) => {
+            put_kind(alloc, out, kind)?;
+            put_mask(alloc, out, mask)?;
+            Ok(())
+        }
+        EventExpr::Any => put(out, b"any"),
+        EventExpr::First => put(out, b"first"),
+        EventExpr::Not(of) => {
+            put(out, b"!")?;
+            put_event_operand(alloc, out, of.get())?;
+            Ok(())
+        }
+        EventExpr::And(left, right) => {
+            put_event_operand(alloc, out, left.get())?;
+            put(out, b" and ")?;
+            put_event_operand(alloc, out, right.get())?;
+            Ok(())
+        }
+        EventExpr::Or(left, right) => {
+            put_event_operand(alloc, out, left.get())?;
+            put(out, b" or ")?;
+            put_event_operand(alloc, out, right.get())?;
+            Ok(())
+        }
+        EventExpr::Relative(first, second) => {
+            put(out, b"relative")?;
+            put(out, b"(")?;
+            put_event(alloc, out, first.get())?;
+            put(out, b", ")?;
+            put_event(alloc, out, second.get())?;
+            put(out, b")")?;
+            Ok(())
+        }
+        EventExpr::Prior(first, second) => {
+            put(out, b"prior")?;
+            put(out, b"(")?;
+            put_event(alloc, out, first.get())?;
+            put(out, b", ")?;
+            put_event(alloc, out, second.get())?;
+            put(out, b")")?;
+            Ok(())
+        }
+        EventExpr::Sequence(first, second) => {
+            put(out, b"sequence")?;
+            put(out, b"(")?;
+            put_event(alloc, out, first.get())?;
+            put(out, b", ")?;
+            put_event(alloc, out, second.get())?;
+            put(out, b")")?;
+            Ok(())
+        }
+        EventExpr::Choose(count, of) => {
+            put(out, b"choose ")?;
+            put_counted(alloc, out, *count, of.get())?;
+            Ok(())
+        }
+        EventExpr::Every(count, of) => {
+            put(out, b"every ")?;
+            put_counted(alloc, out, *count, of.get())?;
+            Ok(())
+        }
+        EventExpr::Fa(first, second, third) => {
+            put(out, b"fa")?;
+            put(out, b"(")?;
+            put_event(alloc, out, first.get())?;
+            put(out, b", ")?;
+            put_event(alloc, out, second.get())?;
+            put(out, b", ")?;
+            put_event(alloc, out, third.get())?;
+            put(out, b")")?;
+            Ok(())
+        }
+    }
+}
+
+// Puts a number and a part in brackets at the end.
+#[cycle(events)]
+#[tactic(auto, using(crate::proofs::Levels::joined_events))]
+fn put_counted(
+    alloc: Global,
+    out: &mut Vec<u8>,
+    count: u32,
+    of: &EventExpr,
+) -> Result<(), AllocError>
+    ensures { OnOk result (out.new.items ≡ out.old.items ++ (digits_of count ++ codes " " ++ in_brackets (event_text of.now))) }
+{
+    put_number(alloc, out, u64::from(count))?;
+    put(out, b" ")?;
+    put(out, b"(")?;
+    put_event(alloc, out, of)?;
+    put(out, b")")?;
+    Ok(())
+}
+
+// Puts the text of an operand at the end, an operator in brackets.
+#[cycle(events)]
+#[tactic(auto, using(crate::proofs::Levels::joined_events))]
+fn put_event_operand(alloc: Global, out: &mut Vec<u8>, e: &EventExpr) -> Result<(), AllocError>
+    ensures { OnOk result (out.new.items ≡ out.old.items ++ operand (printed_event e.now)) }
+{
+    match e {
+        EventExpr::Not(_) | EventExpr::And(_, _) | EventExpr::Or(_, _) => {
+            put(out, b"(")?;
+            put_event(alloc, out, e)?;
+            put(out, b")")?;
+            Ok(())
+        }
+        _ => put_event(alloc, out, e),
+    }
+}
+
+/// The text of an event expression.
+pub fn print_event(alloc: Global, e: &EventExpr) -> Result<List<u8>, AllocError>
+    ensures { IfOk result (λ text. text ≡ event_text e.now) }
+{
+    let mut out = Vec::new(alloc);
+    put_event(alloc, &mut out, e)?;
+    Ok(List::from_vec(out))
+}

@@ -1,0 +1,103 @@
+//! Expressions.
+ghost use Rattle.std.specs.Prelude.{◌≡◌, ◌++◌, OnOk, IfOk};
+ghost use Rattle.ode_value.specs.Printing.{binary_text, expr_text, operand_text, unary_text};
+
+use crate::put::put;
+use crate::value::put_value;
+use ode_value::{BinOp, Expr, List, UnOp};
+use std::alloc::{AllocError, Global};
+
+fn put_sign(out: &mut Vec<u8>, op: UnOp) -> Result<(), AllocError>
+    ensures { OnOk result (out.new.items ≡ out.old.items ++ unary_text op) }
+{
+    match op {
+        UnOp::Minus => put(out, b"-"),
+        UnOp::Not => put(out, b"!"),
+    }
+}
+
+fn put_operator(out: &mut Vec<u8>, op: BinOp) -> Result<(), AllocError>
+    ensures { OnOk result (out.new.items ≡ out.old.items ++ binary_text op) }
+{
+    match op {
+        BinOp::Add => put(out, b" + "),
+        BinOp::Sub => put(out, b" - "),
+        BinOp::Mul => put(out, b" * "),
+        BinOp::Div => put(out, b" / "),
+        BinOp::Rem => put(out, b" % "),
+        BinOp::Eq => put(out, b" == "),
+        BinOp::Ne => put(out, b" != "),
+        BinOp::Lt => put(out, b" < "),
+        BinOp::Le => put(out, b" <= "),
+        BinOp::Gt => put(out, b" > "),
+        BinOp::Ge => put(out, b" >= "),
+        BinOp::And => put(out, b" && "),
+        BinOp::Or => put(out, b" || "),
+    }
+}
+
+/// Puts the text of an expression at the end.
+#[cycle(exprs)]
+#[tactic(auto, using(crate::proofs::Levels::joined_exprs))]
+pub fn put_expr(alloc: Global, out: &mut Vec<u8>, e: &Expr) -> Result<(), AllocError>
+    ensures { OnOk result (out.new.items ≡ out.old.items ++ expr_text e.now) }
+{
+    match e {
+        Expr::Lit(value) => put_value(alloc, out, value),
+        Expr::Name(name) => put(out, name.as_bytes()),
+        Expr::This => put(out, b"this"),
+        Expr::Field(of, name) => {
+            put_operand(alloc, out, of.get())?;
+            put(out, b".")?;
+            put(out, name.as_bytes())?;
+            Ok(())
+        }
+        Expr::Version(of) => {
+            put(out, b"version")?;
+            put(out, b"(")?;
+            put_expr(alloc, out, of.get())?;
+            put(out, b")")?;
+            Ok(())
+        }
+        Expr::Unary(op, of) => {
+            put_sign(out, *op)?;
+            put_operand(alloc, out, of.get())?;
+            Ok(())
+        }
+        Expr::Binary(op, left, right) => {
+            put_operand(alloc, out, left.get())?;
+            put_operator(out, *op)?;
+            put_operand(alloc, out, right.get())?;
+            Ok(())
+        }
+        Expr::Local(_) => Ok(()),
+        Expr::Own(_) => Ok(()),
+        Expr::Slot(_, _) => Ok(()),
+    }
+}
+
+/// Puts the text of an operand at the end, an operator in brackets.
+#[cycle(exprs)]
+#[tactic(auto, using(crate::proofs::Levels::joined_exprs))]
+pub fn put_operand(alloc: Global, out: &mut Vec<u8>, e: &Expr) -> Result<(), AllocError>
+    ensures { OnOk result (out.new.items ≡ out.old.items ++ operand_text e.now) }
+{
+    match e {
+        Expr::Unary(_, _) | Expr::Binary(_, _, _) => {
+            put(out, b"(")?;
+            put_expr(alloc, out, e)?;
+            put(out, b")")?;
+            Ok(())
+        }
+        _ => put_expr(alloc, out, e),
+    }
+}
+
+/// The text of an expression.
+pub fn print_expr(alloc: Global, e: &Expr) -> Result<List<u8>, AllocError>
+    ensures { IfOk result (λ text. text ≡ expr_text e.now) }
+{
+    let mut out = Vec::new(alloc);
+    put_expr(alloc, &mut out, e)?;
+    Ok(List::from_vec(out))
+}

@@ -1,0 +1,279 @@
+//! Statements and their right sides.
+ghost use Rattle.std.specs.Prelude.{◌≡◌, ◌++◌, codes, map, OnOk, drop};
+ghost use Rattle.std.specs.List.{join_by};
+ghost use Rattle.ode_value.specs.Printing.{expr_text, in_brackets, with_commas};
+ghost use Rattle.ode_value.specs.PrintedClasses.{args_text, body_text, call_text, else_part, of_text, rhs_text, set_text, stmt_text, value_part, var_text};
+ghost use Rattle.ode_print.specs.Joined.{behind};
+
+use crate::expression::{put_expr, put_operand};
+use crate::put::put;
+use ode_value::{Call, Expr, List, Name, Rhs, Stmt, Var};
+use std::alloc::{AllocError, Global};
+
+// Puts what follows the first one at the end.
+fn put_more_exprs(alloc: Global, out: &mut Vec<u8>, rest: &[Expr]) -> Result<(), AllocError>
+    ensures { OnOk result (out.new.items ≡ out.old.items ++ behind (codes ", ") (map expr_text rest.now)) }
+{
+    for e in rest {
+        put(out, b", ")?;
+        put_expr(alloc, out, e)?;
+    }
+    Ok(())
+}
+
+// Puts expressions with commas between them at the end.
+fn put_exprs(alloc: Global, out: &mut Vec<u8>, args: &[Expr]) -> Result<(), AllocError>
+    ensures { OnOk result (out.new.items ≡ out.old.items ++ with_commas (map expr_text args.now)) }
+{
+    let Some((first, rest)) = args.split_first() else {
+        return Ok(());
+    };
+    put_expr(alloc, out, first)?;
+    put_more_exprs(alloc, out, rest)?;
+    Ok(())
+}
+
+fn put_args(alloc: Global, out: &mut Vec<u8>, args: &[Expr]) -> Result<(), AllocError>
+    ensures { OnOk result (out.new.items ≡ out.old.items ++ args_text args.now) }
+{
+    put(out, b"(")?;
+    put_exprs(alloc, out, args)?;
+    put(out, b")")?;
+    Ok(())
+}
+
+fn put_of(alloc: Global, out: &mut Vec<u8>, of: &Option<Expr>) -> Result<(), AllocError>
+    ensures { OnOk result (out.new.items ≡ out.old.items ++ of_text of.now) }
+{
+    match of {
+        None => Ok(()),
+        Some(e) => {
+            put_operand(alloc, out, e)?;
+            put(out, b".")?;
+            Ok(())
+        }
+    }
+}
+
+fn put_call(alloc: Global, out: &mut Vec<u8>, call: &Call) -> Result<(), AllocError>
+    ensures { OnOk result (out.new.items ≡ out.old.items ++ call_text call.now) }
+{
+    put_of(alloc, out, &call.of)?;
+    put(out, call.method.as_bytes())?;
+    put_args(alloc, out, call.args.as_slice())?;
+    Ok(())
+}
+
+fn put_set(alloc: Global, out: &mut Vec<u8>, set: &(Name, Expr)) -> Result<(), AllocError>
+    ensures { OnOk result (out.new.items ≡ out.old.items ++ set_text set.now) }
+{
+    put(out, set.0.as_bytes())?;
+    put(out, b" = ")?;
+    put_expr(alloc, out, &set.1)?;
+    Ok(())
+}
+
+// Puts what follows the first one at the end.
+fn put_more_sets(alloc: Global, out: &mut Vec<u8>, rest: &[(Name, Expr)]) -> Result<(), AllocError>
+    ensures { OnOk result (out.new.items ≡ out.old.items ++ behind (codes ", ") (map set_text rest.now)) }
+{
+    for set in rest {
+        put(out, b", ")?;
+        put_set(alloc, out, set)?;
+    }
+    Ok(())
+}
+
+fn put_sets(alloc: Global, out: &mut Vec<u8>, sets: &[(Name, Expr)]) -> Result<(), AllocError>
+    ensures { OnOk result (out.new.items ≡ out.old.items ++ with_commas (map set_text sets.now)) }
+{
+    let Some((first, rest)) = sets.split_first() else {
+        return Ok(());
+    };
+    put_set(alloc, out, first)?;
+    put_more_sets(alloc, out, rest)?;
+    Ok(())
+}
+
+/// Puts the text of a right side at the end.
+pub fn put_rhs(alloc: Global, out: &mut Vec<u8>, rhs: &Rhs) -> Result<(), AllocError>
+    ensures { OnOk result (out.new.items ≡ out.old.items ++ rhs_text rhs.now) }
+{
+    match rhs {
+        Rhs::Plain(e) => put_expr(alloc, out, e),
+        Rhs::Call(call) => put_call(alloc, out, call),
+        Rhs::New { class, fields } => {
+            put(out, b"pnew ")?;
+            put(out, class.as_bytes())?;
+            put(out, b"(")?;
+            put_sets(alloc, out, fields.as_slice())?;
+            put(out, b")")?;
+            Ok(())
+        }
+        Rhs::NewVersion(e) => put_worded(alloc, out, b"newversion ", e),
+        Rhs::Activate { of, trigger, args } => {
+            put(out, b"activate ")?;
+            put_operand(alloc, out, of)?;
+            put(out, b".")?;
+            put(out, trigger.as_bytes())?;
+            put_args(alloc, out, args.as_slice())?;
+            Ok(())
+        }
+    }
+}
+
+fn put_var(out: &mut Vec<u8>, var: &Var) -> Result<(), AllocError>
+    ensures { OnOk result (out.new.items ≡ out.old.items ++ var_text var.now) }
+{
+    match var {
+        Var::Name(name) => put(out, name.as_bytes()),
+        _ => Ok(()),
+    }
+}
+
+fn put_value_part(alloc: Global, out: &mut Vec<u8>, value: &Option<Expr>) -> Result<(), AllocError>
+    ensures { OnOk result (out.new.items ≡ out.old.items ++ value_part value.now) }
+{
+    match value {
+        None => Ok(()),
+        Some(e) => {
+            put(out, b" ")?;
+            put_expr(alloc, out, e)?;
+            Ok(())
+        }
+    }
+}
+
+fn put_set_to(alloc: Global, out: &mut Vec<u8>, var: &Var, rhs: &Rhs) -> Result<(), AllocError>
+    ensures { OnOk result (out.new.items ≡ out.old.items ++ (var_text var.now ++ codes " = " ++ rhs_text rhs.now ++ codes ";")) }
+{
+    put_var(out, var)?;
+    put(out, b" = ")?;
+    put_rhs(alloc, out, rhs)?;
+    put(out, b";")?;
+    Ok(())
+}
+
+// Puts an expression between two texts at the end.
+fn put_between(
+    alloc: Global,
+    out: &mut Vec<u8>,
+    before: &[u8],
+    e: &Expr,
+    behind: &[u8],
+) -> Result<(), AllocError>
+    ensures { OnOk result (out.new.items ≡ out.old.items ++ (before.now ++ expr_text e.now ++ behind.now)) }
+{
+    put(out, before)?;
+    put_expr(alloc, out, e)?;
+    put(out, behind)?;
+    Ok(())
+}
+
+// Puts a text and an expression at the end.
+fn put_worded(alloc: Global, out: &mut Vec<u8>, word: &[u8], e: &Expr) -> Result<(), AllocError>
+    ensures { OnOk result (out.new.items ≡ out.old.items ++ (word.now ++ expr_text e.now)) }
+{
+    put(out, word)?;
+    put_expr(alloc, out, e)?;
+    Ok(())
+}
+
+// Puts two expressions behind a text at the end, as a statement.
+fn put_pair(
+    alloc: Global,
+    out: &mut Vec<u8>,
+    word: &[u8],
+    first: &Expr,
+    second: &Expr,
+) -> Result<(), AllocError>
+    ensures { OnOk result (out.new.items ≡ out.old.items ++ (word.now ++ expr_text first.now ++ codes ", " ++ expr_text second.now ++ codes ";")) }
+{
+    put_between(alloc, out, word, first, b", ")?;
+    put_expr(alloc, out, second)?;
+    put(out, b";")?;
+    Ok(())
+}
+
+fn put_test(alloc: Global, out: &mut Vec<u8>, test: &Expr) -> Result<(), AllocError>
+    ensures { OnOk result (out.new.items ≡ out.old.items ++ (codes "if " ++ in_brackets (expr_text test.now) ++ codes " ")) }
+{
+    put(out, b"if ")?;
+    put(out, b"(")?;
+    put_expr(alloc, out, test)?;
+    put(out, b")")?;
+    put(out, b" ")?;
+    Ok(())
+}
+
+/// Puts the text of a statement at the end.
+#[cycle(statements)]
+#[tactic(auto, using(crate::proofs::Levels::joined_stmts))]
+pub fn put_stmt(alloc: Global, out: &mut Vec<u8>, s: &Stmt) -> Result<(), AllocError>
+    ensures { OnOk result (out.new.items ≡ out.old.items ++ stmt_text s.now) }
+{
+    match s {
+        Stmt::Let(var, rhs) => {
+            put(out, b"let ")?;
+            put_set_to(alloc, out, var, rhs)?;
+            Ok(())
+        }
+        Stmt::Set(var, rhs) => put_set_to(alloc, out, var, rhs),
+        Stmt::Do(rhs) => {
+            put_rhs(alloc, out, rhs)?;
+            put(out, b";")?;
+            Ok(())
+        }
+        Stmt::If(test, first, second) => {
+            put_test(alloc, out, test)?;
+            put_body(alloc, out, first.as_slice())?;
+            put_else(alloc, out, second.as_slice())?;
+            Ok(())
+        }
+        Stmt::Return(value) => {
+            put(out, b"return")?;
+            put_value_part(alloc, out, value)?;
+            put(out, b";")?;
+            Ok(())
+        }
+        Stmt::Delete(e) => put_between(alloc, out, b"pdelete ", e, b";"),
+        Stmt::DropVersion(e) => put_between(alloc, out, b"delversion ", e, b";"),
+        Stmt::Deactivate(of, number) => put_pair(alloc, out, b"deactivate ", of, number),
+        Stmt::Show(rhs) => {
+            put(out, b"show ")?;
+            put_rhs(alloc, out, rhs)?;
+            put(out, b";")?;
+            Ok(())
+        }
+        Stmt::Say(e) => put_between(alloc, out, b"say ", e, b";"),
+        Stmt::TAbort => put(out, b"tabort;"),
+    }
+}
+
+/// Puts the text of a body at the end.
+#[cycle(statements)]
+#[tactic(auto, using(crate::proofs::Levels::joined_stmts))]
+pub fn put_body(alloc: Global, out: &mut Vec<u8>, body: &[Stmt]) -> Result<(), AllocError>
+    ensures { OnOk result (out.new.items ≡ out.old.items ++ body_text body.now) }
+{
+    put(out, b"{")?;
+    for s in body {
+        put(out, b" ")?;
+        put_stmt(alloc, out, s)?;
+    }
+    put(out, b" }")?;
+    Ok(())
+}
+
+#[cycle(statements)]
+#[tactic(auto, using(crate::proofs::Levels::joined_stmts))]
+fn put_else(alloc: Global, out: &mut Vec<u8>, body: &[Stmt]) -> Result<(), AllocError>
+    ensures { OnOk result (out.new.items ≡ out.old.items ++ else_part (map stmt_text body.now)) }
+{
+    if body.is_empty() {
+        return Ok(());
+    }
+    put(out, b" else ")?;
+    put_body(alloc, out, body)?;
+    Ok(())
+}
