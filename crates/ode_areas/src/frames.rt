@@ -8,7 +8,7 @@ ghost use Rattle.ode_areas.specs.Replaying.{IsReplayed};
 use crate::map::Map;
 use crate::payload::replay;
 use ode_host::Host;
-use ode_journal::{Journal, JournalError, next_frame};
+use ode_journal::{Block, Journal, JournalError, next_frame};
 use std::alloc::Global;
 
 /// Makes the changes of all frames from the gate at `start` on, and answers where the journal stands behind them. All
@@ -27,9 +27,10 @@ pub(crate) fn replay_frames<H: Host>(
     ensures looks { Looks (H.view host.old) (H.view host.new) }
     ensures cause { RoseIf (IsErrOf result JournalError.DiskFault) (H.view host.old).disk_faults (H.view host.new).disk_faults }
 {
+    let mut ahead = Block::new(alloc)?;
     let mut at = start;
     'frames: loop {
-        let Some(payload) = next_frame(alloc, host, at, end)? else {
+        let Some(payload) = next_frame(alloc, host, &mut ahead, at, end)? else {
             return Ok(Journal { at, end });
         };
         if !replay(alloc, payload.as_slice(), map)? {

@@ -77,6 +77,7 @@ pub(crate) fn checkpoint_for(
     requires { payload ≤ 4083716 }
     ensures room { IfOk result (λ due. MatchOption due (payload + 6 ≤ room_of journal.now)
         (λ c. payload + 6 ≤ room_of (empty_under c.header))) }
+    ensures needed { IfOk result (λ due. IfSome due (λ c. room_of journal.now < payload + 6)) }
     ensures moves { IfOk result (λ due. IfSome due (λ c. AllByRecursion FitsRow map.now
         → MovesOver header.now map.now c.header c.bytes.items)) }
     ensures slot { IfOk result (λ due. IfSome due (λ c. c.header.slot ≤ 1)) }

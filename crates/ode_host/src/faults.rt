@@ -1,4 +1,4 @@
-//! RoseIf of faults.
+//! Counts of faults.
 ghost use Rattle.std.specs.Prelude.{◌≡◌, ◌+◌, ◌-◌, ◌^◌, ◌≤◌, min};
 
 /// Raises a count, which stands still at its last value.

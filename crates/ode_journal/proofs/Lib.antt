@@ -1,3 +1,4 @@
+pub mod Ahead
 pub mod Appending
 pub mod Exact
 pub mod Frames

@@ -1,11 +1,13 @@
 //! A journal of frames behind gates, of which a stop leaves none or a whole one.
 #![tactic(auto)]
 
+mod block;
 mod error;
 mod frame;
 mod journal;
 mod reading;
 
+pub use block::Block;
 pub use error::{AppendError, JournalError};
 pub use frame::Frame;
 pub use journal::Journal;

@@ -1,33 +1,41 @@
 //! Frames are read again.
-ghost use Rattle.std.specs.Prelude.{◌≡◌, ◌+◌, ◌≤◌, ◌<◌, ◌^◌, List, ℕ, length, take, drop, Option, IfOk, IfSome, IsErrOf};
+ghost use Rattle.std.specs.Prelude.{◌≡◌, ◌+◌, ◌≤◌, ◌<◌, ◌^◌, List, ℕ, length, take, drop, Option, IfOk, IfSome, IsErrOf, OnOk};
 ghost use Rattle.std.specs.Bool.{OnTrue, OnFalse};
 ghost use Rattle.std.specs.Int.{w32, to_be_bytes};
 ghost use Rattle.ode_gate.specs.Gate.{open_gate};
 ghost use Rattle.ode_host.specs.Causes.{RoseIf};
 ghost use Rattle.ode_host.specs.Fields.{number_at};
 ghost use Rattle.ode_host.specs.Host.{Looks, Tells};
+ghost use Rattle.ode_journal.specs.Ahead.{StaysOf, TellsAhead};
 ghost use Rattle.ode_journal.specs.Answers.{Answers};
 ghost use Rattle.ode_journal.specs.Frames.{gate_behind, limit, HasGate, IsShut, IsBad, IsJournal, IsBroken, NextIs};
 
+use crate::block::Block;
 use crate::error::JournalError;
 use crate::journal::Journal;
 use ode_gate::OPEN;
-use ode_host::{Host, read_exact};
+use ode_host::Host;
 use ode_value::List;
 use std::alloc::Global;
 
 // Whether the gate at this place is open.
-fn is_open<H: Host>(host: &mut H, at: u64, end: u64) -> Result<bool, JournalError>
+fn is_open<H: Host>(
+    host: &mut H,
+    ahead: &mut Block,
+    at: u64,
+    end: u64,
+) -> Result<bool, JournalError>
     ensures within { IfOk result (λ _. at < end) }
-    ensures opened { IfOk result (λ b. OnTrue b ((file : List ℕ) → Tells (H.view host.old) file → HasGate at open_gate file)) }
-    ensures shut { IfOk result (λ b. OnFalse b ((file : List ℕ) → Tells (H.view host.old) file → IsShut end at file)) }
+    ensures opened { IfOk result (λ b. OnTrue b ((file : List ℕ) → TellsAhead (H.view host.old) ahead.old file → HasGate at open_gate file)) }
+    ensures shut { IfOk result (λ b. OnFalse b ((file : List ℕ) → TellsAhead (H.view host.old) ahead.old file → IsShut end at file)) }
     ensures bad { (place : ℕ) → IsErrOf result (JournalError.BadJournal place)
-        → (place ≡ at) × ((file : List ℕ) → Tells (H.view host.old) file → limit end file ≤ at) }
+        → (place ≡ at) × ((file : List ℕ) → TellsAhead (H.view host.old) ahead.old file → limit end file ≤ at) }
+    ensures ahead { OnOk result (StaysOf (H.view host.old) ahead.old ahead.new) }
     ensures looks { Looks (H.view host.old) (H.view host.new) }
     ensures cause { RoseIf (IsErrOf result JournalError.DiskFault) (H.view host.old).disk_faults (H.view host.new).disk_faults }
 {
     let mut gate = [0u8; 1];
-    if at >= end || !read_exact(host, at, &mut gate)? {
+    if at >= end || !ahead.read_exact(host, at, &mut gate)? {
         return Err(JournalError::BadJournal { at });
     }
     Ok(gate[0] == OPEN)
@@ -42,19 +50,25 @@ fn number(bytes: &[u8]) -> u32
 }
 
 // The length behind the gate at this place.
-fn read_length<H: Host>(host: &mut H, at: u64, end: u64) -> Result<u32, JournalError>
+fn read_length<H: Host>(
+    host: &mut H,
+    ahead: &mut Block,
+    at: u64,
+    end: u64,
+) -> Result<u32, JournalError>
     requires { at < end }
     ensures within { IfOk result (λ n. at + 5 + n ≤ end) }
-    ensures spelled { IfOk result (λ n. (file : List ℕ) → Tells (H.view host.old) file → take 4 (drop (at + 1) file) ≡ to_be_bytes w32 n) }
+    ensures spelled { IfOk result (λ n. (file : List ℕ) → TellsAhead (H.view host.old) ahead.old file → take 4 (drop (at + 1) file) ≡ to_be_bytes w32 n) }
     ensures bad { (place : ℕ) → IsErrOf result (JournalError.BadJournal place)
-        → (place ≡ at) × ((file : List ℕ) → Tells (H.view host.old) file → limit end file < at + 5 + number_at w32 file (at + 1)) }
+        → (place ≡ at) × ((file : List ℕ) → TellsAhead (H.view host.old) ahead.old file → limit end file < at + 5 + number_at w32 file (at + 1)) }
+    ensures ahead { OnOk result (StaysOf (H.view host.old) ahead.old ahead.new) }
     ensures looks { Looks (H.view host.old) (H.view host.new) }
     ensures cause { RoseIf (IsErrOf result JournalError.DiskFault) (H.view host.old).disk_faults (H.view host.new).disk_faults }
 {
     let bad = JournalError::BadJournal { at };
     let room = end - at - 1;
     let mut head = [0u8; 4];
-    if room < 4 || !read_exact(host, at + 1, &mut head)? {
+    if room < 4 || !ahead.read_exact(host, at + 1, &mut head)? {
         return Err(bad);
     }
     let length = number(&head);
@@ -68,48 +82,52 @@ fn read_length<H: Host>(host: &mut H, at: u64, end: u64) -> Result<u32, JournalE
 fn read_payload<H: Host>(
     alloc: Global,
     host: &mut H,
+    ahead: &mut Block,
     at: u64,
     count: u32,
 ) -> Result<List<u8>, JournalError>
     requires { at + 5 + count < 2 ^ 64 }
     ensures long { IfOk result (λ payload. length payload ≡ count) }
-    ensures bytes { IfOk result (λ payload. (file : List ℕ) → Tells (H.view host.old) file → payload ≡ take count (drop (at + 5) file)) }
+    ensures bytes { IfOk result (λ payload. (file : List ℕ) → TellsAhead (H.view host.old) ahead.old file → payload ≡ take count (drop (at + 5) file)) }
     ensures bad { (place : ℕ) → IsErrOf result (JournalError.BadJournal place)
-        → (place ≡ at) × ((file : List ℕ) → Tells (H.view host.old) file → length file < at + 5 + count) }
+        → (place ≡ at) × ((file : List ℕ) → TellsAhead (H.view host.old) ahead.old file → length file < at + 5 + count) }
+    ensures ahead { OnOk result (StaysOf (H.view host.old) ahead.old ahead.new) }
     ensures looks { Looks (H.view host.old) (H.view host.new) }
     ensures cause { RoseIf (IsErrOf result JournalError.DiskFault) (H.view host.old).disk_faults (H.view host.new).disk_faults }
 {
     let mut payload = vec![in alloc; 0; count as usize]?;
-    if !read_exact(host, at + 5, &mut payload)? {
+    if !ahead.read_exact(host, at + 5, &mut payload)? {
         return Err(JournalError::BadJournal { at });
     }
     Ok(List::from_vec(payload))
 }
 
-/// The payload of the frame whose gate stands at this offset, and none where that gate is shut. It is `BadJournal` where
+/// The payload of the frame whose gate stands at this offset, and none where that gate is shut, by what was read ahead. It is `BadJournal` where
 /// the gate would stand at or past `end` or the file's end, or is open and its frame runs past one of them.
 pub fn next_frame<H: Host>(
     alloc: Global,
     host: &mut H,
+    ahead: &mut Block,
     at: u64,
     end: u64,
 ) -> Result<Option<List<u8>>, JournalError>
-    ensures found { IfOk result (λ next. (file : List ℕ) → Tells (H.view host.old) file → NextIs end at next file) }
+    ensures found { IfOk result (λ next. (file : List ℕ) → TellsAhead (H.view host.old) ahead.old file → NextIs end at next file) }
     ensures within { IfOk result (λ next. IfSome next (λ payload. at + 5 + length payload ≤ end)) }
     ensures bad { (place : ℕ) → IsErrOf result (JournalError.BadJournal place)
-        → (place ≡ at) × ((file : List ℕ) → Tells (H.view host.old) file → IsBad end at file) }
+        → (place ≡ at) × ((file : List ℕ) → TellsAhead (H.view host.old) ahead.old file → IsBad end at file) }
 
     // What stands there is answered, unless the outside fails.
-    ensures whole { (file : List ℕ) (next : Option (List ℕ)) → Tells (H.view host.old) file → NextIs end at next file → Answers result (Ok next) }
-    ensures broken { (file : List ℕ) → Tells (H.view host.old) file → IsBad end at file → Answers result (Err (JournalError.BadJournal at)) }
+    ensures whole { (file : List ℕ) (next : Option (List ℕ)) → TellsAhead (H.view host.old) ahead.old file → NextIs end at next file → Answers result (Ok next) }
+    ensures broken { (file : List ℕ) → TellsAhead (H.view host.old) ahead.old file → IsBad end at file → Answers result (Err (JournalError.BadJournal at)) }
+    ensures ahead { OnOk result (StaysOf (H.view host.old) ahead.old ahead.new) }
     ensures looks { Looks (H.view host.old) (H.view host.new) }
     ensures cause { RoseIf (IsErrOf result JournalError.DiskFault) (H.view host.old).disk_faults (H.view host.new).disk_faults }
 {
-    if !is_open(host, at, end)? {
+    if !is_open(host, ahead, at, end)? {
         return Ok(None);
     }
-    let length = read_length(host, at, end)?;
-    let payload = read_payload(alloc, host, at, length)?;
+    let length = read_length(host, ahead, at, end)?;
+    let payload = read_payload(alloc, host, ahead, at, length)?;
     Ok(Some(payload))
 }
 
@@ -134,10 +152,11 @@ pub fn scan<H: Host>(
     ensures looks { Looks (H.view host.old) (H.view host.new) }
     ensures cause { RoseIf (IsErrOf result JournalError.DiskFault) (H.view host.old).disk_faults (H.view host.new).disk_faults }
 {
+    let mut ahead = Block::new(alloc)?;
     let mut frames = List::new(alloc);
     let mut at = start;
     'frames: loop {
-        match next_frame(alloc, host, at, end)? {
+        match next_frame(alloc, host, &mut ahead, at, end)? {
             None => return Ok((Journal { at, end }, frames)),
             Some(payload) => {
                 at += 5 + payload.len() as u64;

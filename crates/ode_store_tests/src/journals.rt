@@ -2,7 +2,7 @@
 ghost use Rattle.std.specs.Prelude.{◌≡◌, IfOk};
 
 use ode_host::{MemHost, Plan, Torn};
-use ode_journal::{AppendError, Frame, Journal, JournalError, next_frame, scan};
+use ode_journal::{AppendError, Block, Frame, Journal, JournalError, next_frame, scan};
 use ode_value::List;
 use std::alloc::{AllocError, Global};
 use std::process::Abort;
@@ -218,7 +218,8 @@ fn each_byte_but_one_shuts_a_gate(rt: HostRuntime) -> Result<(), Fail> {
     for gate in [0, 1, 0x5A, 0x7F, 0xA4, 0xA6, 0xFF] {
         let mut host = disk(alloc, &[gate, 0, 0, 0, 0, 0], smooth(alloc))?;
         finds(&rt, alloc, &mut host, END, START, &[])?;
-        assert!(rt; next_frame(alloc, &mut host, START, END)?.is_none());
+        let mut ahead = Block::new(alloc)?;
+        assert!(rt; next_frame(alloc, &mut host, &mut ahead, START, END)?.is_none());
     }
     Ok(())
 }
@@ -262,7 +263,8 @@ fn a_place_past_all_places_is_refused(rt: HostRuntime) -> Result<(), Fail> {
     for at in [101, END, u64::MAX - 1, u64::MAX] {
         let bad = JournalError::BadJournal { at };
         assert_eq!(rt; scan(alloc, &mut host, at, u64::MAX).err(), Some(bad));
-        assert_eq!(rt; next_frame(alloc, &mut host, at, u64::MAX).err(), Some(bad));
+        let mut ahead = Block::new(alloc)?;
+        assert_eq!(rt; next_frame(alloc, &mut host, &mut ahead, at, u64::MAX).err(), Some(bad));
     }
     Ok(())
 }
@@ -270,7 +272,8 @@ fn a_place_past_all_places_is_refused(rt: HostRuntime) -> Result<(), Fail> {
 #[test]
 fn a_read_that_fails_ends_a_scan(rt: HostRuntime) -> Result<(), Fail> {
     let alloc = rt.alloc();
-    for number in 0..4 {
+    // One read finds all that there is, and one the end.
+    for number in 0..2 {
         let mut host = disk(alloc, b"\xA5\0\0\0\x03abc\0", failing(alloc, number)?)?;
         let answer = scan(alloc, &mut host, START, END);
         assert_eq!(rt;

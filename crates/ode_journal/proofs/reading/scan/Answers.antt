@@ -10,41 +10,41 @@ use Rattle.ode_journal.proofs.reading.scan.Goals as goal
 
 pub returns-in_err-next_frame-clause-bad : goal.returns-in_err-next_frame-clause-bad
 returns-in_err-next_frame-clause-bad g c =
-    let p = err_from_is_err_and c.from_residual.result c.from_residual.ensures.1 in
+    let p = err_from_is_err_and c.from_residual-in_err-next_frame.result c.from_residual-in_err-next_frame.ensures.1 in
     rw (p.1, p.2) (λ place e file tells.
     let so_far = c.frames.invariant in
     let same : c.in_err-next_frame.field-0.0 ≡ BadJournal place = cc (e) in
     let bad = c.in_err-next_frame.ensures.bad place (ap Err same) in
-    broken_at c.args.start c.args.end c.frames.at c.frames.frames file (so_far.so_far file tells) so_far.place place bad.0 (bad.1 file (tells_looks file _ _ so_far.looks tells)))
+    broken_at c.args.start c.args.end c.frames.at c.frames.frames file (so_far.so_far file tells) so_far.place place bad.0 (bad.1 file (record { tells = tells_looks file _ _ so_far.looks tells; ahead = so_far.ahead file tells })))
 
 pub returns-in_err-next_frame-clause-whole : goal.returns-in_err-next_frame-clause-whole
 returns-in_err-next_frame-clause-whole g c =
-    let p = err_from_is_err_and c.from_residual.result c.from_residual.ensures.1 in
+    let p = err_from_is_err_and c.from_residual-in_err-next_frame.result c.from_residual-in_err-next_frame.ensures.1 in
     rw (p.1, p.2) (λ file frames tells is.
     let so_far = c.frames.invariant in
     exact_scan c.args.start c.args.end file (Err c.in_err-next_frame.field-0.0) tt
     (λ place e.
     let same : c.in_err-next_frame.field-0.0 ≡ BadJournal place = cc (e) in
     let bad = c.in_err-next_frame.ensures.bad place (ap Err same) in
-    broken_at c.args.start c.args.end c.frames.at c.frames.frames file (so_far.so_far file tells) so_far.place place bad.0 (bad.1 file (tells_looks file _ _ so_far.looks tells)))
+    broken_at c.args.start c.args.end c.frames.at c.frames.frames file (so_far.so_far file tells) so_far.place place bad.0 (bad.1 file (record { tells = tells_looks file _ _ so_far.looks tells; ahead = so_far.ahead file tells })))
     frames is)
 
 pub returns-in_err-next_frame-clause-broken : goal.returns-in_err-next_frame-clause-broken
 returns-in_err-next_frame-clause-broken g c =
-    let p = err_from_is_err_and c.from_residual.result c.from_residual.ensures.1 in
+    let p = err_from_is_err_and c.from_residual-in_err-next_frame.result c.from_residual-in_err-next_frame.ensures.1 in
     rw (p.1, p.2) (λ file place tells is.
     let so_far = c.frames.invariant in
     exact_broken c.args.start c.args.end file (Err c.in_err-next_frame.field-0.0) tt
     (λ other e.
     let same : c.in_err-next_frame.field-0.0 ≡ BadJournal other = cc (e) in
     let bad = c.in_err-next_frame.ensures.bad other (ap Err same) in
-    broken_at c.args.start c.args.end c.frames.at c.frames.frames file (so_far.so_far file tells) so_far.place other bad.0 (bad.1 file (tells_looks file _ _ so_far.looks tells)))
+    broken_at c.args.start c.args.end c.frames.at c.frames.frames file (so_far.so_far file tells) so_far.place other bad.0 (bad.1 file (record { tells = tells_looks file _ _ so_far.looks tells; ahead = so_far.ahead file tells })))
     place is)
 
 pub returns-in-None-clause-found : goal.returns-in-None-clause-found
 returns-in-None-clause-found g c file tells =
     let so_far = c.frames.invariant in
-    let here : IsShut c.args.end c.frames.at file = (rw c.in-None.is at c.in_ok-next_frame.ensures.found) file (tells_looks file _ _ so_far.looks tells) in
+    let here : IsShut c.args.end c.frames.at file = (rw c.in-None.is at c.in_ok-next_frame.ensures.found) file (record { tells = tells_looks file _ _ so_far.looks tells; ahead = so_far.ahead file tells }) in
     journal_at c.args.start c.args.end c.frames.at c.frames.frames file (so_far.so_far file tells) so_far.place here
 
 pub returns-in-None-clause-whole : goal.returns-in-None-clause-whole
@@ -69,8 +69,9 @@ frames-preserved g c =
     record {
       looks = looks_joined _ _ _ so_far.looks c.next_frame.ensures.looks;
       faults = ⊎_elim (λ err. cc (err)) (λ same. same ∙ so_far.faults) c.in_ok-next_frame.ensures.cause.calm;
+      ahead = λ file tells. c.in_ok-next_frame.ensures.ahead file (tells_looks file _ _ so_far.looks tells) (so_far.ahead file tells);
       place = rw items (omega (arith, so_far.place, len, gate_behind-push c.args.start frames payload));
       so_far = λ file tells.
-          let next : IsFramed c.args.end c.frames.at payload file = (rw c.in-Some.is at c.in_ok-next_frame.ensures.found) file (tells_looks file _ _ so_far.looks tells) in
+          let next : IsFramed c.args.end c.frames.at payload file = (rw c.in-Some.is at c.in_ok-next_frame.ensures.found) file (record { tells = tells_looks file _ _ so_far.looks tells; ahead = so_far.ahead file tells }) in
           rw items (one_more c.args.start c.args.end frames payload file (so_far.so_far file tells) (subst (λ (k : ℕ). IsFramed c.args.end k payload file) so_far.place next));
     }
