@@ -1,5 +1,5 @@
 -- Where the reader finds a token too deep no text within the height goes on with it.
-use Rattle.std.proofs.Common.{◌≡◌, ◌≤◌, ◌<◌, ℕ, ◌+◌, max, Bool, true, false, List, [], ◌∷◌, ◌++◌, length, take, drop, get_or, Option, Some, None, map, arith, refl, sym, ◌∙◌, ap, subst, le_trans, lit≤}
+use Rattle.std.proofs.Common.{◌≡◌, ◌≤◌, ◌<◌, ℕ, ◌+◌, max, Bool, true, false, List, [], ◌∷◌, length, take, drop, get_or, Option, Some, None, arith, refl, sym, ◌∙◌, ap, subst, le_trans, lit≤}
 use Rattle.std.proofs.lemmas.List.{take-append-drop}
 use Rattle.std.proofs.lemmas.Option.{none-some, same_Some}
 use Rattle.ode_grammar.specs.declared.terminal.Terminal.{Terminal}
@@ -19,7 +19,7 @@ use Rattle.ode_grammar.proofs.Runs.{run_derives, run_reached, derived_reaches, s
 use Rattle.ode_grammar.proofs.Steps.{part_skipped}
 use Rattle.ode_heights.specs.declared.height.Heights.{Heights}
 use Rattle.ode_heights.specs.Heights.{heights, highest, none, raised, risen}
-use Rattle.ode_heights.specs.Lowest.{low_of, lowest}
+use Rattle.ode_heights.specs.Lowest.{lowest}
 use Rattle.ode_heights.specs.Depths.{IsTextWithin, BeginsWithin, IsTooDeepAt}
 use Rattle.ode_heights.proofs.HeightLaws.{low_highest}
 use Rattle.ode_heights.proofs.Completions.{shortest, least_derives}

@@ -1,5 +1,5 @@
 -- No text that goes on from here is lower than the one that ends at once.
-use Rattle.std.proofs.Common.{◌≡◌, ◌≤◌, ◌<◌, nat_le, ℕ, ◌+◌, max, true, false, List, [], ◌∷◌, ◌++◌, Option, Some, None, zero, suc, length, drop, get_or, refl, sym, ap, subst, ◌∙◌, le_refl, le_trans, lit≤, arith}
+use Rattle.std.proofs.Common.{◌≡◌, ◌≤◌, ◌<◌, nat_le, ℕ, ◌+◌, max, true, false, List, [], ◌∷◌, ◌++◌, Some, zero, suc, length, drop, get_or, refl, sym, ap, subst, ◌∙◌, le_refl, le_trans, lit≤, arith}
 use Rattle.std.proofs.lemmas.Bool.Decides.{nat_tests}
 use Rattle.ode_grammar.specs.declared.terminal.Terminal.{Terminal}
 use Rattle.ode_grammar.specs.declared.terminal.Terminal.TheVariants as terminal
@@ -13,7 +13,6 @@ use Rattle.ode_grammar.specs.Grammar.{after, skipped}
 use Rattle.ode_grammar.specs.Texts.{Derives, Done, Next, Make, Rule, Skip}
 use Rattle.ode_grammar.proofs.Follows.{IfRow}
 use Rattle.ode_heights.specs.declared.effect.Effect.{Effect}
-use Rattle.ode_heights.specs.declared.effect.Effect.TheVariants as effect
 use Rattle.ode_heights.specs.declared.height.Height.{Height}
 use Rattle.ode_heights.specs.declared.height.Heights.{Heights}
 use Rattle.ode_heights.specs.Effects.{effect_of}

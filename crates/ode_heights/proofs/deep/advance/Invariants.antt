@@ -1,6 +1,6 @@
-use Rattle.std.proofs.Common.{◌≡◌, ◌≤◌, length}
+use Rattle.std.proofs.Common.{◌≡◌, length}
 use Rattle.ode_grammar.specs.Reading.{next, made_after}
-use Rattle.ode_heights.specs.Heights.{heights, highest}
+use Rattle.ode_heights.specs.Heights.{heights}
 use Rattle.ode_heights.specs.Lowest.{lowest}
 use Rattle.ode_heights.proofs.deep.advance.Given as goal
 

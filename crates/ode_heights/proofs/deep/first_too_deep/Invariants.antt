@@ -1,4 +1,4 @@
-use Rattle.std.proofs.Common.{◌≡◌, ◌≤◌, take}
+use Rattle.std.proofs.Common.{◌≤◌, take}
 use Rattle.ode_heights.specs.Heights.{highest}
 use Rattle.ode_heights.specs.Lowest.{lowest}
 use Rattle.ode_heights.proofs.Depths.{ReadsTo}

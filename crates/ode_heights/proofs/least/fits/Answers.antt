@@ -1,4 +1,3 @@
-use Rattle.std.proofs.Common.{sym, ◌∙◌}
 use Rattle.ode_heights.proofs.Lowest.{build_step, high_goes_on, part_step}
 use Rattle.ode_heights.proofs.least.fits.Goals as goal
 

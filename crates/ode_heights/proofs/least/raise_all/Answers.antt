@@ -1,4 +1,4 @@
-use Rattle.std.proofs.Common.{◌<◌, ◌+◌, drop, get_or, arith, sym, ◌∙◌, ap, subst}
+use Rattle.std.proofs.Common.{◌<◌, ◌+◌, drop, get_or, arith, sym, ◌∙◌, subst}
 use Rattle.ode_heights.specs.declared.effect.Effect.TheVariants.{Leaf}
 use Rattle.ode_heights.specs.declared.height.Heights.{Heights}
 use Rattle.ode_heights.specs.Heights.{highest}
