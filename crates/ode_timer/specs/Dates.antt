@@ -1,16 +1,9 @@
 -- Instants: texts such as `1970-01-01T00:01:30Z` with a real date, and the Unix second that each is.
-use Rattle.std.specs.Prelude.{◌≡◌, ℕ, zero, suc, ◌+◌, ◌-◌, ◌*◌, ◌/◌, ◌%◌, ℤ, pos, ◌-ℤ◌, List, [], ◌∷◌, ◌++◌, take, sum, slice_index, codes, Bool, cond, not, ◌&&◌, ◌||◌, ◌==◌, nat_le, nat_lt, Option, Some, None}
+use Rattle.std.specs.Prelude.{◌≡◌, ◌≤◌, ◌<◌, ℕ, zero, suc, ◌+◌, ◌-◌, ◌*◌, ◌/◌, ◌%◌, ℤ, pos, ◌-ℤ◌, List, [], ◌∷◌, ◌++◌, take, sum, slice_index, codes, Bool, cond, not, ◌&&◌, ◌||◌, ◌==◌, nat_le, nat_lt, Option, Some, None}
+use Rattle.std.specs.Option.{option_map}
 use Rattle.std.specs.Str.{bytes_eq}
 use Rattle.ode_value.specs.Instants.{two_digits}
-
--- a second of a day of a month of a year
-pub record Date : Type 0 where
-  pub year : ℕ
-  pub month : ℕ
-  pub day : ℕ
-  pub hour : ℕ
-  pub minute : ℕ
-  pub second : ℕ
+use Rattle.ode_timer.specs.declared.calendar.Date.{Date}
 
 -- every fourth year has a leap day; of the years that 100 divides, those that 400 divides
 abbrev pub is_leap : ℕ → Bool
@@ -36,10 +29,24 @@ seconds_before d = day_of d * 86400 + d.hour * 3600 + d.minute * 60 + d.second
 abbrev pub second_of : Date → ℤ
 second_of d = pos (seconds_before d) -ℤ pos (days_before 1970 * 86400)
 
+-- the calendar has this day, in a year of four digits
+abbrev pub is_day : ℕ → ℕ → ℕ → Bool
+is_day year month day = nat_le year 9999 && nat_le 1 month && nat_le month 12 && nat_le 1 day && nat_le day (slice_index (months year) (month - 1))
+
 -- a date is real
 abbrev pub is_real : Date → Bool
-is_real d = nat_le 1 d.month && nat_le d.month 12 && nat_le 1 d.day && nat_le d.day (slice_index (months d.year) (d.month - 1))
-    && nat_lt d.hour 24 && nat_lt d.minute 60 && nat_lt d.second 60
+is_real d = is_day d.year d.month d.day && nat_lt d.hour 24 && nat_lt d.minute 60 && nat_lt d.second 60
+
+-- how large the parts of a real date are
+pub record IsInRange (d : Date) : Type 0 where
+  pub year : d.year ≤ 9999
+  pub from_month : 1 ≤ d.month
+  pub to_month : d.month ≤ 12
+  pub from_day : 1 ≤ d.day
+  pub to_day : d.day ≤ 31
+  pub hour : d.hour < 24
+  pub minute : d.minute < 60
+  pub second : d.second < 60
 
 -- a number by its last four digits
 abbrev pub four_digits : ℕ → List ℕ
@@ -68,9 +75,13 @@ date_in text = record {
   second = two_at text 17;
 }
 
+-- the real date that a text spells
+abbrev pub date_of : List ℕ → Option Date
+date_of text = cond (bytes_eq text (spelled (date_in text)) && is_real (date_in text)) (Some (date_in text)) None
+
 -- an instant is a text that spells a real date, and its second is that date's
 unfoldable pub instant_of : List ℕ → Option ℤ
-instant_of text = cond (bytes_eq text (spelled (date_in text)) && is_real (date_in text)) (Some (second_of (date_in text))) None
+instant_of text = option_map second_of (date_of text)
 
 -- the text of a second is the one whose date gives it
 abbrev pub IsTextOf : ℤ → List ℕ → Type 0

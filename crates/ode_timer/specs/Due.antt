@@ -1,11 +1,25 @@
 -- Which clock events are due.
-use Rattle.std.specs.Prelude.{◌≡◌, ◌≤◌, ◌<◌, ℕ, ◌+◌, ◌-◌, ℤ, pos, ◌+ℤ◌, ◌-ℤ◌, nat_abs, int_le, int_lt, int_rem, ◌^◌, nat_lt, List, [], map, length, min, All, Bool, false, cond, ◌&&◌, ◌||◌, ◌==◌}
+use Rattle.std.specs.Prelude.{◌≤◌, ℕ, ◌+◌, ◌-◌, ℤ, pos, ◌+ℤ◌, ◌-ℤ◌, nat_abs, int_le, int_lt, int_rem, ◌^◌, nat_lt, List, [], map, All, Bool, false, cond, ◌&&◌, ◌||◌, ◌==◌}
 use Rattle.std.specs.List.{filter, flat_map, enumerate_from, range_with_len}
+use Rattle.std.specs.Option.{option_map_or}
 use Rattle.std.specs.Ordering.{int_eq}
+use Rattle.ode_value.specs.declared.class.Class.{Class}
 use Rattle.ode_value.specs.declared.event.Kind.{Kind}
 use Rattle.ode_value.specs.declared.event.Kind.TheVariants.{TimeEvery, TimeAt}
-use Rattle.ode_value.specs.Worlds.{Position}
+use Rattle.ode_value.specs.Worlds.{Declared, Object, Bones, Position, class_numbered}
 use Rattle.ode_timer.specs.declared.clock.TimeRow.{TimeRow}
+
+-- the kinds that a class lists
+abbrev pub kinds_of : List Declared → ℕ → List Kind
+kinds_of classes number = option_map_or (λ (c : Class). c.kinds) (class_numbered number classes) []
+
+-- the row of an object
+abbrev pub time_row : List Declared → Object → TimeRow
+time_row classes o = record { object = o.id; kinds = kinds_of classes o.class }
+
+-- the rows of all objects
+abbrev pub time_rows : Bones → List TimeRow
+time_rows b = map (time_row b.classes) b.objects
 
 -- a kind is due at a Unix second
 abbrev pub is_due : ℤ → ℕ × Kind → Bool

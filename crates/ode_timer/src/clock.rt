@@ -6,9 +6,6 @@ use ode_value::{Kind, List};
 use std::alloc::{AllocError, Global};
 use std::marker::Model;
 
-/// The most clock events that one command may bring.
-pub const MAX_DUE: u128 = 10_000;
-
 /// How far a clock has come: a Unix second, and within it an object and a place in its class's list of kinds.
 #[derive(Clone, Copy)]
 pub struct Clock {
@@ -38,7 +35,7 @@ pub struct TimeRow {
 #[derive(Clone, Copy, Debug, PartialEq, Eq)]
 pub enum DueError {
     Memory,
-    /// More than `MAX_DUE` events, and how many. A number beyond the type's is the type's last.
+    /// More than `ode_value::limits::DUE_LIMIT` events, and how many. A number beyond the type's is the type's last.
     TooManyDue { count: u128 },
 }
 

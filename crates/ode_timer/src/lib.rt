@@ -1,8 +1,8 @@
 //! Instants, and which clock events are due.
 #![tactic(auto)]
 
+mod calendar;
 mod clock;
-mod instant;
 
-pub use clock::{Clock, DueError, MAX_DUE, TimeRow};
-pub use instant::BadInstant;
+pub use calendar::{BadInstant, instant};
+pub use clock::{Clock, DueError, TimeRow};
