@@ -72,7 +72,7 @@ fn each_failing_print_is_a_write_fault_and_its_transaction_is_kept(
             ran.is(&rt, FIRST_TEXT, Status::Ok, "a run that goes on");
         } else {
             is_kept(&rt, alloc, &ran, cut)?;
-            cut += 1;
+            cut = cut.saturating_add(1);
         }
     }
     assert_eq!(rt; cut, 3);
