@@ -1,0 +1,9 @@
+//! Tests of tables at work: two of them compared, and smaller ones.
+#![tactic(auto)]
+
+#[cfg(test)]
+mod making;
+#[cfg(test)]
+mod minimal;
+#[cfg(test)]
+mod walks;
