@@ -1,5 +1,5 @@
 -- Evaluation by one level.
-use Rattle.std.proofs.Common.{◌≡◌, Result, Ok, Err, refl, ap}
+use Rattle.std.proofs.Common.{◌≡◌, Result, Err, ap}
 use Rattle.ode_value.specs.declared.statement.Expr.{Expr, out-Expr, map-Expr, fold_out-Expr, the_lemmas}
 use Rattle.ode_value.specs.declared.arithmetic.Fault.{Fault}
 use Rattle.ode_value.specs.declared.value.Value.{Value}

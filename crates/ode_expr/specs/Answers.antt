@@ -1,5 +1,5 @@
 -- What an evaluation's answer says of what an expression comes to.
-use Rattle.std.specs.Prelude.{◌≡◌, ℕ, Option, Some, None, Result, Ok, Err}
+use Rattle.std.specs.Prelude.{◌≡◌, ℕ, Option, Some, Result, Ok, Err}
 use Rattle.ode_value.specs.declared.arithmetic.Fault.{Fault}
 use Rattle.ode_value.specs.declared.operator.BinOp.{BinOp}
 use Rattle.ode_value.specs.declared.operator.BinOp.TheVariants.{And, Or}
