@@ -9,7 +9,7 @@ use Rattle.std.proofs.Math.Facts.{Fits-of_z}
 use borrow.Author.Gap.{read_sfits}
 use Rattle.std.proofs.lemmas.List.{take_at, drop_at, take-append-drop, length-append, length-take, get_or-drop, get_or-take, get_or_past, nil_from_length, append-nil}
 use Rattle.std.proofs.lemmas.Nat.{be_bytes_2, be_bytes_4, be_bytes_8, from_be_bytes-to_be_bytes_2, from_be_bytes-to_be_bytes_4, from_be_bytes-to_be_bytes_8}
-use Rattle.ode_codec.specs.Formats.{◌>>=◌, both, byte_in, ended, fit, holding, int_in, number_in, part_of, truth_in, truth_of}
+use Rattle.ode_codec.specs.Formats.{◌>>=◌, both, byte_in, ended, fit, holding, int_in, number_in, truth_in, truth_of}
 use Rattle.ode_codec.specs.Spelling.{truth}
 
 abbrev pub IsBytes : List ℕ → Type 0
@@ -123,7 +123,7 @@ module _ (w : Width) (limit : ℕ) (len : (n : ℕ) → length (to_be_bytes w n)
       let spelled : to_be_bytes w (from_be_bytes w front) ≡ front = back front (omega (arith, length-take (byte_len w) bytes)) (fits-take (byte_len w) bytes fits) in
       let parts : bytes ≡ to_be_bytes w (from_be_bytes w front) ++ drop (byte_len w) bytes = sym (take-append-drop (byte_len w) bytes) ∙ ap (λ (t : List ℕ). t ++ drop (byte_len w) bytes) (sym spelled) in
       subst (λ (y : ℕ × List ℕ). Takes bytes (to_be_bytes w y.0) y.1 × (y.0 < limit)) g.1
-        (record { parts = parts; fits = fits-drop (byte_len w) bytes fits }, below front (fits-take (byte_len w) bytes fits))
+      (record { parts = parts; fits = fits-drop (byte_len w) bytes fits }, below front (fits-take (byte_len w) bytes fits))
 
   number_again : (n : ℕ) (rest : List ℕ) → n < limit → number_in w (to_be_bytes w n ++ rest) ≡ Some (n, rest)
   number_again n rest lt =
@@ -173,7 +173,7 @@ truth_takes bytes x fits e =
     let front = byte_takes bytes a.0 fits a.1 in
     let made : Bool × List ℕ = (b.0, a.0.1) in
     subst (λ (y : Bool × List ℕ). Takes bytes (truth y.0) y.1 × Unit {0}) (same made x b.2)
-      (record { parts = front.0.parts ∙ ap (λ (t : List ℕ). t ++ a.0.1) (sym (truth_is a.0.0 b.0 b.1)); fits = front.0.fits }, tt)
+    (record { parts = front.0.parts ∙ ap (λ (t : List ℕ). t ++ a.0.1) (sym (truth_is a.0.0 b.0 b.1)); fits = front.0.fits }, tt)
 
 truth_again : (t : Bool) (rest : List ℕ) → Unit {0} → truth_in (truth t ++ rest) ≡ Some (t, rest)
 truth_again true rest u = refl
@@ -194,7 +194,7 @@ int_takes bytes x fits e =
     let made : ℤ × List ℕ = (cast_signed w64 a.0.0, a.0.1) in
     let back : cast_unsigned w64 (cast_signed w64 a.0.0) ≡ a.0.0 = of_z-to_z w64 a.0.0 front.1 in
     subst (λ (y : ℤ × List ℕ). Takes bytes (spell_int y.0) y.1 × FitsSigned w64 y.0) (same made x a.2)
-      (record { parts = front.0.parts ∙ ap (λ (n : ℕ). to_be_bytes w64 n ++ a.0.1) (sym back); fits = front.0.fits }, read_sfits w64 a.0.0)
+    (record { parts = front.0.parts ∙ ap (λ (n : ℕ). to_be_bytes w64 n ++ a.0.1) (sym back); fits = front.0.fits }, read_sfits w64 a.0.0)
 
 below64 : {n : ℕ} → Fits w64 n → n < 2 ^ 64
 below64 fits = omega arith

@@ -1,7 +1,7 @@
 -- Each record has one spelling, and what is read is spelled so.
-use Rattle.std.proofs.Common.{◌≡◌, ◌≢◌, ℕ, ℤ, ◌+◌, ◌*◌, ◌/◌, ◌%◌, ◌^◌, ◌<◌, ◌≤◌, Bool, true, false, not, cond, List, [], ◌∷◌, ◌++◌, length, Option, Some, None, refl, sym, ap, subst, ◌∙◌, append_assoc, arith}
+use Rattle.std.proofs.Common.{◌≡◌, ℕ, ℤ, ◌+◌, ◌*◌, ◌/◌, ◌%◌, ◌^◌, ◌<◌, ◌≤◌, Bool, true, false, not, cond, List, ◌++◌, length, Option, Some, None, refl, sym, ap, subst, ◌∙◌, arith}
 use Rattle.std.specs.Prelude.{FitsSigned, pos, nat_lt, nat_le, ◌==◌, ◌&&◌, ◌||◌, position, if◌then◌else◌}
-use Rattle.std.specs.Int.{w16, w32, w64, to_be_bytes}
+use Rattle.std.specs.Int.{w64}
 use Rattle.std.specs.Option.{is_none}
 use Rattle.std.specs.Ordering.{int_eq}
 use Rattle.std.proofs.lemmas.Bool.Decides.{Decides-int_eq, nat_tests}
@@ -10,7 +10,7 @@ use Rattle.ode_value.specs.Limits.{number_limit, transaction_limit, value_limit}
 use Rattle.ode_value.specs.Text.{IsName, is_name_byte}
 use Rattle.ode_value.specs.declared.key.Key.{Key}
 use Rattle.ode_value.specs.declared.value.Value.{Value}
-use Rattle.ode_codec.specs.Formats.{◌>>=◌, both, byte_in, ended, fit, holding, int_in, number_in, part_of, truth_in}
+use Rattle.ode_codec.specs.Formats.{◌>>=◌, both, byte_in, ended, fit, holding, int_in, truth_in}
 use Rattle.ode_codec.specs.Reading
 use Rattle.ode_codec.specs.Reading.{clock_in, is_clock, is_counters, is_name, is_next, is_piece, made_counters, name_in, u16_in, u32_in, u64_in}
 use Rattle.ode_codec.specs.Rules.{HasRanges, IsClock, IsKept, IsKeptCounters, IsNext, IsPiece, IsRecord}
@@ -21,8 +21,8 @@ use Rattle.ode_codec.specs.declared.record.Counters.{Counters}
 use Rattle.ode_codec.specs.declared.record.Entry.{Entry}
 use Rattle.ode_codec.specs.declared.record.Record.{Record}
 use Rattle.ode_codec.specs.declared.record.Record.TheVariants as of
-use Rattle.ode_codec.proofs.FormatLaws.{IsBytes, IsFormat, Takes, bind_some, both_format, fit_again, fit_is, format8, format16, format32, format64, held, int_format, same, spell_byte, spell_int, truth_format, whole_again, whole_takes}
-use Rattle.ode_codec.proofs.ValueLaws.{FitArgs, FitFields, FitValues, are_kept, args_format, both_true, fields_format, fit_values, in_range, none_there, part_format, spell_args, spell_fields}
+use Rattle.ode_codec.proofs.FormatLaws.{IsBytes, IsFormat, bind_some, both_format, fit_again, fit_is, format8, format16, format32, format64, held, int_format, same, spell_byte, spell_int, truth_format, whole_again, whole_takes}
+use Rattle.ode_codec.proofs.ValueLaws.{FitArgs, FitFields, are_kept, args_format, both_true, fields_format, fit_values, in_range, none_there, part_format, spell_args, spell_fields}
 
 -- the numbers of a key are within their types
 pub record IsKey (k : Key) : Type 0 where
@@ -62,7 +62,7 @@ object_found k bytes r is fits e =
     let zero : k.b ≡ 0 = is_zero k.b (held (k.b == 0) a.0 a.1) in
     let w = whole_takes (ℕ × ℕ) Record (λ p. u32 p.0 ++ u32 p.1) (both u32_in u32_in) (λ p. (p.0 < 2 ^ 32) × (p.1 < 2 ^ 32)) pair32 (λ p. Some (of.Object k.a p.0 p.1)) bytes r fits a.2 in
     subst (Spells object_kind k bytes) (same (of.Object k.a w.0.0 w.0.1) r w.3)
-      (record { rules = record { kept = tt; ranges = (is.a, w.2.0, w.2.1) }; key = ap (key object_kind k.a) zero; value = w.1 })
+    (record { rules = record { kept = tt; ranges = (is.a, w.2.0, w.2.1) }; key = ap (key object_kind k.a) zero; value = w.1 })
 
 object_again : (object class last : ℕ) → IsRecord (of.Object object class last) → Reading.object_under (key object_kind object 0) (u32 class ++ u32 last) ≡ Some (of.Object object class last)
 unfolding Reading.object_under IsKept HasRanges
@@ -87,11 +87,11 @@ version_found k bytes r is fits e =
     let low = fit_is (2 ^ 32) k.b a.0 a.1 in
     let w = whole_takes (ℕ × List Value) Record spell_version (both u32_in fields_in) FitVersion version_format (λ p. Some (of.Version k.a a.0 p.0 p.1)) bytes r fits a.2 in
     subst (Spells version_kind k bytes) (same (of.Version k.a a.0 w.0.0 w.0.1) r w.3)
-      (record {
-        rules = record { kept = (w.2.1.0, are_kept w.0.1 w.2.1.1); ranges = (is.a, subst (λ n. n < 2 ^ 32) low.1 low.0, w.2.0, in_range w.0.1 w.2.1.1) };
-        key = ap (key version_kind k.a) low.1;
-        value = w.1;
-      })
+    (record {
+      rules = record { kept = (w.2.1.0, are_kept w.0.1 w.2.1.1); ranges = (is.a, subst (λ n. n < 2 ^ 32) low.1 low.0, w.2.0, in_range w.0.1 w.2.1.1) };
+      key = ap (key version_kind k.a) low.1;
+      value = w.1;
+    })
 
 version_again : (object number parent : ℕ) (fields : List Value) → IsRecord (of.Version object number parent fields)
     → Reading.version_under (key version_kind object number) (spell_version (parent, fields)) ≡ Some (of.Version object number parent fields)
@@ -99,7 +99,7 @@ unfolding Reading.version_under IsKept HasRanges
 version_again object number parent fields is =
     next_by (fit (2 ^ 32) number) number (λ n. both u32_in fields_in (spell_version (parent, fields)) >>= λ f. ended f.1 >>= λ _. Some (of.Version object n f.0.0 f.0.1)) (fit_again (2 ^ 32) number is.ranges.1)
     ∙ whole_again (ℕ × List Value) Record spell_version (both u32_in fields_in) FitVersion version_format (λ p. Some (of.Version object number p.0 p.1)) (parent, fields)
-        (is.ranges.2, (is.kept.0, fit_values fields is.ranges.3 is.kept.1))
+    (is.ranges.2, (is.kept.0, fit_values fields is.ranges.3 is.kept.1))
 
 -- ---- activations
 
@@ -132,21 +132,21 @@ unfolding Reading.activation_under key_of value_of IsKept HasRanges
 activation_found k bytes r is fits e =
     let w = whole_takes Acts Record spell_acts acts_in FitActs acts_format (λ p. Some (made_activation k.a k.b p)) bytes r fits e in
     subst (Spells activation_kind k bytes) (same (made_activation k.a k.b w.0) r w.3)
-      (record {
-        rules = record {
-          kept = (w.2.1.1.1.0, are_kept w.0.1.1.1 w.2.1.1.1.1);
-          ranges = record { key = (is.a, is.b); trigger = (w.2.0, w.2.1.0, w.2.1.1.0); args = in_range w.0.1.1.1 w.2.1.1.1.1 };
-        };
-        key = refl;
-        value = w.1;
-      })
+    (record {
+      rules = record {
+        kept = (w.2.1.1.1.0, are_kept w.0.1.1.1 w.2.1.1.1.1);
+        ranges = record { key = (is.a, is.b); trigger = (w.2.0, w.2.1.0, w.2.1.1.0); args = in_range w.0.1.1.1 w.2.1.1.1.1 };
+      };
+      key = refl;
+      value = w.1;
+    })
 
 activation_again : (a : Activation) → IsRecord (of.Activation a)
     → Reading.activation_under (key activation_kind a.object a.number) (spell_acts (a.class, (a.trigger, (a.state, a.args)))) ≡ Some (of.Activation a)
 unfolding Reading.activation_under IsKept HasRanges
 activation_again a is =
     whole_again Acts Record spell_acts acts_in FitActs acts_format (λ p. Some (made_activation a.object a.number p)) (a.class, (a.trigger, (a.state, a.args)))
-      (is.ranges.trigger.0, (is.ranges.trigger.1, (is.ranges.trigger.2, (is.kept.0, fit_values a.args is.ranges.args is.kept.1))))
+    (is.ranges.trigger.0, (is.ranges.trigger.1, (is.ranges.trigger.2, (is.kept.0, fit_values a.args is.ranges.args is.kept.1))))
 
 -- ---- entries
 
@@ -184,21 +184,21 @@ entry_found k bytes r is fits e =
     let zero : k.b ≡ 0 = is_zero k.b (held (k.b == 0) a.0 a.1) in
     let w = whole_takes Waits Record spell_waits waits_in FitWaits waits_format (λ p. Some (made_entry k.a p)) bytes r fits a.2 in
     subst (Spells entry_kind k bytes) (same (made_entry k.a w.0) r w.3)
-      (record {
-        rules = record {
-          kept = (w.2.1.1.1.1.0, are_kept w.0.1.1.1.1 w.2.1.1.1.1.1);
-          ranges = (is.a, record { object = w.2.0; trigger = (w.2.1.0, w.2.1.1.0, w.2.1.1.1.0); args = in_range w.0.1.1.1.1 w.2.1.1.1.1.1 });
-        };
-        key = ap (key entry_kind k.a) zero;
-        value = w.1;
-      })
+    (record {
+      rules = record {
+        kept = (w.2.1.1.1.1.0, are_kept w.0.1.1.1.1 w.2.1.1.1.1.1);
+        ranges = (is.a, record { object = w.2.0; trigger = (w.2.1.0, w.2.1.1.0, w.2.1.1.1.0); args = in_range w.0.1.1.1.1 w.2.1.1.1.1.1 });
+      };
+      key = ap (key entry_kind k.a) zero;
+      value = w.1;
+    })
 
 entry_again : (number : ℕ) (e : Entry) → IsRecord (of.Entry number e)
     → Reading.entry_under (key entry_kind number 0) (spell_waits (e.object, (e.class, (e.trigger, (e.generation, e.args))))) ≡ Some (of.Entry number e)
 unfolding Reading.entry_under IsKept HasRanges
 entry_again number e is =
     whole_again Waits Record spell_waits waits_in FitWaits waits_format (λ p. Some (made_entry number p)) (e.object, (e.class, (e.trigger, (e.generation, e.args))))
-      (is.ranges.1.object, (is.ranges.1.trigger.0, (is.ranges.1.trigger.1, (is.ranges.1.trigger.2, (is.kept.0, fit_values e.args is.ranges.1.args is.kept.1)))))
+    (is.ranges.1.object, (is.ranges.1.trigger.0, (is.ranges.1.trigger.1, (is.ranges.1.trigger.2, (is.kept.0, fit_values e.args is.ranges.1.args is.kept.1)))))
 
 -- ---- heads of tables
 
@@ -214,11 +214,11 @@ table_head_found k bytes r is fits e =
     let short = fit_is (2 ^ 16) k.b b.0 b.1 in
     let w = whole_takes (ℕ × ℕ) Record (λ p. u16 p.0 ++ spell_byte p.1) (both u16_in byte_in) (λ p. (p.0 < 2 ^ 16) × (p.1 < 2 ^ 8)) head_format (λ p. Some (of.TableHead a.0 b.0 p.0 p.1)) bytes r fits b.2 in
     subst (Spells table_head_kind k bytes) (same (of.TableHead a.0 b.0 w.0.0 w.0.1) r w.3)
-      (record {
-        rules = record { kept = tt; ranges = (subst (λ n. n < 2 ^ 32) low.1 low.0, subst (λ n. n < 2 ^ 16) short.1 short.0, w.2.0, w.2.1) };
-        key = ap (λ n. key table_head_kind n k.b) low.1 ∙ ap (key table_head_kind a.0) short.1;
-        value = w.1;
-      })
+    (record {
+      rules = record { kept = tt; ranges = (subst (λ n. n < 2 ^ 32) low.1 low.0, subst (λ n. n < 2 ^ 16) short.1 short.0, w.2.0, w.2.1) };
+      key = ap (λ n. key table_head_kind n k.b) low.1 ∙ ap (key table_head_kind a.0) short.1;
+      value = w.1;
+    })
 
 table_head_again : (class trigger states symbols : ℕ) → IsRecord (of.TableHead class trigger states symbols)
     → Reading.table_head_under (key table_head_kind class trigger) (u16 states ++ spell_byte symbols) ≡ Some (of.TableHead class trigger states symbols)
@@ -253,11 +253,11 @@ class_piece_found k bytes r is fits e =
     let low = fit_is (2 ^ 32) k.a a.0 a.1 in
     let short = fit_is (2 ^ 32) k.b b.0 b.1 in
     subst (Spells class_piece_kind k bytes) (same (of.ClassPiece a.0 b.0 bytes) r c.2)
-      (record {
-        rules = record { kept = piece_is bytes (held (is_piece bytes) c.0 c.1); ranges = (subst (λ n. n < 2 ^ 32) low.1 low.0, subst (λ n. n < 2 ^ 32) short.1 short.0) };
-        key = ap (λ n. key class_piece_kind n k.b) low.1 ∙ ap (key class_piece_kind a.0) short.1;
-        value = refl;
-      })
+    (record {
+      rules = record { kept = piece_is bytes (held (is_piece bytes) c.0 c.1); ranges = (subst (λ n. n < 2 ^ 32) low.1 low.0, subst (λ n. n < 2 ^ 32) short.1 short.0) };
+      key = ap (λ n. key class_piece_kind n k.b) low.1 ∙ ap (key class_piece_kind a.0) short.1;
+      value = refl;
+    })
 
 class_piece_again : (class piece : ℕ) (bytes : List ℕ) → IsRecord (of.ClassPiece class piece bytes) → Reading.class_piece_under (key class_piece_kind class piece) bytes ≡ Some (of.ClassPiece class piece bytes)
 unfolding Reading.class_piece_under IsKept HasRanges
@@ -277,11 +277,11 @@ table_piece_found k bytes r is fits e =
     let place_low : b.0 < 2 ^ 32 = subst (λ n. n < 2 ^ 32) short.1 short.0 in
     let together : b.0 ≡ b.0 / 65536 * 65536 + b.0 % 65536 = omega arith in
     subst (Spells table_piece_kind k bytes) (same (of.TablePiece a.0 (b.0 / 65536) (b.0 % 65536) bytes) r c.2)
-      (record {
-        rules = record { kept = piece_is bytes (held (is_piece bytes) c.0 c.1); ranges = (subst (λ n. n < 2 ^ 32) low.1 low.0, omega arith, omega arith) };
-        key = ap (λ n. key table_piece_kind n k.b) low.1 ∙ ap (key table_piece_kind a.0) (short.1 ∙ together);
-        value = refl;
-      })
+    (record {
+      rules = record { kept = piece_is bytes (held (is_piece bytes) c.0 c.1); ranges = (subst (λ n. n < 2 ^ 32) low.1 low.0, omega arith, omega arith) };
+      key = ap (λ n. key table_piece_kind n k.b) low.1 ∙ ap (key table_piece_kind a.0) (short.1 ∙ together);
+      value = refl;
+    })
 
 table_piece_again : (class trigger piece : ℕ) (bytes : List ℕ) → IsRecord (of.TablePiece class trigger piece bytes)
     → Reading.table_piece_under (key table_piece_kind class (trigger * 65536 + piece)) bytes ≡ Some (of.TablePiece class trigger piece bytes)
@@ -360,11 +360,11 @@ class_head_found k bytes r is fits e =
     let zero : k.b ≡ 0 = is_zero k.b (held (k.b == 0) b.0 b.1) in
     let w = whole_takes Head Record spell_head head_in FitHead class_head_format (λ p. Some (made_head a.0 p)) bytes r fits b.2 in
     subst (Spells class_head_kind k bytes) (same (made_head a.0 w.0) r w.3)
-      (record {
-        rules = record { kept = tt; ranges = (subst (λ n. n < 2 ^ 32) low.1 low.0, w.2.0, w.2.1.0, w.2.1.1.0, w.2.1.1.1) };
-        key = ap (λ n. key class_head_kind n k.b) low.1 ∙ ap (key class_head_kind a.0) zero;
-        value = w.1;
-      })
+    (record {
+      rules = record { kept = tt; ranges = (subst (λ n. n < 2 ^ 32) low.1 low.0, w.2.0, w.2.1.0, w.2.1.1.0, w.2.1.1.1) };
+      key = ap (λ n. key class_head_kind n k.b) low.1 ∙ ap (key class_head_kind a.0) zero;
+      value = w.1;
+    })
 
 class_head_again : (class : ℕ) (name : List ℕ) (parent text_length triggers : ℕ) → IsRecord (of.ClassHead class name parent text_length triggers)
     → Reading.class_head_under (key class_head_kind class 0) (spell_head (name, (parent, (text_length, triggers)))) ≡ Some (of.ClassHead class name parent text_length triggers)
@@ -373,7 +373,7 @@ class_head_again class name parent text_length triggers is =
     let bytes = spell_head (name, (parent, (text_length, triggers))) in
     next_by (fit (2 ^ 32) class) class (λ c. head_in bytes >>= λ f. ended f.1 >>= λ _. Some (made_head c f.0)) (fit_again (2 ^ 32) class is.ranges.0)
     ∙ whole_again Head Record spell_head head_in FitHead class_head_format (λ p. Some (made_head class p)) (name, (parent, (text_length, triggers)))
-        (is.ranges.1, (is.ranges.2, (is.ranges.3, is.ranges.4)))
+    (is.ranges.1, (is.ranges.2, (is.ranges.3, is.ranges.4)))
 
 -- ---- counters
 
@@ -477,14 +477,14 @@ counters_found k bytes r is fits e =
     let w = whole_takes Nexts Record spell_nexts nexts_in FitNexts nexts_format checked bytes r fits a.2 in
     let c = bind_some (holding (is_counters (made w.0))) (λ _. Some (of.Counters (made w.0))) r w.3 in
     subst (Spells counters_kind k bytes) (same (of.Counters (made w.0)) r c.2)
-      (record {
-        rules = record {
-          kept = counters_are (made w.0) (held (is_counters (made w.0)) c.0 c.1);
-          ranges = record { numbers = (w.2.0, w.2.1.0, w.2.1.1.0); clock = (w.2.1.1.1.1.0, w.2.1.1.1.1.1.0, w.2.1.1.1.1.1.1) };
-        };
-        key = ap (λ n. key counters_kind n k.b) (is_zero k.a zeros.0) ∙ ap (key counters_kind 0) (is_zero k.b zeros.1);
-        value = w.1;
-      })
+    (record {
+      rules = record {
+        kept = counters_are (made w.0) (held (is_counters (made w.0)) c.0 c.1);
+        ranges = record { numbers = (w.2.0, w.2.1.0, w.2.1.1.0); clock = (w.2.1.1.1.1.0, w.2.1.1.1.1.1.0, w.2.1.1.1.1.1.1) };
+      };
+      key = ap (λ n. key counters_kind n k.b) (is_zero k.a zeros.0) ∙ ap (key counters_kind 0) (is_zero k.b zeros.1);
+      value = w.1;
+    })
 
 counters_again : (c : Counters) → IsRecord (of.Counters c)
     → Reading.counters_under (key counters_kind 0 0) (spell_nexts (c.next_number, (c.next_transaction, (c.next_entry, (c.clock_set, (c.instant, (c.object, c.place))))))) ≡ Some (of.Counters c)
@@ -492,7 +492,7 @@ unfolding Reading.counters_under IsKept HasRanges
 counters_again c is =
     let p : Nexts = (c.next_number, (c.next_transaction, (c.next_entry, (c.clock_set, (c.instant, (c.object, c.place)))))) in
     whole_again Nexts Record spell_nexts nexts_in FitNexts nexts_format checked p
-      (is.ranges.numbers.0, (is.ranges.numbers.1, (is.ranges.numbers.2, (tt, (is.ranges.clock.0, (is.ranges.clock.1, is.ranges.clock.2))))))
+    (is.ranges.numbers.0, (is.ranges.numbers.1, (is.ranges.numbers.2, (tt, (is.ranges.clock.0, (is.ranges.clock.1, is.ranges.clock.2))))))
     ∙ next_by (holding (is_counters c)) tt (λ _. Some (of.Counters c)) (held_again (is_counters c) (counters_pass c is.kept))
 
 -- ---- by kind

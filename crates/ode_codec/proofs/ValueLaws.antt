@@ -1,8 +1,8 @@
 -- Values are read as they are spelled.
-use Rattle.std.proofs.Common.{◌≡◌, ℕ, ℤ, zero, suc, ◌+◌, ◌^◌, ◌<◌, ◌≤◌, Bool, true, false, cond, ltb, List, [], ◌∷◌, ◌++◌, length, take, drop, Option, Some, None, refl, sym, ap, subst, ◌∙◌, append_assoc, arith}
+use Rattle.std.proofs.Common.{◌≡◌, ℕ, ℤ, zero, suc, ◌^◌, ◌<◌, ◌≤◌, Bool, true, false, cond, List, [], ◌∷◌, ◌++◌, length, take, drop, Option, Some, None, refl, sym, ap, subst, ◌∙◌, append_assoc, arith}
 use Rattle.std.specs.Prelude.{FitsSigned, IfSome, nat_lt, nat_le, ◌==◌, ◌&&◌, position}
 use Rattle.std.specs.Int.{w16, w32, w64, to_be_bytes, cast_unsigned}
-use Rattle.std.specs.List.{AllByRecursion, flat_map}
+use Rattle.std.specs.List.{AllByRecursion}
 use Rattle.std.specs.Option.{is_none, unwrap_or}
 use Rattle.std.proofs.lemmas.Bool.{ltb-false, le-ltb}
 use Rattle.std.proofs.lemmas.Bool.Decides.{nat_tests}
@@ -51,11 +51,11 @@ module _ (test : List ℕ → Bool) (spell : ℕ → List ℕ) (count : List ℕ
       let long : n ≤ length rest = ltb-false _ _ g.0 in
       let size : length (take n rest) ≡ n = omega (arith, length-take n rest) in
       let whole : bytes ≡ spell_part (take n rest) ++ drop n rest =
-          front.0.parts ∙ ap (λ (t : List ℕ). spell n ++ t) (sym (take-append-drop n rest))
-          ∙ sym (append_assoc (spell n) (take n rest) (drop n rest))
-          ∙ ap (λ (k : ℕ). (spell k ++ take n rest) ++ drop n rest) (sym size) in
+      front.0.parts ∙ ap (λ (t : List ℕ). spell n ++ t) (sym (take-append-drop n rest))
+      ∙ sym (append_assoc (spell n) (take n rest) (drop n rest))
+      ∙ ap (λ (k : ℕ). (spell k ++ take n rest) ++ drop n rest) (sym size) in
       subst (λ (y : List ℕ × List ℕ). Takes bytes (spell_part y.0) y.1 × FitsPart y.0) h.1
-        (record { parts = whole; fits = fits-drop n rest front.0.fits }, (h.0, omega (arith, front.1)))
+      (record { parts = whole; fits = fits-drop n rest front.0.fits }, (h.0, omega (arith, front.1)))
 
   part_again : (part rest : List ℕ) → FitsPart part → part_in (spell_part part ++ rest) ≡ Some (part, rest)
   part_again part rest fits =
@@ -141,9 +141,9 @@ reference_takes bytes x fits e =
     let is = made_ref a.0.0 b.0.0 c.0 c.1 in
     let made : Ref × List ℕ = (c.0, b.0.1) in
     let whole : bytes ≡ spell_ref c.0 ++ b.0.1 =
-        front.0.parts ∙ ap (λ (t : List ℕ). to_be_bytes w64 a.0.0 ++ t) back.0.parts ∙ sym (append_assoc (to_be_bytes w64 a.0.0) (to_be_bytes w32 b.0.0) b.0.1)
-        ∙ ap (λ (n : ℕ). (to_be_bytes w64 n ++ to_be_bytes w32 b.0.0) ++ b.0.1) is.object_is
-        ∙ ap (λ (n : ℕ). (to_be_bytes w64 c.0.object ++ to_be_bytes w32 n) ++ b.0.1) is.version_is in
+    front.0.parts ∙ ap (λ (t : List ℕ). to_be_bytes w64 a.0.0 ++ t) back.0.parts ∙ sym (append_assoc (to_be_bytes w64 a.0.0) (to_be_bytes w32 b.0.0) b.0.1)
+    ∙ ap (λ (n : ℕ). (to_be_bytes w64 n ++ to_be_bytes w32 b.0.0) ++ b.0.1) is.object_is
+    ∙ ap (λ (n : ℕ). (to_be_bytes w64 c.0.object ++ to_be_bytes w32 n) ++ b.0.1) is.version_is in
     subst (λ (y : Ref × List ℕ). Takes bytes (spell_ref y.0) y.1 × FitsRef y.0) (same made x c.2) (record { parts = whole; fits = back.0.fits }, is.fits front.1 back.1)
 
 of_none : (object : ℕ) → reference_of object 0 ≡ Some (record { object = object; version = None })
@@ -184,7 +184,7 @@ content_of {X} spell read Fits format tag make spelled fit bytes y fits e =
     let front = format.takes bytes a.0 fits a.1 in
     let made : Value × List ℕ = (make a.0.0, a.0.1) in
     subst (λ (z : Value × List ℕ). Takes (tag ∷ bytes) (spelled_value z.0) z.1 × FitsValue z.0) (same made y a.2)
-      (record { parts = ap (λ (t : List ℕ). tag ∷ t) front.0.parts ∙ ap (λ (t : List ℕ). t ++ a.0.1) (sym (spelled a.0.0)); fits = front.0.fits }, fit a.0.0 front.1)
+    (record { parts = ap (λ (t : List ℕ). tag ∷ t) front.0.parts ∙ ap (λ (t : List ℕ). t ++ a.0.1) (sym (spelled a.0.0)); fits = front.0.fits }, fit a.0.0 front.1)
 
 reference_format : IsFormat Ref spell_ref reference_in FitsRef
 reference_format = record { takes = reference_takes; again = reference_again }
@@ -195,6 +195,7 @@ content_takes tag bytes y fits e = by (tag == 0) (tag == 1) (tag == 2) (tag == 3
   where
     under : (n : ℕ) → n ≡ tag → Takes (n ∷ bytes) (spelled_value y.0) y.1 × FitsValue y.0 → Takes (tag ∷ bytes) (spelled_value y.0) y.1 × FitsValue y.0
     under n is t = subst (λ (k : ℕ). Takes (k ∷ bytes) (spelled_value y.0) y.1 × FitsValue y.0) is t
+
     by : (p q r s : Bool) → (tag == 0) ≡ p → (tag == 1) ≡ q → (tag == 2) ≡ r → (tag == 3) ≡ s
         → cond p (int_in bytes >>= λ n. Some (value.Int n.0, n.1)) (cond q (truth_in bytes >>= λ b. Some (value.Bool b.0, b.1)) (cond r (text_in bytes >>= λ t. Some (value.Text t.0, t.1)) (cond s (reference_in bytes >>= λ r. Some (value.Reference r.0, r.1)) None))) ≡ Some y
         → Takes (tag ∷ bytes) (spelled_value y.0) y.1 × FitsValue y.0
@@ -241,9 +242,9 @@ values_take (suc n) bytes x fits e =
     let back = values_take n a.0.1 b.0 front.0.fits b.1 in
     let made : List Value × List ℕ = (a.0.0 ∷ b.0.0, b.0.1) in
     let whole : bytes ≡ (spelled_value a.0.0 ++ values b.0.0) ++ b.0.1 =
-        front.0.parts ∙ ap (λ (t : List ℕ). spelled_value a.0.0 ++ t) back.0.parts ∙ sym (append_assoc (spelled_value a.0.0) (values b.0.0) b.0.1) in
+    front.0.parts ∙ ap (λ (t : List ℕ). spelled_value a.0.0 ++ t) back.0.parts ∙ sym (append_assoc (spelled_value a.0.0) (values b.0.0) b.0.1) in
     subst (λ (y : List Value × List ℕ). Takes bytes (values y.0) y.1 × (length y.0 ≡ suc n) × FitValues y.0) (same made x b.2)
-      (record { parts = whole ∙ ap (λ (t : List ℕ). t ++ b.0.1) (sym (flat_map-cons spelled_value a.0.0 b.0.0)); fits = back.0.fits }, ap suc back.1, (front.1, back.2))
+    (record { parts = whole ∙ ap (λ (t : List ℕ). t ++ b.0.1) (sym (flat_map-cons spelled_value a.0.0 b.0.0)); fits = back.0.fits }, ap suc back.1, (front.1, back.2))
 
 values_again : (vs : List Value) (rest : List ℕ) → FitValues vs → values_in (length vs) (values vs ++ rest) ≡ Some (vs, rest)
 unfolding values_in
@@ -270,8 +271,8 @@ module _ (spell : ℕ → List ℕ) (count : List ℕ → Option (ℕ × List �
       let front = format.takes bytes a.0 fits a.1 in
       let back = values_take a.0.0 a.0.1 x front.0.fits a.2 in
       let whole : bytes ≡ spell_counted x.0 ++ x.1 =
-          front.0.parts ∙ ap (λ (t : List ℕ). spell a.0.0 ++ t) back.0.parts ∙ sym (append_assoc (spell a.0.0) (values x.0) x.1)
-          ∙ ap (λ (n : ℕ). (spell n ++ values x.0) ++ x.1) (sym back.1) in
+      front.0.parts ∙ ap (λ (t : List ℕ). spell a.0.0 ++ t) back.0.parts ∙ sym (append_assoc (spell a.0.0) (values x.0) x.1)
+      ∙ ap (λ (n : ℕ). (spell n ++ values x.0) ++ x.1) (sym back.1) in
       (record { parts = whole; fits = back.0.fits }, (subst (λ (n : ℕ). n < limit) (sym back.1) front.1, back.2))
 
   counted_again : (vs : List Value) (rest : List ℕ) → FitCounted vs → counted_in (spell_counted vs ++ rest) ≡ Some (vs, rest)

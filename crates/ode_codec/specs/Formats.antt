@@ -1,5 +1,5 @@
 -- Reading from the front of bytes: a value and the bytes behind it, or none.
-use Rattle.std.specs.Prelude.{◌≡◌, ℕ, ℤ, List, [], ◌∷◌, Bool, true, false, length, take, drop, Option, Some, None, Result, Ok, Err, nat_lt, ◌==◌, if◌then◌else◌, cond}
+use Rattle.std.specs.Prelude.{◌≡◌, ℕ, ℤ, List, [], ◌∷◌, Bool, true, false, length, take, drop, Option, Some, None, Result, Ok, Err, nat_lt, ◌==◌, if◌then◌else◌}
 use Rattle.std.specs.Int.{Width, w64, byte_len, cast_signed, from_be_bytes}
 use Rattle.ode_codec.specs.declared.outside.Unread.{Unread}
 use Rattle.ode_codec.specs.declared.outside.Unread.TheVariants.{Memory, Outside}

@@ -1,5 +1,5 @@
 -- The record under a key with a value, or none outside the grammar.
-use Rattle.std.specs.Prelude.{◌≡◌, ℕ, ℤ, pos, ◌/◌, ◌%◌, ◌^◌, List, Bool, length, Option, Some, None, nat_lt, nat_le, not, ◌==◌, ◌&&◌, ◌||◌, if◌then◌else◌, position}
+use Rattle.std.specs.Prelude.{ℕ, ℤ, pos, ◌/◌, ◌%◌, ◌^◌, List, Bool, length, Option, Some, None, nat_lt, nat_le, not, ◌==◌, ◌&&◌, ◌||◌, if◌then◌else◌, position}
 use Rattle.std.specs.Int.{w16, w32, w64}
 use Rattle.std.specs.Option.{is_none}
 use Rattle.std.specs.Ordering.{int_eq}
@@ -9,9 +9,7 @@ use Rattle.ode_value.specs.Text.{is_name_byte}
 use Rattle.ode_value.specs.declared.key.Key.{Key}
 use Rattle.ode_codec.specs.Formats.{◌>>=◌, both, byte_in, ended, fit, holding, int_in, number_in, part_of, truth_in}
 use Rattle.ode_codec.specs.Values.{args_in, fields_in}
-use Rattle.ode_codec.specs.declared.record.Activation.{Activation}
 use Rattle.ode_codec.specs.declared.record.Counters.{Counters}
-use Rattle.ode_codec.specs.declared.record.Entry.{Entry}
 use Rattle.ode_codec.specs.declared.record.Record.{Record}
 use Rattle.ode_codec.specs.declared.record.Record.TheVariants as of
 

@@ -1,5 +1,5 @@
 -- Reading values.
-use Rattle.std.specs.Prelude.{◌≡◌, ℕ, zero, suc, List, [], ◌∷◌, Bool, true, false, length, take, drop, Option, Some, None, nat_lt, nat_le, ◌==◌, ◌&&◌, if◌then◌else◌, position}
+use Rattle.std.specs.Prelude.{ℕ, zero, suc, List, [], ◌∷◌, Bool, length, Option, Some, None, nat_le, ◌==◌, ◌&&◌, if◌then◌else◌, position}
 use Rattle.std.specs.Option.{is_none}
 use Rattle.std.specs.Int.{w16, w32, w64}
 use Rattle.ode_value.specs.Text.{is_bad_byte}

@@ -13,5 +13,4 @@ pub fn one_spelling()
     ensures one { (r s : Record) → IsRecord r → IsRecord s → spelled r ≡ spelled s → r ≡ s }
     ensures only { (k : Key) (bytes : List ℕ) (r : Record) → k.a < 2 ^ 64 → k.b < 2 ^ 64
         → ((i : ℕ) → slice_index bytes i < 2 ^ 8) → record_under k bytes ≡ Some r → IsRecord r × ((k, bytes) ≡ spelled r) }
-{
-}
+{}

@@ -86,11 +86,7 @@ fn read_value(alloc: Global, bytes: &[u8]) -> Result<(Value, &[u8]), Unread>
     read_content(alloc, tag, rest)
 }
 
-fn read_values(
-    alloc: Global,
-    count: u16,
-    bytes: &[u8],
-) -> Result<(List<Value>, &[u8]), Unread>
+fn read_values(alloc: Global, count: u16, bytes: &[u8]) -> Result<(List<Value>, &[u8]), Unread>
     ensures { Gives (λ x. (x.0, x.1.now)) result (values_in count bytes.now) }
 {
     let mut values = List::new(alloc);
