@@ -1,16 +1,18 @@
 -- What the keeper holds, before a commit and behind it.
-use Rattle.std.proofs.Common.{◌≡◌, ◌≤◌, Bor, Option, Some, None, ap, subst, sym, ◌∙◌}
+use Rattle.std.proofs.Common.{◌≡◌, ◌≤◌, ◌<◌, ◌+◌, ◌++◌, [], ◌∷◌, ℕ, List, Bor, Option, Some, None, ap, arith, length, refl, subst, sym, ◌∙◌}
 use Rattle.std.specs.List.{AllByRecursion}
 use Rattle.std.specs.Option.{IfSome, option_copied}
 use Rattle.ode_host.specs.View.{View}
 use Rattle.ode_keep.specs.Entries.{Changes, Entries, applied, record_bytes}
+use Rattle.std.proofs.lemmas.List.{length-append}
+use Rattle.ode_value.specs.Records.{snapshot}
 use Rattle.ode_areas.specs.declared.areas.Areas.{Areas}
 use Rattle.ode_areas.specs.declared.plan.Checkpoint.{Checkpoint}
 use Rattle.ode_areas.specs.declared.keeping.Ready.{Ready}
 use Rattle.ode_areas.specs.Holding.{Holds}
 use Rattle.ode_areas.specs.Ready.{IsReady}
 use Rattle.ode_areas.specs.Rows.{FitsRow}
-use Rattle.ode_areas.specs.Steps.{MovesOver, StandUnder}
+use Rattle.ode_areas.specs.Steps.{MovesOver, StandUnder, bytes_before, checkpoint_length}
 use Rattle.ode_areas.proofs.Fitting.{map_fits}
 
 pub under_of : (keeper : Areas) (view : View) (entries : Entries) → Holds keeper view entries → StandUnder keeper.header keeper.journal entries view
@@ -59,5 +61,24 @@ module _ (keeper mid : Areas) (batch : Changes) (view : View) (entries : Entries
       (if_some_weaker ready.due (λ c. AllByRecursion FitsRow keeper.map → MovesOver keeper.header keeper.map c.header c.bytes.items)
       (λ c. MovesOver mid.header entries c.header c.bytes.items) moves_then is.moves))
 
+  -- what stands before the frame is no longer than a checkpoint of the records
+  before_then : (due : Option Checkpoint) → IfSome due (λ c. AllByRecursion FitsRow keeper.map → MovesOver keeper.header keeper.map c.header c.bytes.items)
+      → bytes_before due ≤ checkpoint_length entries
+  before_then None moves = omega arith
+  before_then (Some c) moves =
+      let over = moves_then c moves in
+      let long : length c.bytes.items ≡ length (snapshot entries) + 1 = ap length over.spelled ∙ length-append (snapshot entries) (0 ∷ []) in
+      omega (arith, long)
+
+  pub before_now : bytes_before ready.due ≤ checkpoint_length entries
+  before_now = before_then ready.due is.moves
+
   pub within_now : record_bytes (applied batch keeper.map) ≤ 16777216 → record_bytes (applied batch entries) ≤ 16777216
   within_now within = subst (λ (l : Entries). record_bytes (applied batch l) ≤ 16777216) h.map within
+
+-- where the frame fits its journal no checkpoint is due
+pub none_due : (due : Option Checkpoint) (lent : Option (Bor Checkpoint)) (need room : ℕ) → option_copied lent ≡ due → IfSome due (λ c. room < need) → need ≤ room → lent ≡ None
+none_due due None need room same needed fits = refl
+none_due due (Some c) need room same needed fits =
+    let here : room < need = subst (λ (o : Option Checkpoint). IfSome o (λ c. room < need)) (sym same) needed in
+    absurd (omega (arith, here, fits))

@@ -3,10 +3,11 @@ use Rattle.std.specs.Prelude.{◌≡◌, ◌≤◌, ℕ, List, Bool}
 use Rattle.ode_gate.specs.Headers.{IsOfAreas}
 use Rattle.ode_gate.specs.Slots.{Counts}
 use Rattle.ode_host.specs.View.{View}
-use Rattle.ode_journal.specs.Appends.{JournalStands}
-use Rattle.ode_keep.specs.Entries.{Entries, record_bytes}
+use Rattle.ode_journal.specs.Appends.{JournalStands, need_of, room_of}
+use Rattle.ode_keep.specs.Entries.{Changes, Entries, record_bytes}
 use Rattle.ode_areas.specs.declared.areas.Areas.{Areas}
 use Rattle.ode_areas.specs.Image.{HasMap}
+use Rattle.ode_areas.specs.Payloads.{payload_of}
 
 -- whether the disk never failed it
 abbrev pub is_live : Areas → Bool
@@ -15,6 +16,10 @@ is_live keeper = keeper.is_live
 -- the bytes of the records that it has in memory
 abbrev pub held_bytes : Areas → ℕ
 held_bytes keeper = record_bytes keeper.map
+
+-- the frame of these changes fits behind the journal
+abbrev pub FitsJournal : Areas → Changes → Type 0
+FitsJournal keeper changes = need_of (payload_of changes) ≤ room_of keeper.journal
 
 -- It holds these records: a file stands on the disk in which its header counts, and that has them under this header. It
 -- has them in memory too, and knows where the journal ends. They aren't above the limit.

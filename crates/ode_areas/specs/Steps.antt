@@ -1,6 +1,7 @@
 -- What the writes of a commit need and leave.
-use Rattle.std.specs.Prelude.{◌≡◌, ◌≢◌, ◌≤◌, ℕ, List, [], ◌∷◌, ◌++◌, length, Some}
+use Rattle.std.specs.Prelude.{◌≡◌, ◌≢◌, ◌≤◌, ◌+◌, ℕ, List, [], ◌∷◌, ◌++◌, length, Option, Some, None}
 use Rattle.ode_gate.specs.declared.header.Header.{Header}
+use Rattle.ode_gate.specs.Changes.{header_change_length}
 use Rattle.ode_gate.specs.Headers.{IsHeader, IsOfAreas, next_generation}
 use Rattle.ode_gate.specs.Slots.{Counts}
 use Rattle.ode_host.specs.View.{View}
@@ -8,6 +9,7 @@ use Rattle.ode_journal.specs.declared.journal.Journal.{Journal}
 use Rattle.ode_journal.specs.Appends.{JournalStands}
 use Rattle.ode_keep.specs.Entries.{Entries}
 use Rattle.ode_value.specs.Records.{snapshot}
+use Rattle.ode_areas.specs.declared.plan.Checkpoint.{Checkpoint}
 use Rattle.ode_areas.specs.Image.{AreasMean, HasMap}
 
 -- on the disk these records stand, under this header and up to this place of its journal
@@ -42,3 +44,12 @@ pub record MovesOver (older : Header) (entries : Entries) (h : Header) (bytes : 
 -- the journal of a header, where it is empty
 abbrev pub empty_under : Header → Journal
 empty_under h = record { at = h.journal_at; end = h.journal_end }
+
+-- what is written before a frame: nothing, or a snapshot with a shut gate, and the change of the header
+abbrev pub bytes_before : Option Checkpoint → ℕ
+bytes_before None = 0
+bytes_before (Some c) = length c.bytes.items + header_change_length
+
+-- a checkpoint of these records
+abbrev pub checkpoint_length : Entries → ℕ
+checkpoint_length entries = length (snapshot entries) + 1 + header_change_length

@@ -1,5 +1,5 @@
 //! The keeper of two areas keeps records: their changes are written before they are answered.
-ghost use Rattle.std.specs.Prelude.{◌≡◌, ◌≤◌, ◌<◌, length, IfOk, OnErr, OnOk};
+ghost use Rattle.std.specs.Prelude.{◌≡◌, ◌+◌, ◌≤◌, ◌<◌, length, IfOk, IsErrOf, IsTrue, OnErr, OnOk};
 ghost use Rattle.std.specs.List.{All};
 ghost use Rattle.std.specs.Map.{values_of};
 ghost use Rattle.std.specs.Option.{IfSome};
@@ -51,8 +51,15 @@ impl Areas {
 }
 
 impl<H: Host> Keep<H> for Areas {
-    ghost use Rattle.ode_areas.specs.Holding.{Holds, is_live};
+    ghost use Rattle.ode_areas.specs.Holding.{FitsJournal, Holds, is_live};
     ghost use Rattle.ode_areas.specs.Image.{AreasMean};
+    ghost use Rattle.ode_areas.specs.Payloads.{payload_of};
+    ghost use Rattle.ode_areas.specs.Steps.{checkpoint_length};
+    ghost use Rattle.ode_host.specs.Host.{DiskCalls, LeavesOnly, Looks, Puts};
+    ghost use Rattle.ode_gate.specs.Changes.{WritesAtMost};
+    ghost use Rattle.ode_journal.specs.Appends.{need_of};
+    ghost use Rattle.ode_keep.specs.Entries.{Entries};
+    ghost use Rattle.ode_keep.specs.Keeping.{LeavesOldOrNew, OnRefusal, is_usable};
     ghost use Rattle.ode_areas.specs.Laws.{one_map_law, rising_law, stands_law, stays_law};
 
     ghost holds = { Holds };
@@ -84,7 +91,31 @@ impl<H: Host> Keep<H> for Areas {
         Ok(self.map.least_from(key))
     }
 
-    fn commit(&mut self, host: &mut H, batch: &Batch) -> Result<(), KeepError> {
+    fn commit(&mut self, host: &mut H, batch: &Batch) -> Result<(), KeepError>
+        requires live { IsTrue (is_live self.old) }
+        requires few { length batch.now ≤ MAX_CHANGES }
+        requires short { All (λ value. IfSome value (λ bytes. length bytes ≤ MAX_VALUE)) (values_of batch.now) }
+        ensures done { OnOk result ((entries : Entries) → Holds self.old (H.view host.old) entries
+            → Holds self.new (H.view host.new) (applied batch.now entries)) }
+        ensures fits { OnOk result ((entries : Entries) → Holds self.old (H.view host.old) entries
+            → record_bytes (applied batch.now entries) ≤ MAX_RECORD_BYTES) }
+        ensures too_large { OnTooLarge result (λ total. (entries : Entries) → Holds self.old (H.view host.old) entries
+            → (total ≡ record_bytes (applied batch.now entries)) × (MAX_RECORD_BYTES < total)) }
+        ensures refused { OnRefusal result ((entries : Entries) → Holds self.old (H.view host.old) entries
+            → Holds self.new (H.view host.new) entries) }
+        ensures looks { OnRefusal result (Looks (H.view host.old) (H.view host.new)) }
+        ensures any_moment { (entries : Entries) → Holds self.old (H.view host.old) entries
+            → LeavesOnly (H.view host.old) (H.view host.new) (LeavesOldOrNew AreasMean entries batch.now (H.view host.old)) }
+        ensures leaves { DiskCalls (IsErrOf result KeepError.DiskFault) (H.view host.old) (H.view host.new) }
+        ensures usable { is_live self.new ≡ is_usable result }
+        ensures damaged { OnDamaged result ((entries : Entries) → Holds self.old (H.view host.old) entries → ⊥) }
+
+        // Where the frame fits its journal it is all that is written. Else a checkpoint of the records stands in front of it.
+        ensures frame { OnOk result (FitsJournal self.old batch.now
+            → Puts (need_of (payload_of batch.now)) (H.view host.old) (H.view host.new)) }
+        ensures checkpoint { OnOk result ((entries : Entries) → Holds self.old (H.view host.old) entries
+            → WritesAtMost (checkpoint_length entries + need_of (payload_of batch.now)) (H.view host.old) (H.view host.new)) }
+    {
         let ready = self.prepare(batch)?;
         let due = ready.due.as_ref();
         match write_changes(host, &mut self.header, &mut self.journal, due, &ready.frame) {

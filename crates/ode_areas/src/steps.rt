@@ -1,15 +1,16 @@
 //! The writes of a commit, each of which leaves the records before it or those after it.
-ghost use Rattle.std.specs.Prelude.{◌≡◌, ◌≤◌, MatchOption, IsErr, OnOk};
-ghost use Rattle.std.specs.Option.{IfSome};
+ghost use Rattle.std.specs.Prelude.{◌≡◌, ◌+◌, ◌≤◌, length, MatchOption, None, IsErr, OnOk};
+ghost use Rattle.std.specs.Option.{IfSome, option_copied};
+ghost use Rattle.ode_gate.specs.Changes.{WritesAtMost, header_change_length};
 ghost use Rattle.ode_gate.specs.declared.header.Header.{Header};
-ghost use Rattle.ode_host.specs.Host.{DiskCalls, LeavesOnly};
+ghost use Rattle.ode_host.specs.Host.{DiskCalls, LeavesOnly, Puts};
 ghost use Rattle.ode_journal.specs.declared.journal.Journal.{Journal};
 ghost use Rattle.ode_journal.specs.Appends.{need_of, room_of};
 ghost use Rattle.ode_keep.specs.Entries.{Changes, Entries, applied};
 ghost use Rattle.ode_keep.specs.Keeping.{LeavesOldOrNew};
 ghost use Rattle.ode_areas.specs.Image.{AreasMean};
 ghost use Rattle.ode_areas.specs.Payloads.{IsPayload};
-ghost use Rattle.ode_areas.specs.Steps.{LeavesMap, MovesOver, StandUnder, empty_under};
+ghost use Rattle.ode_areas.specs.Steps.{LeavesMap, MovesOver, StandUnder, bytes_before, empty_under};
 
 use crate::plan::Checkpoint;
 use ode_gate::{Header, change_header};
@@ -27,6 +28,7 @@ fn move_over<H: Host>(host: &mut H, checkpoint: &Checkpoint) -> Result<(), Faile
         → StandUnder older place entries (H.view host.old)
         → MovesOver older entries checkpoint.now.header checkpoint.now.bytes.items
         → LeavesOnly (H.view host.old) (H.view host.new) (LeavesMap entries (H.view host.old)) }
+    ensures most { OnOk result (WritesAtMost (length checkpoint.now.bytes.items + header_change_length) (H.view host.old) (H.view host.new)) }
     ensures leaves { DiskCalls (IsErr result) (H.view host.old) (H.view host.new) }
 {
     write_synced(host, checkpoint.header.body_at, &checkpoint.bytes)?;
@@ -46,6 +48,7 @@ fn add_frame<H: Host>(host: &mut H, journal: &mut Journal, frame: &Frame) -> Res
     ensures any_moment { (header : Header) (entries : Entries) (changes : Changes)
         → StandUnder header journal.old entries (H.view host.old) → IsPayload changes frame.now.payload
         → LeavesOnly (H.view host.old) (H.view host.new) (LeavesOldOrNew AreasMean entries changes (H.view host.old)) }
+    ensures puts { OnOk result (Puts (need_of frame.now.payload) (H.view host.old) (H.view host.new)) }
     ensures leaves { DiskCalls (IsErr result) (H.view host.old) (H.view host.new) }
 {
     match journal.append(host, frame) {
@@ -77,6 +80,8 @@ pub(crate) fn write_changes<H: Host>(
         → IfSome due.entry (λ c. MovesOver header.old entries c.now.header c.now.bytes.items)
         → IsPayload changes frame.now.payload
         → LeavesOnly (H.view host.old) (H.view host.new) (LeavesOldOrNew AreasMean entries changes (H.view host.old)) }
+    ensures puts { due.entry ≡ None → OnOk result (Puts (need_of frame.now.payload) (H.view host.old) (H.view host.new)) }
+    ensures most { OnOk result (WritesAtMost (bytes_before (option_copied due.entry) + need_of frame.now.payload) (H.view host.old) (H.view host.new)) }
     ensures leaves { DiskCalls (IsErr result) (H.view host.old) (H.view host.new) }
 {
     match due {

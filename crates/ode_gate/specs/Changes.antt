@@ -1,5 +1,5 @@
 -- The header of a file is changed: what a stop leaves.
-use Rattle.std.specs.Prelude.{◌≡◌, ◌≢◌, ◌≤◌, ◌⊎◌, List, ℕ, Some, length, drop}
+use Rattle.std.specs.Prelude.{◌≡◌, ◌≢◌, ◌≤◌, ◌+◌, ◌⊎◌, List, ℕ, IsSome, Some, length, drop}
 use Rattle.ode_host.specs.View.{View}
 use Rattle.ode_gate.specs.declared.header.Header.{Header}
 use Rattle.ode_gate.specs.Headers.{IsHeader, next_generation}
@@ -28,3 +28,11 @@ pub record LeavesHeader (image : List ℕ) (older h : Header) (old : View) (c o 
 pub record IsChanged (image : List ℕ) (h : Header) (next : List ℕ) : Type 0 where
   pub counts : Counts next h
   pub same : IsSameBehind image next
+
+-- at most so many bytes were written
+abbrev pub WritesAtMost : ℕ → View → View → Type 0
+WritesAtMost most old new = IsSome old.image → new.written ≤ old.written + most
+
+-- the bytes of a header's change: a gate that is shut, what stands behind it, and the gate, opened
+abbrev pub header_change_length : ℕ
+header_change_length = 58

@@ -7,7 +7,7 @@ ghost use Rattle.ode_gate.specs.declared.header.Header.{Header};
 ghost use Rattle.ode_gate.specs.Gate.{open_gate};
 ghost use Rattle.ode_gate.specs.Headers.{header_bytes};
 ghost use Rattle.ode_gate.specs.Slots.{IsOpen, IsShut, IsSlot, bytes_of, place_of};
-ghost use Rattle.ode_gate.specs.Changes.{IsChanged, LeavesHeader, MayFollow};
+ghost use Rattle.ode_gate.specs.Changes.{IsChanged, LeavesHeader, MayFollow, WritesAtMost, header_change_length};
 
 use crate::error::GateError;
 use crate::gate::{OPEN, SHUT};
@@ -37,6 +37,7 @@ pub fn close_slot<H: Host>(host: &mut H, slot: u8) -> Result<(), GateError>
         → Stands (written_over image (place_of slot) (0 ∷ [])) (H.view host.new)) }
     ensures any_moment { (image : List ℕ) → Stands image (H.view host.old)
         → LeavesOnly (H.view host.old) (H.view host.new) (LeavesTorn (place_of slot) 1 image (H.view host.old)) }
+    ensures most { OnOk result (WritesAtMost 1 (H.view host.old) (H.view host.new)) }
     ensures kind { IfErr result (λ e. e ≡ DiskFault) }
     ensures leaves { DiskCalls (IsErr result) (H.view host.old) (H.view host.new) }
 {
@@ -96,6 +97,7 @@ pub fn change_header<H: Host>(
     ensures any_moment { (image : List ℕ) (older : Header) → MayFollow image older h.now
         → Stands image (H.view host.old)
         → LeavesOnly (H.view host.old) (H.view host.new) (LeavesHeader image older h.now (H.view host.old)) }
+    ensures most { OnOk result (WritesAtMost header_change_length (H.view host.old) (H.view host.new)) }
     ensures kind { IfErr result (λ e. e ≡ DiskFault) }
     ensures leaves { DiskCalls (IsErr result) (H.view host.old) (H.view host.new) }
 {
