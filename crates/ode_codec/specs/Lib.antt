@@ -3,3 +3,6 @@ pub mod Values
 pub mod Spelling
 pub mod Rules
 pub mod Reading
+pub mod StoredRows
+pub mod Standing
+pub mod Alike

@@ -1,4 +1,4 @@
-//! Records, and the one spelling of each: a key and a value.
+//! Records, and the one spelling of each: a key and a value. What is stored of a world, as definitions.
 #![tactic(auto)]
 
 mod decoding;
@@ -7,9 +7,13 @@ mod laws;
 mod outside;
 mod reading;
 mod record;
+mod stored;
 mod values;
 
 pub use decoding::decode;
 pub use encoding::encode;
 pub use laws::one_spelling;
 pub use record::{Activation, Counters, Entry, Record};
+pub use stored::{
+    fresh_databases_are_counters, held_worlds_are_good, numbers_and_lists_have_the_same_bones,
+};

@@ -1,0 +1,30 @@
+//! A database as it is stored, and what stands for a world over lists of points: laws of the definitions, each carried by the
+//! contract of a function that does nothing.
+ghost use Rattle.std.specs.Prelude.{◌≡◌, [], ◌∷◌, ℕ, List as Items};
+ghost use Rattle.ode_value.specs.Acts.{Done};
+ghost use Rattle.ode_value.specs.GoodWorlds.{IsGood};
+ghost use Rattle.ode_value.specs.Language.{Language, ListTx, ListWorld};
+ghost use Rattle.ode_value.specs.Records.{Row};
+ghost use Rattle.ode_value.specs.Tables.{Table};
+ghost use Rattle.ode_value.specs.Transactions.{Tx};
+ghost use Rattle.ode_value.specs.Worlds.{empty_bones, empty_world};
+ghost use Rattle.ode_codec.specs.Alike.{OutcomeStandsAs, TxStandsAs};
+ghost use Rattle.ode_codec.specs.Standing.{HoldsWorld};
+ghost use Rattle.ode_codec.specs.StoredRows.{counters_row, rows};
+
+/// A fresh database is stored as its counters alone.
+pub fn fresh_databases_are_counters()
+    ensures { (tables : ℕ → ℕ → Table) → rows (record { world = empty_world; tables = tables }) ≡ counters_row empty_bones ∷ [] }
+{}
+
+/// Records hold good worlds alone.
+pub fn held_worlds_are_good()
+    ensures { (l : Language) (records : Items Row) (w : ListWorld) → HoldsWorld l records w → IsGood l w }
+{}
+
+/// A transaction over state numbers that stands for one over lists of points has the same bones, and acts that stand for one another
+/// have the same answer.
+pub fn numbers_and_lists_have_the_same_bones()
+    ensures bones { (tables : ℕ → ℕ → Table) (y : Tx (Unit {0}) ℕ) (x : ListTx) → TxStandsAs tables y x → y.now.bones ≡ x.now.bones }
+    ensures answers { (tables : ℕ → ℕ → Table) (r s : ℕ) (y : Tx (Unit {0}) ℕ) (x : ListTx) → OutcomeStandsAs tables (Done r y) (Done s x) → r ≡ s }
+{}
