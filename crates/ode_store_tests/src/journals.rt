@@ -264,7 +264,10 @@ fn a_place_past_all_places_is_refused(rt: HostRuntime) -> Result<(), Fail> {
         let bad = JournalError::BadJournal { at };
         assert_eq!(rt; scan(alloc, &mut host, at, u64::MAX).err(), Some(bad));
         let mut ahead = Block::new(alloc)?;
-        assert_eq!(rt; next_frame(alloc, &mut host, &mut ahead, at, u64::MAX).err(), Some(bad));
+        assert_eq!(rt;
+            next_frame(alloc, &mut host, &mut ahead, at, u64::MAX).err(),
+            Some(bad)
+        );
     }
     Ok(())
 }
