@@ -6,4 +6,6 @@ mod making;
 #[cfg(test)]
 mod minimal;
 #[cfg(test)]
+mod random;
+#[cfg(test)]
 mod walks;

@@ -3,7 +3,7 @@ ghost use Rattle.std.specs.Prelude.{◌≡◌};
 ghost use Rattle.ode_value.specs.Numbers.{has_numbers};
 
 use ode_symbols::Alphabet;
-use ode_table::{Table, build};
+use ode_table::{BuildError, Table, build};
 use ode_value::{Boxed, EventExpr, Kind, List, Name, OdeText};
 use std::alloc::{AllocError, Global};
 use std::process::Abort;
@@ -84,17 +84,34 @@ fn keeps_numbers(e: &EventExpr) -> bool
     }
 }
 
-/// The table of a text's expression, in which an operator stands behind its operands: a letter is a call of the method of that
-/// name, `.` is `any`, `^` is `first`, a digit is `choose`, `T` is `every 3`, `R`, `P`, `S` and `F` are `relative`, `prior`,
-/// `sequence` and `fa`.
-pub fn table_of(rt: &impl Abort, alloc: Global, text: &str) -> Result<Table, Fail> {
+/// The expression of a text in which an operator stands behind its operands: a letter is a call of the method of that name, `.` is
+/// `any`, `^` is `first`, a digit is `choose`, `T` is `every 3`, `R`, `P`, `S` and `F` are `relative`, `prior`, `sequence` and `fa`.
+/// Where an operand is missing it is `first`.
+fn expression_of(alloc: Global, text: &[u8]) -> Result<EventExpr, Fail> {
     let mut stack = Vec::new(alloc);
-    for letter in text.as_bytes() {
+    for letter in text {
         let e = made(alloc, &mut stack, *letter)?;
         stack.push(e)?;
     }
-    let e = stack.pop().unwrap_or(EventExpr::Any);
+    Ok(stack.pop().unwrap_or(EventExpr::Any))
+}
+
+/// The table of a text's expression.
+pub fn table_of(rt: &impl Abort, alloc: Global, text: &str) -> Result<Table, Fail> {
+    let e = expression_of(alloc, text.as_bytes())?;
     assert!(rt; keeps_numbers(&e));
     let alphabet = Alphabet::of(alloc, &e)?;
     Ok(build(alloc, &e, &alphabet)?)
+}
+
+/// The same, and none where it has more than 512 states.
+pub fn small_table_of(rt: &impl Abort, alloc: Global, text: &[u8]) -> Result<Option<Table>, Fail> {
+    let e = expression_of(alloc, text)?;
+    assert!(rt; keeps_numbers(&e));
+    let alphabet = Alphabet::of(alloc, &e)?;
+    match build(alloc, &e, &alphabet) {
+        Ok(table) => Ok(Some(table)),
+        Err(BuildError::TooManyStates) => Ok(None),
+        Err(BuildError::Memory) => Err(Fail::from(AllocError)),
+    }
 }
