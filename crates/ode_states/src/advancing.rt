@@ -56,15 +56,21 @@ fn fired_among(alloc: Global, acts: &[Running], steps: &[Step]) -> Result<List<F
     Ok(fired)
 }
 
-// Gives each activation the state of its step, and whether it is on. It takes no memory.
+// Gives an activation the state of its step, and whether it is on.
+fn take_step(a: &mut Running, step: Step)
+    ensures { a.new ≡ moved a.old step }
+{
+    a.state = step.state;
+    a.on = step.on;
+}
+
+// Gives each activation its step. It takes no memory.
 fn go_on(acts: &mut Vec<Running>, steps: &[Step])
     requires { length steps.now ≡ length acts.old.items }
     ensures { (f : Activation → Move) → steps.now ≡ map f acts.old.items → acts.new.items ≡ map (λ a. moved a (f a)) acts.old.items }
 {
     for i in 0..acts.len() {
-        let a = &mut acts[i];
-        a.state = steps[i].state;
-        a.on = steps[i].on;
+        take_step(&mut acts[i], steps[i]);
     }
 }
 
