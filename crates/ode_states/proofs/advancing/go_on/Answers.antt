@@ -10,5 +10,5 @@ loop-i-preserved c =
     record {
       length = length-set ys i c.take_step.new.a ∙ c.loop-i.invariant.length;
       acts = λ f is. ap (set ys i) c.take_step.ensures
-        ∙ moved_more f c.args.acts.now.items ys c.args.steps.now i c.index_mut.result.now _ (omega arith) is (c.loop-i.invariant.acts f is) c.index_mut.ensures.value;
+          ∙ moved_more f c.args.acts.now.items ys c.args.steps.now i c.index_mut.result.now _ (omega arith) is (c.loop-i.invariant.acts f is) c.index_mut.ensures.value;
     }
