@@ -160,6 +160,13 @@ module _ (by : ℕ → ℕ → Table) (tables : List Table) (alphabets : List (L
             (step_stands by w standing.means h (starts a.id) a.state p standing.within standing.stands);
       }
 
+  pub all_stand_behind : (class : ℕ) (acts : List Running) (h : Histories) (starts : ℕ → Starts) → AllByRecursion (IsStanding by tables alphabets classes class h starts) acts
+      → AllByRecursion (IsStanding by tables alphabets classes class (grown h p) starts) (map (advanced tables alphabets (checked classes) p) acts)
+  all_stand_behind class acts h starts standing =
+      each_map (IsStanding by tables alphabets classes class (grown h p) starts) (advanced tables alphabets (checked classes) p) acts
+      (each_as (IsStanding by tables alphabets classes class h starts) (λ a. IsStanding by tables alphabets classes class (grown h p) starts (advanced tables alphabets (checked classes) p a)) acts
+      (λ a stands. stands_behind class h starts a stands) standing)
+
   -- the view fires the trigger exactly where the state does
   view_says : (class : ℕ) (h : Histories) (starts : ℕ → Starts) (a : Running) (standing : IsStanding by tables alphabets classes class h starts a)
       → fires_on standing.of.trigger.decl.event a.args (view_of standing.of.trigger.decl.whole (grown h p) (starts a.id)) ≡ says_yes (table_of tables a) (after a)
@@ -263,11 +270,3 @@ module _ (by : ℕ → ℕ → Table) (tables : List Table) (alphabets : List (L
         (λ a. AllByRecursion (λ t. Agrees lists o now (fires tables alphabets p) t a) (triggers_of classes o.class)) acts
         (λ a stands there. views_agree kept.own starts now refl a stands there) standing found))
         ∙ sym (placed_by_triggers (fires tables alphabets p) (triggers_of classes o.class) acts (triggers_rise classes o.class are.rising_classes) are.rising had_each)
-
-    -- each stands behind the point
-    pub all_stand_behind : (h : Histories) (starts : ℕ → Starts) → AllByRecursion (IsStanding by tables alphabets classes o.class h starts) acts
-        → AllByRecursion (IsStanding by tables alphabets classes o.class (grown h p) starts) behind
-    all_stand_behind h starts standing =
-        each_map (IsStanding by tables alphabets classes o.class (grown h p) starts) (advanced tables alphabets (checked classes) p) acts
-        (each_as (IsStanding by tables alphabets classes o.class h starts) (λ a. IsStanding by tables alphabets classes o.class (grown h p) starts (advanced tables alphabets (checked classes) p a)) acts
-        (λ a stands. stands_behind o.class h starts a stands) standing)

@@ -4,10 +4,11 @@ use Rattle.std.specs.List.{AllByRecursion}
 use Rattle.ode_value.specs.declared.class.Class.{Class}
 use Rattle.ode_value.specs.declared.event.Point.{Point}
 use Rattle.ode_value.specs.Classes.{Trigger, trigger_at, watch_of}
+use Rattle.ode_value.specs.Firings.{both_lists, grown_past, fired_in}
 use Rattle.ode_value.specs.Fitting.{trigger_in}
 use Rattle.ode_value.specs.GoodWorlds.{RiseFrom}
 use Rattle.ode_value.specs.Objects.{Activation, Histories, Starts, IsWithin}
-use Rattle.ode_value.specs.Pasts.{StandsFor}
+use Rattle.ode_value.specs.Pasts.{Past, Kept, StandsFor}
 use Rattle.ode_value.specs.Symbols.{Row}
 use Rattle.ode_value.specs.Tables.{Table, Means}
 use Rattle.ode_value.specs.Transactions.{Firing}
@@ -17,9 +18,12 @@ use Rattle.ode_types.specs.declared.running.Running.{Running}
 use Rattle.ode_states.specs.declared.fired.Fired.{Fired}
 use Rattle.ode_states.specs.Advance.{table_of, alphabet_of}
 
--- an activation, and its number with what is kept by it
+-- an activation, its state, and its number with what is kept by it
 abbrev pub activation_of : Running → Activation
 activation_of a = record { number = a.id; class = a.class; trigger = a.trigger; args = a.args; on = a.on }
+
+abbrev pub state_of : Running → ℕ
+state_of a = a.state
 
 abbrev pub row_of : {K : Type 0} → (Running → K) → Running → ℕ × K
 row_of kept a = (a.id, kept a)
@@ -31,6 +35,14 @@ fired_as f = record { activation = f.activation; class = f.trigger.class; trigge
 -- the classes as they were checked
 abbrev pub checked : List Declared → List Class
 checked classes = map (λ (d : Declared). d.class) classes
+
+-- what is kept of an object behind a point, and the machine's firings there
+module _ {O A : Type 0} (past : Past O A) (classes : List Declared) (p : Point) (o : Object) where
+  abbrev pub kept_behind : Kept O A → Kept O A
+  kept_behind kept = grown_past past (both_lists past) p classes o kept
+
+  abbrev pub machine_firings : Kept O A → List Firing
+  machine_firings kept = fired_in past (both_lists past) o classes (kept_behind kept)
 
 -- by classes and places of triggers their tables, and by places the tables and alphabets that stand there
 module _ (by : ℕ → ℕ → Table) (tables : List Table) (alphabets : List (List Row)) (classes : List Declared) where
