@@ -1,25 +1,24 @@
 -- Activations that go on by a point are the machine's, by numbers and by the lists of points.
-use Rattle.std.proofs.Common.{◌≡◌, ℕ, ◌+◌, ◌<◌, ◌≤◌, Bool, true, false, cond, List, [], ◌∷◌, ◌++◌, map, ◌==◌, ◌&&◌, Option, Some, None, refl, sym, ap, ◌∙◌, subst, arith, ⊎_elim, option_map, option_and_then, map-id, length-append}
+use Rattle.std.proofs.Common.{◌≡◌, ℕ, Bool, true, false, cond, List, [], ◌∷◌, ◌++◌, map, ◌&&◌, Option, Some, None, refl, sym, ap, ◌∙◌, subst, arith, ⊎_elim, option_map, option_and_then, map-id, length-append}
 use Rattle.std.specs.List.{AllByRecursion, filter, flat_map, find, list_any}
 use Rattle.std.specs.Option.{option_map_or}
 use Rattle.std.proofs.lemmas.Bool.{false≢true, cases_Bool}
 use Rattle.std.proofs.lemmas.List.{map-append}
 use Rattle.std.proofs.lemmas.Simd.{map-map}
 use Rattle.ode_value.specs.declared.event.Point.{Point}
-use Rattle.ode_value.specs.Classes.{Trigger, trigger_at, triggers_of, watch_of}
+use Rattle.ode_value.specs.Classes.{Trigger, triggers_of, watch_of}
 use Rattle.ode_value.specs.Firings.{is_of, watch_by, watch_at, firing_of, changed_row, both_lists, grown_past, is_firing, fired_by, fired_in}
 use Rattle.ode_value.specs.Objects.{Activation, Histories, Starts, grown, view_of}
 use Rattle.ode_value.specs.Pasts.{Past, Kept, Watch, lists, numbers, stepped, StandsFor}
 use Rattle.ode_value.specs.Points.{fires_on}
 use Rattle.ode_value.specs.Symbols.{Row, symbol}
-use Rattle.ode_value.specs.Tables.{Table, next_state, says_yes, Means}
-use Rattle.ode_value.specs.Transactions.{Firing}
+use Rattle.ode_value.specs.Tables.{Table, next_state, says_yes}
 use Rattle.ode_value.specs.Worlds.{Declared, Object, kept_at}
 use Rattle.ode_value.proofs.PastLaws.{step_stands, step_fires}
-use Rattle.ode_symbols.specs.Alphabets.{alphabet, symbol_among}
+use Rattle.ode_symbols.specs.Alphabets.{symbol_among}
 use Rattle.ode_types.specs.declared.running.Running.{Running}
 use Rattle.ode_states.specs.declared.fired.Fired.{Fired}
-use Rattle.ode_states.specs.Advance.{table_of, alphabet_of, state_after, fires, advanced, fired_of, fires_among}
+use Rattle.ode_states.specs.Advance.{table_of, state_after, fires, advanced, fired_of}
 use Rattle.ode_states.specs.Advance.{fired_in as fired_there}
 use Rattle.ode_states.specs.Machine.{activation_of, row_of, fired_as, checked, IsOf, AreOf, IsStanding}
 use Rattle.ode_states.proofs.KeptLaws.{each_both, map_alike, find_passes, find_any, kept_each, numbered, found_each}

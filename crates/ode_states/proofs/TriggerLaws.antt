@@ -1,14 +1,13 @@
 -- The triggers of a class rise by their classes' numbers and their places.
-use Rattle.std.proofs.Common.{◌≡◌, ℕ, ◌+◌, ◌<◌, ◌≤◌, Bool, true, false, cond, List, [], ◌∷◌, ◌++◌, map, reverse, ◌==◌, unwrap_or, Option, Some, None, refl, sym, ap, ◌∙◌, subst, arith, inl, inr, ◌⊎◌, ⊎_elim, append-nil}
-use Rattle.std.specs.List.{AllByRecursion, flat_map, enumerate_from, find, list_any}
-use Rattle.std.proofs.lemmas.Bool.{false≢true, eqb-true, cases_Bool}
+use Rattle.std.proofs.Common.{ℕ, ◌+◌, ◌<◌, ◌≤◌, Bool, true, false, cond, List, [], ◌∷◌, ◌++◌, map, reverse, ◌==◌, unwrap_or, refl, sym, subst, arith, inl, inr}
+use Rattle.std.specs.List.{AllByRecursion, flat_map, enumerate_from}
 use Rattle.std.proofs.lemmas.List.{reverse-append}
 use Rattle.ode_value.specs.declared.class.Class.{Class}
 use Rattle.ode_value.specs.declared.member.TriggerDecl.{TriggerDecl}
 use Rattle.ode_value.specs.Classes.{Trigger, upward, line_of, family, trigger_of, own_triggers, triggers_of}
 use Rattle.ode_value.specs.GoodWorlds.{RiseFrom}
 use Rattle.ode_value.specs.Worlds.{Declared}
-use Rattle.ode_states.proofs.PlacedLaws.{each_of, each_as, each_append, Precedes, Rise}
+use Rattle.ode_states.proofs.PlacedLaws.{each_append, Precedes, Rise}
 
 -- the classes' numbers
 abbrev number_of : Declared → ℕ

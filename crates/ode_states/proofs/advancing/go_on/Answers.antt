@@ -1,4 +1,4 @@
-use Rattle.std.proofs.Common.{◌<◌, length, arith, ap, set, ◌∙◌}
+use Rattle.std.proofs.Common.{arith, ap, set, ◌∙◌}
 use Rattle.std.proofs.lemmas.List.{length-set}
 use Rattle.ode_states.proofs.MovedLaws.{moved_more}
 use Rattle.ode_states.proofs.advancing.go_on.Goals as goal
