@@ -5,3 +5,4 @@ mod FormatLaws
 mod ValueLaws
 mod RecordLaws
 mod Decodes
+mod StoredLengths

@@ -1,16 +1,20 @@
 //! A database as it is stored, and what stands for a world over lists of points: laws of the definitions, each carried by the
 //! contract of a function that does nothing.
 ghost use Rattle.std.specs.Prelude.{◌≡◌, [], ◌∷◌, ℕ, List as Items};
+ghost use Rattle.ode_value.specs.Lengths.{activation_length, entry_length};
+ghost use Rattle.ode_value.specs.Objects.{Activation};
 ghost use Rattle.ode_value.specs.Acts.{Done};
 ghost use Rattle.ode_value.specs.GoodWorlds.{IsGood};
 ghost use Rattle.ode_value.specs.Language.{Language, ListTx, ListWorld};
-ghost use Rattle.ode_value.specs.Records.{Row};
+ghost use Rattle.ode_value.specs.Records.{Row, row_weight};
 ghost use Rattle.ode_value.specs.Tables.{Table};
 ghost use Rattle.ode_value.specs.Transactions.{Tx};
-ghost use Rattle.ode_value.specs.Worlds.{empty_bones, empty_world};
+ghost use Rattle.ode_value.specs.Worlds.{Entry, empty_bones, empty_world};
 ghost use Rattle.ode_codec.specs.Alike.{OutcomeStandsAs, TxStandsAs};
 ghost use Rattle.ode_codec.specs.Standing.{HoldsWorld};
-ghost use Rattle.ode_codec.specs.StoredRows.{counters_row, rows};
+ghost use Rattle.ode_codec.specs.StoredRows.{activation_row, counters_row, entry_row, rows};
+
+use ode_value::lengths_are_counts;
 
 /// A fresh database is stored as its counters alone.
 pub fn fresh_databases_are_counters()
@@ -28,3 +32,11 @@ pub fn numbers_and_lists_have_the_same_bones()
     ensures bones { (tables : ℕ → ℕ → Table) (y : Tx (Unit {0}) ℕ) (x : ListTx) → TxStandsAs tables y x → y.now.bones ≡ x.now.bones }
     ensures answers { (tables : ℕ → ℕ → Table) (r s : ℕ) (y : Tx (Unit {0}) ℕ) (x : ListTx) → OutcomeStandsAs tables (Done r y) (Done s x) → r ≡ s }
 {}
+
+/// The lengths of activations and entries that are counted are those of their bytes.
+pub fn stored_lengths_are_counts()
+    ensures activation { (id state : ℕ) (a : Activation) → row_weight (activation_row id state a) ≡ activation_length a.args }
+    ensures entry { (number : ℕ) (e : Entry) → row_weight (entry_row (number, e)) ≡ entry_length e.args }
+{
+    lengths_are_counts();
+}
