@@ -1,6 +1,8 @@
-//! Tests of tables at work: two of them compared, and smaller ones.
+//! Tests of tables at work: two of them compared, smaller ones, and activations at points.
 #![tactic(auto)]
 
+#[cfg(test)]
+mod going;
 #[cfg(test)]
 mod making;
 #[cfg(test)]

@@ -4,7 +4,7 @@ ghost use Rattle.ode_value.specs.Numbers.{has_numbers};
 
 use ode_symbols::Alphabet;
 use ode_table::{BuildError, Table, build};
-use ode_value::{Boxed, EventExpr, Kind, List, Name, OdeText};
+use ode_value::{Boxed, EventExpr, Kind, List, Name, OdeText, TextError};
 use std::alloc::{AllocError, Global};
 use std::process::Abort;
 use std::test::Fail;
@@ -24,11 +24,12 @@ pub fn table(
     Ok(Table::from_parts(states, symbols, next, yes).expect(rt, "the parts fit"))
 }
 
-fn after(alloc: Global, letter: u8) -> Result<EventExpr, Fail> {
+/// The point after a call of the method of this letter.
+pub fn after(alloc: Global, letter: u8) -> Result<Kind, TextError> {
     let text = OdeText::new(alloc, &[letter])?;
     Ok(match Name::new(text) {
-        Some(name) => EventExpr::Leaf(Kind::After(name), None),
-        None => EventExpr::Any,
+        Some(name) => Kind::After(name),
+        None => Kind::Create,
     })
 }
 
@@ -51,7 +52,7 @@ fn of_more(alloc: Global, stack: &mut Vec<EventExpr>, letter: u8) -> Result<Even
 
 fn made(alloc: Global, stack: &mut Vec<EventExpr>, letter: u8) -> Result<EventExpr, Fail> {
     Ok(match letter {
-        b'a'..=b'z' => after(alloc, letter)?,
+        b'a'..=b'z' => EventExpr::Leaf(after(alloc, letter)?, None),
         b'.' => EventExpr::Any,
         b'^' => EventExpr::First,
         b'!' => EventExpr::Not(pop(alloc, stack)?),
@@ -87,7 +88,7 @@ fn keeps_numbers(e: &EventExpr) -> bool
 /// The expression of a text in which an operator stands behind its operands: a letter is a call of the method of that name, `.` is
 /// `any`, `^` is `first`, a digit is `choose`, `T` is `every 3`, `R`, `P`, `S` and `F` are `relative`, `prior`, `sequence` and `fa`.
 /// Where an operand is missing it is `first`.
-fn expression_of(alloc: Global, text: &[u8]) -> Result<EventExpr, Fail> {
+pub fn expression_of(alloc: Global, text: &[u8]) -> Result<EventExpr, Fail> {
     let mut stack = Vec::new(alloc);
     for letter in text {
         let e = made(alloc, &mut stack, *letter)?;
