@@ -1,5 +1,5 @@
 //! Laws of the definitions, each carried by the contract of a function that does nothing.
-ghost use Rattle.std.specs.Prelude.{◌≡◌, ℕ, ◌+◌, ◌<◌, List as Items, length, take, true};
+ghost use Rattle.std.specs.Prelude.{◌≡◌, ℕ, ◌+◌, ◌<◌, ◌≤◌, List as Items, length, take, true};
 ghost use Rattle.ode_value.specs.declared.event.EventExpr.{EventExpr};
 ghost use Rattle.ode_value.specs.declared.event.Point.{Point};
 ghost use Rattle.ode_value.specs.declared.value.Value.{Value};
@@ -50,6 +50,15 @@ pub fn numbers_stand_for_views()
     ensures abort { (tables : ℕ → ℕ → Table) (w : Watch) → Means (table_of tables w) w.event →
         (first now : Histories) (start : Starts) (old state : ℕ) → StandsFor tables w first start old → StandsFor tables w now start state →
         StandsFor tables w (lists.rewind first now) (lists.back w start start) ((numbers tables).back w old state) }
+{}
+
+/// A start within its lists stays there: a new one is, and over a point and over an abort it still is.
+pub fn starts_stay_within()
+    ensures first { (h : Histories) → IsWithin (lists.begin h) h }
+    ensures point { (h : Histories) (start : Starts) (p : Point) → IsWithin start h → IsWithin start (lists.grow h p) }
+    ensures whole_point { (h : Histories) (start : Starts) (p : Point) → IsWithin start h → IsWithin start (lists.grow_whole h p) }
+    ensures abort { (first now : Histories) (start : Starts) → IsWithin start first → length first.whole ≤ length now.whole →
+        IsWithin start (lists.rewind first now) }
 {}
 
 /// Behind a point the number's answer is that of the view.

@@ -37,7 +37,7 @@ pub use examples::{
 pub use key::{Key, kinds_agree};
 pub use laws::{
     lengths_are_counts, numbers_answer_for_views, numbers_stand_for_views, points_are_firings,
-    symbols_are_marks,
+    starts_stay_within, symbols_are_marks,
 };
 pub use list::{Copied, List};
 pub use machine::{
