@@ -5,7 +5,7 @@ use Rattle.std.specs.List.{list_all}
 use Rattle.ode_value.specs.declared.event.EventExpr.{EventExpr}
 use Rattle.ode_value.specs.Marks.{Leaf, Mark, leaves, among, spelled}
 use Rattle.ode_value.specs.Symbols.{Row, rows_of, holds_in, symbol_mark}
-use Rattle.ode_value.proofs.Sames.{both-true}
+use Rattle.std.proofs.lemmas.Bool.{and_parts}
 use Rattle.ode_symbols.specs.Alphabets.{alphabet, are_leaves_of, mark_among}
 
 told : (of : EventExpr) (s : ℕ) (l : Leaf) → among (leaves of) l.0 l.1 ≡ true → mark_among (alphabet of) s l.0 l.1 ≡ symbol_mark of s l.0 l.1
@@ -16,7 +16,7 @@ told-each : (of : EventExpr) (s : ℕ) (ls : List Leaf) → list_all (λ (l : Le
     → map (λ (l : Leaf). mark_among (alphabet of) s l.0 l.1) ls ≡ map (λ (l : Leaf). symbol_mark of s l.0 l.1) ls
 told-each of s [] h = refl
 told-each of s (l ∷ ls) h =
-    let both = both-true (among (leaves of) l.0 l.1) (list_all (λ (x : Leaf). among (leaves of) x.0 x.1) ls) h in
+    let both = and_parts (among (leaves of) l.0 l.1) (list_all (λ (x : Leaf). among (leaves of) x.0 x.1) ls) h in
     λ i. told of s l both.0 i ∷ told-each of s ls both.1 i
 
 pub spelled-mark : (e of : EventExpr) (s : ℕ) (rows : List Row) → rows ≡ alphabet of → are_leaves_of e of ≡ true → spelled e (mark_among rows s) ≡ spelled e (symbol_mark of s)

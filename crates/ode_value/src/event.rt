@@ -66,9 +66,17 @@ pub struct Point {
 
 impl Kind {
     /// Whether this is the other kind.
+    #[tactic(auto, using(crate::proofs::Sames::kind_decides))]
     pub fn same(&self, other: &Kind) -> bool
         ensures same { IsTrue result ↔ (self.now ≡ other.now) }
         ensures test { result ≡ same_kind self.now other.now }
+    {
+        self.agrees(other)
+    }
+
+    // Whether both agree in form and parts.
+    fn agrees(&self, other: &Kind) -> bool
+        ensures { result ≡ same_kind self.now other.now }
     {
         match self {
             Kind::Create => matches!(other, Kind::Create),

@@ -157,10 +157,18 @@ impl Sort {
 
 impl Expr {
     /// Whether this is the other expression.
-    #[tactic(auto, using(crate::proofs::Sames::same_exprs))]
+    #[tactic(auto, using(crate::proofs::Sames::expr_decides))]
     pub fn same(&self, other: &Expr) -> bool
         ensures same { IsTrue result ↔ (self.now ≡ other.now) }
         ensures test { result ≡ same_expr self.now other.now }
+    {
+        self.agrees(other)
+    }
+
+    // Whether both agree in form and parts.
+    #[tactic(auto, using(crate::proofs::Sames::same_exprs))]
+    fn agrees(&self, other: &Expr) -> bool
+        ensures { result ≡ same_expr self.now other.now }
     {
         match self {
             Expr::Lit(value) => match other {
@@ -182,27 +190,27 @@ impl Expr {
             Expr::This => matches!(other, Expr::This),
             Expr::Field(of, name) => match other {
                 Expr::Field(other, other_name) => {
-                    of.get().same(other.get()) && name.same(other_name)
+                    of.get().agrees(other.get()) && name.same(other_name)
                 }
                 _ => false,
             },
             Expr::Slot(of, place) => match other {
                 Expr::Slot(other, other_place) => {
-                    of.get().same(other.get()) && place == other_place
+                    of.get().agrees(other.get()) && place == other_place
                 }
                 _ => false,
             },
             Expr::Version(of) => match other {
-                Expr::Version(other) => of.get().same(other.get()),
+                Expr::Version(other) => of.get().agrees(other.get()),
                 _ => false,
             },
             Expr::Unary(op, e) => match other {
-                Expr::Unary(other, f) => op.same(*other) && e.get().same(f.get()),
+                Expr::Unary(other, f) => op.same(*other) && e.get().agrees(f.get()),
                 _ => false,
             },
             Expr::Binary(op, e, g) => match other {
                 Expr::Binary(other, f, h) => {
-                    op.same(*other) && e.get().same(f.get()) && g.get().same(h.get())
+                    op.same(*other) && e.get().agrees(f.get()) && g.get().agrees(h.get())
                 }
                 _ => false,
             },
