@@ -4,12 +4,13 @@ use Rattle.std.specs.Prelude.{◌&&◌, ◌||◌, not, ◌==◌, ◌%◌}
 use Rattle.std.proofs.lemmas.Bool.{lt-ltb}
 use Rattle.std.proofs.lemmas.List.{get_or-drop, get_or-take}
 use Rattle.ode_value.specs.declared.event.EventExpr.{EventExpr, Leaf, Any, First, Not', And', Or', Relative', Prior', Sequence', Choose', Every', Fa', more_of-EventExpr, end_of-EventExpr}
+use Rattle.ode_value.specs.declared.event.EventExpr.TheVariants as v
 use Rattle.ode_value.specs.declared.event.EventExpr.TheBlock.{hidden-the_row-EventExpr-0}
 use denote.Hole.Carrier.{hidden}
 use Rattle.ode_value.specs.Marks.{Mark, no_mark}
 use Rattle.ode_value.specs.Points.{Points, some_below, count_below, after_each, first_unless, points, fires}
 use Rattle.ode_value.proofs.Below.{some_below-same, count_below-same}
-use Rattle.ode_value.proofs.PointLaws.{points-Leaf, points-Any, points-First, points-Not, points-And, points-Or, points-Relative, points-Prior, points-Sequence, points-Choose, points-Every, points-Fa}
+use Rattle.ode_value.proofs.PointLaws.{points-at}
 
 -- two histories that agree up to and with a position
 pub record Agree (m w : List Mark) (i : ℕ) : Type 0 where
@@ -48,35 +49,35 @@ in_both m w i a = lt-ltb i (length m) a.within ∙ sym (lt-ltb i (length w) a.re
 pub points-local : (e : EventExpr) → IsLocal (points e)
 unfolding hidden-the_row-EventExpr-0 hidden
 points-local (Leaf k x) m w i a =
-    rw points-Leaf (ap (λ b. b && get_or m i no_mark k x) (in_both m w i a) ∙ ap (λ μ. ltb i (length w) && μ k x) (a.same i (omega arith)))
-points-local Any m w i a = rw points-Any (in_both m w i a)
-points-local First m w i a = rw points-First (ap (λ b. b && (i == 0)) (in_both m w i a))
+    rw (points-at _ _ (v.outs-Leaf k x)) (ap (λ b. b && get_or m i no_mark k x) (in_both m w i a) ∙ ap (λ μ. ltb i (length w) && μ k x) (a.same i (omega arith)))
+points-local Any m w i a = rw (points-at _ _ v.outs-Any) (in_both m w i a)
+points-local First m w i a = rw (points-at _ _ v.outs-First) (ap (λ b. b && (i == 0)) (in_both m w i a))
 points-local (Not' s (more_of-EventExpr e end_of-EventExpr)) m w i a =
-    rw (points-Not e) (ap (λ b. b && not (points e m i)) (in_both m w i a) ∙ ap (λ b. ltb i (length w) && not b) (points-local e m w i a))
+    rw (points-at _ _ (v.outs-Not e)) (ap (λ b. b && not (points e m i)) (in_both m w i a) ∙ ap (λ b. ltb i (length w) && not b) (points-local e m w i a))
 points-local (And' s (more_of-EventExpr e end_of-EventExpr) t (more_of-EventExpr f end_of-EventExpr)) m w i a =
-    rw (points-And e f) (ap (λ b. b && points f m i) (points-local e m w i a) ∙ ap (λ b. points e w i && b) (points-local f m w i a))
+    rw (points-at _ _ (v.outs-And e f)) (ap (λ b. b && points f m i) (points-local e m w i a) ∙ ap (λ b. points e w i && b) (points-local f m w i a))
 points-local (Or' s (more_of-EventExpr e end_of-EventExpr) t (more_of-EventExpr f end_of-EventExpr)) m w i a =
-    rw (points-Or e f) (ap (λ b. b || points f m i) (points-local e m w i a) ∙ ap (λ b. points e w i || b) (points-local f m w i a))
+    rw (points-at _ _ (v.outs-Or e f)) (ap (λ b. b || points f m i) (points-local e m w i a) ∙ ap (λ b. points e w i || b) (points-local f m w i a))
 points-local (Relative' s (more_of-EventExpr e end_of-EventExpr) t (more_of-EventExpr f end_of-EventExpr)) m w i a =
-    rw (points-Relative e f) (after_each_local (points e) (points f) (points-local e) (points-local f) m w i a)
+    rw (points-at _ _ (v.outs-Relative e f)) (after_each_local (points e) (points f) (points-local e) (points-local f) m w i a)
 points-local (Prior' s (more_of-EventExpr e end_of-EventExpr) t (more_of-EventExpr f end_of-EventExpr)) m w i a =
-    rw (points-Prior e f)
+    rw (points-at _ _ (v.outs-Prior e f))
     (ap (λ b. b && points f m i) (some_below-same (points e m) (points e w) i (λ p h. points-local e m w p (agree_below m w i p (omega arith) a)))
     ∙ ap (λ b. some_below (points e w) i && b) (points-local f m w i a))
-points-local (Sequence' s (more_of-EventExpr e end_of-EventExpr) t (more_of-EventExpr f end_of-EventExpr)) m w zero a = rw (points-Sequence e f) refl
+points-local (Sequence' s (more_of-EventExpr e end_of-EventExpr) t (more_of-EventExpr f end_of-EventExpr)) m w zero a = rw (points-at _ _ (v.outs-Sequence e f)) refl
 points-local (Sequence' s (more_of-EventExpr e end_of-EventExpr) t (more_of-EventExpr f end_of-EventExpr)) m w (suc i) a =
-    rw (points-Sequence e f)
+    rw (points-at _ _ (v.outs-Sequence e f))
     (ap (λ b. b && points f m (suc i)) (points-local e m w i (agree_below m w (suc i) i (omega arith) a)) ∙ ap (λ b. points e w i && b) (points-local f m w (suc i) a))
 points-local (Choose' n s (more_of-EventExpr e end_of-EventExpr)) m w i a =
-    rw (points-Choose n e)
+    rw (points-at _ _ (v.outs-Choose n e))
     (ap (λ b. b && (count_below (points e m) i + 1 == n)) (points-local e m w i a)
     ∙ ap (λ c. points e w i && (c + 1 == n)) (count_below-same (points e m) (points e w) i (λ p h. points-local e m w p (agree_below m w i p (omega arith) a))))
 points-local (Every' n s (more_of-EventExpr e end_of-EventExpr)) m w i a =
-    rw (points-Every n e)
+    rw (points-at _ _ (v.outs-Every n e))
     (ap (λ b. b && ((count_below (points e m) i + 1) % n == 0)) (points-local e m w i a)
     ∙ ap (λ c. points e w i && ((c + 1) % n == 0)) (count_below-same (points e m) (points e w) i (λ p h. points-local e m w p (agree_below m w i p (omega arith) a))))
 points-local (Fa' s (more_of-EventExpr e end_of-EventExpr) t (more_of-EventExpr f end_of-EventExpr) u (more_of-EventExpr g end_of-EventExpr)) m w i a =
-    rw (points-Fa e f g)
+    rw (points-at _ _ (v.outs-Fa e f g))
     (after_each_local (points e) (first_unless (points f) (points g)) (points-local e) (first_unless_local (points f) (points g) (points-local f) (points-local g)) m w i a)
 
 agree_take : (m : List Mark) (i : ℕ) → i < length m → Agree m (take (i + 1) m) i
