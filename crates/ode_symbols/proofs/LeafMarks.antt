@@ -4,7 +4,7 @@ use Rattle.std.specs.Prelude.{◌&&◌}
 use Rattle.std.specs.List.{list_all}
 use Rattle.ode_value.specs.declared.event.EventExpr.{EventExpr}
 use Rattle.ode_value.specs.Marks.{Leaf, Mark, leaves, among, spelled}
-use Rattle.ode_value.specs.Symbols.{Row, rows_of, holds_in, symbol_mark}
+use Rattle.ode_value.specs.Symbols.{MaskedKind, masked_kinds, holds_in, symbol_mark}
 use Rattle.std.proofs.lemmas.Bool.{and_parts}
 use Rattle.ode_symbols.specs.Alphabets.{alphabet, are_leaves_of, mark_among}
 
@@ -19,5 +19,5 @@ told-each of s (l ∷ ls) h =
     let both = and_parts (among (leaves of) l.0 l.1) (list_all (λ (x : Leaf). among (leaves of) x.0 x.1) ls) h in
     λ i. told of s l both.0 i ∷ told-each of s ls both.1 i
 
-pub spelled-mark : (e of : EventExpr) (s : ℕ) (rows : List Row) → rows ≡ alphabet of → are_leaves_of e of ≡ true → spelled e (mark_among rows s) ≡ spelled e (symbol_mark of s)
+pub spelled-mark : (e of : EventExpr) (s : ℕ) (rows : List MaskedKind) → rows ≡ alphabet of → are_leaves_of e of ≡ true → spelled e (mark_among rows s) ≡ spelled e (symbol_mark of s)
 spelled-mark e of s rows p h = ap (λ r. spelled e (mark_among r s)) p ∙ told-each of s (leaves e) h

@@ -9,24 +9,24 @@ use Rattle.ode_value.specs.declared.value.Value.{Value}
 use Rattle.ode_value.specs.declared.value.Value.TheVariants as value
 use Rattle.ode_value.specs.Marks.{Leaf, Mark, leaves, among}
 use Rattle.ode_value.specs.Masks.{mask_holds}
-use Rattle.ode_value.specs.Symbols.{Row, rows_of, symbols_in, number_in, holds_in, symbol_count}
+use Rattle.ode_value.specs.Symbols.{MaskedKind, masked_kinds, symbols_in, number_in, holds_in, symbol_count}
 use Rattle.ode_symbols.specs.declared.error.AlphabetError.{AlphabetError}
 use Rattle.ode_symbols.specs.declared.error.AlphabetError.TheVariants as error
 
 -- the rows of an expression's leaves
-abbrev pub alphabet : EventExpr → List Row
-alphabet e = rows_of (leaves e)
+abbrev pub alphabet : EventExpr → List MaskedKind
+alphabet e = masked_kinds (leaves e)
 
 -- how many symbols an alphabet has
-abbrev pub size_of : List Row → ℕ
+abbrev pub size_of : List MaskedKind → ℕ
 size_of rows = 1 + sum_by symbols_in rows
 
 -- the symbol of a point, with the arguments of the trigger
-abbrev pub symbol_among : List Row → List Value → Point → ℕ
+abbrev pub symbol_among : List MaskedKind → List Value → Point → ℕ
 symbol_among rows params p = option_map_or (λ n. suc n) (number_in rows p.kind (λ x. mask_holds (Some x) params p)) 0
 
 -- the mark of a symbol, of leaves that are among the alphabet's
-abbrev pub mark_among : List Row → ℕ → Mark
+abbrev pub mark_among : List MaskedKind → ℕ → Mark
 mark_among rows zero kind mask = false
 mark_among rows (suc n) kind mask = holds_in rows n kind mask
 

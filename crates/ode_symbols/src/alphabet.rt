@@ -7,7 +7,7 @@ ghost use Rattle.ode_value.specs.Symbols.{symbol_count, symbol_mark};
 
 use crate::error::AlphabetError;
 use crate::holding::{holds, number};
-use crate::rows::{Row, add_leaves, count, rows_of, symbols_of};
+use crate::rows::{MaskedKind, add_leaves, count, masked_kinds, symbols_of};
 use ode_value::{EventExpr, Kind, List, Value};
 use std::alloc::{AllocError, Global};
 use std::marker::Model;
@@ -16,7 +16,7 @@ use std::marker::Model;
 /// Symbol 0 is that of a point at which none does.
 #[derive(Drop)]
 pub struct Alphabet {
-    rows: List<Row>,
+    rows: List<MaskedKind>,
     size: u8,
     alloc: Global,
 }
@@ -26,9 +26,9 @@ impl Model for Alphabet {
     ghost use Rattle.ode_symbols.specs.Alphabets.{size_of};
     ghost use Rattle.std.specs.Coded.{codes};
     ghost use Rattle.ode_value.specs.contracts.statement.Expr as e;
-    ghost use Rattle.ode_value.specs.Symbols.{Row};
+    ghost use Rattle.ode_value.specs.Symbols.{MaskedKind};
 
-    ghost Value = { Items Row };
+    ghost Value = { Items MaskedKind };
 
     ghost coded = { Prim.hlevel (codes, e.the_row.coded) };
 
@@ -44,7 +44,7 @@ impl Alphabet {
         ensures few { OnOk result (symbol_count e.now ≤ 32) }
         ensures refused { IfErr result (IsRefusal e.now) }
     {
-        let rows = rows_of(alloc, e)?;
+        let rows = masked_kinds(alloc, e)?;
         let count = count(rows.as_slice());
         if count <= 32 {
             let size = count as u8;

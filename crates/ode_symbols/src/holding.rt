@@ -3,16 +3,16 @@ ghost use Rattle.std.specs.Prelude.{◌≡◌, ◌<◌, ◌≤◌, ◌+◌, ◌^
 ghost use Rattle.ode_symbols.specs.Alphabets.{mark_among};
 ghost use Rattle.ode_value.specs.declared.event.Point.{Point};
 ghost use Rattle.ode_value.specs.Masks.{mask_holds};
-ghost use Rattle.ode_value.specs.Symbols.{has_bit, holds_in, number_of};
+ghost use Rattle.ode_value.specs.Symbols.{has_bit, holds_in, bits_of};
 
 use crate::plain::is_true;
-use crate::rows::{Row, symbols_of};
+use crate::rows::{MaskedKind, symbols_of};
 use ode_value::{Expr, Kind, Value};
 
 /// The number of a point of this kind among the symbols of its masks.
 pub fn number(masks: &[Expr], params: &[Value], kind: &Kind, args: &[Value], own: &[Value]) -> u8
     requires { 2 ^ length masks.now ≤ 32 }
-    ensures value { result ≡ number_of
+    ensures value { result ≡ bits_of
         (λ x. mask_holds (Some x) params.now (record { kind = kind.now; args = args.now; fields = own.now })) masks.now }
     ensures below { result < 2 ^ length masks.now }
 {
@@ -52,7 +52,7 @@ fn has(masks: &[Expr], number: u8, mask: &Option<Expr>) -> bool
 }
 
 // Whether a leaf holds at a number among the symbols of these kinds.
-fn holds_in(rows: &[Row], number: u8, kind: &Kind, mask: &Option<Expr>) -> bool
+fn holds_in(rows: &[MaskedKind], number: u8, kind: &Kind, mask: &Option<Expr>) -> bool
     ensures { result ≡ holds_in rows.now number kind.now mask.now }
 {
     let mut rest = number;
@@ -67,7 +67,7 @@ fn holds_in(rows: &[Row], number: u8, kind: &Kind, mask: &Option<Expr>) -> bool
 }
 
 /// Whether a leaf holds at a symbol.
-pub fn holds(rows: &[Row], symbol: u8, kind: &Kind, mask: &Option<Expr>) -> bool
+pub fn holds(rows: &[MaskedKind], symbol: u8, kind: &Kind, mask: &Option<Expr>) -> bool
     ensures { result ≡ mark_among rows.now symbol kind.now mask.now }
 {
     if symbol == 0 {

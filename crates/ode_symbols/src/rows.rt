@@ -4,7 +4,7 @@ ghost use Rattle.std.specs.List.{list_any};
 ghost use Rattle.ode_symbols.specs.Alphabets.{alphabet, size_of, with_any, with_new};
 ghost use Rattle.ode_value.specs.Marks.{Leaf, leaves};
 ghost use Rattle.ode_value.specs.Same.{same_expr, same_kind};
-ghost use Rattle.ode_value.specs.Symbols.{distinct, mask_of, row_of};
+ghost use Rattle.ode_value.specs.Symbols.{distinct, mask_of, masked_kind};
 
 use ode_value::{Copied, EventExpr, Expr, Kind, List};
 use std::alloc::{AllocError, Global};
@@ -12,17 +12,17 @@ use std::marker::Model;
 
 /// A kind, with the masks of its masked leaves.
 #[derive(Drop)]
-pub struct Row {
+pub struct MaskedKind {
     pub kind: Kind,
     pub masks: List<Expr>,
 }
 
-impl Model for Row {
+impl Model for MaskedKind {
     ghost use Rattle.std.specs.Coded.{codes};
     ghost use Rattle.ode_value.specs.contracts.statement.Expr as e;
-    ghost use Rattle.ode_value.specs.Symbols.{Row};
+    ghost use Rattle.ode_value.specs.Symbols.{MaskedKind};
 
-    ghost Value = { Row };
+    ghost Value = { MaskedKind };
 
     ghost coded = { Prim.hlevel (codes, e.the_row.coded) };
 
@@ -174,19 +174,19 @@ fn rows_for(
     alloc: Global,
     leaves: &[(Kind, Option<Expr>)],
     kinds: List<Kind>,
-) -> Result<List<Row>, AllocError>
-    ensures { IfOk result (λ rows. rows ≡ map (row_of leaves.now) kinds) }
+) -> Result<List<MaskedKind>, AllocError>
+    ensures { IfOk result (λ rows. rows ≡ map (masked_kind leaves.now) kinds) }
 {
     let mut rows = List::new(alloc);
     for kind in kinds.into_vec() {
         let masks = masks_of(alloc, leaves, &kind)?;
-        rows.push(Row { kind, masks })?;
+        rows.push(MaskedKind { kind, masks })?;
     }
     Ok(rows)
 }
 
 /// The rows of an expression's leaves.
-pub fn rows_of(alloc: Global, e: &EventExpr) -> Result<List<Row>, AllocError>
+pub fn masked_kinds(alloc: Global, e: &EventExpr) -> Result<List<MaskedKind>, AllocError>
     ensures { IfOk result (λ rows. rows ≡ alphabet e.now) }
 {
     let mut leaves = List::new(alloc);
@@ -207,7 +207,7 @@ pub fn symbols_of(masks: usize) -> u32
 }
 
 /// How many symbols these rows have, or 65,536.
-pub fn count(rows: &[Row]) -> u32
+pub fn count(rows: &[MaskedKind]) -> u32
     ensures { result ≡ min (size_of rows.now) 65536 }
 {
     let mut count = 1;

@@ -10,13 +10,13 @@ use Rattle.std.proofs.lemmas.List.FromFn.{get_or-map-range_with_len, length-map-
 use Rattle.std.proofs.lemmas.List.Sums.{fold-append}
 use Rattle.std.proofs.lemmas.Option.{slice_get_within, get_or_from_slice_get, slice_get-get_or}
 use Rattle.ode_value.specs.declared.event.EventExpr.{EventExpr}
-use Rattle.ode_value.specs.declared.tree.State.{State}
+use Rattle.ode_value.specs.declared.tree.StateTree.{StateTree}
 use Rattle.ode_value.specs.Marks.{Mark, no_mark}
 use Rattle.ode_value.specs.Points.{fires}
 use Rattle.ode_value.specs.Symbols.{symbol_mark, symbol_count}
 use Rattle.ode_value.specs.Tables.{Table, IsWord, next_state, says_yes, run, word_marks}
 use Rattle.ode_value.specs.TreeCount.{symbol_marks}
-use Rattle.ode_value.specs.Trees.{Machine, machine, after, answers, first_tree, next_tree, tree_after}
+use Rattle.ode_value.specs.Trees.{TreeMachine, machine, after, answers, first_tree, next_tree, tree_after}
 use Rattle.ode_trees.specs.declared.growth.Reached.{Reached}
 use Rattle.ode_trees.specs.Found.{Leads, steps_by, IsReached}
 use Rattle.ode_trees.proofs.TreeAnswers.{answers-fires}
@@ -30,18 +30,18 @@ same_tail : {A : Type 0} (x y : A) (xs ys : List A) → x ∷ xs ≡ y ∷ ys �
 same_tail x y xs ys h = cc
 
 -- the number at a place stands for the tree at that place
-leads-at : (trees : List State) (next : List ℕ) (steps : List State) (i : ℕ) (d : State) → Leads trees next steps → i < length steps → slice_get trees (slice_index next i) ≡ Some (get_or steps i d)
+leads-at : (trees : List StateTree) (next : List ℕ) (steps : List StateTree) (i : ℕ) (d : StateTree) → Leads trees next steps → i < length steps → slice_get trees (slice_index next i) ≡ Some (get_or steps i d)
 leads-at trees next [] i d h within = absurd (omega arith)
 leads-at trees [] (s ∷ steps) i d h within = cc
 leads-at trees (n ∷ next) (s ∷ steps) zero d h within = same_head (slice_get trees n) (Some s) (map (slice_get trees) next) (map Some steps) h
 leads-at trees (n ∷ next) (s ∷ steps) (suc i) d h within =
     leads-at trees next steps i d (same_tail (slice_get trees n) (Some s) (map (slice_get trees) next) (map Some steps) h) (omega arith)
 
-leads-length : (trees : List State) (next : List ℕ) (steps : List State) → Leads trees next steps → length next ≡ length steps
+leads-length : (trees : List StateTree) (next : List ℕ) (steps : List StateTree) → Leads trees next steps → length next ≡ length steps
 leads-length trees next steps h = sym (length-map next (slice_get trees)) ∙ ap length h ∙ length-map steps Some
 
 module _ (e : EventExpr) (ms : List Mark) where
-  steps-length : (trees : List State) → length (flat_map (steps_by e ms) trees) ≡ length trees * length ms
+  steps-length : (trees : List StateTree) → length (flat_map (steps_by e ms) trees) ≡ length trees * length ms
   steps-length [] = omega arith
   steps-length (s ∷ trees) =
       let here : length (steps_by e ms s) ≡ length ms = length-map ms (λ m. next_tree e m s) in
@@ -51,7 +51,7 @@ module _ (e : EventExpr) (ms : List Mark) where
       all ∙ (λ i. here i + rest i) ∙ sym product
 
   -- a step of a tree that is there is there, under its number
-  step-at : (r : Reached) → IsReached e ms r → (q s : ℕ) (x : State) → slice_get r.trees q ≡ Some x → s < length ms
+  step-at : (r : Reached) → IsReached e ms r → (q s : ℕ) (x : StateTree) → slice_get r.trees q ≡ Some x → s < length ms
       → slice_get r.trees (slice_index r.next (q * length ms + s)) ≡ Some (next_tree e (get_or ms s no_mark) x)
   step-at r h q s x there within =
       let inside : q < length r.trees = slice_get_within r.trees q x there in
@@ -81,11 +81,11 @@ module _ (e : EventExpr) (ms : List Mark) where
         (leads-at r.trees r.next (flat_map (steps_by e ms) r.trees) i (first_tree e) h.next (omega arith));
   }
 
-  abbrev by_symbol : State → ℕ → State
+  abbrev by_symbol : StateTree → ℕ → StateTree
   by_symbol x s = next_tree e (get_or ms s no_mark) x
 
   -- a word leads to the number of the tree after it
-  run-at : (r : Reached) (k : ℕ) → k ≡ length ms → IsReached e ms r → (word : List ℕ) (q : ℕ) (x : State) → slice_get r.trees q ≡ Some x → All (λ s. s < k) word
+  run-at : (r : Reached) (k : ℕ) → k ≡ length ms → IsReached e ms r → (word : List ℕ) (q : ℕ) (x : StateTree) → slice_get r.trees q ≡ Some x → All (λ s. s < k) word
       → slice_get r.trees (run (table_by e k r) q word) ≡ Some (fold by_symbol x word)
   run-at r k p h [] q x there all = there
   run-at r k p h (s ∷ word) q x there all =
@@ -94,16 +94,16 @@ module _ (e : EventExpr) (ms : List Mark) where
       ap (λ n. slice_get r.trees (slice_index r.next (q * n + s))) p ∙ step-at r h q s x there (subst (λ n. s < n) p within) in
       run-at r k p h word (slice_index r.next (q * k + s)) (by_symbol x s) next (All-tail (λ n. n < k) s word all)
 
-yes-at : (e : EventExpr) (trees : List State) (q : ℕ) (x : State) → slice_get trees q ≡ Some x → get_or (map (answers e) trees) q false ≡ answers e x
+yes-at : (e : EventExpr) (trees : List StateTree) (q : ℕ) (x : StateTree) → slice_get trees q ≡ Some x → get_or (map (answers e) trees) q false ≡ answers e x
 yes-at e trees q x there =
     get_or-map (answers e) trees q x false (slice_get_within trees q x there) ∙ ap (answers e) (get_or_from_slice_get trees q x x there)
 
 -- ---- the tree after a history is what its points in turn make of the first one
 
-abbrev by_mark : Machine → State → Mark → State
+abbrev by_mark : TreeMachine → StateTree → Mark → StateTree
 by_mark machine s m = machine.next m s
 
-after-fold : (machine : Machine) (m : List Mark) (n : ℕ) → n ≤ length m → after machine m n ≡ fold (by_mark machine) machine.first (take n m)
+after-fold : (machine : TreeMachine) (m : List Mark) (n : ℕ) → n ≤ length m → after machine m n ≡ fold (by_mark machine) machine.first (take n m)
 after-fold machine m zero h = refl
 after-fold machine m (suc n) h =
     let before = after-fold machine m n (omega arith) in
@@ -119,7 +119,7 @@ module _ (e of : EventExpr) where
   mark-of : (s : ℕ) → s < symbol_count of → get_or (symbol_marks of) s no_mark ≡ symbol_mark of s
   mark-of s within = get_or-map-range_with_len (symbol_mark of) 0 (symbol_count of) s s no_mark within (omega arith)
 
-  fold-word : (word : List ℕ) (x : State) → All (λ s. s < symbol_count of) word → fold (by_symbol e (symbol_marks of)) x word ≡ fold (by_mark (machine e)) x (word_marks of word)
+  fold-word : (word : List ℕ) (x : StateTree) → All (λ s. s < symbol_count of) word → fold (by_symbol e (symbol_marks of)) x word ≡ fold (by_mark (machine e)) x (word_marks of word)
   fold-word [] x all = refl
   fold-word (s ∷ word) x all =
       ap (λ m. fold (by_symbol e (symbol_marks of)) (next_tree e m x) word) (mark-of s (all 0 0 (omega arith)))

@@ -2,7 +2,7 @@
 use Rattle.std.specs.Prelude.{◌≡◌, ℕ, ◌<◌, true, List, length, map}
 use Rattle.ode_value.specs.declared.event.EventExpr.{EventExpr}
 use Rattle.ode_value.specs.Points.{fires}
-use Rattle.ode_value.specs.Symbols.{Row, symbol_count}
+use Rattle.ode_value.specs.Symbols.{MaskedKind, symbol_count}
 use Rattle.ode_value.specs.Tables.{Table, IsWord, run, says_yes, word_marks}
 use Rattle.ode_value.specs.TreeCount.{count_over, symbol_marks}
 use Rattle.ode_value.specs.Trees.{answers}
@@ -23,7 +23,7 @@ pub record IsBuilt (e of : EventExpr) (t : Table) : Type 0 where
   pub answers : (word : List ℕ) → IsWord t.symbols word → says_yes t (run t 0 word) ≡ fires e (word_marks of word)
 
 -- this alphabet is that of an expression which has all leaves of the first one
-pub record IsOver (e of : EventExpr) (rows : List Row) : Type 0 where
+pub record IsOver (e of : EventExpr) (rows : List MaskedKind) : Type 0 where
   pub rows_are : rows ≡ alphabet of
   pub leaves : are_leaves_of e of ≡ true
 

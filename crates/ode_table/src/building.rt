@@ -15,7 +15,7 @@ use crate::automaton::Table;
 use crate::error::BuildError;
 use ode_symbols::Alphabet;
 use ode_trees::{Reached, out, reach};
-use ode_value::{EventExpr, List, State};
+use ode_value::{EventExpr, List, StateTree};
 use std::alloc::{AllocError, Global};
 
 // For each symbol whether each leaf of the expression holds at it.
@@ -29,7 +29,7 @@ fn marks_of(alloc: Global, e: &EventExpr, a: &Alphabet) -> Result<List<List<bool
     Ok(marks)
 }
 
-fn answers_of(alloc: Global, e: &EventExpr, trees: &[State]) -> Result<List<bool>, AllocError>
+fn answers_of(alloc: Global, e: &EventExpr, trees: &[StateTree]) -> Result<List<bool>, AllocError>
     ensures { IfOk result (λ yes. yes ≡ map (answers e.now) trees.now) }
 {
     let mut yes = List::new(alloc);

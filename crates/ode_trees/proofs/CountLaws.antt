@@ -4,7 +4,7 @@ use Rattle.std.specs.Prelude.{fold, flat_map, nat_le}
 use Rattle.std.specs.List.{list_any}
 use Rattle.std.proofs.lemmas.Bool.Decides.{nat_tests}
 use Rattle.ode_value.specs.declared.event.EventExpr.{EventExpr}
-use Rattle.ode_value.specs.declared.tree.State.{State}
+use Rattle.ode_value.specs.declared.tree.StateTree.{StateTree}
 use Rattle.ode_value.specs.Marks.{Mark, spelled}
 use Rattle.ode_value.specs.TreeCount.{with_tree, grow_by, grown_by, count_by_steps, count_over, counted}
 use Rattle.ode_value.specs.TreeOrder.{same_tree}
@@ -20,27 +20,27 @@ leb-within m n h = grind (arith, nat_tests)
 
 -- ---- a longer list begins with the shorter one
 
-abbrev pub Begins : List State → List State → Type 0
-Begins xs ys = (rest : List State) × (ys ≡ xs ++ rest)
+abbrev pub Begins : List StateTree → List StateTree → Type 0
+Begins xs ys = (rest : List StateTree) × (ys ≡ xs ++ rest)
 
-pub append-none : (xs : List State) → xs ≡ xs ++ []
+pub append-none : (xs : List StateTree) → xs ≡ xs ++ []
 append-none [] = refl
 append-none (x ∷ xs) = ap (λ l. x ∷ l) (append-none xs)
 
-pub begins-with_tree : (trees : List State) (s : State) → Begins trees (with_tree trees s)
+pub begins-with_tree : (trees : List StateTree) (s : StateTree) → Begins trees (with_tree trees s)
 begins-with_tree trees s = by_test (list_any (same_tree s) trees) where
   by_test : (t : Bool) → Begins trees (cond t trees (trees ++ s ∷ []))
   by_test true = ([], append-none trees)
   by_test false = (s ∷ [], refl)
 
-pub begins-more : (xs ys zs : List State) → Begins xs ys → Begins ys zs → Begins xs zs
+pub begins-more : (xs ys zs : List StateTree) → Begins xs ys → Begins ys zs → Begins xs zs
 begins-more xs ys zs p q = (p.0 ++ q.0, q.1 ∙ ap (λ l. l ++ q.0) p.1 ∙ append_assoc xs p.0 q.0)
 
-pub begins-fold : (trees new : List State) → Begins trees (fold with_tree trees new)
+pub begins-fold : (trees new : List StateTree) → Begins trees (fold with_tree trees new)
 begins-fold trees [] = ([], append-none trees)
 begins-fold trees (s ∷ new) = begins-more trees (with_tree trees s) (fold with_tree (with_tree trees s) new) (begins-with_tree trees s) (begins-fold (with_tree trees s) new)
 
-pub begins-longer : (xs ys : List State) → Begins xs ys → length xs ≤ length ys
+pub begins-longer : (xs ys : List StateTree) → Begins xs ys → length xs ≤ length ys
 begins-longer xs ys p = let e : length ys ≡ length xs + length p.0 = ap length p.1 ∙ length-append xs p.0 in omega arith
 
 -- ---- the list after more rounds
@@ -75,11 +75,11 @@ beyond n above = ap (λ t. cond t (Some n) None) (leb-above n 512 above)
 
 -- ---- lists that spell marks
 
-pub each-marks : (e : EventExpr) (ms : List Mark) (s : State) → each_step e (map (spelled e) ms) s ≡ map (λ step. step s) (map (next_tree e) ms)
+pub each-marks : (e : EventExpr) (ms : List Mark) (s : StateTree) → each_step e (map (spelled e) ms) s ≡ map (λ step. step s) (map (next_tree e) ms)
 each-marks e [] s = refl
 each-marks e (m ∷ ms) s = λ i. next-spelled e m i s ∷ each-marks e ms s i
 
-grow-marks : (e : EventExpr) (ms : List Mark) (trees : List State) → grow_listed e (map (spelled e) ms) trees ≡ grow_by (map (next_tree e) ms) trees
+grow-marks : (e : EventExpr) (ms : List Mark) (trees : List StateTree) → grow_listed e (map (spelled e) ms) trees ≡ grow_by (map (next_tree e) ms) trees
 grow-marks e ms trees = λ i. fold with_tree trees (flat_map (λ s. each-marks e ms s i) trees)
 
 grown-marks : (e : EventExpr) (ms : List Mark) (n : ℕ) → grown_listed e (map (spelled e) ms) n ≡ grown_by (map (next_tree e) ms) (first_tree e) n

@@ -14,7 +14,7 @@ use Rattle.std.specs.Str.{bytes_eq}
 use Rattle.std.proofs.lemmas.List.Folds.{list_any-append}
 use Rattle.std.proofs.lemmas.Map.Text.{is_eq-slice_cmp}
 use Rattle.std.proofs.lemmas.Slice.Eq.{bytes_eq-Decides}
-use Rattle.ode_value.specs.declared.tree.State.{State}
+use Rattle.ode_value.specs.declared.tree.StateTree.{StateTree}
 use Rattle.ode_value.specs.TreeOrder.{same_tree}
 use Rattle.ode_trees.specs.Codes.{code}
 use Rattle.ode_trees.specs.Found.{Covers}
@@ -62,10 +62,10 @@ or_none false h = cc
 pub covers-none : {K : Type 0} (code_of : K → List ℕ) → Covers [] [] code_of
 covers-none code_of = λ s h. cc
 
-pub covers-new : {K : Type 0} (code_of : K → List ℕ) (cmp : K → K → Ordering) → ((x y : K) → cmp x y ≡ slice_cmp nat_cmp (code_of x) (code_of y)) → (trees : List State) (entries : List (K × ℕ)) (k : K) (n : ℕ) (new : State)
+pub covers-new : {K : Type 0} (code_of : K → List ℕ) (cmp : K → K → Ordering) → ((x y : K) → cmp x y ≡ slice_cmp nat_cmp (code_of x) (code_of y)) → (trees : List StateTree) (entries : List (K × ℕ)) (k : K) (n : ℕ) (new : StateTree)
     → code_of k ≡ code new → Covers trees entries code_of → Covers (trees ++ new ∷ []) (insert_entry cmp entries k n) code_of
 covers-new {K} code_of cmp order trees entries k n new is covers = λ s h. by_known s (list_any (same_tree s) trees) refl (sym (list_any-append (same_tree s) trees (new ∷ [])) ∙ h) where
-  by_known : (s : State) (t : Bool) → list_any (same_tree s) trees ≡ t → (t || (same_tree s new || false)) ≡ true
+  by_known : (s : StateTree) (t : Bool) → list_any (same_tree s) trees ≡ t → (t || (same_tree s new || false)) ≡ true
       → is_some (lookup (λ x. is_eq (slice_cmp nat_cmp (code s) (code_of x))) (insert_entry cmp entries k n)) ≡ true
   by_known s true known h = still (λ x. is_eq (slice_cmp nat_cmp (code s) (code_of x))) cmp k n entries (covers s known)
   by_known s false known h =
@@ -76,7 +76,7 @@ covers-new {K} code_of cmp order trees entries k n new is covers = λ s h. by_kn
       entries
 
 -- a tree under whose code there is none isn't there
-pub not-covered : {K : Type 0} (entries : List (K × ℕ)) (code_of : K → List ℕ) (trees : List State) (s : State) (c : List ℕ) → c ≡ code s → Covers trees entries code_of
+pub not-covered : {K : Type 0} (entries : List (K × ℕ)) (code_of : K → List ℕ) (trees : List StateTree) (s : StateTree) (c : List ℕ) → c ≡ code s → Covers trees entries code_of
     → lookup (λ k. is_eq (slice_cmp nat_cmp c (code_of k))) entries ≡ None → list_any (same_tree s) trees ≡ false
 not-covered entries code_of trees s c is covers none = by_known (list_any (same_tree s) trees) refl where
   found : is_some (lookup (λ k. is_eq (slice_cmp nat_cmp (code s) (code_of k))) entries) ≡ false
@@ -86,7 +86,7 @@ not-covered entries code_of trees s c is covers none = by_known (list_any (same_
   by_known true known = let both : true ≡ false = sym (covers s known) ∙ found in both
   by_known false known = refl
 
-pub covers-ok : {K : Type 0} (entries more : List (K × ℕ)) (code_of : K → List ℕ) (cmp : K → K → Ordering) → ((x y : K) → cmp x y ≡ slice_cmp nat_cmp (code_of x) (code_of y)) → (trees after : List State) (k : K) (n : ℕ) (new : State)
+pub covers-ok : {K : Type 0} (entries more : List (K × ℕ)) (code_of : K → List ℕ) (cmp : K → K → Ordering) → ((x y : K) → cmp x y ≡ slice_cmp nat_cmp (code_of x) (code_of y)) → (trees after : List StateTree) (k : K) (n : ℕ) (new : StateTree)
     (r : Result (Unit {0}) AllocError) → code_of k ≡ code new → Covers trees entries code_of → more ≡ insert_entry cmp entries k n → OnOk r (after ≡ trees ++ new ∷ []) → OnOk r (Covers after more code_of)
 covers-ok entries more code_of cmp order trees after k n new (Ok x) is covers p q =
     subst (λ l. Covers after l code_of) (sym p) (subst (λ l. Covers l (insert_entry cmp entries k n) code_of) (sym q) (covers-new code_of cmp order trees entries k n new is covers))

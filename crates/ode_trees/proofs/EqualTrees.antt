@@ -7,8 +7,8 @@ use Rattle.std.specs.declared.cmp.Ordering.TheVariants.{Less, Equal, Greater}
 use Rattle.std.specs.Ordering.{nat_cmp, bool_cmp, ordering_then, is_eq}
 use Rattle.std.specs.Cmp.{nat_cmp_is}
 use Rattle.std.specs.FinMap.{nat_cmp-IsAntisymmetric}
-use Rattle.ode_value.specs.declared.tree.State.{State, out-State, roll-State, roll-out-State, out-roll-State, fold-roll-State, map-State, ind-State}
-use Rattle.ode_value.specs.declared.tree.State.TheOpen.{State-F, Bit, Place, Seen, Both, Flag, Count, Starts, Pairs}
+use Rattle.ode_value.specs.declared.tree.StateTree.{StateTree, out-StateTree, roll-StateTree, roll-out-StateTree, out-roll-StateTree, fold-roll-StateTree, map-StateTree, ind-StateTree}
+use Rattle.ode_value.specs.declared.tree.StateTree.TheOpen.{StateTree-F, Bit, Place, Seen, Both, Flag, Count, Started, Pairs}
 use Rattle.ode_value.specs.TreeOrder.{list_cmp, tree_cmp_of, tree_cmp, same_tree, placed, joined, all_joined, pair_cmp}
 
 -- equal in two parts is equal in both
@@ -33,34 +33,34 @@ list-equal cmp to mid view eq (x ∷ xs) (y ∷ ys) h =
     ap (λ z. z ∷ map view xs) (eq x y both.0) ∙ ap (λ zs. y ∷ zs) (list-equal cmp to mid view eq xs ys both.1)
 
 -- what an induction shows of a tree
-abbrev Tells : State → Type 0
-Tells s = (t : State) → tree_cmp s t ≡ Equal → s ≡ t
+abbrev Tells : StateTree → Type 0
+Tells s = (t : StateTree) → tree_cmp s t ≡ Equal → s ≡ t
 
 abbrev Told : Type 0
-Told = (s : State) × Tells s
+Told = (s : StateTree) × Tells s
 
-tree_cmp-roll : (d : State-F State) (t : State) → tree_cmp (roll-State d) t ≡ tree_cmp_of (map-State State (State → Ordering) tree_cmp d) (out-State t)
+tree_cmp-roll : (d : StateTree-F StateTree) (t : StateTree) → tree_cmp (roll-StateTree d) t ≡ tree_cmp_of (map-StateTree StateTree (StateTree → Ordering) tree_cmp d) (out-StateTree t)
 unfolding tree_cmp
-tree_cmp-roll d t = ap (λ f. f t) (fold-roll-State (State → Ordering) (λ s u. tree_cmp_of s (out-State u)) d)
+tree_cmp-roll d t = ap (λ f. f t) (fold-roll-StateTree (StateTree → Ordering) (λ s u. tree_cmp_of s (out-StateTree u)) d)
 
 nat-equal : (a b : ℕ) → nat_cmp a b ≡ Equal → a ≡ b
 nat-equal a b h = nat_cmp-IsAntisymmetric a b h
 
 -- the tree of a pair of a tree and what is shown of it
-abbrev tree_of : Told → State
+abbrev tree_of : Told → StateTree
 tree_of x = x.0
 
-abbrev trees_of : Told × Told → State × State
+abbrev trees_of : Told × Told → StateTree × StateTree
 trees_of x = (x.0.0, x.1.0)
 
-pair-equal : (x : Told × Told) (y : State × State) → ordering_then (tree_cmp x.0.0 y.0) (tree_cmp x.1.0 y.1) ≡ Equal → trees_of x ≡ y
+pair-equal : (x : Told × Told) (y : StateTree × StateTree) → ordering_then (tree_cmp x.0.0 y.0) (tree_cmp x.1.0 y.1) ≡ Equal → trees_of x ≡ y
 pair-equal x y h =
     let both = then-equal (tree_cmp x.0.0 y.0) (tree_cmp x.1.0 y.1) h in
     let first = x.0.1 y.0 both.0 in
     let second = x.1.1 y.1 both.1 in
     λ i. (first i, second i)
 
-level-equal : (y : State-F Told) (d : State-F State) → tree_cmp_of (map-State State (State → Ordering) tree_cmp (map-State Told State tree_of y)) d ≡ Equal → map-State Told State tree_of y ≡ d
+level-equal : (y : StateTree-F Told) (d : StateTree-F StateTree) → tree_cmp_of (map-StateTree StateTree (StateTree → Ordering) tree_cmp (map-StateTree Told StateTree tree_of y)) d ≡ Equal → map-StateTree Told StateTree tree_of y ≡ d
 level-equal (Bit b) (Bit c) h = ap Bit (bool-equal b c h)
 level-equal (Place b) (Place c) h = ap Place (nat-equal b c h)
 level-equal (Seen b e) (Seen c f) h =
@@ -76,22 +76,22 @@ level-equal (Flag e f b) (Flag g k c) h =
 level-equal (Count e b) (Count f c) h =
     let p = then-equal (tree_cmp e.0 f) (nat_cmp b c) h in
     ap (λ x. Count x b) (e.1 f p.0) ∙ ap (Count f) (nat-equal b c p.1)
-level-equal (Starts e s) (Starts f t) h =
+level-equal (Started e s) (Started f t) h =
     let p = then-equal (tree_cmp e.0 f) (list_cmp (λ x y. x y) (map tree_cmp (map tree_of s)) t) h in
-    let rest = list-equal (λ (x : (State → Ordering)) (y : State). x y) tree_cmp tree_of tree_of (λ x y q. x.1 y q) s t p.1 in
-    ap (λ x. Starts x (map tree_of s)) (e.1 f p.0) ∙ ap (Starts f) rest
+    let rest = list-equal (λ (x : (StateTree → Ordering)) (y : StateTree). x y) tree_cmp tree_of tree_of (λ x y q. x.1 y q) s t p.1 in
+    ap (λ x. Started x (map tree_of s)) (e.1 f p.0) ∙ ap (Started f) rest
 level-equal (Pairs e s) (Pairs f t) h =
     let p = then-equal (tree_cmp e.0 f) (list_cmp (λ x y. ordering_then (x.0 y.0) (x.1 y.1)) (map (λ x. (tree_cmp x.0, tree_cmp x.1)) (map trees_of s)) t) h in
-    let rest = list-equal (λ (x : (State → Ordering) × (State → Ordering)) (y : State × State). ordering_then (x.0 y.0) (x.1 y.1)) (λ x. (tree_cmp x.0, tree_cmp x.1)) trees_of trees_of pair-equal s t p.1 in
+    let rest = list-equal (λ (x : (StateTree → Ordering) × (StateTree → Ordering)) (y : StateTree × StateTree). ordering_then (x.0 y.0) (x.1 y.1)) (λ x. (tree_cmp x.0, tree_cmp x.1)) trees_of trees_of pair-equal s t p.1 in
     ap (λ x. Pairs x (map trees_of s)) (e.1 f p.0) ∙ ap (Pairs f) rest
 level-equal _ _ h = cc
 
-pub tree-equal : (s t : State) → tree_cmp s t ≡ Equal → s ≡ t
-tree-equal = ind-State Tells (λ x y q. subst (λ d. Tells (roll-State d)) q (here y)) where
-  here : (y : State-F Told) → Tells (roll-State (map-State Told State tree_of y))
+pub tree-equal : (s t : StateTree) → tree_cmp s t ≡ Equal → s ≡ t
+tree-equal = ind-StateTree Tells (λ x y q. subst (λ d. Tells (roll-StateTree d)) q (here y)) where
+  here : (y : StateTree-F Told) → Tells (roll-StateTree (map-StateTree Told StateTree tree_of y))
   here y t h =
-      let d = map-State Told State tree_of y in
-      ap roll-State (level-equal y (out-State t) (sym (tree_cmp-roll d t) ∙ h)) ∙ roll-out-State t
+      let d = map-StateTree Told StateTree tree_of y in
+      ap roll-StateTree (level-equal y (out-StateTree t) (sym (tree_cmp-roll d t) ∙ h)) ∙ roll-out-StateTree t
 
 pub or_false : (a : Bool) → (a || false) ≡ a
 or_false false = refl
@@ -146,7 +146,7 @@ pub any-filter : {A : Type 0} (p q : A → Bool) (xs : List A) → list_any q (f
 any-filter p q [] = refl
 any-filter p q (x ∷ xs) = kept-or q x (p x) (filter p xs) (list_any (λ y. p y && q y) xs) (any-filter p q xs)
 
-pub pairs-equal : (x y : State × State) → pair_cmp x y ≡ Equal → x ≡ y
+pub pairs-equal : (x y : StateTree × StateTree) → pair_cmp x y ≡ Equal → x ≡ y
 pairs-equal x y h =
     let both = then-equal (tree_cmp x.0 y.0) (tree_cmp x.1 y.1) h in
     let first = tree-equal x.0 y.0 both.0 in
@@ -168,47 +168,47 @@ both-equal Equal b h k = k
 both-equal Greater b h k = cc
 
 abbrev Same : Type 0
-Same = (s : State) × (tree_cmp s s ≡ Equal)
+Same = (s : StateTree) × (tree_cmp s s ≡ Equal)
 
-abbrev same_of : Same → State
+abbrev same_of : Same → StateTree
 same_of x = x.0
 
-abbrev same_pair : Same × Same → State × State
+abbrev same_pair : Same × Same → StateTree × StateTree
 same_pair x = (x.0.0, x.1.0)
 
-list-itself : (xs : List Same) → list_cmp (λ (x : (State → Ordering)) (y : State). x y) (map tree_cmp (map same_of xs)) (map same_of xs) ≡ Equal
+list-itself : (xs : List Same) → list_cmp (λ (x : (StateTree → Ordering)) (y : StateTree). x y) (map tree_cmp (map same_of xs)) (map same_of xs) ≡ Equal
 list-itself [] = refl
-list-itself (x ∷ xs) = both-equal (tree_cmp x.0 x.0) (list_cmp (λ (f : (State → Ordering)) (y : State). f y) (map tree_cmp (map same_of xs)) (map same_of xs)) x.1 (list-itself xs)
+list-itself (x ∷ xs) = both-equal (tree_cmp x.0 x.0) (list_cmp (λ (f : (StateTree → Ordering)) (y : StateTree). f y) (map tree_cmp (map same_of xs)) (map same_of xs)) x.1 (list-itself xs)
 
 pairs-itself : (xs : List (Same × Same))
-    → list_cmp (λ (x : (State → Ordering) × (State → Ordering)) (y : State × State). ordering_then (x.0 y.0) (x.1 y.1)) (map (λ x. (tree_cmp x.0, tree_cmp x.1)) (map same_pair xs)) (map same_pair xs) ≡ Equal
+    → list_cmp (λ (x : (StateTree → Ordering) × (StateTree → Ordering)) (y : StateTree × StateTree). ordering_then (x.0 y.0) (x.1 y.1)) (map (λ x. (tree_cmp x.0, tree_cmp x.1)) (map same_pair xs)) (map same_pair xs) ≡ Equal
 pairs-itself [] = refl
 pairs-itself (x ∷ xs) =
     both-equal (ordering_then (tree_cmp x.0.0 x.0.0) (tree_cmp x.1.0 x.1.0))
-    (list_cmp (λ (f : (State → Ordering) × (State → Ordering)) (y : State × State). ordering_then (f.0 y.0) (f.1 y.1)) (map (λ y. (tree_cmp y.0, tree_cmp y.1)) (map same_pair xs)) (map same_pair xs))
+    (list_cmp (λ (f : (StateTree → Ordering) × (StateTree → Ordering)) (y : StateTree × StateTree). ordering_then (f.0 y.0) (f.1 y.1)) (map (λ y. (tree_cmp y.0, tree_cmp y.1)) (map same_pair xs)) (map same_pair xs))
     (both-equal (tree_cmp x.0.0 x.0.0) (tree_cmp x.1.0 x.1.0) x.0.1 x.1.1) (pairs-itself xs)
 
-level-itself : (y : State-F Same) → tree_cmp_of (map-State State (State → Ordering) tree_cmp (map-State Same State same_of y)) (map-State Same State same_of y) ≡ Equal
+level-itself : (y : StateTree-F Same) → tree_cmp_of (map-StateTree StateTree (StateTree → Ordering) tree_cmp (map-StateTree Same StateTree same_of y)) (map-StateTree Same StateTree same_of y) ≡ Equal
 level-itself (Bit b) = bool-itself b
 level-itself (Place n) = nat-itself n
 level-itself (Seen b e) = both-equal (bool_cmp b b) (tree_cmp e.0 e.0) (bool-itself b) e.1
 level-itself (Both e f) = both-equal (tree_cmp e.0 e.0) (tree_cmp f.0 f.0) e.1 f.1
 level-itself (Flag e f b) = both-equal (tree_cmp e.0 e.0) (ordering_then (tree_cmp f.0 f.0) (bool_cmp b b)) e.1 (both-equal (tree_cmp f.0 f.0) (bool_cmp b b) f.1 (bool-itself b))
 level-itself (Count e n) = both-equal (tree_cmp e.0 e.0) (nat_cmp n n) e.1 (nat-itself n)
-level-itself (Starts e s) = both-equal (tree_cmp e.0 e.0) (list_cmp (λ (x : (State → Ordering)) (y : State). x y) (map tree_cmp (map same_of s)) (map same_of s)) e.1 (list-itself s)
+level-itself (Started e s) = both-equal (tree_cmp e.0 e.0) (list_cmp (λ (x : (StateTree → Ordering)) (y : StateTree). x y) (map tree_cmp (map same_of s)) (map same_of s)) e.1 (list-itself s)
 level-itself (Pairs e s) =
     both-equal (tree_cmp e.0 e.0)
-    (list_cmp (λ (x : (State → Ordering) × (State → Ordering)) (y : State × State). ordering_then (x.0 y.0) (x.1 y.1)) (map (λ x. (tree_cmp x.0, tree_cmp x.1)) (map same_pair s)) (map same_pair s))
+    (list_cmp (λ (x : (StateTree → Ordering) × (StateTree → Ordering)) (y : StateTree × StateTree). ordering_then (x.0 y.0) (x.1 y.1)) (map (λ x. (tree_cmp x.0, tree_cmp x.1)) (map same_pair s)) (map same_pair s))
     e.1 (pairs-itself s)
 
-pub tree-itself : (s : State) → tree_cmp s s ≡ Equal
-tree-itself = ind-State (λ s. tree_cmp s s ≡ Equal) (λ x y q. subst (λ d. tree_cmp (roll-State d) (roll-State d) ≡ Equal) q (here y)) where
-  here : (y : State-F Same) → tree_cmp (roll-State (map-State Same State same_of y)) (roll-State (map-State Same State same_of y)) ≡ Equal
+pub tree-itself : (s : StateTree) → tree_cmp s s ≡ Equal
+tree-itself = ind-StateTree (λ s. tree_cmp s s ≡ Equal) (λ x y q. subst (λ d. tree_cmp (roll-StateTree d) (roll-StateTree d) ≡ Equal) q (here y)) where
+  here : (y : StateTree-F Same) → tree_cmp (roll-StateTree (map-StateTree Same StateTree same_of y)) (roll-StateTree (map-StateTree Same StateTree same_of y)) ≡ Equal
   here y =
-      let d = map-State Same State same_of y in
-      tree_cmp-roll d (roll-State d) ∙ ap (tree_cmp_of (map-State State (State → Ordering) tree_cmp d)) (out-roll-State d) ∙ level-itself y
+      let d = map-StateTree Same StateTree same_of y in
+      tree_cmp-roll d (roll-StateTree d) ∙ ap (tree_cmp_of (map-StateTree StateTree (StateTree → Ordering) tree_cmp d)) (out-roll-StateTree d) ∙ level-itself y
 
-pub same_tree-itself : (s : State) → same_tree s s ≡ true
+pub same_tree-itself : (s : StateTree) → same_tree s s ≡ true
 same_tree-itself s = ap is_eq (tree-itself s)
 
 is_equal : (o : Ordering) → is_eq o ≡ true → o ≡ Equal
@@ -216,5 +216,5 @@ is_equal Less h = cc
 is_equal Equal h = refl
 is_equal Greater h = cc
 
-pub same_tree-equal : (s t : State) → same_tree s t ≡ true → s ≡ t
+pub same_tree-equal : (s t : StateTree) → same_tree s t ≡ true → s ≡ t
 same_tree-equal s t h = tree-equal s t (is_equal (tree_cmp s t) h)

@@ -11,7 +11,7 @@ use Rattle.std.proofs.lemmas.List.Sums.{fold-append}
 use Rattle.std.proofs.lemmas.Option.{slice_get_read}
 use Rattle.std.specs.declared.alloc.AllocError.{AllocError}
 use Rattle.ode_value.specs.declared.event.EventExpr.{EventExpr}
-use Rattle.ode_value.specs.declared.tree.State.{State}
+use Rattle.ode_value.specs.declared.tree.StateTree.{StateTree}
 use Rattle.ode_value.specs.Marks.{Mark, spelled}
 use Rattle.ode_value.specs.TreeCount.{with_tree, count_over, counted}
 use Rattle.ode_value.specs.TreeOrder.{same_tree}
@@ -24,7 +24,7 @@ use Rattle.ode_trees.proofs.EqualTrees.{same_tree-itself, same_tree-equal}
 
 -- ---- trees that are there
 
-abbrev KnowsAll : List State → List State → Type 0
+abbrev KnowsAll : List StateTree → List StateTree → Type 0
 KnowsAll trees [] = Unit {0}
 KnowsAll trees (s ∷ new) = (list_any (same_tree s) trees ≡ true) × KnowsAll trees new
 
@@ -36,30 +36,30 @@ or_right : (a b : Bool) → b ≡ true → (a || b) ≡ true
 or_right true b h = refl
 or_right false b h = h
 
-knows-more : (xs ys : List State) (s : State) → Begins xs ys → list_any (same_tree s) xs ≡ true → list_any (same_tree s) ys ≡ true
+knows-more : (xs ys : List StateTree) (s : StateTree) → Begins xs ys → list_any (same_tree s) xs ≡ true → list_any (same_tree s) ys ≡ true
 knows-more xs ys s p h = ap (list_any (same_tree s)) p.1 ∙ list_any-append (same_tree s) xs p.0 ∙ or_left (list_any (same_tree s) xs) (list_any (same_tree s) p.0) h
 
-knows-last : (trees : List State) (s : State) → list_any (same_tree s) (trees ++ s ∷ []) ≡ true
+knows-last : (trees : List StateTree) (s : StateTree) → list_any (same_tree s) (trees ++ s ∷ []) ≡ true
 knows-last trees s = list_any-append (same_tree s) trees (s ∷ []) ∙ or_right (list_any (same_tree s) trees) (same_tree s s || false) (or_left (same_tree s s) false (same_tree-itself s))
 
-knows-with_tree : (trees : List State) (s : State) → list_any (same_tree s) (with_tree trees s) ≡ true
+knows-with_tree : (trees : List StateTree) (s : StateTree) → list_any (same_tree s) (with_tree trees s) ≡ true
 knows-with_tree trees s = by_test (list_any (same_tree s) trees) refl where
   by_test : (t : Bool) → list_any (same_tree s) trees ≡ t → list_any (same_tree s) (cond t trees (trees ++ s ∷ [])) ≡ true
   by_test true p = p
   by_test false p = knows-last trees s
 
-knows-fold : (trees new : List State) → KnowsAll (fold with_tree trees new) new
+knows-fold : (trees new : List StateTree) → KnowsAll (fold with_tree trees new) new
 knows-fold trees [] = tt
 knows-fold trees (s ∷ new) =
     (knows-more (with_tree trees s) (fold with_tree (with_tree trees s) new) s (begins-fold (with_tree trees s) new) (knows-with_tree trees s), knows-fold (with_tree trees s) new)
 
-fold-known : (trees new : List State) → KnowsAll trees new → fold with_tree trees new ≡ trees
+fold-known : (trees new : List StateTree) → KnowsAll trees new → fold with_tree trees new ≡ trees
 fold-known trees [] h = refl
 fold-known trees (s ∷ new) h =
     ap (λ t. fold with_tree (cond t trees (trees ++ s ∷ [])) new) h.0 ∙ fold-known trees new h.1
 
 -- what is there isn't added again
-again : (trees new more : List State) → fold with_tree (fold with_tree trees new) (new ++ more) ≡ fold with_tree trees (new ++ more)
+again : (trees new more : List StateTree) → fold with_tree (fold with_tree trees new) (new ++ more) ≡ fold with_tree trees (new ++ more)
 again trees new more =
     fold-append with_tree (fold with_tree trees new) new more
     ∙ ap (λ l. fold with_tree l more) (fold-known (fold with_tree trees new) new (knows-fold trees new))
@@ -67,7 +67,7 @@ again trees new more =
 
 -- ---- fronts of a list
 
-take-begins : (k q : ℕ) (trees : List State) → k ≤ q → Begins (take k trees) (take q trees)
+take-begins : (k q : ℕ) (trees : List StateTree) → k ≤ q → Begins (take k trees) (take q trees)
 take-begins zero q trees h = (take q trees, refl)
 take-begins (suc k) zero trees h = absurd (omega arith)
 take-begins (suc k) (suc q) [] h = ([], refl)
@@ -75,15 +75,15 @@ take-begins (suc k) (suc q) (s ∷ trees) h =
     let rest = take-begins k q trees (omega arith) in
     (rest.0, ap (λ l. s ∷ l) rest.1)
 
-front-begins : (k : ℕ) (trees : List State) → Begins (take k trees) trees
+front-begins : (k : ℕ) (trees : List StateTree) → Begins (take k trees) trees
 front-begins k trees = (drop k trees, sym (take-append-drop k trees))
 
-same-front : (k : ℕ) (xs ys : List State) → Begins xs ys → k ≤ length xs → take k ys ≡ take k xs
+same-front : (k : ℕ) (xs ys : List StateTree) → Begins xs ys → k ≤ length xs → take k ys ≡ take k xs
 same-front k xs ys p h = ap (take k) p.1 ∙ take-append-le k xs p.0 h
 
-module _ (firsts : List State) (steps : State → List State) where
+module _ (firsts : List StateTree) (steps : StateTree → List StateTree) where
   -- more trees have more steps
-  made-more : (xs ys : List State) → Begins xs ys → Begins (made_from firsts steps xs) (made_from firsts steps ys)
+  made-more : (xs ys : List StateTree) → Begins xs ys → Begins (made_from firsts steps xs) (made_from firsts steps ys)
   made-more xs ys p =
       let e : made_from firsts steps ys ≡ fold with_tree (made_from firsts steps xs) (flat_map steps p.0) =
       ap (made_from firsts steps) p.1 ∙ ap (fold with_tree firsts) (flat_map-append steps xs p.0) ∙ fold-append with_tree firsts (flat_map steps xs) (flat_map steps p.0) in
@@ -91,7 +91,7 @@ module _ (firsts : List State) (steps : State → List State) where
       (more.0, e ∙ more.1)
 
   -- the steps of one more tree
-  made-last : (xs : List State) (s : State) → fold with_tree (made_from firsts steps xs) (steps s) ≡ made_from firsts steps (xs ++ s ∷ [])
+  made-last : (xs : List StateTree) (s : StateTree) → fold with_tree (made_from firsts steps xs) (steps s) ≡ made_from firsts steps (xs ++ s ∷ [])
   made-last xs s =
       sym (fold-append with_tree firsts (flat_map steps xs) (steps s))
       ∙ ap (λ l. fold with_tree firsts (flat_map steps xs ++ l)) (append-none (steps s))
@@ -103,7 +103,7 @@ module _ (firsts : List State) (steps : State → List State) where
     before = λ k h. absurd (omega arith);
   }
 
-  pub more-made : (q : ℕ) (trees : List State) (d : State) → q < length trees → IsMade firsts steps q trees → IsMade firsts steps (q + 1) (fold with_tree trees (steps (get_or trees q d)))
+  pub more-made : (q : ℕ) (trees : List StateTree) (d : StateTree) → q < length trees → IsMade firsts steps q trees → IsMade firsts steps (q + 1) (fold with_tree trees (steps (get_or trees q d)))
   more-made q trees d within h =
       let front : take (q + 1) grown ≡ take (q + 1) trees = same-front (q + 1) trees grown more (omega arith) in
       record {
@@ -114,7 +114,7 @@ module _ (firsts : List State) (steps : State → List State) where
         before = before;
       }
     where
-      grown : List State
+      grown : List StateTree
       grown = fold with_tree trees (steps (get_or trees q d))
 
       more : Begins trees (fold with_tree trees (steps (get_or trees q d)))
@@ -134,7 +134,7 @@ module _ (firsts : List State) (steps : State → List State) where
 -- ---- the list and the rounds
 
 module _ (e : EventExpr) (lists : List (List Bool)) where
-  abbrev made_by : List State → List State
+  abbrev made_by : List StateTree → List StateTree
   made_by trees = made_from (first_tree e ∷ []) (each_step e lists) trees
 
   -- each round is made from the round before
@@ -152,10 +152,10 @@ module _ (e : EventExpr) (lists : List (List Bool)) where
       ∙ again (first_tree e ∷ []) (flat_map (each_step e lists) (grown_listed e lists n)) (flat_map (each_step e lists) more.0)
       ∙ ap (fold with_tree (first_tree e ∷ [])) (sym steps)
 
-  first-begins : (xs : List State) → Begins (first_tree e ∷ []) (made_from (first_tree e ∷ []) (each_step e lists) xs)
+  first-begins : (xs : List StateTree) → Begins (first_tree e ∷ []) (made_from (first_tree e ∷ []) (each_step e lists) xs)
   first-begins xs = begins-fold (first_tree e ∷ []) (flat_map (each_step e lists) xs)
 
-  module _ (q : ℕ) (trees : List State) (made : IsMade (first_tree e ∷ []) (each_step e lists) q trees) where
+  module _ (q : ℕ) (trees : List StateTree) (made : IsMade (first_tree e ∷ []) (each_step e lists) q trees) where
     -- what steps of a front give is a front
     made-front : (k : ℕ) → k ≤ q → Begins (made_from (first_tree e ∷ []) (each_step e lists) (take k trees)) trees
     made-front k below =
@@ -228,16 +228,16 @@ same_head x y xs ys h = cc
 same_tail : {A : Type 0} (x y : A) (xs ys : List A) → x ∷ xs ≡ y ∷ ys → xs ≡ ys
 same_tail x y xs ys h = cc
 
-get-more : (trees rest : List State) (n : ℕ) (s : State) → slice_get trees n ≡ Some s → slice_get (trees ++ rest) n ≡ Some s
+get-more : (trees rest : List StateTree) (n : ℕ) (s : StateTree) → slice_get trees n ≡ Some s → slice_get (trees ++ rest) n ≡ Some s
 get-more [] rest n s h = cc
 get-more (t ∷ trees) rest zero s h = h
 get-more (t ∷ trees) rest (suc n) s h = get-more trees rest n s h
 
-pub get-last : (trees : List State) (s : State) → slice_get (trees ++ s ∷ []) (length trees) ≡ Some s
+pub get-last : (trees : List StateTree) (s : StateTree) → slice_get (trees ++ s ∷ []) (length trees) ≡ Some s
 get-last [] s = refl
 get-last (t ∷ trees) s = get-last trees s
 
-leads-more : (trees rest : List State) (next : List ℕ) (steps : List State) → Leads trees next steps → Leads (trees ++ rest) next steps
+leads-more : (trees rest : List StateTree) (next : List ℕ) (steps : List StateTree) → Leads trees next steps → Leads (trees ++ rest) next steps
 leads-more trees rest [] [] h = refl
 leads-more trees rest [] (s ∷ steps) h = cc
 leads-more trees rest (n ∷ next) [] h = cc
@@ -246,20 +246,20 @@ leads-more trees rest (n ∷ next) (s ∷ steps) h =
     let more = leads-more trees rest next steps (same_tail (slice_get trees n) (Some s) (map (slice_get trees) next) (map Some steps) h) in
     λ i. here i ∷ more i
 
-leads-last : (trees : List State) (next : List ℕ) (steps : List State) (n : ℕ) (s : State) → Leads trees next steps → slice_get trees n ≡ Some s → Leads trees (next ++ n ∷ []) (steps ++ s ∷ [])
+leads-last : (trees : List StateTree) (next : List ℕ) (steps : List StateTree) (n : ℕ) (s : StateTree) → Leads trees next steps → slice_get trees n ≡ Some s → Leads trees (next ++ n ∷ []) (steps ++ s ∷ [])
 leads-last trees next steps n s h k =
     map-append (slice_get trees) next (n ∷ [])
     ∙ (λ i. h i ++ (k i ∷ []))
     ∙ sym (map-append Some steps (s ∷ []))
 
 -- a tree that is there, and one that is added
-pub leads-known : (trees : List State) (next : List ℕ) (n : ℕ) (s : State) → slice_get trees n ≡ Some s → (steps : List State) → Leads trees next steps → Leads trees (next ++ n ∷ []) (steps ++ s ∷ [])
+pub leads-known : (trees : List StateTree) (next : List ℕ) (n : ℕ) (s : StateTree) → slice_get trees n ≡ Some s → (steps : List StateTree) → Leads trees next steps → Leads trees (next ++ n ∷ []) (steps ++ s ∷ [])
 leads-known trees next n s k steps h = leads-last trees next steps n s h k
 
-pub leads-new : (trees : List State) (next : List ℕ) (s : State) (steps : List State) → Leads trees next steps → Leads (trees ++ s ∷ []) (next ++ length trees ∷ []) (steps ++ s ∷ [])
+pub leads-new : (trees : List StateTree) (next : List ℕ) (s : StateTree) (steps : List StateTree) → Leads trees next steps → Leads (trees ++ s ∷ []) (next ++ length trees ∷ []) (steps ++ s ∷ [])
 leads-new trees next s steps h = leads-last (trees ++ s ∷ []) next steps (length trees) s (leads-more trees (s ∷ []) next steps h) (get-last trees s)
 
-get-knows : (trees : List State) (n : ℕ) (s : State) → slice_get trees n ≡ Some s → list_any (same_tree s) trees ≡ true
+get-knows : (trees : List StateTree) (n : ℕ) (s : StateTree) → slice_get trees n ≡ Some s → list_any (same_tree s) trees ≡ true
 get-knows [] n s h = cc
 get-knows (t ∷ trees) zero s h =
     let same : t ≡ s = cc in
@@ -267,36 +267,36 @@ get-knows (t ∷ trees) zero s h =
 get-knows (t ∷ trees) (suc n) s h = or_right (same_tree s t) (list_any (same_tree s) trees) (get-knows trees n s h)
 
 -- the list with a tree that is there, and with one that isn't
-pub with-known : (trees : List State) (n : ℕ) (s : State) → slice_get trees n ≡ Some s → trees ≡ with_tree trees s
+pub with-known : (trees : List StateTree) (n : ℕ) (s : StateTree) → slice_get trees n ≡ Some s → trees ≡ with_tree trees s
 with-known trees n s h = sym (ap (λ t. cond t trees (trees ++ s ∷ [])) (get-knows trees n s h))
 
-pub with-new : (trees : List State) (s : State) → list_any (same_tree s) trees ≡ false → trees ++ s ∷ [] ≡ with_tree trees s
+pub with-new : (trees : List StateTree) (s : StateTree) → list_any (same_tree s) trees ≡ false → trees ++ s ∷ [] ≡ with_tree trees s
 with-new trees s h = sym (ap (λ t. cond t trees (trees ++ s ∷ [])) h)
 
 -- a tree that is the same as one that is there
-pub get-same : (trees : List State) (i : ℕ) (s t : State) → i < length trees → t ≡ get_or trees i t → same_tree s t ≡ true → slice_get trees i ≡ Some s
+pub get-same : (trees : List StateTree) (i : ℕ) (s t : StateTree) → i < length trees → t ≡ get_or trees i t → same_tree s t ≡ true → slice_get trees i ≡ Some s
 get-same trees i s t within there h = slice_get_read trees (length trees) i t refl within there ∙ ap Some (sym (same_tree-equal s t h))
 
-pub known-ok : (r : Result (Unit {0}) AllocError) (seen trees : List State) (n : ℕ) (s : State) → seen ≡ trees → slice_get seen n ≡ Some s → OnOk r (trees ≡ with_tree trees s)
+pub known-ok : (r : Result (Unit {0}) AllocError) (seen trees : List StateTree) (n : ℕ) (s : StateTree) → seen ≡ trees → slice_get seen n ≡ Some s → OnOk r (trees ≡ with_tree trees s)
 known-ok (Ok x) seen trees n s p h = with-known trees n s (ap (λ l. slice_get l n) (sym p) ∙ h)
 known-ok (Err x) seen trees n s p h = tt
 
-pub new-ok : (r : Result (Unit {0}) AllocError) (trees more : List State) (next numbers : List ℕ) (n : ℕ) (s : State) → more ≡ trees ++ s ∷ [] → n ≡ length trees → OnOk r (numbers ≡ next ++ n ∷ [])
-    → OnOk r ((steps : List State) → Leads trees next steps → Leads more numbers (steps ++ s ∷ []))
+pub new-ok : (r : Result (Unit {0}) AllocError) (trees more : List StateTree) (next numbers : List ℕ) (n : ℕ) (s : StateTree) → more ≡ trees ++ s ∷ [] → n ≡ length trees → OnOk r (numbers ≡ next ++ n ∷ [])
+    → OnOk r ((steps : List StateTree) → Leads trees next steps → Leads more numbers (steps ++ s ∷ []))
 new-ok (Ok x) trees more next numbers n s p q h = λ steps k.
     subst (λ l. Leads l numbers (steps ++ s ∷ [])) (sym p)
     (subst (λ l. Leads (trees ++ s ∷ []) l (steps ++ s ∷ [])) (sym (h ∙ ap (λ j. next ++ j ∷ []) q)) (leads-new trees next s steps k))
 new-ok (Err x) trees more next numbers n s p q h = tt
 
 -- the first tree stays where it is
-pub first-stays : (trees new : List State) (s : State) → slice_get trees 0 ≡ Some s → slice_get (fold with_tree trees new) 0 ≡ Some s
+pub first-stays : (trees new : List StateTree) (s : StateTree) → slice_get trees 0 ≡ Some s → slice_get (fold with_tree trees new) 0 ≡ Some s
 first-stays trees new s h = let more = begins-fold trees new in ap (λ l. slice_get l 0) more.1 ∙ get-more trees more.0 0 s h
 
-pub not-shorter : (trees new : List State) → length trees ≤ length (fold with_tree trees new)
+pub not-shorter : (trees new : List StateTree) → length trees ≤ length (fold with_tree trees new)
 not-shorter trees new = begins-longer trees (fold with_tree trees new) (begins-fold trees new)
 
 -- the steps of so many trees, and of one more
-pub more-steps : (steps : State → List State) (q : ℕ) (trees new : List State) (d : State) → q < length trees
+pub more-steps : (steps : StateTree → List StateTree) (q : ℕ) (trees new : List StateTree) (d : StateTree) → q < length trees
     → flat_map steps (take q trees) ++ steps (get_or trees q d) ≡ flat_map steps (take (q + 1) (fold with_tree trees new))
 more-steps steps q trees new d within =
     let front : take (q + 1) (fold with_tree trees new) ≡ take (q + 1) trees = same-front (q + 1) trees (fold with_tree trees new) (begins-fold trees new) (omega arith) in
@@ -306,11 +306,11 @@ more-steps steps q trees new d within =
 
 -- ---- steps by marks
 
-steps-marks : (e : EventExpr) (ms : List Mark) (s : State) → map (λ step. step s) (map (next_tree e) ms) ≡ steps_by e ms s
+steps-marks : (e : EventExpr) (ms : List Mark) (s : StateTree) → map (λ step. step s) (map (next_tree e) ms) ≡ steps_by e ms s
 steps-marks e [] s = refl
 steps-marks e (m ∷ ms) s = ap (λ l. next_tree e m s ∷ l) (steps-marks e ms s)
 
-steps-listed : (e : EventExpr) (lists : List (List Bool)) (ms : List Mark) → lists ≡ map (spelled e) ms → (s : State) → each_step e lists s ≡ steps_by e ms s
+steps-listed : (e : EventExpr) (lists : List (List Bool)) (ms : List Mark) → lists ≡ map (spelled e) ms → (s : StateTree) → each_step e lists s ≡ steps_by e ms s
 steps-listed e lists ms h s = ap (λ l. each_step e l s) h ∙ each-marks e ms s ∙ steps-marks e ms s
 
 is-count : (n k : ℕ) → counted n ≡ counted k → n ≤ 512 → n ≡ k
@@ -331,7 +331,7 @@ is-many n k h many = by_test (nat_le k 512) refl (sym (beyond n many) ∙ h) whe
 pub found-many : (e : EventExpr) (lists : List (List Bool)) (n : ℕ) → 512 < n → counted n ≡ counted (listed_count e lists) → (ms : List Mark) → lists ≡ map (spelled e) ms → IsAnswer e ms None
 found-many e lists n many h ms p = subst (λ k. 512 < k) (count-marks e lists ms p) (is-many n (listed_count e lists) h many)
 
-pub found-few : (e : EventExpr) (lists : List (List Bool)) (trees : List State) (next : List ℕ) → length trees ≤ 512 → counted (length trees) ≡ counted (listed_count e lists)
+pub found-few : (e : EventExpr) (lists : List (List Bool)) (trees : List StateTree) (next : List ℕ) → length trees ≤ 512 → counted (length trees) ≡ counted (listed_count e lists)
     → slice_get trees 0 ≡ Some (first_tree e) → (length trees ≤ 512 → Leads trees next (flat_map (each_step e lists) trees)) → (ms : List Mark) → lists ≡ map (spelled e) ms
     → IsAnswer e ms (Some (record { trees = trees; next = next }))
 found-few e lists trees next few h first leads ms p = record {

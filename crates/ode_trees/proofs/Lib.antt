@@ -9,6 +9,6 @@ pub mod MachineLaws
 pub mod OrderLaws
 pub mod PairSets
 pub mod PartLaws
-pub mod Starts
+pub mod Started
 pub mod Steps
 pub mod TreeAnswers

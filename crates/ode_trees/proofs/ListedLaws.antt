@@ -9,18 +9,18 @@ use Rattle.ode_value.specs.declared.event.EventExpr.TheOpen as o
 use denote.Hole.Carrier.{hidden}
 use Rattle.ode_value.specs.declared.event.Kind.{Kind}
 use Rattle.ode_value.specs.declared.statement.Expr.{Expr}
-use Rattle.ode_value.specs.declared.tree.State.{State}
-use Rattle.ode_value.specs.declared.tree.State.TheVariants as tree
+use Rattle.ode_value.specs.declared.tree.StateTree.{StateTree}
+use Rattle.ode_value.specs.declared.tree.StateTree.TheVariants as tree
 use Rattle.ode_value.specs.Marks.{Mark, leaves, spelled}
 use Rattle.ode_value.specs.Marks as marks
 use Rattle.ode_value.specs.TreeOrder.{tree_cmp, pair_cmp, joined, all_joined}
-use Rattle.ode_value.specs.Trees.{Machine, machine_of, machine, first_tree, next_tree, answers, left, right, bit, count, starts, pairs, next_count, next_turn, with_first, is_spent}
+use Rattle.ode_value.specs.Trees.{TreeMachine, machine_of, machine, first_tree, next_tree, answers, left, right, bit, count, started, pairs, next_count, next_turn, with_first, is_spent}
 use Rattle.ode_value.proofs.LeafLaws.{leaves-Leaf, leaves-Any, leaves-First, leaves-Not, leaves-And, leaves-Or, leaves-Relative, leaves-Prior, leaves-Sequence, leaves-Choose, leaves-Every, leaves-Fa, numbers_out}
 use Rattle.ode_trees.specs.Listed.{Listed, listed, leaf_count, next_listed, pair_next, pairs_after}
 use Rattle.ode_trees.proofs.ListForms.{listed-Leaf, listed-Any, listed-First, listed-Not, listed-And, listed-Or, listed-Relative, listed-Prior, listed-Sequence, listed-Choose, listed-Every, listed-Fa, listed_out}
 use Rattle.ode_trees.proofs.MachineLaws.{machine-Leaf, machine-Any, machine-First, machine-Not, machine-And, machine-Or, machine-Relative, machine-Prior, machine-Sequence, machine-Choose, machine-Every, machine-Fa}
 
-abbrev of_listed : Listed → Machine
+abbrev of_listed : Listed → TreeMachine
 of_listed l = l.of
 
 -- each has the machine of the expression
@@ -140,12 +140,12 @@ spells-three at list m e f g h =
 
 -- steps by a list are steps by the mark that it spells
 abbrev Step : Type 0
-Step = State → State
+Step = StateTree → StateTree
 
 abbrev by_list : ℕ → List Bool → Listed → Step
 by_list at list l = l.next at list
 
-abbrev by_mark : Mark → Machine → Step
+abbrev by_mark : Mark → TreeMachine → Step
 by_mark m machine = machine.next m
 
 next-listed : (e : EventExpr) (at : ℕ) (list : List Bool) (m : Mark) → Spells at list m (leaves e) → next_listed e at list ≡ (machine e).next m
@@ -174,7 +174,7 @@ next-listed (Relative' s (more_of-EventExpr e end_of-EventExpr) t (more_of-Event
     let both = spells-two at list m (v.Relative e f) e f (leaves-Relative e f) h in
     let p = next-listed e at list m both.0 in
     let q = next-listed f (at + leaf_count e) list m both.1 in
-    ap (by_list at list) (listed-Relative e f) ∙ (λ i s. let x = p i (left s) in tree.Starts x (with_first ((listed-of e i).answer x) (joined tree_cmp (listed-of f i).first) (all_joined tree_cmp [] (map (q i) (starts s))))) ∙ sym (ap (by_mark m) (machine-Relative e f))
+    ap (by_list at list) (listed-Relative e f) ∙ (λ i s. let x = p i (left s) in tree.Started x (with_first ((listed-of e i).answer x) (joined tree_cmp (listed-of f i).first) (all_joined tree_cmp [] (map (q i) (started s))))) ∙ sym (ap (by_mark m) (machine-Relative e f))
 next-listed (Prior' s (more_of-EventExpr e end_of-EventExpr) t (more_of-EventExpr f end_of-EventExpr)) at list m h =
     let both = spells-two at list m (v.Prior e f) e f (leaves-Prior e f) h in
     let p = next-listed e at list m both.0 in
@@ -196,14 +196,14 @@ next-listed (Fa' s (more_of-EventExpr e end_of-EventExpr) t (more_of-EventExpr f
     let p = next-listed e at list m all.0 in
     let q = next-listed f (at + leaf_count e) list m all.1 in
     let r = next-listed g (at + leaf_count e + leaf_count f) list m all.2 in
-    ap (by_list at list) (listed-Fa e f g) ∙ (λ i s. let x = p i (left s) in let both : State × State → State × State = λ y. (q i y.0, r i y.1) in
+    ap (by_list at list) (listed-Fa e f g) ∙ (λ i s. let x = p i (left s) in let both : StateTree × StateTree → StateTree × StateTree = λ y. (q i y.0, r i y.1) in
     tree.Pairs x (with_first ((listed-of e i).answer x) (joined pair_cmp ((listed-of f i).first, (listed-of g i).first)) (all_joined pair_cmp [] (map both (filter (λ y. not (is_spent (listed-of f i) (listed-of g i) y)) (pairs s)))))) ∙ sym (ap (by_mark m) (machine-Fa e f g))
 
 pub next-spelled : (e : EventExpr) (m : Mark) → next_listed e 0 (spelled e m) ≡ (machine e).next m
 next-spelled e m = next-listed e 0 (spelled e m) m (spells-from [] m (leaves e))
 
 -- a step of `fa`, put together from its parts
-pub next-Fa : (e f g : EventExpr) (at : ℕ) (list : List Bool) (s part : State) (old set : List (State × State)) → part ≡ next_listed e at list (left s) → old ≡ pairs_after f g (at + leaf_count e) list [] (pairs s)
+pub next-Fa : (e f g : EventExpr) (at : ℕ) (list : List Bool) (s part : StateTree) (old set : List (StateTree × StateTree)) → part ≡ next_listed e at list (left s) → old ≡ pairs_after f g (at + leaf_count e) list [] (pairs s)
     → set ≡ with_first (answers e part) (joined pair_cmp (first_tree f, first_tree g)) old → tree.Pairs part set ≡ next_listed (v.Fa e f g) at list s
 next-Fa e f g at list s part old set p q r =
     ap (tree.Pairs part) (r ∙ ap (with_first (answers e part) (joined pair_cmp (first_tree f, first_tree g))) q)
@@ -211,14 +211,14 @@ next-Fa e f g at list s part old set p q r =
     ∙ sym (ap (λ (l : Listed). l.next at list s) (listed-Fa e f g))
 
 -- and one of `relative`
-pub next-Relative : (e f : EventExpr) (at : ℕ) (list : List Bool) (s part : State) (old set : List State) → part ≡ next_listed e at list (left s) → old ≡ all_joined tree_cmp [] (map (next_listed f (at + leaf_count e) list) (starts s))
-    → set ≡ with_first (answers e part) (joined tree_cmp (first_tree f)) old → tree.Starts part set ≡ next_listed (v.Relative e f) at list s
+pub next-Relative : (e f : EventExpr) (at : ℕ) (list : List Bool) (s part : StateTree) (old set : List StateTree) → part ≡ next_listed e at list (left s) → old ≡ all_joined tree_cmp [] (map (next_listed f (at + leaf_count e) list) (started s))
+    → set ≡ with_first (answers e part) (joined tree_cmp (first_tree f)) old → tree.Started part set ≡ next_listed (v.Relative e f) at list s
 next-Relative e f at list s part old set p q r =
-    ap (tree.Starts part) (r ∙ ap (with_first (answers e part) (joined tree_cmp (first_tree f))) q)
-    ∙ (λ i. tree.Starts (p i) (with_first ((sym (listed-of e) i).answer (p i)) (joined tree_cmp ((sym (listed-of f) i).first)) (all_joined tree_cmp [] (map (next_listed f (at + leaf_count e) list) (starts s)))))
+    ap (tree.Started part) (r ∙ ap (with_first (answers e part) (joined tree_cmp (first_tree f))) q)
+    ∙ (λ i. tree.Started (p i) (with_first ((sym (listed-of e) i).answer (p i)) (joined tree_cmp ((sym (listed-of f) i).first)) (all_joined tree_cmp [] (map (next_listed f (at + leaf_count e) list) (started s)))))
     ∙ sym (ap (λ (l : Listed). l.next at list s) (listed-Relative e f))
 
 -- a result that is right by the list is right by each mark that the list spells
-pub by-mark : (r : Result State AllocError) (e : EventExpr) (list : List Bool) (s : State) → IfOk r (λ t. t ≡ next_listed e 0 list s) → IfOk r (λ t. (m : Mark) → list ≡ spelled e m → t ≡ next_tree e m s)
+pub by-mark : (r : Result StateTree AllocError) (e : EventExpr) (list : List Bool) (s : StateTree) → IfOk r (λ t. t ≡ next_listed e 0 list s) → IfOk r (λ t. (m : Mark) → list ≡ spelled e m → t ≡ next_tree e m s)
 by-mark (Ok t) e list s h = λ m p. h ∙ ap (λ l. next_listed e 0 l s) p ∙ (λ i. next-spelled e m i s)
 by-mark (Err x) e list s h = tt

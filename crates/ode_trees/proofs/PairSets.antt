@@ -3,19 +3,19 @@ use Rattle.std.proofs.Common.{◌≡◌, ℕ, zero, suc, ◌-◌, ◌<◌, ◌�
 use Rattle.std.specs.Prelude.{◌&&◌, ◌||◌, not, filter}
 use Rattle.std.specs.List.{list_any}
 use Rattle.ode_value.specs.declared.event.EventExpr.TheOpen as o
-use Rattle.ode_value.specs.declared.tree.State.{State}
-use Rattle.ode_value.specs.declared.tree.State.TheVariants as tree
+use Rattle.ode_value.specs.declared.tree.StateTree.{StateTree}
+use Rattle.ode_value.specs.declared.tree.StateTree.TheVariants as tree
 use Rattle.ode_value.specs.Marks.{Mark, no_mark}
 use Rattle.ode_value.specs.Points.{Points, some_below, points_of, first_unless}
 use Rattle.ode_value.specs.TreeOrder.{pair_cmp, joined}
-use Rattle.ode_value.specs.Trees.{Machine, machine_of, after, is_spent, next_pair, next_pairs, with_first}
+use Rattle.ode_value.specs.Trees.{TreeMachine, machine_of, after, is_spent, next_pair, next_pairs, with_first}
 use Rattle.ode_value.proofs.Below.{some_below-same}
 use Rattle.ode_trees.proofs.PartLaws.{left-Pairs, pairs-Pairs}
 use Rattle.ode_trees.proofs.EqualTrees.{pairs-equal, any-joined, any-all_joined, any-map, any-filter, or_false, or_comm}
 use Rattle.ode_trees.proofs.Steps.{Runs}
-use Rattle.ode_trees.proofs.Starts.{shift, begun, and_false}
+use Rattle.ode_trees.proofs.Started.{shift, begun, and_false}
 
-any-begun : (b : Bool) (q : State × State → Bool) (x : State × State) (set : List (State × State)) → list_any q (with_first b (joined pair_cmp x) set) ≡ (list_any q set || (b && q x))
+any-begun : (b : Bool) (q : StateTree × StateTree → Bool) (x : StateTree × StateTree) (set : List (StateTree × StateTree)) → list_any q (with_first b (joined pair_cmp x) set) ≡ (list_any q set || (b && q x))
 any-begun true q x set = any-joined pair_cmp pairs-equal q x set ∙ or_comm (q x) (list_any q set)
 any-begun false q x set = sym (or_false (list_any q set))
 
@@ -38,22 +38,22 @@ below-suc p (suc n) h = ap (λ b. b || p (suc n)) (below-suc p n h)
 both_false : (a b : Bool) → a ≡ false → b ≡ false → (a || b) ≡ false
 both_false a b p q = ap (λ c. c || b) p ∙ q
 
-module _ (m : List Mark) (e f g : Machine) where
-  abbrev spent : State × State → Bool
+module _ (m : List Mark) (e f g : TreeMachine) where
+  abbrev spent : StateTree × StateTree → Bool
   spent = is_spent f g
 
-  abbrev both : ℕ → State × State → State × State
+  abbrev both : ℕ → StateTree × StateTree → StateTree × StateTree
   both n = next_pair f g (get_or m n no_mark)
 
   -- the pair of the point k after j more points
-  abbrev trees : ℕ → ℕ → State × State
+  abbrev trees : ℕ → ℕ → StateTree × StateTree
   trees k j = (after f (drop (suc k) m) j, after g (drop (suc k) m) j)
 
   -- whether it was spent before that
   abbrev over : ℕ → ℕ → Bool
   over k j = some_below (λ i. spent (trees k i)) j
 
-  pairs_of : ℕ → List (State × State)
+  pairs_of : ℕ → List (StateTree × StateTree)
   pairs_of zero = []
   pairs_of (suc n) = with_first (e.answer (after e m (suc n))) (joined pair_cmp (f.first, g.first)) (next_pairs f g (get_or m n no_mark) (pairs_of n))
 
@@ -81,11 +81,11 @@ module _ (m : List Mark) (e f g : Machine) where
   over_begun n = let none : suc n - suc n ≡ 0 = omega arith in ap (over n) none
 
   -- a test passes on a pair of the set where the pair of some point, not spent so far, passes it
-  any-pairs : (p : Points) → Runs e p m → (n : ℕ) → n ≤ length m → (q : State × State → Bool) → list_any q (pairs_of n) ≡ some_below (λ k. p m k && (not (over k (n - suc k)) && q (trees k (n - suc k)))) n
+  any-pairs : (p : Points) → Runs e p m → (n : ℕ) → n ≤ length m → (q : StateTree × StateTree → Bool) → list_any q (pairs_of n) ≡ some_below (λ k. p m k && (not (over k (n - suc k)) && q (trees k (n - suc k)))) n
   unfolding pairs_of
   any-pairs p r zero h q = refl
   any-pairs p r (suc n) h q =
-      let first : State × State = (f.first, g.first) in
+      let first : StateTree × StateTree = (f.first, g.first) in
       let old = next_pairs f g (get_or m n no_mark) (pairs_of n) in
       let tested = λ (k : ℕ). p m k && (not (over k (suc n - suc k)) && q (trees k (suc n - suc k))) in
       any-begun (e.answer (after e m (suc n))) q first old

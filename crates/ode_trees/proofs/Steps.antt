@@ -8,14 +8,14 @@ use Rattle.std.proofs.lemmas.Bool.Decides.{nat_tests}
 use Rattle.ode_value.specs.declared.event.Kind.{Kind}
 use Rattle.ode_value.specs.declared.statement.Expr.{Expr}
 use Rattle.ode_value.specs.declared.event.EventExpr.TheOpen as o
-use Rattle.ode_value.specs.declared.tree.State.TheVariants as tree
+use Rattle.ode_value.specs.declared.tree.StateTree.TheVariants as tree
 use Rattle.ode_value.specs.Marks.{Mark, no_mark}
 use Rattle.ode_value.specs.Points.{Points, some_below, count_below, points_of}
-use Rattle.ode_value.specs.Trees.{Machine, machine_of, after, next_count, next_turn}
+use Rattle.ode_value.specs.Trees.{TreeMachine, machine_of, after, next_count, next_turn}
 use Rattle.ode_trees.proofs.PartLaws.{left-Seen, bit-Seen, left-Both, right-Both, left-Flag, right-Flag, bit-Flag, left-Count, count-Count, bit-Bit, count-Place}
 
 -- before the first point there is no answer, and after each point the answer is whether it is one of the points
-pub record Runs (machine : Machine) (p : Points) (m : List Mark) : Type 0 where
+pub record Runs (machine : TreeMachine) (p : Points) (m : List Mark) : Type 0 where
   pub none : machine.answer machine.first ≡ false
   pub each : (n : ℕ) → n < length m → machine.answer (after machine m (suc n)) ≡ p m n
 
@@ -90,52 +90,52 @@ module _ (m : List Mark) where
     each = λ n h. rw (place n, count-Place) (first_place n ∙ sym (ap (λ b. b && (n == 0)) (lt-ltb n (length m) h)));
   }
 
-  not_after : (e : Machine) (n : ℕ) → after (machine_of (o.Not e)) m (suc n) ≡ tree.Seen true (after e m (suc n))
+  not_after : (e : TreeMachine) (n : ℕ) → after (machine_of (o.Not e)) m (suc n) ≡ tree.Seen true (after e m (suc n))
   not_after e zero = rw left-Seen refl
   not_after e (suc n) = rw (not_after e n, left-Seen) refl
 
-  pub runs_not : (e : Machine) (p : Points) → Runs e p m → Runs (machine_of (o.Not e)) (points_of (o.Not p)) m
+  pub runs_not : (e : TreeMachine) (p : Points) → Runs e p m → Runs (machine_of (o.Not e)) (points_of (o.Not p)) m
   runs_not e p r = record {
     none = rw bit-Seen refl;
     each = λ n h. rw (not_after e n, bit-Seen, left-Seen, r.each n h) (sym (ap (λ b. b && not (p m n)) (lt-ltb n (length m) h)));
   }
 
-  and_after : (e f : Machine) (n : ℕ) → after (machine_of (o.And e f)) m n ≡ tree.Both (after e m n) (after f m n)
+  and_after : (e f : TreeMachine) (n : ℕ) → after (machine_of (o.And e f)) m n ≡ tree.Both (after e m n) (after f m n)
   and_after e f zero = refl
   and_after e f (suc n) = rw (and_after e f n, left-Both, right-Both) refl
 
-  pub runs_and : (e f : Machine) (p q : Points) → Runs e p m → Runs f q m → Runs (machine_of (o.And e f)) (points_of (o.And p q)) m
+  pub runs_and : (e f : TreeMachine) (p q : Points) → Runs e p m → Runs f q m → Runs (machine_of (o.And e f)) (points_of (o.And p q)) m
   runs_and e f p q r s = record {
     none = rw (left-Both, r.none) refl;
     each = λ n h. rw (and_after e f (suc n), left-Both, right-Both, r.each n h, s.each n h) refl;
   }
 
-  or_after : (e f : Machine) (n : ℕ) → after (machine_of (o.Or e f)) m n ≡ tree.Both (after e m n) (after f m n)
+  or_after : (e f : TreeMachine) (n : ℕ) → after (machine_of (o.Or e f)) m n ≡ tree.Both (after e m n) (after f m n)
   or_after e f zero = refl
   or_after e f (suc n) = rw (or_after e f n, left-Both, right-Both) refl
 
-  pub runs_or : (e f : Machine) (p q : Points) → Runs e p m → Runs f q m → Runs (machine_of (o.Or e f)) (points_of (o.Or p q)) m
+  pub runs_or : (e f : TreeMachine) (p q : Points) → Runs e p m → Runs f q m → Runs (machine_of (o.Or e f)) (points_of (o.Or p q)) m
   runs_or e f p q r s = record {
     none = rw (left-Both, right-Both, r.none, s.none) refl;
     each = λ n h. rw (or_after e f (suc n), left-Both, right-Both, r.each n h, s.each n h) refl;
   }
 
   -- whether e answered before the last of the points so far
-  flag : Machine → ℕ → Bool
+  flag : TreeMachine → ℕ → Bool
   flag e zero = false
   flag e (suc n) = flag e n || e.answer (after e m n)
 
-  prior_after : (e f : Machine) (n : ℕ) → after (machine_of (o.Prior e f)) m n ≡ tree.Flag (after e m n) (after f m n) (flag e n)
+  prior_after : (e f : TreeMachine) (n : ℕ) → after (machine_of (o.Prior e f)) m n ≡ tree.Flag (after e m n) (after f m n) (flag e n)
   unfolding flag
   prior_after e f zero = refl
   prior_after e f (suc n) = rw (prior_after e f n, left-Flag, right-Flag, bit-Flag) refl
 
-  flag_is : (e : Machine) (p : Points) → Runs e p m → (n : ℕ) → n ≤ length m → flag e (suc n) ≡ some_below (p m) n
+  flag_is : (e : TreeMachine) (p : Points) → Runs e p m → (n : ℕ) → n ≤ length m → flag e (suc n) ≡ some_below (p m) n
   unfolding flag
   flag_is e p r zero h = r.none
   flag_is e p r (suc n) h = ap (λ b. b || e.answer (after e m (suc n))) (flag_is e p r n (omega arith)) ∙ ap (λ b. some_below (p m) n || b) (r.each n (omega arith))
 
-  pub runs_prior : (e f : Machine) (p q : Points) → Runs e p m → Runs f q m → Runs (machine_of (o.Prior e f)) (points_of (o.Prior p q)) m
+  pub runs_prior : (e f : TreeMachine) (p q : Points) → Runs e p m → Runs f q m → Runs (machine_of (o.Prior e f)) (points_of (o.Prior p q)) m
   unfolding flag
   runs_prior e f p q r s = record {
     none = rw bit-Flag refl;
@@ -143,15 +143,15 @@ module _ (m : List Mark) where
   }
 
   -- whether e answered one point before
-  abbrev last : Machine → ℕ → Bool
+  abbrev last : TreeMachine → ℕ → Bool
   last e zero = false
   last e (suc n) = e.answer (after e m n)
 
-  sequence_after : (e f : Machine) (n : ℕ) → after (machine_of (o.Sequence e f)) m n ≡ tree.Flag (after e m n) (after f m n) (last e n)
+  sequence_after : (e f : TreeMachine) (n : ℕ) → after (machine_of (o.Sequence e f)) m n ≡ tree.Flag (after e m n) (after f m n) (last e n)
   sequence_after e f zero = refl
   sequence_after e f (suc n) = rw (sequence_after e f n, left-Flag, right-Flag) refl
 
-  pub runs_sequence : (e f : Machine) (p q : Points) → Runs e p m → Runs f q m → Runs (machine_of (o.Sequence e f)) (points_of (o.Sequence p q)) m
+  pub runs_sequence : (e f : TreeMachine) (p q : Points) → Runs e p m → Runs f q m → Runs (machine_of (o.Sequence e f)) (points_of (o.Sequence p q)) m
   runs_sequence e f p q r s = record {
     none = rw bit-Flag refl;
     each = λ n h. rw (sequence_after e f (suc n), bit-Flag, right-Flag, s.each n h) (here n h);
@@ -161,16 +161,16 @@ module _ (m : List Mark) where
     here (suc n) h = ap (λ b. b && q m (suc n)) (r.each n (omega arith))
 
   -- how often e answered, at most n + 1
-  counting : Machine → ℕ → ℕ → ℕ
+  counting : TreeMachine → ℕ → ℕ → ℕ
   counting e n zero = 0
   counting e n (suc k) = next_count n (e.answer (after e m (suc k))) (counting e n k)
 
-  choose_after : (e : Machine) (n k : ℕ) → after (machine_of (o.Choose n e)) m k ≡ tree.Count (after e m k) (counting e n k)
+  choose_after : (e : TreeMachine) (n k : ℕ) → after (machine_of (o.Choose n e)) m k ≡ tree.Count (after e m k) (counting e n k)
   unfolding counting
   choose_after e n zero = refl
   choose_after e n (suc k) = rw (choose_after e n k, left-Count, count-Count) refl
 
-  counting_is : (e : Machine) (p : Points) → Runs e p m → (n k : ℕ) → k ≤ length m → counting e n k ≡ capped n (count_below (p m) k)
+  counting_is : (e : TreeMachine) (p : Points) → Runs e p m → (n k : ℕ) → k ≤ length m → counting e n k ≡ capped n (count_below (p m) k)
   unfolding counting
   counting_is e p r n zero h = capped-zero n
   counting_is e p r n (suc k) h =
@@ -178,23 +178,23 @@ module _ (m : List Mark) where
       ∙ ap (λ b. next_count n b (capped n (count_below (p m) k))) (r.each k (omega arith))
       ∙ next_count-capped n (count_below (p m) k) (p m k)
 
-  pub runs_choose : (e : Machine) (p : Points) (n : ℕ) → Runs e p m → Runs (machine_of (o.Choose n e)) (points_of (o.Choose n p)) m
+  pub runs_choose : (e : TreeMachine) (p : Points) (n : ℕ) → Runs e p m → Runs (machine_of (o.Choose n e)) (points_of (o.Choose n p)) m
   runs_choose e p n r = record {
     none = rw (left-Count, r.none) refl;
     each = λ k h. let seen : suc k ≤ length m = omega arith in rw (choose_after e n (suc k), left-Count, count-Count, r.each k h, counting_is e p r n (suc k) seen) (chosen n (count_below (p m) k) (p m k));
   }
 
   -- how often e answered, modulo n
-  turning : Machine → ℕ → ℕ → ℕ
+  turning : TreeMachine → ℕ → ℕ → ℕ
   turning e n zero = 0
   turning e n (suc k) = next_turn n (e.answer (after e m (suc k))) (turning e n k)
 
-  every_after : (e : Machine) (n k : ℕ) → after (machine_of (o.Every n e)) m k ≡ tree.Count (after e m k) (turning e n k)
+  every_after : (e : TreeMachine) (n k : ℕ) → after (machine_of (o.Every n e)) m k ≡ tree.Count (after e m k) (turning e n k)
   unfolding turning
   every_after e n zero = refl
   every_after e n (suc k) = rw (every_after e n k, left-Count, count-Count) refl
 
-  turning_is : (e : Machine) (p : Points) → Runs e p m → (n : ℕ) → (k : ℕ) → k ≤ length m → turning e n k ≡ count_below (p m) k % n
+  turning_is : (e : TreeMachine) (p : Points) → Runs e p m → (n : ℕ) → (k : ℕ) → k ≤ length m → turning e n k ≡ count_below (p m) k % n
   unfolding turning
   turning_is e p r n zero h = sym (zero-mod n)
   turning_is e p r n (suc k) h =
@@ -202,7 +202,7 @@ module _ (m : List Mark) where
       ∙ ap (λ b. next_turn n b (count_below (p m) k % n)) (r.each k (omega arith))
       ∙ next_turn-mod n (count_below (p m) k) (p m k)
 
-  pub runs_every : (e : Machine) (p : Points) (n : ℕ) → Runs e p m → Runs (machine_of (o.Every n e)) (points_of (o.Every n p)) m
+  pub runs_every : (e : TreeMachine) (p : Points) (n : ℕ) → Runs e p m → Runs (machine_of (o.Every n e)) (points_of (o.Every n p)) m
   runs_every e p n r = record {
     none = rw (left-Count, r.none) refl;
     each = λ k h. let seen : suc k ≤ length m = omega arith in rw (every_after e n (suc k), left-Count, count-Count, r.each k h, turning_is e p r n (suc k) seen) (turned n (count_below (p m) k) (p m k));

@@ -11,7 +11,7 @@ use Rattle.ode_value.specs.Trees.{machine, answers, tree_after}
 use Rattle.ode_value.proofs.PointLaws.{points-Leaf, points-Any, points-First, points-Not, points-And, points-Or, points-Relative, points-Prior, points-Sequence, points-Choose, points-Every, points-Fa}
 use Rattle.ode_trees.proofs.MachineLaws.{machine-Leaf, machine-Any, machine-First, machine-Not, machine-And, machine-Or, machine-Relative, machine-Prior, machine-Sequence, machine-Choose, machine-Every, machine-Fa}
 use Rattle.ode_trees.proofs.Steps.{Runs, runs_leaf, runs_any, runs_first, runs_not, runs_and, runs_or, runs_prior, runs_sequence, runs_choose, runs_every}
-use Rattle.ode_trees.proofs.Starts.{runs_relative}
+use Rattle.ode_trees.proofs.Started.{runs_relative}
 use Rattle.ode_trees.proofs.PairSets.{runs_fa}
 
 pub runs : (e : EventExpr) (m : List Mark) → Runs (machine e) (points e) m

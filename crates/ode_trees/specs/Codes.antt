@@ -1,24 +1,24 @@
 -- Numbers that stand for a tree: those of equal trees are equal.
 use Rattle.std.specs.Prelude.{ℕ, Bool, cond, List, [], ◌∷◌, ◌++◌, length, flat_map}
-use Rattle.ode_value.specs.declared.tree.State.{State, fold-State}
-use Rattle.ode_value.specs.declared.tree.State.TheOpen as level
+use Rattle.ode_value.specs.declared.tree.StateTree.{StateTree, fold-StateTree}
+use Rattle.ode_value.specs.declared.tree.StateTree.TheOpen as level
 
-abbrev pub number_of : Bool → ℕ
-number_of b = cond b 1 0
+abbrev pub bit_number : Bool → ℕ
+bit_number b = cond b 1 0
 
 -- the form of its root, a bool or a number there, and the numbers of its parts
-abbrev pub code_of : level.State-F (List ℕ) → List ℕ
-code_of (level.Bit b) = 0 ∷ number_of b ∷ []
+abbrev pub code_of : level.StateTree-F (List ℕ) → List ℕ
+code_of (level.Bit b) = 0 ∷ bit_number b ∷ []
 code_of (level.Place n) = 1 ∷ n ∷ []
-code_of (level.Seen b e) = 2 ∷ number_of b ∷ e
+code_of (level.Seen b e) = 2 ∷ bit_number b ∷ e
 code_of (level.Both e f) = 3 ∷ 0 ∷ (e ++ f)
-code_of (level.Flag e f b) = 4 ∷ number_of b ∷ (e ++ f)
+code_of (level.Flag e f b) = 4 ∷ bit_number b ∷ (e ++ f)
 code_of (level.Count e n) = 5 ∷ n ∷ e
-code_of (level.Starts e set) = 6 ∷ length set ∷ (e ++ flat_map (λ x. x) set)
+code_of (level.Started e set) = 6 ∷ length set ∷ (e ++ flat_map (λ x. x) set)
 code_of (level.Pairs e set) = 7 ∷ length set ∷ (e ++ flat_map (λ x. x.0 ++ x.1) set)
 
-unfoldable pub code : State → List ℕ
-code = fold-State (List ℕ) code_of
+unfoldable pub code : StateTree → List ℕ
+code = fold-StateTree (List ℕ) code_of
 
-abbrev pub pair_code : State × State → List ℕ
+abbrev pub pair_code : StateTree × StateTree → List ℕ
 pair_code x = code x.0 ++ code x.1

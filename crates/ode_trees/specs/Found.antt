@@ -6,7 +6,7 @@ use Rattle.std.specs.Map.{lookup}
 use Rattle.std.specs.Option.{is_some}
 use Rattle.std.specs.Ordering.{is_eq, nat_cmp}
 use Rattle.ode_value.specs.declared.event.EventExpr.{EventExpr}
-use Rattle.ode_value.specs.declared.tree.State.{State}
+use Rattle.ode_value.specs.declared.tree.StateTree.{StateTree}
 use Rattle.ode_value.specs.Marks.{Mark}
 use Rattle.ode_value.specs.TreeCount.{with_tree, count_over}
 use Rattle.ode_value.specs.TreeOrder.{same_tree}
@@ -15,25 +15,25 @@ use Rattle.ode_trees.specs.Codes.{code}
 use Rattle.ode_trees.specs.declared.growth.Reached.{Reached}
 
 -- the numbers stand for these trees
-abbrev pub Leads : List State → List ℕ → List State → Type 0
+abbrev pub Leads : List StateTree → List ℕ → List StateTree → Type 0
 Leads trees next steps = map (slice_get trees) next ≡ map Some steps
 
 -- each of the trees stands under its code
-abbrev pub Covers : {K : Type 0} → List State → List (K × ℕ) → (K → List ℕ) → Type 0
+abbrev pub Covers : {K : Type 0} → List StateTree → List (K × ℕ) → (K → List ℕ) → Type 0
 Covers trees entries code_of =
-    (s : State) → list_any (same_tree s) trees ≡ true → is_some (lookup (λ k. is_eq (slice_cmp nat_cmp (code s) (code_of k))) entries) ≡ true
+    (s : StateTree) → list_any (same_tree s) trees ≡ true → is_some (lookup (λ k. is_eq (slice_cmp nat_cmp (code s) (code_of k))) entries) ≡ true
 
 -- the first tree, and what these steps of these trees give, each once
-abbrev pub made_from : List State → (State → List State) → List State → List State
+abbrev pub made_from : List StateTree → (StateTree → List StateTree) → List StateTree → List StateTree
 made_from firsts steps trees = fold with_tree firsts (flat_map steps trees)
 
 -- The list has what steps of its first q trees give, in their order, and a tree of these stands there before its own steps.
-pub record IsMade (firsts : List State) (steps : State → List State) (q : ℕ) (trees : List State) : Type 0 where
+pub record IsMade (firsts : List StateTree) (steps : StateTree → List StateTree) (q : ℕ) (trees : List StateTree) : Type 0 where
   pub made : trees ≡ made_from firsts steps (take q trees)
   pub before : (k : ℕ) → k < q → k < length (made_from firsts steps (take k trees))
 
 -- the trees after one, by each of these marks
-abbrev pub steps_by : EventExpr → List Mark → State → List State
+abbrev pub steps_by : EventExpr → List Mark → StateTree → List StateTree
 steps_by e ms s = map (λ m. next_tree e m s) ms
 
 -- The trees that words of these marks reach, from the first one on, and for each the numbers of the trees after it by each mark.

@@ -2,31 +2,31 @@
 use Rattle.std.specs.Prelude.{ℕ, zero, suc, ◌+◌, min, ◌||◌, not, Bool, true, false, List, [], ◌∷◌, length, map, filter, flat_map, fold, slice_index_or}
 use Rattle.ode_value.specs.declared.event.EventExpr.{EventExpr, fold-EventExpr}
 use Rattle.ode_value.specs.declared.event.EventExpr.TheOpen as event
-use Rattle.ode_value.specs.declared.tree.State.{State}
-use Rattle.ode_value.specs.declared.tree.State.TheVariants.{Bit, Place, Seen, Both, Flag, Count, Starts, Pairs}
+use Rattle.ode_value.specs.declared.tree.StateTree.{StateTree}
+use Rattle.ode_value.specs.declared.tree.StateTree.TheVariants.{Bit, Place, Seen, Both, Flag, Count, Started, Pairs}
 use Rattle.ode_value.specs.TreeCount.{with_tree}
 use Rattle.ode_value.specs.TreeOrder.{tree_cmp, pair_cmp, joined, all_joined}
-use Rattle.ode_value.specs.Trees.{Machine, machine_of, machine, first_tree, left, right, bit, count, starts, pairs, next_count, next_turn, with_first, is_spent}
+use Rattle.ode_value.specs.Trees.{TreeMachine, machine_of, machine, first_tree, left, right, bit, count, started, pairs, next_count, next_turn, with_first, is_spent}
 
 -- a machine, how many leaves it reads, and a step by the truths of its leaves from a place on
 pub record Listed : Type 0 where
-  pub of : Machine
+  pub of : TreeMachine
   pub leaves : ℕ
-  pub next : ℕ → List Bool → State → State
+  pub next : ℕ → List Bool → StateTree → StateTree
 
-abbrev pub both_next : Listed → Listed → ℕ → List Bool → State → (State → State → State) → State
+abbrev pub both_next : Listed → Listed → ℕ → List Bool → StateTree → (StateTree → StateTree → StateTree) → StateTree
 both_next e f at list s make = make (e.next at list (left s)) (f.next (at + e.leaves) list (right s))
 
-abbrev pub starts_next : Listed → ℕ → List Bool → List State → List State
-starts_next f at list set = all_joined tree_cmp [] (map (f.next at list) set)
+abbrev pub started_next : Listed → ℕ → List Bool → List StateTree → List StateTree
+started_next f at list set = all_joined tree_cmp [] (map (f.next at list) set)
 
-abbrev pub pair_next : Listed → Listed → ℕ → List Bool → State × State → State × State
+abbrev pub pair_next : Listed → Listed → ℕ → List Bool → StateTree × StateTree → StateTree × StateTree
 pair_next f g at list x = (f.next at list x.0, g.next (at + f.leaves) list x.1)
 
-abbrev pub pairs_next : Listed → Listed → ℕ → List Bool → List (State × State) → List (State × State)
+abbrev pub pairs_next : Listed → Listed → ℕ → List Bool → List (StateTree × StateTree) → List (StateTree × StateTree)
 pairs_next f g at list set = all_joined pair_cmp [] (map (pair_next f g at list) (filter (λ x. not (is_spent f.of g.of x)) set))
 
-abbrev pub made : Machine → ℕ → (ℕ → List Bool → State → State) → Listed
+abbrev pub made : TreeMachine → ℕ → (ℕ → List Bool → StateTree → StateTree) → Listed
 made of leaves next = record { of = of; leaves = leaves; next = next }
 
 abbrev pub listed_of : event.EventExpr-F Listed → Listed
@@ -47,7 +47,7 @@ listed_of (event.Every n e) =
     made (machine_of (event.Every n e.of)) e.leaves (λ at list s. let x = e.next at list (left s) in Count x (next_turn n (e.of.answer x) (count s)))
 listed_of (event.Relative e f) =
     made (machine_of (event.Relative e.of f.of)) (e.leaves + f.leaves)
-    (λ at list s. let x = e.next at list (left s) in Starts x (with_first (e.of.answer x) (joined tree_cmp f.of.first) (starts_next f (at + e.leaves) list (starts s))))
+    (λ at list s. let x = e.next at list (left s) in Started x (with_first (e.of.answer x) (joined tree_cmp f.of.first) (started_next f (at + e.leaves) list (started s))))
 listed_of (event.Fa e f g) =
     made (machine_of (event.Fa e.of f.of g.of)) (e.leaves + f.leaves + g.leaves)
     (λ at list s. let x = e.next at list (left s) in Pairs x (with_first (e.of.answer x) (joined pair_cmp (f.of.first, g.of.first)) (pairs_next f g (at + e.leaves) list (pairs s))))
@@ -58,21 +58,21 @@ listed = fold-EventExpr Listed listed_of
 abbrev pub leaf_count : EventExpr → ℕ
 leaf_count e = (listed e).leaves
 
-abbrev pub next_listed : EventExpr → ℕ → List Bool → State → State
+abbrev pub next_listed : EventExpr → ℕ → List Bool → StateTree → StateTree
 next_listed e = (listed e).next
 
 -- a set of pairs, with those of these that aren't spent, after their steps
-abbrev pub pairs_after : EventExpr → EventExpr → ℕ → List Bool → List (State × State) → List (State × State) → List (State × State)
+abbrev pub pairs_after : EventExpr → EventExpr → ℕ → List Bool → List (StateTree × StateTree) → List (StateTree × StateTree) → List (StateTree × StateTree)
 pairs_after f g at list set xs = all_joined pair_cmp set (map (pair_next (listed f) (listed g) at list) (filter (λ x. not (is_spent (machine f) (machine g) x)) xs))
 
 -- steps of one tree by each of these lists, and the list of trees grown by them
-abbrev pub each_step : EventExpr → List (List Bool) → State → List State
+abbrev pub each_step : EventExpr → List (List Bool) → StateTree → List StateTree
 each_step e lists s = map (λ list. next_listed e 0 list s) lists
 
-abbrev pub grow_listed : EventExpr → List (List Bool) → List State → List State
+abbrev pub grow_listed : EventExpr → List (List Bool) → List StateTree → List StateTree
 grow_listed e lists trees = fold with_tree trees (flat_map (each_step e lists) trees)
 
-unfoldable pub grown_listed : EventExpr → List (List Bool) → ℕ → List State
+unfoldable pub grown_listed : EventExpr → List (List Bool) → ℕ → List StateTree
 grown_listed e lists zero = first_tree e ∷ []
 grown_listed e lists (suc n) = grow_listed e lists (grown_listed e lists n)
 

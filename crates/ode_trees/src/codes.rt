@@ -2,7 +2,7 @@
 ghost use Rattle.std.specs.Prelude.{◌≡◌, ◌++◌, ◌∷◌, [], OnOk, cond, flat_map, length};
 ghost use Rattle.ode_trees.specs.Codes.{code, pair_code};
 
-use ode_value::State;
+use ode_value::StateTree;
 use std::alloc::AllocError;
 
 fn put(to: &mut Vec<u64>, form: u64, number: u64) -> Result<(), AllocError>
@@ -16,36 +16,36 @@ fn put(to: &mut Vec<u64>, form: u64, number: u64) -> Result<(), AllocError>
 /// Adds the numbers of a tree.
 #[cycle(code)]
 #[tactic(auto, using(crate::proofs::CodeLaws::codes))]
-pub fn write(s: &State, to: &mut Vec<u64>) -> Result<(), AllocError>
+pub fn write(s: &StateTree, to: &mut Vec<u64>) -> Result<(), AllocError>
     ensures { OnOk result (to.new.items ≡ to.old.items ++ code s.now) }
 {
     match s {
-        State::Bit(b) => put(to, 0, u64::from(*b)),
-        State::Place(n) => put(to, 1, u64::from(*n)),
-        State::Seen(b, e) => {
+        StateTree::Bit(b) => put(to, 0, u64::from(*b)),
+        StateTree::Place(n) => put(to, 1, u64::from(*n)),
+        StateTree::Seen(b, e) => {
             put(to, 2, u64::from(*b))?;
             write(e.get(), to)
         }
-        State::Both(e, f) => {
+        StateTree::Both(e, f) => {
             put(to, 3, 0)?;
             write(e.get(), to)?;
             write(f.get(), to)
         }
-        State::Flag(e, f, b) => {
+        StateTree::Flag(e, f, b) => {
             put(to, 4, u64::from(*b))?;
             write(e.get(), to)?;
             write(f.get(), to)
         }
-        State::Count(e, n) => {
+        StateTree::Count(e, n) => {
             put(to, 5, u64::from(*n))?;
             write(e.get(), to)
         }
-        State::Starts(e, set) => {
+        StateTree::Started(e, set) => {
             put(to, 6, set.len() as u64)?;
             write(e.get(), to)?;
             write_all(set.as_slice(), to)
         }
-        State::Pairs(e, set) => {
+        StateTree::Pairs(e, set) => {
             put(to, 7, set.len() as u64)?;
             write(e.get(), to)?;
             write_pairs(set.as_slice(), to)
@@ -54,7 +54,7 @@ pub fn write(s: &State, to: &mut Vec<u64>) -> Result<(), AllocError>
 }
 
 #[cycle(code)]
-fn write_all(set: &[State], to: &mut Vec<u64>) -> Result<(), AllocError>
+fn write_all(set: &[StateTree], to: &mut Vec<u64>) -> Result<(), AllocError>
     ensures { OnOk result (to.new.items ≡ to.old.items ++ flat_map code set.now) }
 {
     for s in set {
@@ -64,7 +64,7 @@ fn write_all(set: &[State], to: &mut Vec<u64>) -> Result<(), AllocError>
 }
 
 #[cycle(code)]
-fn write_pairs(set: &[(State, State)], to: &mut Vec<u64>) -> Result<(), AllocError>
+fn write_pairs(set: &[(StateTree, StateTree)], to: &mut Vec<u64>) -> Result<(), AllocError>
     ensures { OnOk result (to.new.items ≡ to.old.items ++ flat_map pair_code set.now) }
 {
     for s in set {

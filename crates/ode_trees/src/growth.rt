@@ -4,7 +4,7 @@ ghost use Rattle.std.specs.List.{list_any, slice_get};
 ghost use Rattle.ode_trees.specs.Codes.{code};
 ghost use Rattle.ode_trees.specs.Found.{Covers, IsAnswer, Leads};
 ghost use Rattle.ode_trees.specs.Listed.{each_step, listed_count};
-ghost use Rattle.ode_value.specs.declared.tree.State.{State as Tree};
+ghost use Rattle.ode_value.specs.declared.tree.StateTree.{StateTree as Tree};
 ghost use Rattle.ode_value.specs.Marks.{Mark, leaves, spelled};
 ghost use Rattle.ode_value.specs.Numbers.{has_numbers};
 ghost use Rattle.ode_value.specs.TreeCount.{counted, with_tree};
@@ -14,7 +14,7 @@ ghost use Rattle.ode_value.specs.Trees.{first_tree};
 use crate::codes::write;
 use crate::machine::{init, step_listed};
 use crate::order::same;
-use ode_value::{EventExpr, List, State};
+use ode_value::{EventExpr, List, StateTree};
 use std::alloc::{AllocError, Global};
 use std::collections::BTreeMap;
 
@@ -22,7 +22,7 @@ use std::collections::BTreeMap;
 #[derive(Drop)]
 pub struct Reached {
     /// The first tree, and then each other in the order in which steps of those before it reach it.
-    pub trees: List<State>,
+    pub trees: List<StateTree>,
     /// For each tree in turn, the number of the tree after it by each mark in turn.
     pub next: List<usize>,
 }
@@ -30,13 +30,13 @@ pub struct Reached {
 // The trees so far, their numbers under their codes, and the numbers of the trees after those that were stepped.
 #[derive(Drop)]
 struct Search {
-    trees: List<State>,
+    trees: List<StateTree>,
     numbers: BTreeMap<Vec<u64>, usize>,
     next: List<usize>,
 }
 
 // The number of a tree, where it is this one.
-fn number_if(trees: &[State], number: usize, s: &State) -> Option<usize>
+fn number_if(trees: &[StateTree], number: usize, s: &StateTree) -> Option<usize>
     ensures { IfSome result (λ n. slice_get trees.now n ≡ Some s.now) }
 {
     if number < trees.len() && same(s, &trees[number]) {
@@ -47,7 +47,7 @@ fn number_if(trees: &[State], number: usize, s: &State) -> Option<usize>
 }
 
 // The number of a tree, looked for among all.
-fn find(trees: &[State], s: &State) -> Option<usize>
+fn find(trees: &[StateTree], s: &StateTree) -> Option<usize>
     ensures some { IfSome result (λ n. slice_get trees.now n ≡ Some s.now) }
     ensures none { result ≡ None → list_any (same_tree s.now) trees.now ≡ false }
 {
@@ -61,7 +61,7 @@ fn find(trees: &[State], s: &State) -> Option<usize>
 
 // The number that stands under a code, where it is that of the tree. Trees of one code are equal, but no clause says so: a tree
 // that stands under another one's code would be looked for among all.
-fn number(found: &Search, key: &[u64], s: &State) -> Option<usize>
+fn number(found: &Search, key: &[u64], s: &StateTree) -> Option<usize>
     requires key { key.now ≡ code s.now }
     requires covers { Covers found.now.trees found.now.numbers.entries (λ k. k.items) }
     ensures some { IfSome result (λ n. slice_get found.now.trees n ≡ Some s.now) }
@@ -77,7 +77,7 @@ fn number(found: &Search, key: &[u64], s: &State) -> Option<usize>
 }
 
 // Adds a tree under its code.
-fn add(found: &mut Search, key: Vec<u64>, s: State) -> Result<(), AllocError>
+fn add(found: &mut Search, key: Vec<u64>, s: StateTree) -> Result<(), AllocError>
     requires key { key.items ≡ code s }
     requires covers { Covers found.old.trees found.old.numbers.entries (λ k. k.items) }
     ensures covers { OnOk result (Covers found.new.trees found.new.numbers.entries (λ k. k.items)) }
@@ -89,7 +89,7 @@ fn add(found: &mut Search, key: Vec<u64>, s: State) -> Result<(), AllocError>
     found.trees.push(s)
 }
 
-fn key_of(alloc: Global, s: &State) -> Result<Vec<u64>, AllocError>
+fn key_of(alloc: Global, s: &StateTree) -> Result<Vec<u64>, AllocError>
     ensures { IfOk result (λ key. key.items ≡ code s.now) }
 {
     let mut key = Vec::new(alloc);
@@ -98,7 +98,7 @@ fn key_of(alloc: Global, s: &State) -> Result<Vec<u64>, AllocError>
 }
 
 // Adds the number of a tree, and the tree where it is new.
-fn note(alloc: Global, found: &mut Search, s: State) -> Result<(), AllocError>
+fn note(alloc: Global, found: &mut Search, s: StateTree) -> Result<(), AllocError>
     requires covers { Covers found.old.trees found.old.numbers.entries (λ k. k.items) }
     ensures covers { OnOk result (Covers found.new.trees found.new.numbers.entries (λ k. k.items)) }
     ensures trees { OnOk result (found.new.trees ≡ with_tree found.old.trees s) }
@@ -116,7 +116,7 @@ fn note(alloc: Global, found: &mut Search, s: State) -> Result<(), AllocError>
     }
 }
 
-fn note_each(alloc: Global, found: &mut Search, new: List<State>) -> Result<(), AllocError>
+fn note_each(alloc: Global, found: &mut Search, new: List<StateTree>) -> Result<(), AllocError>
     requires covers { Covers found.old.trees found.old.numbers.entries (λ k. k.items) }
     ensures covers { OnOk result (Covers found.new.trees found.new.numbers.entries (λ k. k.items)) }
     ensures trees { OnOk result (found.new.trees ≡ fold with_tree found.old.trees new) }
@@ -134,8 +134,8 @@ fn step_by_each(
     alloc: Global,
     e: &EventExpr,
     marks: &[List<bool>],
-    s: &State,
-) -> Result<List<State>, AllocError>
+    s: &StateTree,
+) -> Result<List<StateTree>, AllocError>
     requires whole { All (λ (mark : Items Bool). length mark ≡ length (leaves e.now)) marks.now }
     requires numbers { has_numbers e.now ≡ true }
     ensures { IfOk result (λ new. new ≡ each_step e.now marks.now s.now) }

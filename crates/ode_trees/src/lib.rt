@@ -14,4 +14,4 @@ pub use count::count_trees;
 pub use growth::{Reached, reach};
 pub use laws::trees_answer_as_points;
 pub use machine::{init, out, step};
-pub use ode_value::State;
+pub use ode_value::StateTree;

@@ -7,9 +7,9 @@ ghost use Rattle.ode_value.specs.Numbers.{has_numbers};
 ghost use Rattle.ode_value.specs.TreeOrder.{all_joined, joined, pair_cmp, tree_cmp};
 ghost use Rattle.ode_value.specs.Trees.{answers, first_tree, is_spent, left, machine, next_count, next_tree, next_turn, right, with_first};
 
-use crate::part::{bit, count, left, pairs, right, starts};
+use crate::part::{bit, count, left, pairs, right, started};
 use crate::set::join;
-use ode_value::{Boxed, EventExpr, List, State};
+use ode_value::{Boxed, EventExpr, List, StateTree};
 use std::alloc::{AllocError, Global};
 
 // How many leaves the expression has.
@@ -34,51 +34,51 @@ fn leaf_count(e: &EventExpr) -> usize
     }
 }
 
-fn seen(alloc: Global, bit: bool, part: State) -> Result<State, AllocError>
-    ensures { IfOk result (λ t. t ≡ State.Seen bit part) }
+fn seen(alloc: Global, bit: bool, part: StateTree) -> Result<StateTree, AllocError>
+    ensures { IfOk result (λ t. t ≡ StateTree.Seen bit part) }
 {
-    Ok(State::Seen(bit, Boxed::new(alloc, part)?))
+    Ok(StateTree::Seen(bit, Boxed::new(alloc, part)?))
 }
 
-fn both(alloc: Global, first: State, second: State) -> Result<State, AllocError>
-    ensures { IfOk result (λ t. t ≡ State.Both first second) }
+fn both(alloc: Global, first: StateTree, second: StateTree) -> Result<StateTree, AllocError>
+    ensures { IfOk result (λ t. t ≡ StateTree.Both first second) }
 {
-    Ok(State::Both(Boxed::new(alloc, first)?, Boxed::new(alloc, second)?))
+    Ok(StateTree::Both(Boxed::new(alloc, first)?, Boxed::new(alloc, second)?))
 }
 
-fn flagged(alloc: Global, first: State, second: State, flag: bool) -> Result<State, AllocError>
-    ensures { IfOk result (λ t. t ≡ State.Flag first second flag) }
+fn flagged(alloc: Global, first: StateTree, second: StateTree, flag: bool) -> Result<StateTree, AllocError>
+    ensures { IfOk result (λ t. t ≡ StateTree.Flag first second flag) }
 {
-    Ok(State::Flag(Boxed::new(alloc, first)?, Boxed::new(alloc, second)?, flag))
+    Ok(StateTree::Flag(Boxed::new(alloc, first)?, Boxed::new(alloc, second)?, flag))
 }
 
-fn counted(alloc: Global, part: State, count: u32) -> Result<State, AllocError>
-    ensures { IfOk result (λ t. t ≡ State.Count part count) }
+fn counted(alloc: Global, part: StateTree, count: u32) -> Result<StateTree, AllocError>
+    ensures { IfOk result (λ t. t ≡ StateTree.Count part count) }
 {
-    Ok(State::Count(Boxed::new(alloc, part)?, count))
+    Ok(StateTree::Count(Boxed::new(alloc, part)?, count))
 }
 
-fn started(alloc: Global, part: State, set: List<State>) -> Result<State, AllocError>
-    ensures { IfOk result (λ t. t ≡ State.Starts part set) }
+fn started(alloc: Global, part: StateTree, set: List<StateTree>) -> Result<StateTree, AllocError>
+    ensures { IfOk result (λ t. t ≡ StateTree.Started part set) }
 {
-    Ok(State::Starts(Boxed::new(alloc, part)?, set))
+    Ok(StateTree::Started(Boxed::new(alloc, part)?, set))
 }
 
-fn paired(alloc: Global, part: State, set: List<(State, State)>) -> Result<State, AllocError>
-    ensures { IfOk result (λ t. t ≡ State.Pairs part set) }
+fn paired(alloc: Global, part: StateTree, set: List<(StateTree, StateTree)>) -> Result<StateTree, AllocError>
+    ensures { IfOk result (λ t. t ≡ StateTree.Pairs part set) }
 {
-    Ok(State::Pairs(Boxed::new(alloc, part)?, set))
+    Ok(StateTree::Pairs(Boxed::new(alloc, part)?, set))
 }
 
 /// The tree before the first point.
 #[tactic(auto, using(crate::proofs::MachineLaws::machines))]
-pub fn init(alloc: Global, e: &EventExpr) -> Result<State, AllocError>
+pub fn init(alloc: Global, e: &EventExpr) -> Result<StateTree, AllocError>
     ensures { IfOk result (λ s. s ≡ first_tree e.now) }
 {
     match e {
-        EventExpr::Leaf(_, _) => Ok(State::Bit(false)),
-        EventExpr::Any => Ok(State::Bit(false)),
-        EventExpr::First => Ok(State::Place(0)),
+        EventExpr::Leaf(_, _) => Ok(StateTree::Bit(false)),
+        EventExpr::Any => Ok(StateTree::Bit(false)),
+        EventExpr::First => Ok(StateTree::Place(0)),
         EventExpr::Not(e) => {
             let part = init(alloc, e.get())?;
             seen(alloc, false, part)
@@ -125,7 +125,7 @@ pub fn init(alloc: Global, e: &EventExpr) -> Result<State, AllocError>
 /// Whether a tree answers.
 #[cycle(out)]
 #[tactic(auto, using(crate::proofs::MachineLaws::machines))]
-pub fn out(e: &EventExpr, s: &State) -> bool
+pub fn out(e: &EventExpr, s: &StateTree) -> bool
     ensures { result ≡ answers e.now s.now }
 {
     match e {
@@ -135,7 +135,7 @@ pub fn out(e: &EventExpr, s: &State) -> bool
         EventExpr::Not(e) => bit(s) && !out(e.get(), left(s)),
         EventExpr::And(e, f) => out(e.get(), left(s)) && out(f.get(), right(s)),
         EventExpr::Or(e, f) => out(e.get(), left(s)) || out(f.get(), right(s)),
-        EventExpr::Relative(_, f) => any_out(f.get(), starts(s)),
+        EventExpr::Relative(_, f) => any_out(f.get(), started(s)),
         EventExpr::Prior(_, f) => bit(s) && out(f.get(), right(s)),
         EventExpr::Sequence(_, f) => bit(s) && out(f.get(), right(s)),
         EventExpr::Choose(n, e) => out(e.get(), left(s)) && count(s) == *n,
@@ -145,7 +145,7 @@ pub fn out(e: &EventExpr, s: &State) -> bool
 }
 
 #[cycle(out)]
-fn any_out(e: &EventExpr, set: &[State]) -> bool
+fn any_out(e: &EventExpr, set: &[StateTree]) -> bool
     ensures { result ≡ list_any (answers e.now) set.now }
 {
     for s in set {
@@ -157,7 +157,7 @@ fn any_out(e: &EventExpr, set: &[State]) -> bool
 }
 
 #[cycle(out)]
-fn any_first_out(e: &EventExpr, set: &[(State, State)]) -> bool
+fn any_first_out(e: &EventExpr, set: &[(StateTree, StateTree)]) -> bool
     ensures { result ≡ list_any (λ x. answers e.now x.0) set.now }
 {
     for s in set {
@@ -204,18 +204,18 @@ fn turn_after(n: u32, answers: bool, c: u32) -> u32
 fn step_at(
     alloc: Global,
     e: &EventExpr,
-    s: &State,
+    s: &StateTree,
     mark: &[bool],
     at: usize,
-) -> Result<State, AllocError>
+) -> Result<StateTree, AllocError>
     requires fits { at + leaf_count e.now ≤ length mark.now }
     requires numbers { has_numbers e.now ≡ true }
     ensures { IfOk result (λ t. t ≡ next_listed e.now at mark.now s.now) }
 {
     match e {
-        EventExpr::Leaf(_, _) => Ok(State::Bit(mark[at])),
-        EventExpr::Any => Ok(State::Bit(true)),
-        EventExpr::First => Ok(State::Place(place_after(count(s)))),
+        EventExpr::Leaf(_, _) => Ok(StateTree::Bit(mark[at])),
+        EventExpr::Any => Ok(StateTree::Bit(true)),
+        EventExpr::First => Ok(StateTree::Place(place_after(count(s)))),
         EventExpr::Not(e) => {
             let part = step_at(alloc, e.get(), left(s), mark, at)?;
             seen(alloc, true, part)
@@ -259,10 +259,10 @@ fn step_two(
     alloc: Global,
     e: &EventExpr,
     f: &EventExpr,
-    s: &State,
+    s: &StateTree,
     mark: &[bool],
     at: usize,
-) -> Result<(State, State), AllocError>
+) -> Result<(StateTree, StateTree), AllocError>
     requires fits { at + (leaf_count e.now + leaf_count f.now) ≤ length mark.now }
     requires numbers { has_numbers e.now ≡ true }
     requires numbers_too { has_numbers f.now ≡ true }
@@ -279,7 +279,7 @@ fn begin(
     alloc: Global,
     answers: bool,
     f: &EventExpr,
-    set: &mut List<State>,
+    set: &mut List<StateTree>,
 ) -> Result<(), AllocError>
     ensures { OnOk result (set.new ≡ with_first answers (joined tree_cmp (first_tree f.now)) set.old) }
 {
@@ -296,7 +296,7 @@ fn begin_pair(
     answers: bool,
     f: &EventExpr,
     g: &EventExpr,
-    set: &mut List<(State, State)>,
+    set: &mut List<(StateTree, StateTree)>,
 ) -> Result<(), AllocError>
     ensures { OnOk result (set.new ≡ with_first answers (joined pair_cmp (first_tree f.now, first_tree g.now)) set.old) }
 {
@@ -314,17 +314,17 @@ fn step_relative(
     alloc: Global,
     e: &EventExpr,
     f: &EventExpr,
-    s: &State,
+    s: &StateTree,
     mark: &[bool],
     at: usize,
-) -> Result<State, AllocError>
+) -> Result<StateTree, AllocError>
     requires fits { at + (leaf_count e.now + leaf_count f.now) ≤ length mark.now }
     requires numbers { has_numbers e.now ≡ true }
     requires numbers_too { has_numbers f.now ≡ true }
     ensures { IfOk result (λ t. t ≡ next_listed (EventExpr.Relative e.now f.now) at mark.now s.now) }
 {
     let part = step_at(alloc, e, left(s), mark, at)?;
-    let mut set = step_all(alloc, f, starts(s), mark, at + leaf_count(e))?;
+    let mut set = step_all(alloc, f, started(s), mark, at + leaf_count(e))?;
     let answers = out(e, &part);
     begin(alloc, answers, f, &mut set)?;
     started(alloc, part, set)
@@ -337,10 +337,10 @@ fn step_fa(
     e: &EventExpr,
     f: &EventExpr,
     g: &EventExpr,
-    s: &State,
+    s: &StateTree,
     mark: &[bool],
     at: usize,
-) -> Result<State, AllocError>
+) -> Result<StateTree, AllocError>
     requires fits { at + (leaf_count e.now + leaf_count f.now + leaf_count g.now) ≤ length mark.now }
     requires numbers { has_numbers e.now ≡ true }
     requires numbers_too { has_numbers f.now ≡ true }
@@ -358,10 +358,10 @@ fn step_fa(
 fn step_all(
     alloc: Global,
     e: &EventExpr,
-    set: &[State],
+    set: &[StateTree],
     mark: &[bool],
     at: usize,
-) -> Result<List<State>, AllocError>
+) -> Result<List<StateTree>, AllocError>
     requires fits { at + leaf_count e.now ≤ length mark.now }
     requires numbers { has_numbers e.now ≡ true }
     ensures { IfOk result (λ t. t ≡ all_joined tree_cmp [] (map (next_listed e.now at mark.now) set.now)) }
@@ -379,10 +379,10 @@ fn step_pairs(
     alloc: Global,
     f: &EventExpr,
     g: &EventExpr,
-    set: &[(State, State)],
+    set: &[(StateTree, StateTree)],
     mark: &[bool],
     at: usize,
-) -> Result<List<(State, State)>, AllocError>
+) -> Result<List<(StateTree, StateTree)>, AllocError>
     requires fits { at + leaf_count f.now + leaf_count g.now ≤ length mark.now }
     requires numbers { has_numbers f.now ≡ true }
     requires numbers_too { has_numbers g.now ≡ true }
@@ -400,7 +400,7 @@ fn step_pairs(
 }
 
 /// The tree after one more point, of which the mark says of each leaf, in the order of the text, whether it holds.
-pub fn step(alloc: Global, e: &EventExpr, s: &State, mark: &[bool]) -> Result<State, AllocError>
+pub fn step(alloc: Global, e: &EventExpr, s: &StateTree, mark: &[bool]) -> Result<StateTree, AllocError>
     requires whole { length mark.now ≡ length (leaves e.now) }
     requires numbers { has_numbers e.now ≡ true }
     ensures { IfOk result (λ t. (m : Mark) → mark.now ≡ spelled e.now m → t ≡ next_tree e.now m s.now) }
@@ -412,9 +412,9 @@ pub fn step(alloc: Global, e: &EventExpr, s: &State, mark: &[bool]) -> Result<St
 pub(crate) fn step_listed(
     alloc: Global,
     e: &EventExpr,
-    s: &State,
+    s: &StateTree,
     mark: &[bool],
-) -> Result<State, AllocError>
+) -> Result<StateTree, AllocError>
     requires whole { length mark.now ≡ length (leaves e.now) }
     requires numbers { has_numbers e.now ≡ true }
     ensures { IfOk result (λ t. t ≡ next_listed e.now 0 mark.now s.now) }

@@ -3,7 +3,7 @@ ghost use Rattle.std.specs.Prelude.{◌≡◌};
 ghost use Rattle.std.specs.Ordering.{bool_cmp, nat_cmp, ordering_then};
 ghost use Rattle.ode_value.specs.TreeOrder.{list_cmp, pair_cmp, same_tree, tree_cmp};
 
-use ode_value::State;
+use ode_value::StateTree;
 use std::cmp::Ordering;
 
 fn compare_bools(b: bool, c: bool) -> Ordering
@@ -37,46 +37,46 @@ fn then(first: Ordering, next: Ordering) -> Ordering
 /// The order of two trees of one expression, part by part.
 #[cycle(order)]
 #[tactic(auto, using(crate::proofs::OrderLaws::orders))]
-pub fn compare(s: &State, t: &State) -> Ordering
+pub fn compare(s: &StateTree, t: &StateTree) -> Ordering
     ensures { result ≡ tree_cmp s.now t.now }
 {
     match s {
-        State::Bit(b) => match t {
-            State::Bit(c) => compare_bools(*b, *c),
+        StateTree::Bit(b) => match t {
+            StateTree::Bit(c) => compare_bools(*b, *c),
             _ => Ordering::Less,
         },
-        State::Place(m) => match t {
-            State::Place(n) => compare_places(*m, *n),
+        StateTree::Place(m) => match t {
+            StateTree::Place(n) => compare_places(*m, *n),
             _ => Ordering::Less,
         },
-        State::Seen(b, e) => match t {
-            State::Seen(c, f) => then(compare_bools(*b, *c), compare(e.get(), f.get())),
+        StateTree::Seen(b, e) => match t {
+            StateTree::Seen(c, f) => then(compare_bools(*b, *c), compare(e.get(), f.get())),
             _ => Ordering::Less,
         },
-        State::Both(e, f) => match t {
-            State::Both(g, h) => then(compare(e.get(), g.get()), compare(f.get(), h.get())),
+        StateTree::Both(e, f) => match t {
+            StateTree::Both(g, h) => then(compare(e.get(), g.get()), compare(f.get(), h.get())),
             _ => Ordering::Less,
         },
-        State::Flag(e, f, b) => match t {
-            State::Flag(g, h, c) => then(
+        StateTree::Flag(e, f, b) => match t {
+            StateTree::Flag(g, h, c) => then(
                 compare(e.get(), g.get()),
                 then(compare(f.get(), h.get()), compare_bools(*b, *c)),
             ),
             _ => Ordering::Less,
         },
-        State::Count(e, m) => match t {
-            State::Count(f, n) => then(compare(e.get(), f.get()), compare_counts(*m, *n)),
+        StateTree::Count(e, m) => match t {
+            StateTree::Count(f, n) => then(compare(e.get(), f.get()), compare_counts(*m, *n)),
             _ => Ordering::Less,
         },
-        State::Starts(e, x) => match t {
-            State::Starts(f, y) => then(
+        StateTree::Started(e, x) => match t {
+            StateTree::Started(f, y) => then(
                 compare(e.get(), f.get()),
                 compare_trees(x.as_slice(), y.as_slice()),
             ),
             _ => Ordering::Less,
         },
-        State::Pairs(e, x) => match t {
-            State::Pairs(f, y) => then(
+        StateTree::Pairs(e, x) => match t {
+            StateTree::Pairs(f, y) => then(
                 compare(e.get(), f.get()),
                 compare_pairs(x.as_slice(), y.as_slice()),
             ),
@@ -86,7 +86,7 @@ pub fn compare(s: &State, t: &State) -> Ordering
 }
 
 #[cycle(order)]
-fn compare_trees(xs: &[State], ys: &[State]) -> Ordering
+fn compare_trees(xs: &[StateTree], ys: &[StateTree]) -> Ordering
     ensures { result ≡ list_cmp tree_cmp xs.now ys.now }
 {
     for (i, x) in xs.iter().enumerate() {
@@ -106,7 +106,7 @@ fn compare_trees(xs: &[State], ys: &[State]) -> Ordering
 }
 
 #[cycle(order)]
-fn compare_pairs(xs: &[(State, State)], ys: &[(State, State)]) -> Ordering
+fn compare_pairs(xs: &[(StateTree, StateTree)], ys: &[(StateTree, StateTree)]) -> Ordering
     ensures { result ≡ list_cmp pair_cmp xs.now ys.now }
 {
     for (i, x) in xs.iter().enumerate() {
@@ -127,14 +127,14 @@ fn compare_pairs(xs: &[(State, State)], ys: &[(State, State)]) -> Ordering
 }
 
 /// The order of two pairs of trees.
-pub fn compare_pair(x: &(State, State), y: &(State, State)) -> Ordering
+pub fn compare_pair(x: &(StateTree, StateTree), y: &(StateTree, StateTree)) -> Ordering
     ensures { result ≡ pair_cmp x.now y.now }
 {
     then(compare(&x.0, &y.0), compare(&x.1, &y.1))
 }
 
 /// Whether two trees are the same.
-pub fn same(s: &State, t: &State) -> bool
+pub fn same(s: &StateTree, t: &StateTree) -> bool
     ensures { result ≡ same_tree s.now t.now }
 {
     compare(s, t) == Ordering::Equal

@@ -4,7 +4,7 @@ ghost use Rattle.std.specs.declared.cmp.Ordering.{Ordering};
 ghost use Rattle.ode_value.specs.TreeOrder.{joined, pair_cmp, tree_cmp};
 
 use crate::order::{compare, compare_pair};
-use ode_value::{List, State};
+use ode_value::{List, StateTree};
 use std::alloc::AllocError;
 use std::cmp::Ordering;
 
@@ -17,18 +17,18 @@ pub trait Member: Drop {
         ensures { result ≡ cmp self.now other.now };
 }
 
-impl Member for State {
+impl Member for StateTree {
     ghost cmp = { tree_cmp };
 
-    fn order(&self, other: &State) -> Ordering {
+    fn order(&self, other: &StateTree) -> Ordering {
         compare(self, other)
     }
 }
 
-impl Member for (State, State) {
+impl Member for (StateTree, StateTree) {
     ghost cmp = { pair_cmp };
 
-    fn order(&self, other: &(State, State)) -> Ordering {
+    fn order(&self, other: &(StateTree, StateTree)) -> Ordering {
         compare_pair(self, other)
     }
 }

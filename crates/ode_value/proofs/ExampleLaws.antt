@@ -7,7 +7,7 @@ use Rattle.ode_value.specs.declared.event.EventExpr.TheOpen as o
 use Rattle.ode_value.specs.declared.event.Kind.{Kind}
 use Rattle.ode_value.specs.declared.statement.Expr.{Expr}
 use Rattle.ode_value.specs.Examples.{found, found_by, symbol_table, symbol_table_of}
-use Rattle.ode_value.specs.Histories.{History}
+use Rattle.ode_value.specs.Views.{History}
 use Rattle.ode_value.specs.Marks.{Leaf, leaves, leaves_of}
 use Rattle.ode_value.specs.Points.{Points, points, points_of}
 use Rattle.ode_value.proofs.LeafLaws as leaf

@@ -8,7 +8,7 @@ use Rattle.std.proofs.lemmas.List.Sums.{fold-append}
 use Rattle.ode_value.specs.declared.event.EventExpr.{EventExpr}
 use Rattle.ode_value.specs.declared.event.Point.{Point}
 use Rattle.ode_value.specs.declared.value.Value.{Value}
-use Rattle.ode_value.specs.Histories.{History}
+use Rattle.ode_value.specs.Views.{History}
 use Rattle.ode_value.specs.Marks.{Mark, mark, marks}
 use Rattle.ode_value.specs.Objects.{Histories, Starts, new_starts, view_of, IsWithin, grown, grown_whole, rewound}
 use Rattle.ode_value.specs.Pasts.{Watch, lists, table_of, StandsFor}

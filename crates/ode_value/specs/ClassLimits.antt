@@ -3,7 +3,7 @@ use Rattle.std.specs.Prelude.{List, [], ◌∷◌, min, nat_lt, Ok}
 use Rattle.ode_value.specs.declared.member.TriggerDecl.{TriggerDecl}
 use Rattle.ode_value.specs.declared.reason.Refusal.TheVariants as refusal
 use Rattle.ode_value.specs.Answers.{Answer, ◌>>◌, refuses}
-use Rattle.ode_value.specs.Limits.{symbol_limit, state_limit, class_limit}
+use Rattle.ode_value.specs.Limits.{symbol_limit, counted_symbols, state_limit, class_limit}
 use Rattle.ode_value.specs.Symbols.{symbol_count}
 use Rattle.ode_value.specs.TreeCount.{tree_count}
 use Rattle.ode_value.specs.Weights.{record_count}
@@ -12,7 +12,7 @@ use Rattle.ode_value.specs.Worlds.{Declared}
 -- a trigger has few symbols, and then few states
 abbrev pub limits_trigger : TriggerDecl → Answer (Unit {0})
 limits_trigger t = do
-  refuses (nat_lt symbol_limit (symbol_count t.event)) (refusal.TooManySymbols t.name (min (symbol_count t.event) 65536))
+  refuses (nat_lt symbol_limit (symbol_count t.event)) (refusal.TooManySymbols t.name (min (symbol_count t.event) counted_symbols))
   refuses (nat_lt state_limit (tree_count t.event)) (refusal.TooManyStates t.name)
 
 -- each trigger, in order

@@ -12,7 +12,7 @@ use Rattle.ode_value.specs.declared.statement.Expr.{Expr}
 use Rattle.ode_value.specs.declared.statement.Expr.TheVariants as expr
 use Rattle.ode_value.specs.declared.value.Value.{Value}
 use Rattle.ode_value.specs.declared.value.Value.TheVariants as value
-use Rattle.ode_value.specs.Histories.{History}
+use Rattle.ode_value.specs.Views.{History}
 use Rattle.ode_value.specs.Marks.{Leaf, leaves, mark_of}
 use Rattle.ode_value.specs.Masks.{plain}
 use Rattle.ode_value.specs.Points.{Points, points}

@@ -17,7 +17,7 @@ pub mod Expressions
 pub mod Firings
 pub mod Fitting
 pub mod GoodWorlds
-pub mod Histories
+pub mod Views
 pub mod Instants
 pub mod Keeping
 pub mod Keys

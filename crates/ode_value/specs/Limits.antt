@@ -73,7 +73,11 @@ choose_limit = 65535
 unfoldable pub symbol_limit : ℕ
 symbol_limit = 32
 
--- its states
+-- the symbols that a refusal counts up to
+abbrev pub counted_symbols : ℕ
+counted_symbols = 65536
+
+-- the states of a trigger
 abbrev pub state_limit : ℕ
 state_limit = 512
 

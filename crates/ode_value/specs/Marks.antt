@@ -7,7 +7,7 @@ use Rattle.ode_value.specs.declared.event.Kind.{Kind}
 use Rattle.ode_value.specs.declared.event.Point.{Point}
 use Rattle.ode_value.specs.declared.statement.Expr.{Expr}
 use Rattle.ode_value.specs.declared.value.Value.{Value}
-use Rattle.ode_value.specs.Histories.{History}
+use Rattle.ode_value.specs.Views.{History}
 use Rattle.ode_value.specs.Masks.{mask_holds}
 use Rattle.ode_value.specs.Same.{same_kind, same_expr}
 

@@ -2,7 +2,7 @@
 use Rattle.std.specs.Prelude.{ℕ, ◌≤◌, Bool, cond, List, [], ◌∷◌, ◌++◌, length}
 use Rattle.ode_value.specs.declared.event.Point.{Point}
 use Rattle.ode_value.specs.declared.value.Value.{Value}
-use Rattle.ode_value.specs.Histories.{History, view}
+use Rattle.ode_value.specs.Views.{History, view}
 
 -- all points that arose, and those of transactions that committed, with those of the present one
 pub record Histories : Type 0 where

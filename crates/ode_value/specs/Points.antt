@@ -4,7 +4,7 @@ use Rattle.std.specs.Prelude.{ℕ, zero, suc, ◌+◌, ◌-◌, ◌%◌, ◌==�
 use Rattle.ode_value.specs.declared.event.EventExpr.{EventExpr, fold-EventExpr}
 use Rattle.ode_value.specs.declared.event.EventExpr.TheOpen as event
 use Rattle.ode_value.specs.declared.value.Value.{Value}
-use Rattle.ode_value.specs.Histories.{History}
+use Rattle.ode_value.specs.Views.{History}
 use Rattle.ode_value.specs.Marks.{Mark, no_mark, marks}
 
 -- a set of positions of a history, of which the marks are known

@@ -2,7 +2,7 @@
 use Rattle.std.specs.Prelude.{ℕ, zero, suc, nat_le, cond, List, [], ◌∷◌, ◌++◌, map, flat_map, fold, length, Option, Some, None}
 use Rattle.std.specs.List.{list_any, range_with_len}
 use Rattle.ode_value.specs.declared.event.EventExpr.{EventExpr}
-use Rattle.ode_value.specs.declared.tree.State.{State}
+use Rattle.ode_value.specs.declared.tree.StateTree.{StateTree}
 use Rattle.ode_value.specs.Limits.{state_limit}
 use Rattle.ode_value.specs.Marks.{Mark}
 use Rattle.ode_value.specs.Symbols.{symbol_count, symbol_mark}
@@ -10,19 +10,19 @@ use Rattle.ode_value.specs.TreeOrder.{same_tree}
 use Rattle.ode_value.specs.Trees.{first_tree, next_tree}
 
 -- the list, followed by the tree where it isn't in it
-abbrev pub with_tree : List State → State → List State
+abbrev pub with_tree : List StateTree → StateTree → List StateTree
 with_tree trees s = cond (list_any (same_tree s) trees) trees (trees ++ s ∷ [])
 
 -- the list, followed by each tree that one of these steps of one of its members gives, each once
-abbrev pub grow_by : List (State → State) → List State → List State
+abbrev pub grow_by : List (StateTree → StateTree) → List StateTree → List StateTree
 grow_by steps trees = fold with_tree trees (flat_map (λ s. map (λ step. step s) steps) trees)
 
 -- the list of the first tree alone, grown so many times
-unfoldable pub grown_by : List (State → State) → State → ℕ → List State
+unfoldable pub grown_by : List (StateTree → StateTree) → StateTree → ℕ → List StateTree
 grown_by steps first zero = first ∷ []
 grown_by steps first (suc n) = grow_by steps (grown_by steps first n)
 
-unfoldable pub count_by_steps : List (State → State) → State → ℕ
+unfoldable pub count_by_steps : List (StateTree → StateTree) → StateTree → ℕ
 count_by_steps steps first = length (grown_by steps first state_limit)
 
 -- the count over these marks

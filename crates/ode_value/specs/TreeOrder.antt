@@ -3,8 +3,8 @@ use Rattle.std.specs.Prelude.{List, [], ◌∷◌, Bool}
 use Rattle.std.specs.declared.cmp.Ordering.{Ordering}
 use Rattle.std.specs.declared.cmp.Ordering.TheVariants.{Less, Equal, Greater}
 use Rattle.std.specs.Ordering.{nat_cmp, bool_cmp, ordering_then, is_eq}
-use Rattle.ode_value.specs.declared.tree.State.{State, out-State, fold-State}
-use Rattle.ode_value.specs.declared.tree.State.TheOpen as tree
+use Rattle.ode_value.specs.declared.tree.StateTree.{StateTree, out-StateTree, fold-StateTree}
+use Rattle.ode_value.specs.declared.tree.StateTree.TheOpen as tree
 
 -- lists at their first difference, a prefix before the longer list
 abbrev pub list_cmp : {A B : Type 0} → (A → B → Ordering) → List A → List B → Ordering
@@ -14,24 +14,24 @@ list_cmp cmp (x ∷ xs) [] = Greater
 list_cmp cmp (x ∷ xs) (y ∷ ys) = ordering_then (cmp x y) (list_cmp cmp xs ys)
 
 -- part by part, by one level of each; trees of one expression have one form
-abbrev pub tree_cmp_of : tree.State-F (State → Ordering) → tree.State-F State → Ordering
+abbrev pub tree_cmp_of : tree.StateTree-F (StateTree → Ordering) → tree.StateTree-F StateTree → Ordering
 tree_cmp_of (tree.Bit b) (tree.Bit c) = bool_cmp b c
 tree_cmp_of (tree.Place m) (tree.Place n) = nat_cmp m n
 tree_cmp_of (tree.Seen b e) (tree.Seen c f) = ordering_then (bool_cmp b c) (e f)
 tree_cmp_of (tree.Both e f) (tree.Both g h) = ordering_then (e g) (f h)
 tree_cmp_of (tree.Flag e f b) (tree.Flag g h c) = ordering_then (e g) (ordering_then (f h) (bool_cmp b c))
 tree_cmp_of (tree.Count e m) (tree.Count f n) = ordering_then (e f) (nat_cmp m n)
-tree_cmp_of (tree.Starts e s) (tree.Starts f t) = ordering_then (e f) (list_cmp (λ x y. x y) s t)
+tree_cmp_of (tree.Started e s) (tree.Started f t) = ordering_then (e f) (list_cmp (λ x y. x y) s t)
 tree_cmp_of (tree.Pairs e s) (tree.Pairs f t) = ordering_then (e f) (list_cmp (λ x y. ordering_then (x.0 y.0) (x.1 y.1)) s t)
 tree_cmp_of _ _ = Less
 
-unfoldable pub tree_cmp : State → State → Ordering
-tree_cmp = fold-State (State → Ordering) (λ s t. tree_cmp_of s (out-State t))
+unfoldable pub tree_cmp : StateTree → StateTree → Ordering
+tree_cmp = fold-StateTree (StateTree → Ordering) (λ s t. tree_cmp_of s (out-StateTree t))
 
-abbrev pub pair_cmp : State × State → State × State → Ordering
+abbrev pub pair_cmp : StateTree × StateTree → StateTree × StateTree → Ordering
 pair_cmp x y = ordering_then (tree_cmp x.0 y.0) (tree_cmp x.1 y.1)
 
-abbrev pub same_tree : State → State → Bool
+abbrev pub same_tree : StateTree → StateTree → Bool
 same_tree s t = is_eq (tree_cmp s t)
 
 -- a set with one more member, in its place

@@ -1,7 +1,7 @@
 //! Examples of the definitions, computed, each carried by the contract of a function that does nothing.
 ghost use Rattle.std.specs.Prelude.{◌≡◌, [], ◌∷◌, true, false, pos, negsuc, codes, Ok, Err};
 ghost use Rattle.ode_value.specs.Examples.{a, b, c, kinds, calls, found, masked, symbol_table, faulty, bool_lit, plain_with};
-ghost use Rattle.ode_value.specs.Histories.{listed};
+ghost use Rattle.ode_value.specs.Views.{of_kinds};
 ghost use Rattle.ode_value.specs.Instants.{instant_text};
 ghost use Rattle.ode_value.specs.Printing.{event_text};
 ghost use Rattle.ode_value.specs.PrintedClasses.{decl_text};
@@ -15,8 +15,8 @@ ghost use Rattle.ode_value.specs.declared.event.EventExpr.TheVariants.{Any, Firs
 
 /// A call that the class doesn't list is no point, and doesn't part two others.
 pub fn sequence_examples()
-    ensures unlisted { found (Sequence a b) (listed (kinds (codes "ab")) (calls (codes "acb"))) ≡ false ∷ true ∷ [] }
-    ensures listed { found (Sequence a b) (listed (kinds (codes "abc")) (calls (codes "acb"))) ≡ false ∷ false ∷ false ∷ [] }
+    ensures unlisted { found (Sequence a b) (of_kinds (kinds (codes "ab")) (calls (codes "acb"))) ≡ false ∷ true ∷ [] }
+    ensures listed { found (Sequence a b) (of_kinds (kinds (codes "abc")) (calls (codes "acb"))) ≡ false ∷ false ∷ false ∷ [] }
 {}
 
 /// `relative` begins anew behind each start, `prior` doesn't.

@@ -51,6 +51,6 @@ pub use reason::{CheckError, Reason, Refusal};
 pub use reference::{parse_ref, ref_text};
 pub use statement::{Call, ClassDecl, Expr, Member, Rhs, Sort, Statement, Stmt};
 pub use text::{OdeText, TextError};
-pub use tree::State;
+pub use tree::StateTree;
 pub use value::{Ref, Value};
 pub use words::is_free;

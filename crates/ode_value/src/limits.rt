@@ -38,6 +38,8 @@ pub const DRAIN_LIMIT: u32 = 65_536;
 pub const CHOOSE_LIMIT: u16 = 65_535;
 /// Symbols of a trigger.
 pub const SYMBOL_LIMIT: u8 = 32;
+/// Symbols that a refusal counts up to.
+pub const COUNTED_SYMBOLS: u32 = 65_536;
 /// States of a trigger.
 pub const STATE_LIMIT: usize = 512;
 /// Records of a class.
@@ -70,6 +72,7 @@ pub fn limits_agree()
     ensures drain { DRAIN_LIMIT ≡ machine.drain_limit }
     ensures choose { CHOOSE_LIMIT ≡ machine.choose_limit }
     ensures symbol { SYMBOL_LIMIT ≡ machine.symbol_limit }
+    ensures counted_symbols { COUNTED_SYMBOLS ≡ machine.counted_symbols }
     ensures state { STATE_LIMIT ≡ machine.state_limit }
     ensures class_records { CLASS_LIMIT ≡ machine.class_limit }
     ensures due { DUE_LIMIT ≡ machine.due_limit }

@@ -4,21 +4,21 @@ use crate::list::List;
 
 /// A tree of states, of the form that its event expression gives it.
 #[derive(Drop)]
-pub enum State {
+pub enum StateTree {
     /// Of a leaf and of `any`: whether it holds at the last point.
     Bit(bool),
     /// Of `first`: how many points there were, at most 2.
     Place(u8),
     /// Of `!E`: whether there was a point.
-    Seen(bool, Boxed<State>),
+    Seen(bool, Boxed<StateTree>),
     /// Of `and` and `or`.
-    Both(Boxed<State>, Boxed<State>),
+    Both(Boxed<StateTree>, Boxed<StateTree>),
     /// Of `prior` and `sequence`: whether a point before the last one, or the one before it, is in the first part.
-    Flag(Boxed<State>, Boxed<State>, bool),
+    Flag(Boxed<StateTree>, Boxed<StateTree>, bool),
     /// Of `choose` and `every`: how many points there were.
-    Count(Boxed<State>, u32),
+    Count(Boxed<StateTree>, u32),
     /// Of `relative`: a tree of the second part for each start, as a set.
-    Starts(Boxed<State>, List<State>),
+    Started(Boxed<StateTree>, List<StateTree>),
     /// Of `fa`: trees of the second and the third part for each start, as a set.
-    Pairs(Boxed<State>, List<(State, State)>),
+    Pairs(Boxed<StateTree>, List<(StateTree, StateTree)>),
 }

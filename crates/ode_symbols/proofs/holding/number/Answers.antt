@@ -3,12 +3,12 @@ use Rattle.std.specs.Prelude.{Some}
 use Rattle.std.proofs.Math.Pow.{pow_mono}
 use Rattle.ode_value.specs.declared.statement.Expr.{Expr}
 use Rattle.ode_value.specs.Masks.{mask_holds}
-use Rattle.ode_value.specs.Symbols.{number_of}
+use Rattle.ode_value.specs.Symbols.{bits_of}
 use Rattle.ode_value.proofs.SymbolLaws.{number-below}
 use Rattle.ode_symbols.proofs.holding.number.Goals as goal
 
 -- the number of what is left is within what all have
-within : (holds : Expr → Bool) (masks : List Expr) (i : ℕ) → number_of holds (drop i masks) < 2 ^ length masks
+within : (holds : Expr → Bool) (masks : List Expr) (i : ℕ) → bits_of holds (drop i masks) < 2 ^ length masks
 within holds masks i =
     let below = number-below holds (drop i masks) in
     let shorter : length (drop i masks) ≤ length masks = omega (arith, length-drop i masks) in

@@ -17,7 +17,7 @@ pub step_relative-returns : goal.step_relative-returns
 step_relative-returns t c =
     let e = c.args.e.now in
     let part = c.in_ok-part.ensures ∙ ap (next_listed e c.args.at c.args.mark.now) c.left.ensures in
-    let old = rw (c.leaf_count.ensures, c.starts.ensures) at c.in_ok-set.ensures in
+    let old = rw (c.leaf_count.ensures, c.started.ensures) at c.in_ok-set.ensures in
     let set = rw c.out-answers.ensures at c.in_ok-begin.ensures in
     subst (λ y. IfOk c.started.result (λ u. u ≡ y))
     (next-Relative e c.args.f.now c.args.at c.args.mark.now c.args.s.now _ _ _ part old set)

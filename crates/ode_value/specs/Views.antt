@@ -10,8 +10,8 @@ abbrev pub History : Type 0
 History = List Point
 
 -- those of the kinds that the object's class lists; no others become points
-abbrev pub listed : List Kind → History → History
-listed kinds history = filter (λ (p : Point). list_any (same_kind p.kind) kinds) history
+abbrev pub of_kinds : List Kind → History → History
+of_kinds kinds history = filter (λ (p : Point). list_any (same_kind p.kind) kinds) history
 
 -- what an activation sees of a history: the part since its start
 abbrev pub view : ℕ → History → History
