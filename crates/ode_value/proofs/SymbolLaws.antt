@@ -3,7 +3,8 @@ use Rattle.std.proofs.Common.{◌≡◌, ℕ, suc, ◌+◌, ◌-◌, ◌*◌, �
 use Rattle.std.specs.Prelude.{◌&&◌, ◌||◌, not, ◌==◌, filter, filter_map, sum_by, option_map}
 use Rattle.std.specs.List.{list_any, cons_option}
 use Rattle.std.specs.Option.{option_map_or}
-use Rattle.std.proofs.lemmas.Bool.{lt-ltb, le-ltb}
+use Rattle.std.proofs.lemmas.Bool.{both_ways, false_from_ne_true, le-ltb, lt-ltb, not_from_false}
+use Rattle.std.proofs.Math.Bool.{and-false}
 use Rattle.std.proofs.lemmas.List.Sums.{sum_by-cons}
 use Rattle.std.proofs.lemmas.Map.Views.{any-filter_same}
 use Rattle.std.proofs.Math.Nat.{pow-suc}
@@ -20,16 +21,8 @@ use Rattle.ode_value.proofs.Sames.{kind-same, expr-same}
 
 -- ---- each member once
 
-not_of_false : (b : Bool) → (b ≡ true → ⊥) → not b ≡ true
-not_of_false false h = refl
-not_of_false true h = absurd (h refl)
-
-true_isnt_false : (b : Bool) → b ≡ true → b ≡ false → ⊥
-true_isnt_false false h k = cc
-true_isnt_false true h k = cc
-
 apart : {A : Type 0} (same : A → A → Bool) → ((x y : A) → same x y ≡ true → x ≡ y) → (x z : A) → same x z ≡ false → (y : A) → same y z ≡ true → not (same x y) ≡ true
-apart same eq x z p y q = not_of_false (same x y) (λ h. true_isnt_false (same x z) (ap (λ u. same u z) (eq x y h) ∙ q) p)
+apart same eq x z p y q = not_from_false (same x y) (false_from_ne_true (same x y) (λ h. both_ways (same x z) p (ap (λ u. same u z) (eq x y h) ∙ q)))
 
 pub distinct-any : {A : Type 0} (same : A → A → Bool) → ((x y : A) → same x y ≡ true → x ≡ y) → (z : A) (xs : List A) → list_any (λ y. same y z) (distinct same xs) ≡ list_any (λ y. same y z) xs
 distinct-any same eq z [] = refl
@@ -117,10 +110,6 @@ numbered (row ∷ rest) k holds = by_test (number_in rest k holds) (numbered res
 
 -- ---- the rows of an expression's leaves
 
-and_false : (b : Bool) → (b && false) ≡ false
-and_false false = refl
-and_false true = refl
-
 or_more : (u rest z : Bool) → (u || rest) ≡ true → (rest ≡ true → z ≡ true) → (u || z) ≡ true
 or_more true rest z h k = refl
 or_more false rest z h k = k h
@@ -167,7 +156,7 @@ says-leaf : (ls : List Leaf) (k : Kind) (holds : Expr → Bool) (kind : Kind) (m
 says-leaf ls k holds kind mask = by_leaf (among ls kind mask) refl where
   by_kind : among ls kind mask ≡ true → (t : Bool) → same_kind k kind ≡ t
       → (list_any (λ j. same_kind j k) (distinct same_kind (map (λ (l : Leaf). l.0) ls)) && (t && mask_in (masked_kind ls k).masks holds mask)) ≡ (t && holds_there holds mask)
-  by_kind h false p = and_false (list_any (λ j. same_kind j k) (distinct same_kind (map (λ (l : Leaf). l.0) ls)))
+  by_kind h false p = and-false (list_any (λ j. same_kind j k) (distinct same_kind (map (λ (l : Leaf). l.0) ls)))
   by_kind h true p =
       let same : k ≡ kind = kind-same k kind p in
       let there : list_any (λ j. same_kind j k) (distinct same_kind (map (λ (l : Leaf). l.0) ls)) ≡ true =
@@ -199,7 +188,7 @@ mark-at ls params p kind mask = by_number (number_in (masked_kinds ls) p.kind (p
   told = says-leaf ls p.kind (passes params p) kind mask ∙ ap (λ b. among ls kind mask && (same_kind p.kind kind && b)) (there-is params p mask)
 
   by_number : (o : Option ℕ) → Numbered (masked_kinds ls) p.kind (passes params p) o → symbol_mark_of ls (option_map_or (λ n. suc n) o 0) kind mask ≡ mark_of ls params p kind mask
-  by_number None h = sym (ap (λ b. among ls kind mask && b) (h kind mask) ∙ and_false (among ls kind mask)) ∙ told
+  by_number None h = sym (ap (λ b. among ls kind mask && b) (h kind mask) ∙ and-false (among ls kind mask)) ∙ told
   by_number (Some n) h = ap (λ b. among ls kind mask && b) (h.1 kind mask) ∙ told
 
 pub symbol_mark-symbol : (e : EventExpr) (params : List Value) (p : Point) → symbol_mark e (symbol e params p) ≡ mark e params p
