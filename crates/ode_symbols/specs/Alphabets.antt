@@ -7,6 +7,7 @@ use Rattle.ode_value.specs.declared.event.EventExpr.{EventExpr}
 use Rattle.ode_value.specs.declared.event.Point.{Point}
 use Rattle.ode_value.specs.declared.value.Value.{Value}
 use Rattle.ode_value.specs.declared.value.Value.TheVariants as value
+use Rattle.ode_value.specs.Limits.{symbol_limit, counted_symbols}
 use Rattle.ode_value.specs.Marks.{Leaf, Mark, leaves, among}
 use Rattle.ode_value.specs.Masks.{mask_holds}
 use Rattle.ode_value.specs.Symbols.{MaskedKind, masked_kinds, symbols_in, number_in, holds_in, symbol_count}
@@ -34,10 +35,10 @@ mark_among rows (suc n) kind mask = holds_in rows n kind mask
 abbrev pub are_leaves_of : EventExpr → EventExpr → Bool
 are_leaves_of e of = list_all (λ (l : Leaf). among (leaves of) l.0 l.1) (leaves e)
 
--- an alphabet is refused where there are more than 32 symbols, and the number is told up to 65,536
+-- an alphabet is refused where there are too many symbols, and their number is told up to a limit
 abbrev pub IsRefusal : EventExpr → AlphabetError → Type 0
 IsRefusal e error.Memory = Unit {0}
-IsRefusal e (error.TooManySymbols count) = (32 < symbol_count e) × (count ≡ min (symbol_count e) 65536)
+IsRefusal e (error.TooManySymbols count) = (symbol_limit < symbol_count e) × (count ≡ min (symbol_count e) counted_symbols)
 
 -- the bool of a value, or the fault; a value of another sort isn't true
 abbrev pub truth_of : Result Value Fault → Result Bool Fault

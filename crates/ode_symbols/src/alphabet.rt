@@ -2,12 +2,14 @@
 ghost use Rattle.std.specs.Prelude.{◌≡◌, ◌<◌, ◌≤◌, IfErr, IfOk, OnOk, true};
 ghost use Rattle.ode_symbols.specs.Alphabets.{IsRefusal, alphabet, are_leaves_of, mark_among, size_of, symbol_among};
 ghost use Rattle.ode_value.specs.declared.event.EventExpr.{EventExpr};
+ghost use Rattle.ode_value.specs.Limits.{symbol_limit};
 ghost use Rattle.ode_value.specs.Marks.{spelled};
 ghost use Rattle.ode_value.specs.Symbols.{symbol_count, symbol_mark};
 
 use crate::error::AlphabetError;
 use crate::holding::{holds, number};
 use crate::rows::{MaskedKind, add_leaves, count, masked_kinds, symbols_of};
+use ode_value::limits::SYMBOL_LIMIT;
 use ode_value::{EventExpr, Kind, List, Value};
 use std::alloc::{AllocError, Global};
 use std::marker::Model;
@@ -26,6 +28,7 @@ impl Model for Alphabet {
     ghost use Rattle.ode_symbols.specs.Alphabets.{size_of};
     ghost use Rattle.std.specs.Coded.{codes};
     ghost use Rattle.ode_value.specs.contracts.statement.Expr as e;
+    ghost use Rattle.ode_value.specs.Limits.{symbol_limit};
     ghost use Rattle.ode_value.specs.Symbols.{MaskedKind};
 
     ghost Value = { Items MaskedKind };
@@ -34,19 +37,19 @@ impl Model for Alphabet {
 
     ghost view = { λ a. a.rows };
 
-    ghost invariant = { λ a. (a.size ≡ size_of a.rows) × (size_of a.rows ≤ 32) };
+    ghost invariant = { λ a. (a.size ≡ size_of a.rows) × (size_of a.rows ≤ symbol_limit) };
 }
 
 impl Alphabet {
     /// The alphabet of an expression's leaves.
     pub fn of(alloc: Global, e: &EventExpr) -> Result<Alphabet, AlphabetError>
         ensures rows { IfOk result (λ a. a ≡ alphabet e.now) }
-        ensures few { OnOk result (symbol_count e.now ≤ 32) }
+        ensures few { OnOk result (symbol_count e.now ≤ symbol_limit) }
         ensures refused { IfErr result (IsRefusal e.now) }
     {
         let rows = masked_kinds(alloc, e)?;
         let count = count(rows.as_slice());
-        if count <= 32 {
+        if count <= u32::from(SYMBOL_LIMIT) {
             let size = count as u8;
             Ok(Alphabet { rows, size, alloc })
         } else {
@@ -57,7 +60,7 @@ impl Alphabet {
     /// How many symbols there are.
     pub fn size(&self) -> u8
         ensures value { result ≡ size_of self.now }
-        ensures small { result ≤ 32 }
+        ensures small { result ≤ symbol_limit }
     {
         self.size
     }

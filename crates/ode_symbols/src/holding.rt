@@ -2,6 +2,7 @@
 ghost use Rattle.std.specs.Prelude.{◌≡◌, ◌<◌, ◌≤◌, ◌+◌, ◌^◌, Some, length, suc};
 ghost use Rattle.ode_symbols.specs.Alphabets.{mark_among};
 ghost use Rattle.ode_value.specs.declared.event.Point.{Point};
+ghost use Rattle.ode_value.specs.Limits.{symbol_limit};
 ghost use Rattle.ode_value.specs.Masks.{mask_holds};
 ghost use Rattle.ode_value.specs.Symbols.{has_bit, holds_in, bits_of};
 
@@ -11,7 +12,7 @@ use ode_value::{Expr, Kind, Value};
 
 /// The number of a point of this kind among the symbols of its masks.
 pub fn number(masks: &[Expr], params: &[Value], kind: &Kind, args: &[Value], own: &[Value]) -> u8
-    requires { 2 ^ length masks.now ≤ 32 }
+    requires { 2 ^ length masks.now ≤ symbol_limit }
     ensures value { result ≡ bits_of
         (λ x. mask_holds (Some x) params.now (record { kind = kind.now; args = args.now; fields = own.now })) masks.now }
     ensures below { result < 2 ^ length masks.now }

@@ -2,10 +2,12 @@
 ghost use Rattle.std.specs.Prelude.{◌≡◌, ◌++◌, ◌∷◌, ◌^◌, [], IfOk, OnOk, List as Items, filter_map, length, map, min};
 ghost use Rattle.std.specs.List.{list_any};
 ghost use Rattle.ode_symbols.specs.Alphabets.{alphabet, size_of, with_any, with_new};
+ghost use Rattle.ode_value.specs.Limits.{counted_symbols};
 ghost use Rattle.ode_value.specs.Marks.{Leaf, leaves};
 ghost use Rattle.ode_value.specs.Same.{same_expr, same_kind};
 ghost use Rattle.ode_value.specs.Symbols.{distinct, mask_of, masked_kind};
 
+use ode_value::limits::COUNTED_SYMBOLS;
 use ode_value::{Copied, EventExpr, Expr, Kind, List};
 use std::alloc::{AllocError, Global};
 use std::marker::Model;
@@ -197,22 +199,22 @@ pub fn masked_kinds(alloc: Global, e: &EventExpr) -> Result<List<MaskedKind>, Al
 
 /// How many symbols a kind with so many masks has, or 65,536.
 pub fn symbols_of(masks: usize) -> u32
-    ensures { result ≡ min (2 ^ masks) 65536 }
+    ensures { result ≡ min (2 ^ masks) counted_symbols }
 {
     if masks < 16 {
         2u32.pow(masks as u32)
     } else {
-        65536
+        COUNTED_SYMBOLS
     }
 }
 
 /// How many symbols these rows have, or 65,536.
 pub fn count(rows: &[MaskedKind]) -> u32
-    ensures { result ≡ min (size_of rows.now) 65536 }
+    ensures { result ≡ min (size_of rows.now) counted_symbols }
 {
     let mut count = 1;
     for row in rows {
-        count = (count + symbols_of(row.masks.len())).min(65536);
+        count = (count + symbols_of(row.masks.len())).min(COUNTED_SYMBOLS);
     }
     count
 }

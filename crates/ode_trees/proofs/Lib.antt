@@ -1,3 +1,4 @@
+pub mod After
 pub mod CodeLaws
 pub mod CountLaws
 pub mod CoverLaws

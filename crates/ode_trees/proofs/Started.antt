@@ -9,8 +9,9 @@ use Rattle.ode_value.specs.declared.tree.StateTree.TheVariants as tree
 use Rattle.ode_value.specs.Marks.{Mark, no_mark}
 use Rattle.ode_value.specs.Points.{Points, some_below, points_of}
 use Rattle.ode_value.specs.TreeOrder.{tree_cmp, joined}
-use Rattle.ode_value.specs.Trees.{TreeMachine, machine_of, after, next_started, with_first}
+use Rattle.ode_value.specs.Trees.{TreeMachine, machine_of, next_started, with_first}
 use Rattle.ode_value.proofs.Below.{some_below-same}
+use Rattle.ode_trees.proofs.After.{after}
 use Rattle.ode_trees.proofs.PartLaws.{left-Started, started-Started}
 use Rattle.ode_trees.proofs.EqualTrees.{tree-equal, any-joined, any-all_joined, any-map, or_false, or_comm}
 use Rattle.ode_trees.proofs.Steps.{Runs}

@@ -11,7 +11,8 @@ use Rattle.ode_value.specs.declared.event.EventExpr.TheOpen as o
 use Rattle.ode_value.specs.declared.tree.StateTree.TheVariants as tree
 use Rattle.ode_value.specs.Marks.{Mark, no_mark}
 use Rattle.ode_value.specs.Points.{Points, some_below, count_below, points_of}
-use Rattle.ode_value.specs.Trees.{TreeMachine, machine_of, after, next_count, next_turn}
+use Rattle.ode_value.specs.Trees.{TreeMachine, machine_of, next_count, next_turn}
+use Rattle.ode_trees.proofs.After.{after}
 use Rattle.ode_trees.proofs.PartLaws.{left-Seen, bit-Seen, left-Both, right-Both, left-Flag, right-Flag, bit-Flag, left-Count, count-Count, bit-Bit, count-Place}
 
 -- before the first point there is no answer, and after each point the answer is whether it is one of the points

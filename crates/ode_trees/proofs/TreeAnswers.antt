@@ -3,37 +3,39 @@ use Rattle.std.proofs.Common.{◌≡◌, ◌-◌, ◌<◌, true, List, [], ◌�
 use Rattle.std.specs.Prelude.{◌&&◌}
 use Rattle.std.proofs.lemmas.Bool.{lt-ltb}
 use Rattle.ode_value.specs.declared.event.EventExpr.{EventExpr, Leaf, Any, First, Not', And', Or', Relative', Prior', Sequence', Choose', Every', Fa', more_of-EventExpr, end_of-EventExpr}
+use Rattle.ode_value.specs.declared.event.EventExpr.TheVariants as v
 use Rattle.ode_value.specs.declared.event.EventExpr.TheBlock.{hidden-the_row-EventExpr-0}
 use denote.Hole.Carrier.{hidden}
 use Rattle.ode_value.specs.Marks.{Mark}
 use Rattle.ode_value.specs.Points.{points, fires}
 use Rattle.ode_value.specs.Trees.{machine, answers, tree_after}
-use Rattle.ode_value.proofs.PointLaws.{points-Leaf, points-Any, points-First, points-Not, points-And, points-Or, points-Relative, points-Prior, points-Sequence, points-Choose, points-Every, points-Fa}
-use Rattle.ode_trees.proofs.MachineLaws.{machine-Leaf, machine-Any, machine-First, machine-Not, machine-And, machine-Or, machine-Relative, machine-Prior, machine-Sequence, machine-Choose, machine-Every, machine-Fa}
+use Rattle.ode_value.proofs.PointLaws.{points-at}
+use Rattle.ode_trees.proofs.After.{tree_after-after}
+use Rattle.ode_trees.proofs.MachineLaws.{machine-at}
 use Rattle.ode_trees.proofs.Steps.{Runs, runs_leaf, runs_any, runs_first, runs_not, runs_and, runs_or, runs_prior, runs_sequence, runs_choose, runs_every}
 use Rattle.ode_trees.proofs.Started.{runs_relative}
 use Rattle.ode_trees.proofs.PairSets.{runs_fa}
 
 pub runs : (e : EventExpr) (m : List Mark) → Runs (machine e) (points e) m
 unfolding hidden-the_row-EventExpr-0 hidden
-runs (Leaf k x) m = rw (machine-Leaf k x, points-Leaf k x) (runs_leaf m k x)
-runs Any m = rw (machine-Any, points-Any) (runs_any m)
-runs First m = rw (machine-First, points-First) (runs_first m)
-runs (Not' s (more_of-EventExpr e end_of-EventExpr)) m = rw (machine-Not e, points-Not e) (runs_not m (machine e) (points e) (runs e m))
+runs (Leaf k x) m = rw (machine-at _ _ (v.outs-Leaf k x), points-at _ _ (v.outs-Leaf k x)) (runs_leaf m k x)
+runs Any m = rw (machine-at _ _ v.outs-Any, points-at _ _ v.outs-Any) (runs_any m)
+runs First m = rw (machine-at _ _ v.outs-First, points-at _ _ v.outs-First) (runs_first m)
+runs (Not' s (more_of-EventExpr e end_of-EventExpr)) m = rw (machine-at _ _ (v.outs-Not e), points-at _ _ (v.outs-Not e)) (runs_not m (machine e) (points e) (runs e m))
 runs (And' s (more_of-EventExpr e end_of-EventExpr) t (more_of-EventExpr f end_of-EventExpr)) m =
-    rw (machine-And e f, points-And e f) (runs_and m (machine e) (machine f) (points e) (points f) (runs e m) (runs f m))
+    rw (machine-at _ _ (v.outs-And e f), points-at _ _ (v.outs-And e f)) (runs_and m (machine e) (machine f) (points e) (points f) (runs e m) (runs f m))
 runs (Or' s (more_of-EventExpr e end_of-EventExpr) t (more_of-EventExpr f end_of-EventExpr)) m =
-    rw (machine-Or e f, points-Or e f) (runs_or m (machine e) (machine f) (points e) (points f) (runs e m) (runs f m))
+    rw (machine-at _ _ (v.outs-Or e f), points-at _ _ (v.outs-Or e f)) (runs_or m (machine e) (machine f) (points e) (points f) (runs e m) (runs f m))
 runs (Prior' s (more_of-EventExpr e end_of-EventExpr) t (more_of-EventExpr f end_of-EventExpr)) m =
-    rw (machine-Prior e f, points-Prior e f) (runs_prior m (machine e) (machine f) (points e) (points f) (runs e m) (runs f m))
+    rw (machine-at _ _ (v.outs-Prior e f), points-at _ _ (v.outs-Prior e f)) (runs_prior m (machine e) (machine f) (points e) (points f) (runs e m) (runs f m))
 runs (Sequence' s (more_of-EventExpr e end_of-EventExpr) t (more_of-EventExpr f end_of-EventExpr)) m =
-    rw (machine-Sequence e f, points-Sequence e f) (runs_sequence m (machine e) (machine f) (points e) (points f) (runs e m) (runs f m))
+    rw (machine-at _ _ (v.outs-Sequence e f), points-at _ _ (v.outs-Sequence e f)) (runs_sequence m (machine e) (machine f) (points e) (points f) (runs e m) (runs f m))
 runs (Relative' s (more_of-EventExpr e end_of-EventExpr) t (more_of-EventExpr f end_of-EventExpr)) m =
-    rw (machine-Relative e f, points-Relative e f) (runs_relative m (machine e) (machine f) (points e) (points f) (runs e m) (λ k. runs f (drop k m)))
-runs (Choose' n s (more_of-EventExpr e end_of-EventExpr)) m = rw (machine-Choose n e, points-Choose n e) (runs_choose m (machine e) (points e) n (runs e m))
-runs (Every' n s (more_of-EventExpr e end_of-EventExpr)) m = rw (machine-Every n e, points-Every n e) (runs_every m (machine e) (points e) n (runs e m))
+    rw (machine-at _ _ (v.outs-Relative e f), points-at _ _ (v.outs-Relative e f)) (runs_relative m (machine e) (machine f) (points e) (points f) (runs e m) (λ k. runs f (drop k m)))
+runs (Choose' n s (more_of-EventExpr e end_of-EventExpr)) m = rw (machine-at _ _ (v.outs-Choose n e), points-at _ _ (v.outs-Choose n e)) (runs_choose m (machine e) (points e) n (runs e m))
+runs (Every' n s (more_of-EventExpr e end_of-EventExpr)) m = rw (machine-at _ _ (v.outs-Every n e), points-at _ _ (v.outs-Every n e)) (runs_every m (machine e) (points e) n (runs e m))
 runs (Fa' s (more_of-EventExpr e end_of-EventExpr) t (more_of-EventExpr f end_of-EventExpr) u (more_of-EventExpr g end_of-EventExpr)) m =
-    rw (machine-Fa e f g, points-Fa e f g)
+    rw (machine-at _ _ (v.outs-Fa e f g), points-at _ _ (v.outs-Fa e f g))
     (runs_fa m (machine e) (machine f) (machine g) (points e) (points f) (points g) (runs e m) (λ k. runs f (drop k m)) (λ k. runs g (drop k m)))
 
 -- after any history the tree answers whether the expression fires on it
@@ -44,5 +46,6 @@ answers-fires e (x ∷ m) =
     let within : n < length (x ∷ m) = omega arith in
     let some : ltb 0 (length (x ∷ m)) ≡ true = lt-ltb 0 (length (x ∷ m)) (omega arith) in
     let last : length (x ∷ m) - 1 ≡ n = omega arith in
-    (runs e (x ∷ m)).each n within
+    ap (answers e) (tree_after-after e (x ∷ m))
+    ∙ (runs e (x ∷ m)).each n within
     ∙ sym (ap (λ b. b && points e (x ∷ m) (length (x ∷ m) - 1)) some ∙ ap (points e (x ∷ m)) last)

@@ -70,7 +70,7 @@ abbrev pub choose_limit : ℕ
 choose_limit = 65535
 
 -- the symbols of a trigger
-unfoldable pub symbol_limit : ℕ
+abbrev pub symbol_limit : ℕ
 symbol_limit = 32
 
 -- the symbols that a refusal counts up to

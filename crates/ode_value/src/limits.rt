@@ -52,7 +52,7 @@ pub const STATEMENT_LIMIT: usize = 65_536;
 pub const SCRIPT_LIMIT: usize = 67_108_864;
 
 /// The limits of the code are those of the definitions.
-#[tactic(auto, unfolding(crate::specs::Limits::depth_limit, crate::specs::Limits::budget_limit, crate::specs::Limits::cascade_limit, crate::specs::Limits::output_limit, crate::specs::Limits::change_limit, crate::specs::Limits::value_limit, crate::specs::Limits::args_limit, crate::specs::Limits::version_limit, crate::specs::Limits::generation_limit, crate::specs::Limits::queue_limit, crate::specs::Limits::drain_limit, crate::specs::Limits::symbol_limit, crate::specs::Limits::class_limit, crate::specs::Limits::due_limit, crate::specs::Limits::statement_limit, crate::specs::Limits::script_limit))]
+#[tactic(auto, unfolding(crate::specs::Limits::depth_limit, crate::specs::Limits::budget_limit, crate::specs::Limits::cascade_limit, crate::specs::Limits::output_limit, crate::specs::Limits::change_limit, crate::specs::Limits::value_limit, crate::specs::Limits::args_limit, crate::specs::Limits::version_limit, crate::specs::Limits::generation_limit, crate::specs::Limits::queue_limit, crate::specs::Limits::drain_limit, crate::specs::Limits::class_limit, crate::specs::Limits::due_limit, crate::specs::Limits::statement_limit, crate::specs::Limits::script_limit))]
 pub fn limits_agree()
     ensures name { NAME_LIMIT ≡ machine.name_limit }
     ensures text { TEXT_LIMIT ≡ machine.text_limit }
