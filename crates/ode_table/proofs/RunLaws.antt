@@ -16,9 +16,10 @@ use Rattle.ode_value.specs.Points.{fires}
 use Rattle.ode_value.specs.Symbols.{symbol_mark, symbol_count}
 use Rattle.ode_value.specs.Tables.{Table, IsWord, next_state, says_yes, run, word_marks}
 use Rattle.ode_value.specs.TreeCount.{symbol_marks}
-use Rattle.ode_value.specs.Trees.{TreeMachine, machine, after, answers, first_tree, next_tree, tree_after}
+use Rattle.ode_value.specs.Trees.{machine, answers, first_tree, next_tree}
 use Rattle.ode_trees.specs.declared.growth.Reached.{Reached}
 use Rattle.ode_trees.specs.Found.{Leads, steps_by, IsReached}
+use Rattle.ode_trees.proofs.After.{by_mark}
 use Rattle.ode_trees.proofs.TreeAnswers.{answers-fires}
 use Rattle.ode_table.specs.Built.{table_by, IsBuilt}
 use Rattle.ode_table.specs.Whole.{IsWhole}
@@ -98,22 +99,7 @@ yes-at : (e : EventExpr) (trees : List StateTree) (q : ℕ) (x : StateTree) → 
 yes-at e trees q x there =
     get_or-map (answers e) trees q x false (slice_get_within trees q x there) ∙ ap (answers e) (get_or_from_slice_get trees q x x there)
 
--- ---- the tree after a history is what its points in turn make of the first one
-
-abbrev by_mark : TreeMachine → StateTree → Mark → StateTree
-by_mark machine s m = machine.next m s
-
-after-fold : (machine : TreeMachine) (m : List Mark) (n : ℕ) → n ≤ length m → after machine m n ≡ fold (by_mark machine) machine.first (take n m)
-after-fold machine m zero h = refl
-after-fold machine m (suc n) h =
-    let before = after-fold machine m n (omega arith) in
-    let more : take (suc n) m ≡ take n m ++ get_or m n no_mark ∷ [] = ap (λ k. take k m) (sym (add-one n)) ∙ take_more m n no_mark (omega arith) in
-    ap (machine.next (get_or m n no_mark)) before
-    ∙ sym (fold-append (by_mark machine) machine.first (take n m) (get_or m n no_mark ∷ []))
-    ∙ ap (fold (by_mark machine) machine.first) (sym more)
-
-tree_after-fold : (e : EventExpr) (m : List Mark) → tree_after e m ≡ fold (by_mark (machine e)) (first_tree e) m
-tree_after-fold e m = after-fold (machine e) m (length m) (omega arith) ∙ ap (fold (by_mark (machine e)) (first_tree e)) (take_all (length m) m (omega arith))
+-- ---- words
 
 module _ (e of : EventExpr) where
   mark-of : (s : ℕ) → s < symbol_count of → get_or (symbol_marks of) s no_mark ≡ symbol_mark of s
@@ -136,6 +122,5 @@ module _ (e of : EventExpr) where
         let there = run-at e (symbol_marks of) r k (p ∙ marks-length) h word 0 (first_tree e) h.first w.each in
         yes-at e r.trees (run (table_by e k r) 0 word) (fold (by_symbol e (symbol_marks of)) (first_tree e) word) there
         ∙ ap (answers e) (fold-word word (first_tree e) (subst (λ n. All (λ s. s < n) word) p w.each))
-        ∙ ap (answers e) (sym (tree_after-fold e (word_marks of word)))
         ∙ answers-fires e (word_marks of word);
   }

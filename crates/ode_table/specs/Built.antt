@@ -1,6 +1,7 @@
 -- What a table that was built says of its expression.
 use Rattle.std.specs.Prelude.{◌≡◌, ℕ, ◌<◌, true, List, length, map}
 use Rattle.ode_value.specs.declared.event.EventExpr.{EventExpr}
+use Rattle.ode_value.specs.Limits.{state_limit}
 use Rattle.ode_value.specs.Points.{fires}
 use Rattle.ode_value.specs.Symbols.{MaskedKind, symbol_count}
 use Rattle.ode_value.specs.Tables.{Table, IsWord, run, says_yes, word_marks}
@@ -27,7 +28,7 @@ pub record IsOver (e of : EventExpr) (rows : List MaskedKind) : Type 0 where
   pub rows_are : rows ≡ alphabet of
   pub leaves : are_leaves_of e of ≡ true
 
--- a table is refused where words reach more than 512 trees
+-- a table is refused where words reach more trees than a trigger may have states
 abbrev pub IsRefused : EventExpr → EventExpr → BuildError → Type 0
 IsRefused e of Memory = Unit {0}
-IsRefused e of TooManyStates = 512 < count_over e (symbol_marks of)
+IsRefused e of TooManyStates = state_limit < count_over e (symbol_marks of)

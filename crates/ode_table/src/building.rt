@@ -5,6 +5,7 @@ ghost use Rattle.ode_symbols.specs.Alphabets.{alphabet, mark_among, size_of};
 ghost use Rattle.ode_table.specs.Built.{IsBuilt, IsOver, IsRefused, table_by};
 ghost use Rattle.ode_table.specs.Whole.{IsWhole};
 ghost use Rattle.ode_value.specs.declared.event.EventExpr.{EventExpr};
+ghost use Rattle.ode_value.specs.Limits.{state_limit};
 ghost use Rattle.ode_value.specs.Marks.{leaves, spelled};
 ghost use Rattle.ode_value.specs.Numbers.{has_numbers};
 ghost use Rattle.ode_value.specs.Tables.{Means};
@@ -40,7 +41,7 @@ fn answers_of(alloc: Global, e: &EventExpr, trees: &[StateTree]) -> Result<List<
 }
 
 fn numbers_of(alloc: Global, numbers: &[usize]) -> Result<List<u16>, AllocError>
-    requires { EachIndex numbers.now (λ k. slice_index numbers.now k < 512) }
+    requires { EachIndex numbers.now (λ k. slice_index numbers.now k < state_limit) }
     ensures { IfOk result (λ next. next ≡ numbers.now) }
 {
     let mut next = List::new(alloc);
@@ -58,7 +59,7 @@ fn table_of(
     reached: &Reached,
 ) -> Result<Table, AllocError>
     requires fits { IsWhole (table_by e.now symbols reached.now) }
-    requires few { length reached.now.trees ≤ 512 }
+    requires few { length reached.now.trees ≤ state_limit }
     ensures { IfOk result (λ t. t ≡ table_by e.now symbols reached.now) }
 {
     let yes = answers_of(alloc, e, reached.trees.as_slice())?;
@@ -67,13 +68,13 @@ fn table_of(
     Ok(Table::of_parts(states, symbols, next, yes))
 }
 
-/// The table of an expression over an alphabet that has its leaves. Each number of a `choose` or an `every` is from 1 to 65,535.
+/// The table of an expression over an alphabet that has its leaves. Each number of a `choose` or an `every` is within the limit.
 pub fn build(alloc: Global, e: &EventExpr, a: &Alphabet) -> Result<Table, BuildError>
     requires numbers { has_numbers e.now ≡ true }
     ensures built { IfOk result (λ t. (of : EventExpr) → IsOver e.now of a.now → IsBuilt e.now of t) }
     ensures means { IfOk result (λ t. a.now ≡ alphabet e.now → Means t e.now) }
     ensures count { IfOk result (λ t. a.now ≡ alphabet e.now → t.states ≡ tree_count e.now) }
-    ensures few { IfOk result (λ t. t.states ≤ 512) }
+    ensures few { IfOk result (λ t. t.states ≤ state_limit) }
     ensures refused { IfErr result (λ error. (of : EventExpr) → IsOver e.now of a.now → IsRefused e.now of error) }
 {
     let marks = marks_of(alloc, e, a)?;

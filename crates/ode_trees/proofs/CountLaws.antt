@@ -3,14 +3,16 @@ use Rattle.std.proofs.Common.{◌≡◌, ℕ, zero, suc, ◌+◌, ◌-◌, ◌<�
 use Rattle.std.specs.Prelude.{fold, flat_map, nat_le}
 use Rattle.std.specs.List.{list_any}
 use Rattle.std.proofs.lemmas.Bool.Decides.{nat_tests}
+use Rattle.std.proofs.lemmas.List.{append-nil}
+use Rattle.ode_value.specs.Limits.{state_limit}
 use Rattle.ode_value.specs.declared.event.EventExpr.{EventExpr}
 use Rattle.ode_value.specs.declared.tree.StateTree.{StateTree}
 use Rattle.ode_value.specs.Marks.{Mark, spelled}
 use Rattle.ode_value.specs.TreeCount.{with_tree, grow_by, grown_by, count_by_steps, count_over, counted}
 use Rattle.ode_value.specs.TreeOrder.{same_tree}
 use Rattle.ode_value.specs.Trees.{first_tree, next_tree}
-use Rattle.ode_trees.specs.Listed.{each_step, grow_listed, grown_listed, listed_count}
-use Rattle.ode_trees.proofs.ListedLaws.{next-spelled}
+use Rattle.ode_trees.specs.ListMachines.{each_step, grow_listed, grown_listed, listed_count}
+use Rattle.ode_trees.proofs.ListMachineLaws.{next-spelled}
 
 pub leb-above : (m n : ℕ) → n < m → nat_le m n ≡ false
 leb-above m n h = grind (arith, nat_tests)
@@ -23,21 +25,17 @@ leb-within m n h = grind (arith, nat_tests)
 abbrev pub Begins : List StateTree → List StateTree → Type 0
 Begins xs ys = (rest : List StateTree) × (ys ≡ xs ++ rest)
 
-pub append-none : (xs : List StateTree) → xs ≡ xs ++ []
-append-none [] = refl
-append-none (x ∷ xs) = ap (λ l. x ∷ l) (append-none xs)
-
 pub begins-with_tree : (trees : List StateTree) (s : StateTree) → Begins trees (with_tree trees s)
 begins-with_tree trees s = by_test (list_any (same_tree s) trees) where
   by_test : (t : Bool) → Begins trees (cond t trees (trees ++ s ∷ []))
-  by_test true = ([], append-none trees)
+  by_test true = ([], sym (append-nil trees))
   by_test false = (s ∷ [], refl)
 
 pub begins-more : (xs ys zs : List StateTree) → Begins xs ys → Begins ys zs → Begins xs zs
 begins-more xs ys zs p q = (p.0 ++ q.0, q.1 ∙ ap (λ l. l ++ q.0) p.1 ∙ append_assoc xs p.0 q.0)
 
 pub begins-fold : (trees new : List StateTree) → Begins trees (fold with_tree trees new)
-begins-fold trees [] = ([], append-none trees)
+begins-fold trees [] = ([], sym (append-nil trees))
 begins-fold trees (s ∷ new) = begins-more trees (with_tree trees s) (fold with_tree (with_tree trees s) new) (begins-with_tree trees s) (begins-fold (with_tree trees s) new)
 
 pub begins-longer : (xs ys : List StateTree) → Begins xs ys → length xs ≤ length ys
@@ -66,12 +64,12 @@ longer e lists n (suc more) =
     let same : suc (n + more) ≡ n + suc more = omega arith in
     subst (λ k. length (grown_listed e lists n) ≤ length (grown_listed e lists k)) same (omega (arith, before, step))
 
-pub last-round : (e : EventExpr) (lists : List (List Bool)) → length (grown_listed e lists 512) ≡ listed_count e lists
+pub last-round : (e : EventExpr) (lists : List (List Bool)) → length (grown_listed e lists state_limit) ≡ listed_count e lists
 unfolding listed_count
 last-round e lists = refl
 
-pub beyond : (n : ℕ) → 512 < n → counted n ≡ None
-beyond n above = ap (λ t. cond t (Some n) None) (leb-above n 512 above)
+pub beyond : (n : ℕ) → state_limit < n → counted n ≡ None
+beyond n above = ap (λ t. cond t (Some n) None) (leb-above n state_limit above)
 
 -- ---- lists that spell marks
 
@@ -89,4 +87,4 @@ grown-marks e ms (suc n) = grow-marks e ms (grown_listed e (map (spelled e) ms) 
 
 pub count-marks : (e : EventExpr) (lists : List (List Bool)) (ms : List Mark) → lists ≡ map (spelled e) ms → listed_count e lists ≡ count_over e ms
 unfolding listed_count count_by_steps
-count-marks e lists ms h = ap (listed_count e) h ∙ ap length (grown-marks e ms 512)
+count-marks e lists ms h = ap (listed_count e) h ∙ ap length (grown-marks e ms state_limit)

@@ -7,6 +7,7 @@ use Rattle.std.specs.declared.cmp.Ordering.TheVariants.{Less, Equal, Greater}
 use Rattle.std.specs.Ordering.{nat_cmp, bool_cmp, ordering_then, is_eq}
 use Rattle.std.specs.Cmp.{nat_cmp_is}
 use Rattle.std.specs.FinMap.{nat_cmp-IsAntisymmetric}
+use Rattle.std.proofs.Math.Bool.{or-false, or_self_left}
 use Rattle.ode_value.specs.declared.tree.StateTree.{StateTree, out-StateTree, roll-StateTree, roll-out-StateTree, out-roll-StateTree, fold-roll-StateTree, map-StateTree, ind-StateTree}
 use Rattle.ode_value.specs.declared.tree.StateTree.TheOpen.{StateTree-F, Bit, Place, Seen, Both, Flag, Count, Started, Pairs}
 use Rattle.ode_value.specs.TreeOrder.{list_cmp, tree_cmp_of, tree_cmp, same_tree, placed, joined, all_joined, pair_cmp}
@@ -93,20 +94,6 @@ tree-equal = ind-StateTree Tells (λ x y q. subst (λ d. Tells (roll-StateTree d
       let d = map-StateTree Told StateTree tree_of y in
       ap roll-StateTree (level-equal y (out-StateTree t) (sym (tree_cmp-roll d t) ∙ h)) ∙ roll-out-StateTree t
 
-pub or_false : (a : Bool) → (a || false) ≡ a
-or_false false = refl
-or_false true = refl
-
-pub or_comm : (a b : Bool) → (a || b) ≡ (b || a)
-or_comm false false = refl
-or_comm false true = refl
-or_comm true false = refl
-or_comm true true = refl
-
-twice : (a b : Bool) → (a || b) ≡ (a || (a || b))
-twice false b = refl
-twice true b = refl
-
 swapped : (a b c : Bool) → (b || (a || c)) ≡ (a || (b || c))
 swapped false false c = refl
 swapped false true c = refl
@@ -119,7 +106,7 @@ any-joined cmp eq q x [] = refl
 any-joined cmp eq q x (y ∷ ys) = by_order (any-joined cmp eq q x ys) (cmp x y) refl where
   by_order : list_any q (joined cmp x ys) ≡ (q x || list_any q ys) → (o : Ordering) → cmp x y ≡ o → list_any q (placed o x y ys (joined cmp x ys)) ≡ (q x || (q y || list_any q ys))
   by_order rest Less h = refl
-  by_order rest Equal h = rw (eq x y h) (twice (q y) (list_any q ys))
+  by_order rest Equal h = rw (eq x y h) (sym (or_self_left (q y) (list_any q ys)))
   by_order rest Greater h = ap (λ b. q y || b) rest ∙ swapped (q x) (q y) (list_any q ys)
 
 regrouped : (a b c : Bool) → ((a || b) || c) ≡ (b || (a || c))
@@ -128,7 +115,7 @@ regrouped true false c = refl
 regrouped true true c = refl
 
 pub any-all_joined : {A : Type 0} (cmp : A → A → Ordering) → ((x y : A) → cmp x y ≡ Equal → x ≡ y) → (q : A → Bool) (set xs : List A) → list_any q (all_joined cmp set xs) ≡ (list_any q set || list_any q xs)
-any-all_joined cmp eq q set [] = sym (or_false (list_any q set))
+any-all_joined cmp eq q set [] = sym (or-false (list_any q set))
 any-all_joined cmp eq q set (x ∷ xs) =
     any-all_joined cmp eq q (joined cmp x set) xs
     ∙ ap (λ b. b || list_any q xs) (any-joined cmp eq q x set)

@@ -2,14 +2,15 @@
 use Rattle.std.proofs.Common.{◌≡◌, ℕ, zero, suc, ◌+◌, ◌-◌, ◌<◌, ◌≤◌, ◌⊎◌, Bool, true, false, cond, List, [], ◌∷◌, ◌++◌, length, map, take, drop, get_or, refl, ap, sym, ◌∙◌, subst, arith, length-append, append_assoc, add-one, Some, None, Option, inl, inr, OnOk, Ok, Err, Result}
 use Rattle.std.specs.Prelude.{◌||◌, fold, flat_map, nat_le}
 use Rattle.std.specs.List.{list_any, slice_get}
-use Rattle.std.proofs.lemmas.Bool.{cases_lt}
+use Rattle.std.proofs.lemmas.Bool.{cases_lt, or_left, or_right}
 use Rattle.std.proofs.lemmas.Bool.Decides.{nat_tests}
 use Rattle.std.proofs.lemmas.Grind.{flat_map-append}
-use Rattle.std.proofs.lemmas.List.{map-append, take_all, take_more, take-append-le, take-append-drop, length-take-le}
+use Rattle.std.proofs.lemmas.List.{append-nil, map-append, take_all, take_more, take-append-le, take-append-drop, length-take-le}
 use Rattle.std.proofs.lemmas.List.Folds.{list_any-append}
 use Rattle.std.proofs.lemmas.List.Sums.{fold-append}
 use Rattle.std.proofs.lemmas.Option.{slice_get_read}
 use Rattle.std.specs.declared.alloc.AllocError.{AllocError}
+use Rattle.ode_value.specs.Limits.{state_limit}
 use Rattle.ode_value.specs.declared.event.EventExpr.{EventExpr}
 use Rattle.ode_value.specs.declared.tree.StateTree.{StateTree}
 use Rattle.ode_value.specs.Marks.{Mark, spelled}
@@ -18,8 +19,8 @@ use Rattle.ode_value.specs.TreeOrder.{same_tree}
 use Rattle.ode_value.specs.Trees.{first_tree, next_tree}
 use Rattle.ode_trees.specs.declared.growth.Reached.{Reached}
 use Rattle.ode_trees.specs.Found.{Leads, made_from, IsMade, steps_by, IsReached, IsAnswer}
-use Rattle.ode_trees.specs.Listed.{each_step, grow_listed, grown_listed, listed_count}
-use Rattle.ode_trees.proofs.CountLaws.{Begins, append-none, begins-with_tree, begins-more, begins-fold, begins-longer, grown-next, grown-first, longer, last-round, beyond, leb-within, each-marks, count-marks}
+use Rattle.ode_trees.specs.ListMachines.{each_step, grow_listed, grown_listed, listed_count}
+use Rattle.ode_trees.proofs.CountLaws.{Begins, begins-with_tree, begins-more, begins-fold, begins-longer, grown-next, grown-first, longer, last-round, beyond, leb-within, each-marks, count-marks}
 use Rattle.ode_trees.proofs.EqualTrees.{same_tree-itself, same_tree-equal}
 
 -- ---- trees that are there
@@ -27,14 +28,6 @@ use Rattle.ode_trees.proofs.EqualTrees.{same_tree-itself, same_tree-equal}
 abbrev KnowsAll : List StateTree → List StateTree → Type 0
 KnowsAll trees [] = Unit {0}
 KnowsAll trees (s ∷ new) = (list_any (same_tree s) trees ≡ true) × KnowsAll trees new
-
-or_left : (a b : Bool) → a ≡ true → (a || b) ≡ true
-or_left true b h = refl
-or_left false b h = cc
-
-or_right : (a b : Bool) → b ≡ true → (a || b) ≡ true
-or_right true b h = refl
-or_right false b h = h
 
 knows-more : (xs ys : List StateTree) (s : StateTree) → Begins xs ys → list_any (same_tree s) xs ≡ true → list_any (same_tree s) ys ≡ true
 knows-more xs ys s p h = ap (list_any (same_tree s)) p.1 ∙ list_any-append (same_tree s) xs p.0 ∙ or_left (list_any (same_tree s) xs) (list_any (same_tree s) p.0) h
@@ -94,7 +87,7 @@ module _ (firsts : List StateTree) (steps : StateTree → List StateTree) where
   made-last : (xs : List StateTree) (s : StateTree) → fold with_tree (made_from firsts steps xs) (steps s) ≡ made_from firsts steps (xs ++ s ∷ [])
   made-last xs s =
       sym (fold-append with_tree firsts (flat_map steps xs) (steps s))
-      ∙ ap (λ l. fold with_tree firsts (flat_map steps xs ++ l)) (append-none (steps s))
+      ∙ ap (λ l. fold with_tree firsts (flat_map steps xs ++ l)) (sym (append-nil (steps s)))
       ∙ ap (fold with_tree firsts) (sym (flat_map-append steps xs (s ∷ [])))
 
   pub none-made : IsMade firsts steps 0 firsts
@@ -187,7 +180,7 @@ module _ (e : EventExpr) (lists : List (List Bool)) where
       by_number : (n : ℕ) → n ≡ q → Begins trees (grown_listed e lists q)
       by_number zero p =
           let same : trees ≡ made_by (take 0 trees) = made.made ∙ ap (λ k. made_by (take k trees)) (sym p) in
-          subst (λ k. Begins trees (grown_listed e lists k)) p (subst (λ l. Begins trees l) (same ∙ sym (grown-first e lists)) ([], append-none trees))
+          subst (λ k. Begins trees (grown_listed e lists k)) p (subst (λ l. Begins trees l) (same ∙ sym (grown-first e lists)) ([], sym (append-nil trees)))
       by_number (suc n) p =
           let before = in-round n (omega arith) in
           let grown = made-more (first_tree e ∷ []) (each_step e lists) (take (n + 1) trees) (grown_listed e lists n) before in
@@ -204,19 +197,19 @@ module _ (e : EventExpr) (lists : List (List Bool)) where
         let grown = made-more (first_tree e ∷ []) (each_step e lists) (grown_listed e lists n) trees (all-in all n) in
         subst (λ l. Begins l trees) (sym (round n)) (subst (λ l. Begins (made_by (grown_listed e lists n)) l) (sym same) grown)
 
-    last-longer : q ≤ 512 → length trees ≤ listed_count e lists
+    last-longer : q ≤ state_limit → length trees ≤ listed_count e lists
     last-longer few =
         let long = begins-longer trees (grown_listed e lists q) in-last in
-        let more = longer e lists q (512 - q) in
-        let all : q + (512 - q) ≡ 512 = omega arith in
-        let last : length (grown_listed e lists (q + (512 - q))) ≡ listed_count e lists = ap (λ k. length (grown_listed e lists k)) all ∙ last-round e lists in
+        let more = longer e lists q (state_limit - q) in
+        let all : q + (state_limit - q) ≡ state_limit = omega arith in
+        let last : length (grown_listed e lists (q + (state_limit - q))) ≡ listed_count e lists = ap (λ k. length (grown_listed e lists k)) all ∙ last-round e lists in
         omega (arith, long, more, last)
 
-    pub count-found : q ≤ length trees → q ≤ 512 → length trees ≤ q ⊎ 512 < length trees → counted (length trees) ≡ counted (listed_count e lists)
+    pub count-found : q ≤ length trees → q ≤ state_limit → length trees ≤ q ⊎ state_limit < length trees → counted (length trees) ≡ counted (listed_count e lists)
     count-found within few (inr many) =
         beyond (length trees) many ∙ sym (beyond (listed_count e lists) (omega (arith, last-longer few)))
     count-found within few (inl done) =
-        let short = begins-longer (grown_listed e lists 512) trees (all-in (omega arith) 512) in
+        let short = begins-longer (grown_listed e lists state_limit) trees (all-in (omega arith) state_limit) in
         let same : length trees ≡ listed_count e lists = omega (arith, last-longer few, short, last-round e lists) in
         ap counted same
 
@@ -300,7 +293,7 @@ pub more-steps : (steps : StateTree → List StateTree) (q : ℕ) (trees new : L
     → flat_map steps (take q trees) ++ steps (get_or trees q d) ≡ flat_map steps (take (q + 1) (fold with_tree trees new))
 more-steps steps q trees new d within =
     let front : take (q + 1) (fold with_tree trees new) ≡ take (q + 1) trees = same-front (q + 1) trees (fold with_tree trees new) (begins-fold trees new) (omega arith) in
-    ap (λ l. flat_map steps (take q trees) ++ l) (append-none (steps (get_or trees q d)))
+    ap (λ l. flat_map steps (take q trees) ++ l) (sym (append-nil (steps (get_or trees q d))))
     ∙ sym (flat_map-append steps (take q trees) (get_or trees q d ∷ []))
     ∙ ap (flat_map steps) (sym (front ∙ take_more trees q d within))
 
@@ -310,36 +303,36 @@ steps-marks : (e : EventExpr) (ms : List Mark) (s : StateTree) → map (λ step.
 steps-marks e [] s = refl
 steps-marks e (m ∷ ms) s = ap (λ l. next_tree e m s ∷ l) (steps-marks e ms s)
 
-steps-listed : (e : EventExpr) (lists : List (List Bool)) (ms : List Mark) → lists ≡ map (spelled e) ms → (s : StateTree) → each_step e lists s ≡ steps_by e ms s
-steps-listed e lists ms h s = ap (λ l. each_step e l s) h ∙ each-marks e ms s ∙ steps-marks e ms s
+steps-of_lists : (e : EventExpr) (lists : List (List Bool)) (ms : List Mark) → lists ≡ map (spelled e) ms → (s : StateTree) → each_step e lists s ≡ steps_by e ms s
+steps-of_lists e lists ms h s = ap (λ l. each_step e l s) h ∙ each-marks e ms s ∙ steps-marks e ms s
 
-is-count : (n k : ℕ) → counted n ≡ counted k → n ≤ 512 → n ≡ k
-is-count n k h few = by_test (nat_le k 512) (sym (ap (λ t. cond t (Some n) None) (leb-within n 512 few)) ∙ h) where
+is-count : (n k : ℕ) → counted n ≡ counted k → n ≤ state_limit → n ≡ k
+is-count n k h few = by_test (nat_le k state_limit) (sym (ap (λ t. cond t (Some n) None) (leb-within n state_limit few)) ∙ h) where
   by_test : (t : Bool) → Some n ≡ cond t (Some k) None → n ≡ k
   by_test true p = cc
   by_test false p = cc
 
-more-than : (k : ℕ) → nat_le k 512 ≡ false → 512 < k
+more-than : (k : ℕ) → nat_le k state_limit ≡ false → state_limit < k
 more-than k h = grind (arith, nat_tests)
 
-is-many : (n k : ℕ) → counted n ≡ counted k → 512 < n → 512 < k
-is-many n k h many = by_test (nat_le k 512) refl (sym (beyond n many) ∙ h) where
-  by_test : (t : Bool) → nat_le k 512 ≡ t → None ≡ cond t (Some k) None → 512 < k
+is-many : (n k : ℕ) → counted n ≡ counted k → state_limit < n → state_limit < k
+is-many n k h many = by_test (nat_le k state_limit) refl (sym (beyond n many) ∙ h) where
+  by_test : (t : Bool) → nat_le k state_limit ≡ t → None ≡ cond t (Some k) None → state_limit < k
   by_test true p q = cc
   by_test false p q = more-than k p
 
-pub found-many : (e : EventExpr) (lists : List (List Bool)) (n : ℕ) → 512 < n → counted n ≡ counted (listed_count e lists) → (ms : List Mark) → lists ≡ map (spelled e) ms → IsAnswer e ms None
-found-many e lists n many h ms p = subst (λ k. 512 < k) (count-marks e lists ms p) (is-many n (listed_count e lists) h many)
+pub found-many : (e : EventExpr) (lists : List (List Bool)) (n : ℕ) → state_limit < n → counted n ≡ counted (listed_count e lists) → (ms : List Mark) → lists ≡ map (spelled e) ms → IsAnswer e ms None
+found-many e lists n many h ms p = subst (λ k. state_limit < k) (count-marks e lists ms p) (is-many n (listed_count e lists) h many)
 
-pub found-few : (e : EventExpr) (lists : List (List Bool)) (trees : List StateTree) (next : List ℕ) → length trees ≤ 512 → counted (length trees) ≡ counted (listed_count e lists)
-    → slice_get trees 0 ≡ Some (first_tree e) → (length trees ≤ 512 → Leads trees next (flat_map (each_step e lists) trees)) → (ms : List Mark) → lists ≡ map (spelled e) ms
+pub found-few : (e : EventExpr) (lists : List (List Bool)) (trees : List StateTree) (next : List ℕ) → length trees ≤ state_limit → counted (length trees) ≡ counted (listed_count e lists)
+    → slice_get trees 0 ≡ Some (first_tree e) → (length trees ≤ state_limit → Leads trees next (flat_map (each_step e lists) trees)) → (ms : List Mark) → lists ≡ map (spelled e) ms
     → IsAnswer e ms (Some (record { trees = trees; next = next }))
 found-few e lists trees next few h first leads ms p = record {
   count = is-count (length trees) (listed_count e lists) h few ∙ count-marks e lists ms p;
   few = few;
   first = first;
-  next = leads few ∙ (λ i. map Some (flat_map (λ s. steps-listed e lists ms p s i) trees));
+  next = leads few ∙ (λ i. map Some (flat_map (λ s. steps-of_lists e lists ms p s i) trees));
 }
 
 pub told-few : (e : EventExpr) (ms : List Mark) (r : Reached) → IsReached e ms r → Some (length r.trees) ≡ counted (count_over e ms)
-told-few e ms r h = sym (ap (λ t. cond t (Some (length r.trees)) None) (leb-within (length r.trees) 512 h.few)) ∙ ap counted h.count
+told-few e ms r h = sym (ap (λ t. cond t (Some (length r.trees)) None) (leb-within (length r.trees) state_limit h.few)) ∙ ap counted h.count

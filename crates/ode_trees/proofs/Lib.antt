@@ -4,8 +4,7 @@ pub mod CountLaws
 pub mod CoverLaws
 pub mod EqualTrees
 pub mod FoundLaws
-pub mod ListForms
-pub mod ListedLaws
+pub mod ListMachineLaws
 pub mod MachineLaws
 pub mod OrderLaws
 pub mod PairSets

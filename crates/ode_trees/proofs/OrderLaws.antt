@@ -18,11 +18,11 @@ opened s t = ap (λ f. f t) (fold_out-StateTree (StateTree → Ordering) (λ d u
 at_levels : (s t : StateTree) (d u : o.StateTree-F StateTree) → out-StateTree s ≡ d → out-StateTree t ≡ u → tree_cmp s t ≡ tree_cmp_of (map-StateTree StateTree (StateTree → Ordering) tree_cmp d) u
 at_levels s t d u p q = opened s t ∙ ap (λ x. tree_cmp_of (map-StateTree StateTree (StateTree → Ordering) tree_cmp x) (out-StateTree t)) p ∙ ap (tree_cmp_of (map-StateTree StateTree (StateTree → Ordering) tree_cmp d)) q
 
-listed : (xs ys : List StateTree) → list_cmp (λ (x : (StateTree → Ordering)) (y : StateTree). x y) (map tree_cmp xs) ys ≡ list_cmp tree_cmp xs ys
-listed [] [] = refl
-listed [] (y ∷ ys) = refl
-listed (x ∷ xs) [] = refl
-listed (x ∷ xs) (y ∷ ys) = ap (ordering_then (tree_cmp x y)) (listed xs ys)
+list-by_folds : (xs ys : List StateTree) → list_cmp (λ (x : (StateTree → Ordering)) (y : StateTree). x y) (map tree_cmp xs) ys ≡ list_cmp tree_cmp xs ys
+list-by_folds [] [] = refl
+list-by_folds [] (y ∷ ys) = refl
+list-by_folds (x ∷ xs) [] = refl
+list-by_folds (x ∷ xs) (y ∷ ys) = ap (ordering_then (tree_cmp x y)) (list-by_folds xs ys)
 
 paired : (xs ys : List (StateTree × StateTree)) → list_cmp (λ (x : (StateTree → Ordering) × (StateTree → Ordering)) (y : StateTree × StateTree). ordering_then (x.0 y.0) (x.1 y.1)) (map (λ x. (tree_cmp x.0, tree_cmp x.1)) xs) ys ≡ list_cmp pair_cmp xs ys
 paired [] [] = refl
@@ -49,7 +49,7 @@ pub count-count : (e f : StateTree) (b c : ℕ) → tree_cmp (tree.Count e b) (t
 count-count e f b c = at_levels _ _ _ _ (tree.outs-Count e b) (tree.outs-Count f c)
 
 pub started-started : (e f : StateTree) (s t : List StateTree) → tree_cmp (tree.Started e s) (tree.Started f t) ≡ ordering_then (tree_cmp e f) (list_cmp tree_cmp s t)
-started-started e f s t = at_levels _ _ _ _ (tree.outs-Started e s) (tree.outs-Started f t) ∙ ap (ordering_then (tree_cmp e f)) (listed s t)
+started-started e f s t = at_levels _ _ _ _ (tree.outs-Started e s) (tree.outs-Started f t) ∙ ap (ordering_then (tree_cmp e f)) (list-by_folds s t)
 
 pub pairs-pairs : (e f : StateTree) (s t : List (StateTree × StateTree)) → tree_cmp (tree.Pairs e s) (tree.Pairs f t) ≡ ordering_then (tree_cmp e f) (list_cmp pair_cmp s t)
 pairs-pairs e f s t = at_levels _ _ _ _ (tree.outs-Pairs e s) (tree.outs-Pairs f t) ∙ ap (ordering_then (tree_cmp e f)) (paired s t)

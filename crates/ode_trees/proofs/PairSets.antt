@@ -2,22 +2,24 @@
 use Rattle.std.proofs.Common.{◌≡◌, ℕ, zero, suc, ◌-◌, ◌<◌, ◌≤◌, Bool, true, false, List, [], length, map, drop, get_or, refl, ap, sym, ◌∙◌, arith, length-drop}
 use Rattle.std.specs.Prelude.{◌&&◌, ◌||◌, not, filter}
 use Rattle.std.specs.List.{list_any}
+use Rattle.std.proofs.Math.Bool.{and-false, or-false, or_comm}
 use Rattle.ode_value.specs.declared.event.EventExpr.TheOpen as o
 use Rattle.ode_value.specs.declared.tree.StateTree.{StateTree}
 use Rattle.ode_value.specs.declared.tree.StateTree.TheVariants as tree
 use Rattle.ode_value.specs.Marks.{Mark, no_mark}
 use Rattle.ode_value.specs.Points.{Points, some_below, points_of, first_unless}
 use Rattle.ode_value.specs.TreeOrder.{pair_cmp, joined}
-use Rattle.ode_value.specs.Trees.{TreeMachine, machine_of, after, is_spent, next_pair, next_pairs, with_first}
+use Rattle.ode_value.specs.Trees.{TreeMachine, machine_of, is_spent, next_pair, next_pairs, with_first}
 use Rattle.ode_value.proofs.Below.{some_below-same}
+use Rattle.ode_trees.proofs.After.{after}
 use Rattle.ode_trees.proofs.PartLaws.{left-Pairs, pairs-Pairs}
-use Rattle.ode_trees.proofs.EqualTrees.{pairs-equal, any-joined, any-all_joined, any-map, any-filter, or_false, or_comm}
+use Rattle.ode_trees.proofs.EqualTrees.{pairs-equal, any-joined, any-all_joined, any-map, any-filter}
 use Rattle.ode_trees.proofs.Steps.{Runs}
-use Rattle.ode_trees.proofs.Started.{shift, begun, and_false}
+use Rattle.ode_trees.proofs.Started.{shift, begun}
 
 any-begun : (b : Bool) (q : StateTree × StateTree → Bool) (x : StateTree × StateTree) (set : List (StateTree × StateTree)) → list_any q (with_first b (joined pair_cmp x) set) ≡ (list_any q set || (b && q x))
 any-begun true q x set = any-joined pair_cmp pairs-equal q x set ∙ or_comm (q x) (list_any q set)
-any-begun false q x set = sym (or_false (list_any q set))
+any-begun false q x set = sym (or-false (list_any q set))
 
 goes_on : (p before here q : Bool) → (p && (not before && (not here && q))) ≡ (p && (not (before || here) && q))
 goes_on p false here q = refl
@@ -110,7 +112,7 @@ module _ (m : List Mark) (e f g : TreeMachine) where
     at_last n =
         ap (λ b. p m n && (not b && f.answer (after f (drop (suc n) m) (suc n - suc n)))) (over_begun n)
         ∙ ap (λ x. p m n && f.answer x) (begun f (drop (suc n) m) n)
-        ∙ ap (λ b. p m n && b) (s (suc n)).none ∙ and_false (p m n)
+        ∙ ap (λ b. p m n && b) (s (suc n)).none ∙ and-false (p m n)
 
     -- in the part after k, the trees of f and g answer as their points say
     at_each : (n k : ℕ) → n < length m → k < n → opens p n k ≡ (p m k && first_unless q u (drop (suc k) m) (n - suc k))
@@ -129,5 +131,5 @@ module _ (m : List Mark) (e f g : TreeMachine) where
     here : (n : ℕ) → n < length m → some_below (opens p n) (suc n) ≡ points_of (o.Fa p q u) m n
     here n h =
         ap (λ b. some_below (opens p n) n || b) (at_last n)
-        ∙ or_false (some_below (opens p n) n)
+        ∙ or-false (some_below (opens p n) n)
         ∙ some_below-same _ _ n (λ k below. at_each n k h below)

@@ -3,6 +3,7 @@ use Rattle.std.proofs.Common.{◌≡◌, ℕ, zero, suc, ◌+◌, ◌-◌, ◌<�
 use Rattle.std.specs.Prelude.{◌&&◌, ◌||◌}
 use Rattle.std.specs.List.{list_any}
 use Rattle.std.proofs.lemmas.List.{get_or-drop}
+use Rattle.std.proofs.Math.Bool.{and-false, or-false, or_comm}
 use Rattle.ode_value.specs.declared.event.EventExpr.TheOpen as o
 use Rattle.ode_value.specs.declared.tree.StateTree.{StateTree}
 use Rattle.ode_value.specs.declared.tree.StateTree.TheVariants as tree
@@ -13,7 +14,7 @@ use Rattle.ode_value.specs.Trees.{TreeMachine, machine_of, next_started, with_fi
 use Rattle.ode_value.proofs.Below.{some_below-same}
 use Rattle.ode_trees.proofs.After.{after}
 use Rattle.ode_trees.proofs.PartLaws.{left-Started, started-Started}
-use Rattle.ode_trees.proofs.EqualTrees.{tree-equal, any-joined, any-all_joined, any-map, or_false, or_comm}
+use Rattle.ode_trees.proofs.EqualTrees.{tree-equal, any-joined, any-all_joined, any-map}
 use Rattle.ode_trees.proofs.Steps.{Runs}
 
 -- a run over a part of the history goes on as the run over the whole does
@@ -29,11 +30,7 @@ begun f m n = let none : suc n - suc n ≡ 0 = omega arith in ap (after f m) non
 
 any-started : (b : Bool) (q : StateTree → Bool) (s : StateTree) (set : List StateTree) → list_any q (with_first b (joined tree_cmp s) set) ≡ (list_any q set || (b && q s))
 any-started true q s set = any-joined tree_cmp tree-equal q s set ∙ or_comm (q s) (list_any q set)
-any-started false q s set = sym (or_false (list_any q set))
-
-pub and_false : (b : Bool) → (b && false) ≡ false
-and_false true = refl
-and_false false = refl
+any-started false q s set = sym (or-false (list_any q set))
 
 module _ (m : List Mark) where
   -- the trees of f for the points of e among the first n
@@ -65,7 +62,7 @@ module _ (m : List Mark) where
     each = λ n h. rw (relative_after e f (suc n), started-Started) (any-set e f p r (suc n) (omega arith) f.answer ∙ here n h);
   } where
     at_last : (n : ℕ) → (p m n && f.answer (after f (drop (suc n) m) (suc n - suc n))) ≡ false
-    at_last n = ap (λ t. p m n && f.answer t) (begun f (drop (suc n) m) n) ∙ ap (λ b. p m n && b) (s (suc n)).none ∙ and_false (p m n)
+    at_last n = ap (λ t. p m n && f.answer t) (begun f (drop (suc n) m) n) ∙ ap (λ b. p m n && b) (s (suc n)).none ∙ and-false (p m n)
 
     at_each : (n k : ℕ) → n < length m → k < n → f.answer (after f (drop (suc k) m) (suc n - suc k)) ≡ q (drop (suc k) m) (n - suc k)
     at_each n k h below =
@@ -76,5 +73,5 @@ module _ (m : List Mark) where
     here : (n : ℕ) → n < length m → some_below (λ k. p m k && f.answer (after f (drop (suc k) m) (suc n - suc k))) (suc n) ≡ points_of (o.Relative p q) m n
     here n h =
         ap (λ b. some_below (λ k. p m k && f.answer (after f (drop (suc k) m) (suc n - suc k))) n || b) (at_last n)
-        ∙ or_false (some_below (λ k. p m k && f.answer (after f (drop (suc k) m) (suc n - suc k))) n)
+        ∙ or-false (some_below (λ k. p m k && f.answer (after f (drop (suc k) m) (suc n - suc k))) n)
         ∙ some_below-same _ _ n (λ k below. ap (λ b. p m k && b) (at_each n k h below))

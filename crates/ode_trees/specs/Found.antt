@@ -5,6 +5,7 @@ use Rattle.std.specs.List.{list_any, slice_get}
 use Rattle.std.specs.Map.{lookup}
 use Rattle.std.specs.Option.{is_some}
 use Rattle.std.specs.Ordering.{is_eq, nat_cmp}
+use Rattle.ode_value.specs.Limits.{state_limit}
 use Rattle.ode_value.specs.declared.event.EventExpr.{EventExpr}
 use Rattle.ode_value.specs.declared.tree.StateTree.{StateTree}
 use Rattle.ode_value.specs.Marks.{Mark}
@@ -39,11 +40,11 @@ steps_by e ms s = map (λ m. next_tree e m s) ms
 -- The trees that words of these marks reach, from the first one on, and for each the numbers of the trees after it by each mark.
 pub record IsReached (e : EventExpr) (ms : List Mark) (r : Reached) : Type 0 where
   pub count : length r.trees ≡ count_over e ms
-  pub few : length r.trees ≤ 512
+  pub few : length r.trees ≤ state_limit
   pub first : slice_get r.trees 0 ≡ Some (first_tree e)
   pub next : Leads r.trees r.next (flat_map (steps_by e ms) r.trees)
 
--- the trees, where there are at most 512
+-- the trees, where there are few
 abbrev pub IsAnswer : EventExpr → List Mark → Option Reached → Type 0
-IsAnswer e ms None = 512 < count_over e ms
+IsAnswer e ms None = state_limit < count_over e ms
 IsAnswer e ms (Some r) = IsReached e ms r

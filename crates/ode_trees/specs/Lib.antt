@@ -1,3 +1,3 @@
 pub mod Codes
 pub mod Found
-pub mod Listed
+pub mod ListMachines

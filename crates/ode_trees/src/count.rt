@@ -8,7 +8,7 @@ use crate::growth::reach;
 use ode_value::{EventExpr, List};
 use std::alloc::{AllocError, Global};
 
-/// The number of trees that words of these marks reach, up to 512; None where it is more. A mark says of each leaf, in the order
+/// The number of trees that words of these marks reach, up to the limit; None where it is more. A mark says of each leaf, in the order
 /// of the text, whether it holds.
 pub fn count_trees(
     alloc: Global,

@@ -3,8 +3,9 @@ ghost use Rattle.std.specs.Prelude.{◌≡◌, ◌<◌, ◌≤◌, ◌++◌, ◌
 ghost use Rattle.std.specs.List.{list_any, slice_get};
 ghost use Rattle.ode_trees.specs.Codes.{code};
 ghost use Rattle.ode_trees.specs.Found.{Covers, IsAnswer, Leads};
-ghost use Rattle.ode_trees.specs.Listed.{each_step, listed_count};
+ghost use Rattle.ode_trees.specs.ListMachines.{each_step, listed_count};
 ghost use Rattle.ode_value.specs.declared.tree.StateTree.{StateTree as Tree};
+ghost use Rattle.ode_value.specs.Limits.{state_limit};
 ghost use Rattle.ode_value.specs.Marks.{Mark, leaves, spelled};
 ghost use Rattle.ode_value.specs.Numbers.{has_numbers};
 ghost use Rattle.ode_value.specs.TreeCount.{counted, with_tree};
@@ -14,6 +15,7 @@ ghost use Rattle.ode_value.specs.Trees.{first_tree};
 use crate::codes::write;
 use crate::machine::{init, step_listed};
 use crate::order::same;
+use ode_value::limits::STATE_LIMIT;
 use ode_value::{EventExpr, List, StateTree};
 use std::alloc::{AllocError, Global};
 use std::collections::BTreeMap;
@@ -185,24 +187,24 @@ fn begin(alloc: Global, e: &EventExpr) -> Result<Search, AllocError>
     Ok(found)
 }
 
-// All trees that words reach, with the trees after each, or more than 512 of them.
+// All trees that words reach, with the trees after each, or more of them than a trigger may have.
 fn explore(alloc: Global, e: &EventExpr, marks: &[List<bool>]) -> Result<Search, AllocError>
     requires whole { All (λ (mark : Items Bool). length mark ≡ length (leaves e.now)) marks.now }
     requires numbers { has_numbers e.now ≡ true }
     ensures count { IfOk result (λ found. counted (length found.trees) ≡ counted (listed_count e.now marks.now)) }
     ensures first { IfOk result (λ found. slice_get found.trees 0 ≡ Some (first_tree e.now)) }
-    ensures next { IfOk result (λ found. length found.trees ≤ 512 → Leads found.trees found.next (flat_map (each_step e.now marks.now) found.trees)) }
+    ensures next { IfOk result (λ found. length found.trees ≤ state_limit → Leads found.trees found.next (flat_map (each_step e.now marks.now) found.trees)) }
 {
     let mut found = begin(alloc, e)?;
     let mut q = 0;
-    while q < found.trees.len() && found.trees.len() <= 512 {
+    while q < found.trees.len() && found.trees.len() <= STATE_LIMIT {
         add_row(alloc, e, marks, &mut found, q)?;
         q += 1;
     }
     Ok(found)
 }
 
-/// The trees that words of these marks reach, where there are at most 512. A mark says of each leaf, in the order of the text,
+/// The trees that words of these marks reach, where a trigger may have so many. A mark says of each leaf, in the order of the text,
 /// whether it holds.
 pub fn reach(
     alloc: Global,
@@ -211,11 +213,11 @@ pub fn reach(
 ) -> Result<Option<Reached>, AllocError>
     requires whole { All (λ (mark : Items Bool). length mark ≡ length (leaves e.now)) marks.now }
     requires numbers { has_numbers e.now ≡ true }
-    ensures few { IfOk result (λ answer. IfSome answer (λ reached. length reached.trees ≤ 512)) }
+    ensures few { IfOk result (λ answer. IfSome answer (λ reached. length reached.trees ≤ state_limit)) }
     ensures answer { IfOk result (λ answer. (ms : Items Mark) → marks.now ≡ map (spelled e.now) ms → IsAnswer e.now ms answer) }
 {
     let found = explore(alloc, e, marks)?;
-    if found.trees.len() <= 512 {
+    if found.trees.len() <= STATE_LIMIT {
         let Search { trees, next, .. } = found;
         Ok(Some(Reached { trees, next }))
     } else {

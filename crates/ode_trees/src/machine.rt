@@ -1,7 +1,7 @@
 //! The first tree of an expression, a step and the answer.
 ghost use Rattle.std.specs.Prelude.{◌≡◌, ◌+◌, ◌<◌, ◌≤◌, ◌^◌, [], IfOk, OnOk, length, map, min, true};
 ghost use Rattle.std.specs.List.{list_any};
-ghost use Rattle.ode_trees.specs.Listed.{leaf_count, next_listed, pairs_after};
+ghost use Rattle.ode_trees.specs.ListMachines.{leaf_count, next_listed, pairs_after};
 ghost use Rattle.ode_value.specs.Marks.{Mark, leaves, spelled};
 ghost use Rattle.ode_value.specs.Numbers.{has_numbers};
 ghost use Rattle.ode_value.specs.TreeOrder.{all_joined, joined, pair_cmp, tree_cmp};
@@ -13,7 +13,7 @@ use ode_value::{Boxed, EventExpr, List, StateTree};
 use std::alloc::{AllocError, Global};
 
 // How many leaves the expression has.
-#[tactic(auto, using(crate::proofs::ListedLaws::listings))]
+#[tactic(auto, using(crate::proofs::ListMachineLaws::listings))]
 fn leaf_count(e: &EventExpr) -> usize
     requires { leaf_count e.now < 2 ^ 64 }
     ensures { result ≡ leaf_count e.now }
@@ -58,13 +58,13 @@ fn counted(alloc: Global, part: StateTree, count: u32) -> Result<StateTree, Allo
     Ok(StateTree::Count(Boxed::new(alloc, part)?, count))
 }
 
-fn started(alloc: Global, part: StateTree, set: List<StateTree>) -> Result<StateTree, AllocError>
+fn with_started(alloc: Global, part: StateTree, set: List<StateTree>) -> Result<StateTree, AllocError>
     ensures { IfOk result (λ t. t ≡ StateTree.Started part set) }
 {
     Ok(StateTree::Started(Boxed::new(alloc, part)?, set))
 }
 
-fn paired(alloc: Global, part: StateTree, set: List<(StateTree, StateTree)>) -> Result<StateTree, AllocError>
+fn with_pairs(alloc: Global, part: StateTree, set: List<(StateTree, StateTree)>) -> Result<StateTree, AllocError>
     ensures { IfOk result (λ t. t ≡ StateTree.Pairs part set) }
 {
     Ok(StateTree::Pairs(Boxed::new(alloc, part)?, set))
@@ -95,7 +95,7 @@ pub fn init(alloc: Global, e: &EventExpr) -> Result<StateTree, AllocError>
         }
         EventExpr::Relative(e, _) => {
             let part = init(alloc, e.get())?;
-            started(alloc, part, List::new(alloc))
+            with_started(alloc, part, List::new(alloc))
         }
         EventExpr::Prior(e, f) => {
             let first = init(alloc, e.get())?;
@@ -117,7 +117,7 @@ pub fn init(alloc: Global, e: &EventExpr) -> Result<StateTree, AllocError>
         }
         EventExpr::Fa(e, _, _) => {
             let part = init(alloc, e.get())?;
-            paired(alloc, part, List::new(alloc))
+            with_pairs(alloc, part, List::new(alloc))
         }
     }
 }
@@ -200,7 +200,7 @@ fn turn_after(n: u32, answers: bool, c: u32) -> u32
 
 // The tree after one more point, of which the list says from a place on which leaves hold.
 #[cycle(step)]
-#[tactic(auto, using(crate::proofs::ListedLaws::steps))]
+#[tactic(auto, using(crate::proofs::ListMachineLaws::steps))]
 fn step_at(
     alloc: Global,
     e: &EventExpr,
@@ -309,7 +309,7 @@ fn begin_pair(
 }
 
 #[cycle(step)]
-#[tactic(auto, using(crate::proofs::ListedLaws::steps))]
+#[tactic(auto, using(crate::proofs::ListMachineLaws::steps))]
 fn step_relative(
     alloc: Global,
     e: &EventExpr,
@@ -327,11 +327,11 @@ fn step_relative(
     let mut set = step_all(alloc, f, started(s), mark, at + leaf_count(e))?;
     let answers = out(e, &part);
     begin(alloc, answers, f, &mut set)?;
-    started(alloc, part, set)
+    with_started(alloc, part, set)
 }
 
 #[cycle(step)]
-#[tactic(auto, using(crate::proofs::ListedLaws::steps))]
+#[tactic(auto, using(crate::proofs::ListMachineLaws::steps))]
 fn step_fa(
     alloc: Global,
     e: &EventExpr,
@@ -351,7 +351,7 @@ fn step_fa(
     let mut set = step_pairs(alloc, f, g, pairs(s), mark, at + leaf_count(e))?;
     let answers = out(e, &part);
     begin_pair(alloc, answers, f, g, &mut set)?;
-    paired(alloc, part, set)
+    with_pairs(alloc, part, set)
 }
 
 #[cycle(step)]

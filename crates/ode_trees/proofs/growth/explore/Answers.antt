@@ -1,13 +1,14 @@
 use Rattle.std.proofs.Common.{◌<◌, ◌≤◌, ◌≡◌, [], ◌∷◌, ◌+◌, arith, length, get_or, take, sym, ap, ◌∙◌, subst, inl, inr}
 use Rattle.std.specs.Prelude.{Some, flat_map, fold}
 use Rattle.std.specs.List.{slice_get}
+use Rattle.ode_value.specs.Limits.{state_limit}
 use Rattle.ode_value.specs.TreeCount.{with_tree}
 use Rattle.ode_value.specs.Trees.{first_tree}
 use Rattle.ode_trees.specs.Found.{IsMade, Leads}
-use Rattle.ode_trees.specs.Listed.{each_step}
+use Rattle.ode_trees.specs.ListMachines.{each_step}
 use Rattle.ode_trees.proofs.FoundLaws.{more-made, more-steps, not-shorter, first-stays, count-found}
 use Rattle.ode_trees.proofs.growth.explore.Goals as goal
-use Rattle.ode_trees.proofs.growth.explore.Goals.{then-loop-q-test+else-len-le512, else-loop-q-test}
+use Rattle.ode_trees.proofs.growth.explore.Goals.{then-loop-q-test+else-len-le-STATE_LIMIT, else-loop-q-test}
 
 pub loop-q-preserved : goal.loop-q-preserved
 loop-q-preserved c =
@@ -18,7 +19,7 @@ loop-q-preserved c =
     let first = first_tree e in
     let new = each_step e marks (get_or trees q first) in
     let within : q < length trees = omega (arith, c.len.ensures, c.loop-q-test.true) in
-    let few : length trees ≤ 512 = omega (arith, c.len-in-loop-q.ensures, c.if-len-le512.true) in
+    let few : length trees ≤ state_limit = omega (arith, c.len-in-loop-q.ensures, c.if-len-le-STATE_LIMIT.true) in
     let after = c.in_ok-add_row.ensures.trees in
     record {
       covers = c.in_ok-add_row.ensures.covers;
@@ -37,6 +38,6 @@ returns-clause-count c =
     let marks = c.args.marks.now in
     let i = c.loop-q.invariant in
     elim c.loop-q-test.branch [
-      | then-loop-q-test+else-len-le512 w ↦ count-found e marks c.loop-q.q c.loop-q.found.trees i.made i.within i.few (inr (let more = w.if-len-le512.false in omega (arith, w.len-in-loop-q.ensures)))
+      | then-loop-q-test+else-len-le-STATE_LIMIT w ↦ count-found e marks c.loop-q.q c.loop-q.found.trees i.made i.within i.few (inr (let more = w.if-len-le-STATE_LIMIT.false in omega (arith, w.len-in-loop-q.ensures)))
       | else-loop-q-test w ↦ count-found e marks c.loop-q.q c.loop-q.found.trees i.made i.within i.few (inl (let done = w.loop-q-test.false in omega (arith, c.len.ensures)))
     ]

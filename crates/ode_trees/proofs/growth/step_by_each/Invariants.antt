@@ -1,5 +1,5 @@
 use Rattle.std.proofs.Common.{◌≡◌, take}
-use Rattle.ode_trees.specs.Listed.{each_step}
+use Rattle.ode_trees.specs.ListMachines.{each_step}
 use Rattle.ode_trees.proofs.growth.step_by_each.Given as goal
 
 -- the steps by the marks so far

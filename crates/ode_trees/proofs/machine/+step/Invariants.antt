@@ -2,7 +2,7 @@ use Rattle.std.proofs.Common.{◌≡◌, [], drop, map}
 use Rattle.std.specs.Prelude.{◌+◌, ◌*◌, max}
 use Rattle.ode_value.specs.declared.event.EventExpr.{size-EventExpr}
 use Rattle.ode_value.specs.TreeOrder.{tree_cmp, all_joined}
-use Rattle.ode_trees.specs.Listed.{next_listed, pairs_after}
+use Rattle.ode_trees.specs.ListMachines.{next_listed, pairs_after}
 use Rattle.ode_trees.proofs.machine.+step.Given as goal
 
 -- the rest still has to step

@@ -1,4 +1,4 @@
-use Rattle.ode_trees.proofs.ListedLaws.{by-mark}
+use Rattle.ode_trees.proofs.ListMachineLaws.{by-mark}
 use Rattle.ode_trees.proofs.machine.step.Goals as goal
 
 pub returns : goal.returns

@@ -1,5 +1,5 @@
 use Rattle.std.proofs.Common.{arith}
-use Rattle.ode_trees.proofs.ListedLaws.{leaf_count-leaves}
+use Rattle.ode_trees.proofs.ListMachineLaws.{leaf_count-leaves}
 use Rattle.ode_trees.proofs.machine.step_listed.Goals as goal
 
 pub step_at-requires-clause-fits : goal.step_at-requires-clause-fits
