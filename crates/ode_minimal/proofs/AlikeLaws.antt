@@ -28,13 +28,6 @@ apart-back t p q s below apart = record {
   differs = apart.differs;
 }
 
-pub same_or : (m n : ℕ) → (m ≡ n) ⊎ (m ≢ n)
-same_or m n = by_order (cases_lt m n) (cases_lt n m) where
-  by_order : (m < n) ⊎ (n ≤ m) → (n < m) ⊎ (m ≤ n) → (m ≡ n) ⊎ (m ≢ n)
-  by_order (inl less) _ = inr (λ e. omega arith)
-  by_order (inr low) (inl more) = inr (λ e. omega arith)
-  by_order (inr low) (inr high) = inl (omega arith)
-
 pub same_answer_or : (a b : Bool) → (a ≡ b) ⊎ (a ≢ b)
 same_answer_or true true = inl refl
 same_answer_or true false = inr (λ e. false≢true (sym e))

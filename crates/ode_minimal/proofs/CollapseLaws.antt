@@ -1,7 +1,7 @@
 -- Alike states put together, step by step.
 use Rattle.std.proofs.Common.{◌≡◌, ◌≢◌, ℕ, zero, suc, ◌+◌, ◌*◌, ◌^◌, ◌<◌, ◌≤◌, cond, List, [], ◌∷◌, ◌++◌, length, get_or, set, replicate, refl, sym, ap, ◌∙◌, subst, arith, inl, inr, ◌⊎◌, Option, Some, None}
 use Rattle.std.specs.Prelude.{is_some}
-use Rattle.std.proofs.lemmas.Bool.{cases_lt}
+use Rattle.std.proofs.lemmas.Bool.{cases_eq, cases_lt}
 use Rattle.std.proofs.lemmas.List.{get_or_append_left, get_or_push, get_or_past, get_or-set_same, get_or-set_other, get_or-replicate, length_push, length-set, length-replicate}
 use Rattle.std.proofs.lemmas.List.Folds.{sum_by-replicate}
 use Rattle.std.proofs.lemmas.List.Sums.{sum_by-set, count_by-le-length}
@@ -11,7 +11,7 @@ use Rattle.ode_value.specs.Tables.{Table, next_state}
 use Rattle.ode_minimal.specs.declared.collapse.Collapse.{Collapse}
 use Rattle.ode_minimal.specs.Collapse.{IsFirst, IsStepped, IsFor, IsNumbered, IsCollapse}
 use Rattle.ode_minimal.specs.Minimal.{IsAlike}
-use Rattle.ode_minimal.proofs.AlikeLaws.{same_or, push_each}
+use Rattle.ode_minimal.proofs.AlikeLaws.{push_each}
 
 abbrev one : Option ℕ → ℕ
 one o = cond (is_some o) 1 0
@@ -101,7 +101,7 @@ module _ (t : Table) (c : Collapse) (head s q : ℕ) (h : IsCollapse t c head s)
         cc
 
     numbers_by : (r n : ℕ) → get_or numbers' r None ≡ Some n → (n < length states') × (get_or states' n 0 ≡ r)
-    numbers_by r n is = by_case (same_or r q) where
+    numbers_by r n is = by_case (cases_eq r q) where
       by_case : (r ≡ q) ⊎ (r ≢ q) → (n < length states') × (get_or states' n 0 ≡ r)
       by_case (inl same) =
           let last : Some (length c.states) ≡ Some n = sym (get_or-set_same c.numbers q (Some (length c.states)) None in_numbers) ∙ ap (λ k. get_or numbers' k None) (sym same) ∙ is in
@@ -223,7 +223,7 @@ module _ (t : Table) (few_states : t.states < 2 ^ 16) (some_states : 0 < t.state
   length_none = length-replicate t.states no_number
 
   start_by : (q n : ℕ) → get_or start_numbers q None ≡ Some n → (n < length only_start) × (get_or only_start n 0 ≡ q)
-  start_by q n is = by_case (same_or q 0) where
+  start_by q n is = by_case (cases_eq q 0) where
     by_case : (q ≡ 0) ⊎ (q ≢ 0) → (n < length only_start) × (get_or only_start n 0 ≡ q)
     by_case (inl same) =
         let first : Some 0 ≡ Some n = sym (get_or-set_same none 0 (Some 0) None (omega (arith, length_none))) ∙ ap (λ k. get_or start_numbers k None) (sym same) ∙ is in

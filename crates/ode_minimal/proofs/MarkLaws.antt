@@ -1,7 +1,7 @@
 -- Marks on pairs.
 use Rattle.std.proofs.Common.{◌≡◌, ◌≢◌, ℕ, ◌+◌, ◌*◌, ◌<◌, ◌≤◌, Bool, true, false, cond, List, [], ◌∷◌, ◌++◌, length, get_or, set, refl, sym, ap, ◌∙◌, subst, arith, inl, inr, ◌⊎◌, below_more}
 use Rattle.std.specs.Prelude.{Contains}
-use Rattle.std.proofs.lemmas.Bool.{cases_lt, false≢true}
+use Rattle.std.proofs.lemmas.Bool.{cases_eq, cases_lt, false≢true}
 use Rattle.std.proofs.lemmas.List.{get_or_append_left, get_or_push, get_or_past, get_or-set_other, length_push, length-set, get_or_default}
 use Rattle.std.proofs.lemmas.List.Elements.{All-tail}
 use Rattle.std.proofs.lemmas.List.Sums.{sum_by-set, count_by-le-length}
@@ -11,7 +11,7 @@ use Rattle.ode_minimal.specs.declared.marking.Marks.{Marks}
 use Rattle.ode_minimal.specs.Marking.{pair_at, is_marked, IsMarked, IsListed, IsMarking, Grows, MarksAll, MarksSources, MarksUnequal, IsDecided}
 use Rattle.ode_minimal.specs.Minimal.{IsOf, IsApart}
 use Rattle.ode_minimal.specs.Sources.{sources, IsSources}
-use Rattle.ode_minimal.proofs.AlikeLaws.{same_or, same_answer_or, push_each, apart-back}
+use Rattle.ode_minimal.proofs.AlikeLaws.{same_answer_or, push_each, apart-back}
 
 abbrev one : Bool → ℕ
 one b = cond b 1 0
@@ -42,7 +42,7 @@ module _ (t : Table) (m : Marks) (p q : ℕ) (below_p : p < t.states) (below_q :
     by_place (inr after) = subst P (sym (get_or_past pairs k (0, 0) after)) none
 
   listed : (x y : ℕ) → x < t.states → y < t.states → is_marked t marked x y ≡ true → IsListed t pairs x y
-  listed x y low_x low_y there = by_case (same_or (x * t.states + y) place) where
+  listed x y low_x low_y there = by_case (cases_eq (x * t.states + y) place) where
     by_case : (x * t.states + y ≡ place) ⊎ (x * t.states + y ≢ place) → IsListed t pairs x y
     by_case (inl same) =
         let parts = same_from_place x y p q t.states low_y below_q same in

@@ -5,9 +5,10 @@ use Rattle.std.proofs.lemmas.List.{get_or-set_same, get_or-set_other, length-set
 use Rattle.std.proofs.lemmas.List.Elements.{Contains-append_left, Contains-push}
 use Rattle.std.proofs.Math.Nat.{mul_comm}
 use Rattle.std.proofs.lemmas.Nat.{mul-add-lt, same_from_place}
+use Rattle.std.proofs.lemmas.Bool.{cases_eq}
 use Rattle.ode_value.specs.Tables.{Table, next_state}
 use Rattle.ode_minimal.specs.Sources.{sources, IsFilled, IsSources}
-use Rattle.ode_minimal.proofs.AlikeLaws.{same_or, push_each}
+use Rattle.ode_minimal.proofs.AlikeLaws.{push_each}
 
 pub row_fits : (t : Table) (rows r s : ℕ) → rows ≡ t.states * t.symbols → r < t.states → s < t.symbols → r * t.symbols + s < rows
 row_fits t rows r s is_rows below_r below_s = subst (λ n. r * t.symbols + s < n) (mul_comm t.symbols t.states ∙ sym is_rows) (mul-add-lt r t.symbols s t.states below_r below_s)
@@ -66,7 +67,7 @@ module _ (t : Table) (lists : List (List ℕ)) (head upto : ℕ) (is_state : hea
     pub list : sources t more r s ≡ sources t lists r s ++ head ∷ []
 
   same_list : (r s : ℕ) → s < t.symbols → (sources t more r s ≡ sources t lists r s) ⊎ IsLonger r s
-  same_list r s below = by_place (same_or (r * t.symbols + s) place) where
+  same_list r s below = by_place (cases_eq (r * t.symbols + s) place) where
     by_place : (r * t.symbols + s ≡ place) ⊎ (r * t.symbols + s ≢ place) → (sources t more r s ≡ sources t lists r s) ⊎ IsLonger r s
     by_place (inl same) =
         let parts = same_from_place r s to upto t.symbols below is_symbol same in

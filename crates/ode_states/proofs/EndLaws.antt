@@ -5,6 +5,7 @@ use Rattle.std.specs.Option.{option_map_or}
 use Rattle.std.proofs.lemmas.Bool.{false≢true, and_right, eq-eqb, ne_eqb, cases_Bool}
 use Rattle.std.proofs.lemmas.List.Folds.{list_any-append}
 use Rattle.std.proofs.lemmas.Simd.{map-map}
+use Rattle.std.proofs.Math.Bool.{or-false}
 use Rattle.ode_value.specs.declared.class.Class.{Class}
 use Rattle.ode_value.specs.declared.event.Point.{Point}
 use Rattle.ode_value.specs.declared.member.TriggerDecl.{TriggerDecl}
@@ -28,10 +29,6 @@ use Rattle.ode_states.proofs.PlacedLaws.{each_as, Precedes, Rise, not_later}
 use Rattle.ode_states.proofs.TriggerLaws.{triggers_rise}
 
 -- ---- some element passes
-or_none : (b : Bool) → (b || false) ≡ b
-or_none true = refl
-or_none false = refl
-
 any_alike : {X : Type 0} (f g : X → Bool) (xs : List X) → AllByRecursion (λ x. f x ≡ g x) xs → list_any f xs ≡ list_any g xs
 any_alike f g [] alike = refl
 any_alike f g (x ∷ xs) alike = ap (λ b. b || list_any f xs) alike.0 ∙ ap (λ b. g x || b) (any_alike f g xs alike.1)
@@ -65,7 +62,7 @@ one_from front (a ∷ acts) low below rising = (
       any_behind q a.id front (a ∷ acts) (below_it front a low below rising.0)
       ∙ ap (λ t. (t && q a) || list_any (has q a.id) acts) (eq-eqb a.id a.id refl)
       ∙ ap (λ b. q a || b) (any_ahead q a.id (a.id + 1) acts (omega arith) rising.1)
-      ∙ or_none (q a)),
+      ∙ or-false (q a)),
   subst (λ l. AllByRecursion (λ b. (q : Running → Bool) → list_any (has q b.id) l ≡ q b) acts) (append_assoc front (a ∷ []) acts)
       (one_from (front ++ a ∷ []) acts (a.id + 1) (below_next front a low below rising.0) rising.1),
 )
@@ -92,7 +89,7 @@ one_ends goes a trigger (t ∷ ts) rise found =
     ap (λ b. ((b && goes) && not t.decl.perpetual) || list_any (ends_of goes a) ts) is
     ∙ ap (λ b. (goes && not t.decl.perpetual) || b)
     (none_ends goes a ts (each_as (Precedes t) (λ u. is_of u (activation_of a) ≡ false) ts (λ u after. not_later a t u is after) rise.0))
-    ∙ or_none (goes && not t.decl.perpetual)
+    ∙ or-false (goes && not t.decl.perpetual)
     ∙ ap (λ (u : Trigger). goes && not u.decl.perpetual) same)
     (λ no.
     ap (λ b. ((b && goes) && not t.decl.perpetual) || list_any (ends_of goes a) ts) no

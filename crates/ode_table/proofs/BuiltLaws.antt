@@ -5,6 +5,7 @@ use Rattle.std.specs.List.{range_with_len}
 use Rattle.std.proofs.lemmas.List.{length-map}
 use Rattle.std.proofs.lemmas.List.Elements.{All-map}
 use Rattle.std.proofs.lemmas.List.FromFn.{length-map-range_with_len}
+use Rattle.std.proofs.lemmas.Simd.{map-map}
 use Rattle.ode_value.specs.declared.event.EventExpr.{EventExpr}
 use Rattle.ode_value.specs.Marks.{Leaf, Mark, leaves, spelled}
 use Rattle.ode_value.specs.Symbols.{MaskedKind, symbol_mark, symbol_count}
@@ -21,12 +22,8 @@ marks_in rows = map (mark_among rows) (range_with_len 0 (size_of rows))
 pub lists-length : (e : EventExpr) (mark : ℕ → Mark) (symbols : List ℕ) → All (λ (list : List Bool). length list ≡ length (leaves e)) (map (λ s. spelled e (mark s)) symbols)
 lists-length e mark symbols = All-map (λ (list : List Bool). length list ≡ length (leaves e)) (λ s. spelled e (mark s)) symbols (λ k d within. length-map (leaves e) (λ (l : Leaf). mark (slice_index_or symbols k d) l.0 l.1))
 
-map-twice : {A B C : Type 0} (f : A → B) (g : B → C) (xs : List A) → map (λ x. g (f x)) xs ≡ map g (map f xs)
-map-twice f g [] = refl
-map-twice f g (x ∷ xs) = ap (λ l. g (f x) ∷ l) (map-twice f g xs)
-
 pub lists-in : (e : EventExpr) (rows : List MaskedKind) → map (λ s. spelled e (mark_among rows s)) (range_with_len 0 (size_of rows)) ≡ map (spelled e) (marks_in rows)
-lists-in e rows = map-twice (mark_among rows) (spelled e) (range_with_len 0 (size_of rows))
+lists-in e rows = sym (map-map (spelled e) (mark_among rows) (range_with_len 0 (size_of rows)))
 
 pub marks_in-length : (rows : List MaskedKind) → size_of rows ≡ length (marks_in rows)
 marks_in-length rows = sym (length-map-range_with_len (mark_among rows) 0 (size_of rows))
@@ -38,7 +35,7 @@ pub lists-of : (e of : EventExpr) (rows : List MaskedKind) → IsOver e of rows 
 lists-of e of rows h =
     map-same (λ s. spelled e (mark_among rows s)) (λ s. spelled e (symbol_mark of s)) (λ s. spelled-mark e of s rows h.rows_are h.leaves) (range_with_len 0 (size_of rows))
     ∙ ap (λ l. map (λ s. spelled e (symbol_mark of s)) (range_with_len 0 (size_of l))) h.rows_are
-    ∙ map-twice (symbol_mark of) (spelled e) (range_with_len 0 (symbol_count of))
+    ∙ sym (map-map (spelled e) (symbol_mark of) (range_with_len 0 (symbol_count of)))
 
 pub size-of : (e of : EventExpr) (rows : List MaskedKind) → IsOver e of rows → size_of rows ≡ symbol_count of
 size-of e of rows h = ap size_of h.rows_are

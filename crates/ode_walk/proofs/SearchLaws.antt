@@ -1,7 +1,7 @@
 -- Steps of a search.
 use Rattle.std.proofs.Common.{◌≡◌, ◌≢◌, ℕ, zero, suc, ◌+◌, ◌*◌, ◌<◌, ◌≤◌, Bool, true, false, cond, List, [], ◌∷◌, ◌++◌, length, get_or, set, replicate, refl, sym, ap, ◌∙◌, subst, arith, inl, inr, ◌⊎◌, below_more}
 use Rattle.std.specs.Prelude.{count_by}
-use Rattle.std.proofs.lemmas.Bool.{cases_lt, false≢true}
+use Rattle.std.proofs.lemmas.Bool.{cases_eq, cases_lt, false≢true}
 use Rattle.std.proofs.lemmas.List.{get_or_append_left, get_or_push, get_or_past, get_or-set_other, get_or-replicate, length_push, length-set, length-replicate}
 use Rattle.std.proofs.lemmas.List.Folds.{sum_by-replicate}
 use Rattle.std.proofs.lemmas.List.Sums.{sum_by-set, count_by-le-length}
@@ -68,13 +68,6 @@ module _ (visits : List Visit) (v : Visit) where
     answers = h.answers;
     visited = visited_more (next_state stored u.stored s) (next_state built u.built s) (u.length + 1) (u.length + 1) (omega arith) h.visited;
   }
-
-same_or : (m n : ℕ) → (m ≡ n) ⊎ (m ≢ n)
-same_or m n = by_order (cases_lt m n) (cases_lt n m) where
-  by_order : (m < n) ⊎ (n ≤ m) → (n < m) ⊎ (m ≤ n) → (m ≡ n) ⊎ (m ≢ n)
-  by_order (inl less) _ = inr (λ e. omega arith)
-  by_order (inr low) (inl more) = inr (λ e. omega arith)
-  by_order (inr low) (inr high) = inl (omega arith)
 
 -- ---- a step to a pair that was seen
 
@@ -158,7 +151,7 @@ module _ (stored built : Table) (visits : List Visit) (seen : List Bool) (head u
     in_pairs = subst (λ n. pair < n) (mul_comm built.states stored.states ∙ sym h.pairs) (mul-add-lt v.stored built.states v.built stored.states below_p below_q)
 
     known : (p q : ℕ) → p < stored.states → q < built.states → get_or (set seen pair true) (pair_of built p q) false ≡ true → IsVisited more_visits p q (length more_visits)
-    known p q low_p low_q there = by_case (same_or (pair_of built p q) pair) where
+    known p q low_p low_q there = by_case (cases_eq (pair_of built p q) pair) where
       by_case : (pair_of built p q ≡ pair) ⊎ (pair_of built p q ≢ pair) → IsVisited more_visits p q (length more_visits)
       by_case (inl same) =
           let parts = same_from_place p q v.stored v.built built.states low_q below_q same in
@@ -284,7 +277,7 @@ module _ (stored built : Table) (n : ℕ) (is_n : n ≡ stored.states * built.st
   length_pairs = length-replicate n false
 
   known_first : (p q : ℕ) → p < stored.states → q < built.states → get_or first_seen (pair_of built p q) false ≡ true → IsVisited (first_visit ∷ []) p q (length (first_visit ∷ []))
-  known_first p q low_p low_q there = by_case (same_or (pair_of built p q) 0) where
+  known_first p q low_p low_q there = by_case (cases_eq (pair_of built p q) 0) where
     by_case : (pair_of built p q ≡ 0) ⊎ (pair_of built p q ≢ 0) → IsVisited (first_visit ∷ []) p q (length (first_visit ∷ []))
     by_case (inl same) =
         let parts = same_from_place p q 0 0 built.states low_q some_built (same ∙ omega arith) in
