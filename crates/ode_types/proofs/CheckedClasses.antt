@@ -1,5 +1,5 @@
 -- What a class that was checked has of its tree and of the classes before it.
-use Rattle.std.proofs.Common.{◌≡◌, ℕ, ◌+◌, List, [], ◌∷◌, length, Bool, true, false, Some, None, Option, Ok, Err, Result, refl, ap, sym, ◌∙◌, fold}
+use Rattle.std.proofs.Common.{◌≡◌, ◌+◌, List, [], ◌∷◌, length, Bool, true, false, Some, None, Option, Ok, Err, refl, ap, sym, ◌∙◌, fold}
 use Rattle.std.specs.Option.{is_none}
 use Rattle.ode_value.specs.declared.class.Class.{Class}
 use Rattle.ode_value.specs.declared.reason.CheckError.{CheckError}
@@ -7,7 +7,7 @@ use Rattle.ode_value.specs.declared.reason.CheckError.TheVariants.{Duplicate}
 use Rattle.ode_value.specs.declared.statement.ClassDecl.{ClassDecl}
 use Rattle.ode_value.specs.declared.statement.Member.{Member}
 use Rattle.ode_value.specs.declared.statement.Member.TheVariants as member
-use Rattle.ode_types.specs.Checks.{Check, ◌>>=◌, ◌>>◌, needs, each}
+use Rattle.ode_types.specs.Checks.{Check, ◌>>=◌, needs, each}
 use Rattle.ode_types.specs.Checked.{IsChecked}
 use Rattle.ode_types.specs.Declaring.{begins, declared, with_member, without_members, parent_in}
 use Rattle.ode_types.specs.Families.{class_named}

@@ -1,3 +1,4 @@
 pub mod CheckedClasses
 pub mod ClassLists
+pub mod LiteralLaws
 pub mod Places

@@ -1,8 +1,8 @@
 -- One more class, and its place under its name.
-use Rattle.std.proofs.Common.{◌≡◌, ℕ, ◌+◌, ◌-◌, List, [], ◌∷◌, ◌++◌, length, map, Bool, true, false, cond, Some, None, Option, refl, ap, sym, ◌∙◌, subst, ◌<◌, ◌≤◌, arith, take, drop, zero-add}
+use Rattle.std.proofs.Common.{◌≡◌, ℕ, ◌+◌, ◌-◌, List, [], ◌∷◌, ◌++◌, length, Bool, true, false, cond, Some, None, Option, refl, ap, sym, ◌∙◌, subst, ◌<◌, ◌≤◌, arith, zero-add}
 use Rattle.std.specs.BTreeMap.{insert_entry}
 use Rattle.std.specs.Cmp.Lexicographic.{slice_cmp}
-use Rattle.std.specs.List.{position_from, find, remove, slice_get}
+use Rattle.std.specs.List.{position_from, remove, slice_get}
 use Rattle.std.specs.Map.{lookup}
 use Rattle.std.specs.Option.{option_or}
 use Rattle.std.specs.Ordering.{is_eq, nat_cmp}

@@ -2,7 +2,9 @@
 #![tactic(auto)]
 
 mod classes;
+mod references;
 mod running;
 
 pub use classes::Classes;
+pub use references::literals;
 pub use running::Running;

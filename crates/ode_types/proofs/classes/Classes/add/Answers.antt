@@ -1,9 +1,8 @@
-use Rattle.std.proofs.Common.{◌≡◌, ◌+◌, ℕ, List, [], ◌∷◌, ◌++◌, rules, refl, ap, sym, ◌∙◌, subst, length, arith}
+use Rattle.std.proofs.Common.{◌≡◌, List, [], ◌∷◌, ◌++◌, rules, refl, ap, ◌∙◌}
 use Rattle.std.specs.Cmp.Lexicographic.{slice_cmp}
 use Rattle.std.specs.Ordering.{nat_cmp}
 use Rattle.std.specs.List.{remove}
 use Rattle.ode_value.specs.declared.class.Class.{Class}
-use Rattle.ode_types.specs.Indexed.{AreNumbered, ArePlaces}
 use Rattle.ode_types.proofs.CheckedClasses.{checked-next}
 use Rattle.ode_types.proofs.Places.{added, kept, remove-last}
 use Rattle.ode_types.proofs.classes.Classes.add.Goals as goal

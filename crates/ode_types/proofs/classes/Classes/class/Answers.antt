@@ -1,4 +1,4 @@
-use Rattle.std.proofs.Common.{◌≡◌, ℕ, ◌-◌, ◌≤◌, ◌<◌, refl, ap, sym, ◌∙◌, rules, arith, subst}
+use Rattle.std.proofs.Common.{◌≡◌, ◌-◌, ◌≤◌, ◌<◌, ap, ◌∙◌, rules, arith, subst}
 use Rattle.ode_types.specs.Indexed.{AreNumbered}
 use Rattle.std.specs.List.{slice_get}
 use Rattle.ode_types.proofs.Places.{numbered-at, none-numbered-0}
