@@ -1,0 +1,4 @@
+mod Blocks
+mod Walks
+mod Fronts
+mod Counting

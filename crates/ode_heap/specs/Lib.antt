@@ -1,0 +1,7 @@
+pub mod Answers
+pub mod Looking
+pub mod Walking
+pub mod Objects
+pub mod Activations
+pub mod Queue
+pub mod Staging

@@ -1,0 +1,28 @@
+-- What there is of an object.
+use Rattle.std.specs.Prelude.{ℕ, List, Option, Some, None}
+use Rattle.ode_codec.specs.declared.record.Record.{Record}
+use Rattle.ode_codec.specs.declared.record.Record.TheVariants as of
+use Rattle.ode_heap.specs.Answers.{Found, ◌>>=◌}
+use Rattle.ode_heap.specs.Answers.{There, Broken}
+use Rattle.ode_heap.specs.Looking.{as_version, looked_up}
+use Rattle.ode_heap.specs.Walking.{block}
+use Rattle.ode_heap.specs.declared.object.ObjectHead.{ObjectHead}
+use Rattle.ode_keep.specs.Entries.{Entries}
+use Rattle.ode_value.specs.Keys.{object_key, version_kind}
+use Rattle.ode_versions.specs.declared.list.Version.{Version}
+
+-- the versions of an object, in the order of their numbers
+abbrev pub versions_in : Entries → ℕ → Found (List Version)
+versions_in entries id = block as_version version_kind id 0 entries
+
+-- its class, and its versions with the last number
+abbrev pub head_of : ℕ → ℕ → List Version → Option ObjectHead
+head_of class last vs = Some (record { class = class; versions = record { versions = vs; last = last } })
+
+abbrev pub with_versions : Entries → ℕ → Option Record → Found (Option ObjectHead)
+with_versions entries id None = There None
+with_versions entries id (Some (of.Object object class last)) = versions_in entries id >>= λ vs. There (head_of class last vs)
+with_versions entries id _ = Broken (object_key id)
+
+unfoldable pub object_in : Entries → ℕ → Found (Option ObjectHead)
+object_in entries id = looked_up entries (object_key id) >>= with_versions entries id

@@ -1,0 +1,228 @@
+//! The heap over a keeper.
+ghost use Rattle.std.specs.Prelude.{◌≡◌, ◌<◌, ◌≤◌, length, IsErrOf, IsTrue, OnOk};
+ghost use Rattle.std.specs.List.{All};
+ghost use Rattle.std.specs.Map.{values_of};
+ghost use Rattle.std.specs.Option.{IfSome};
+ghost use Rattle.ode_host.specs.Causes.{RoseIf};
+ghost use Rattle.ode_host.specs.Host.{DiskCalls, LeavesOnly, Looks};
+ghost use Rattle.ode_keep.specs.Entries.{Entries, applied, record_bytes};
+ghost use Rattle.ode_keep.specs.Keeping.{LeavesOldOrNew};
+ghost use Rattle.ode_heap.specs.Activations.{activations_in};
+ghost use Rattle.ode_heap.specs.Answers.{Answers, There, UnlessFault, is_usable};
+ghost use Rattle.ode_heap.specs.Looking.{counters_in, entry_from, object_from, version_in};
+ghost use Rattle.ode_heap.specs.Objects.{object_in};
+ghost use Rattle.ode_heap.specs.Queue.{queued_in};
+ghost use Rattle.ode_heap.specs.Staging.{OnDamaged, OnRefusal, OnTooLarge, first_key};
+
+use crate::activations::read_activations;
+use crate::counters::read_counters;
+use crate::error::{HeapError, at_key};
+use crate::fields::read_version;
+use crate::object::{ObjectHead, read_object, read_object_from};
+use crate::queue::{count_entries, read_entry_from};
+use crate::staging::first_key;
+use ode_codec::{Activation, Counters, Entry};
+use ode_host::Host;
+use ode_keep::{Batch, Keep, MAX_CHANGES, MAX_RECORD_BYTES, MAX_VALUE};
+use ode_types::Classes;
+use ode_value::{Class, List, Value};
+use std::alloc::Global;
+use std::marker::Model;
+
+/// The records of a database, read through a keeper. Contracts see the keeper.
+#[derive(Drop)]
+pub struct Heap<K> {
+    keeper: K,
+}
+
+impl<K> Model for Heap<K> {
+    ghost Value = { K };
+
+    ghost coded = { K.code };
+
+    ghost view = { λ heap. heap.keeper };
+}
+
+impl<K> Heap<K> {
+    /// The heap over a keeper.
+    pub fn new(keeper: K) -> Heap<K>
+        ensures { result ≡ keeper }
+    {
+        Heap { keeper }
+    }
+
+    /// Its keeper.
+    pub fn into_keeper(self) -> K
+        ensures { result ≡ self }
+    {
+        let Heap { keeper } = self;
+        keeper
+    }
+
+    /// Whether the keeper may be used: not after `DiskFault`.
+    pub fn live<H: Host>(&self) -> bool
+    where
+        K: Keep<H>,
+        ensures { result ≡ K.live self.now }
+    {
+        self.keeper.live()
+    }
+
+    /// The counters.
+    pub fn counters<H: Host>(&mut self, alloc: Global, host: &mut H) -> Result<Counters, HeapError>
+    where
+        K: Keep<H>,
+        requires live { IsTrue (K.live self.old) }
+        ensures value { (entries : Entries) → K.holds self.old (H.view host.old) entries → Answers result (counters_in entries) }
+        ensures holds { UnlessFault result ((entries : Entries) → K.holds self.old (H.view host.old) entries
+            → K.holds self.new (H.view host.new) entries) }
+        ensures looks { Looks (H.view host.old) (H.view host.new) }
+        ensures usable { K.live self.new ≡ is_usable result }
+        ensures cause { RoseIf (IsErrOf result HeapError.DiskFault) (H.view host.old).disk_faults (H.view host.new).disk_faults }
+    {
+        read_counters(alloc, &mut self.keeper, host)
+    }
+
+    /// The class and the versions of an object, if there is that object. Its own records are read and no others.
+    pub fn load_object<H: Host>(
+        &mut self,
+        alloc: Global,
+        host: &mut H,
+        id: u64,
+    ) -> Result<Option<ObjectHead>, HeapError>
+    where
+        K: Keep<H>,
+        requires live { IsTrue (K.live self.old) }
+        ensures value { (entries : Entries) → K.holds self.old (H.view host.old) entries → Answers result (object_in entries id) }
+        ensures holds { UnlessFault result ((entries : Entries) → K.holds self.old (H.view host.old) entries
+            → K.holds self.new (H.view host.new) entries) }
+        ensures looks { Looks (H.view host.old) (H.view host.new) }
+        ensures usable { K.live self.new ≡ is_usable result }
+        ensures cause { RoseIf (IsErrOf result HeapError.DiskFault) (H.view host.old).disk_faults (H.view host.new).disk_faults }
+    {
+        read_object(alloc, &mut self.keeper, host, id)
+    }
+
+    /// The fields of a version of an object of this class, if there is that version.
+    pub fn load_version<H: Host>(
+        &mut self,
+        alloc: Global,
+        host: &mut H,
+        id: u64,
+        number: u32,
+        class: &Class,
+    ) -> Result<Option<List<Value>>, HeapError>
+    where
+        K: Keep<H>,
+        requires live { IsTrue (K.live self.old) }
+        ensures value { (entries : Entries) → K.holds self.old (H.view host.old) entries → Answers result (version_in entries id number class.now) }
+        ensures holds { UnlessFault result ((entries : Entries) → K.holds self.old (H.view host.old) entries
+            → K.holds self.new (H.view host.new) entries) }
+        ensures looks { Looks (H.view host.old) (H.view host.new) }
+        ensures usable { K.live self.new ≡ is_usable result }
+        ensures cause { RoseIf (IsErrOf result HeapError.DiskFault) (H.view host.old).disk_faults (H.view host.new).disk_faults }
+    {
+        read_version(alloc, &mut self.keeper, host, id, number, class)
+    }
+
+    /// The activations of an object, in the order of their numbers. Its own records are read and no others.
+    pub fn activations_of<H: Host>(
+        &mut self,
+        alloc: Global,
+        host: &mut H,
+        id: u64,
+        classes: &Classes,
+    ) -> Result<List<Activation>, HeapError>
+    where
+        K: Keep<H>,
+        requires live { IsTrue (K.live self.old) }
+        ensures value { (entries : Entries) → K.holds self.old (H.view host.old) entries → Answers result (activations_in entries id classes.now) }
+        ensures holds { UnlessFault result ((entries : Entries) → K.holds self.old (H.view host.old) entries
+            → K.holds self.new (H.view host.new) entries) }
+        ensures looks { Looks (H.view host.old) (H.view host.new) }
+        ensures usable { K.live self.new ≡ is_usable result }
+        ensures cause { RoseIf (IsErrOf result HeapError.DiskFault) (H.view host.old).disk_faults (H.view host.new).disk_faults }
+    {
+        read_activations(alloc, &mut self.keeper, host, id, classes)
+    }
+
+    /// The least number of an object at or above this one.
+    pub fn object_from<H: Host>(&mut self, host: &mut H, id: u64) -> Result<Option<u64>, HeapError>
+    where
+        K: Keep<H>,
+        requires live { IsTrue (K.live self.old) }
+        ensures value { (entries : Entries) → K.holds self.old (H.view host.old) entries → Answers result (There (object_from entries id)) }
+        ensures holds { UnlessFault result ((entries : Entries) → K.holds self.old (H.view host.old) entries
+            → K.holds self.new (H.view host.new) entries) }
+        ensures looks { Looks (H.view host.old) (H.view host.new) }
+        ensures usable { K.live self.new ≡ is_usable result }
+        ensures cause { RoseIf (IsErrOf result HeapError.DiskFault) (H.view host.old).disk_faults (H.view host.new).disk_faults }
+    {
+        read_object_from(&mut self.keeper, host, id)
+    }
+
+    /// The entry with the least number at or above this one, with its number.
+    pub fn entry_from<H: Host>(
+        &mut self,
+        alloc: Global,
+        host: &mut H,
+        number: u64,
+    ) -> Result<Option<(u64, Entry)>, HeapError>
+    where
+        K: Keep<H>,
+        requires live { IsTrue (K.live self.old) }
+        ensures value { (entries : Entries) → K.holds self.old (H.view host.old) entries → Answers result (entry_from entries number) }
+        ensures holds { UnlessFault result ((entries : Entries) → K.holds self.old (H.view host.old) entries
+            → K.holds self.new (H.view host.new) entries) }
+        ensures looks { Looks (H.view host.old) (H.view host.new) }
+        ensures usable { K.live self.new ≡ is_usable result }
+        ensures cause { RoseIf (IsErrOf result HeapError.DiskFault) (H.view host.old).disk_faults (H.view host.new).disk_faults }
+    {
+        read_entry_from(alloc, &mut self.keeper, host, number)
+    }
+
+    /// The number of entries. Their keys are read and no values.
+    pub fn queued<H: Host>(&mut self, host: &mut H) -> Result<u32, HeapError>
+    where
+        K: Keep<H>,
+        requires live { IsTrue (K.live self.old) }
+        ensures value { (entries : Entries) → K.holds self.old (H.view host.old) entries → Answers result (There (queued_in entries)) }
+        ensures holds { UnlessFault result ((entries : Entries) → K.holds self.old (H.view host.old) entries
+            → K.holds self.new (H.view host.new) entries) }
+        ensures looks { Looks (H.view host.old) (H.view host.new) }
+        ensures usable { K.live self.new ≡ is_usable result }
+        ensures cause { RoseIf (IsErrOf result HeapError.DiskFault) (H.view host.old).disk_faults (H.view host.new).disk_faults }
+    {
+        count_entries(&mut self.keeper, host)
+    }
+
+    /// Makes the changes of a batch. A stop on the way leaves the records before it or those after it. What is damaged has
+    /// the batch's least key, or that of the counters where it has none.
+    pub fn stage<H: Host>(&mut self, host: &mut H, batch: &Batch) -> Result<(), HeapError>
+    where
+        K: Keep<H>,
+        requires live { IsTrue (K.live self.old) }
+        requires few { length batch.now ≤ MAX_CHANGES }
+        requires short { All (λ value. IfSome value (λ bytes. length bytes ≤ MAX_VALUE)) (values_of batch.now) }
+        ensures done { OnOk result ((entries : Entries) → K.holds self.old (H.view host.old) entries
+            → K.holds self.new (H.view host.new) (applied batch.now entries)) }
+        ensures fits { OnOk result ((entries : Entries) → K.holds self.old (H.view host.old) entries
+            → record_bytes (applied batch.now entries) ≤ MAX_RECORD_BYTES) }
+        ensures too_large { OnTooLarge result (λ total. (entries : Entries) → K.holds self.old (H.view host.old) entries
+            → (total ≡ record_bytes (applied batch.now entries)) × (MAX_RECORD_BYTES < total)) }
+        ensures refused { OnRefusal result ((entries : Entries) → K.holds self.old (H.view host.old) entries
+            → K.holds self.new (H.view host.new) entries) }
+        ensures looks { OnRefusal result (Looks (H.view host.old) (H.view host.new)) }
+        ensures any_moment { (entries : Entries) → K.holds self.old (H.view host.old) entries
+            → LeavesOnly (H.view host.old) (H.view host.new) (LeavesOldOrNew K.means entries batch.now (H.view host.old)) }
+        ensures usable { K.live self.new ≡ is_usable result }
+        ensures leaves { DiskCalls (IsErrOf result HeapError.DiskFault) (H.view host.old) (H.view host.new) }
+        ensures damaged { OnDamaged result (λ key. (key ≡ first_key batch.now)
+            × ((entries : Entries) → K.holds self.old (H.view host.old) entries → ⊥)) }
+    {
+        match self.keeper.commit(host, batch) {
+            Ok(()) => Ok(()),
+            Err(error) => Err(at_key(error, first_key(batch))),
+        }
+    }
+}

@@ -1,0 +1,134 @@
+//! The entries that wait.
+ghost use Rattle.std.specs.Prelude.{◌≡◌, ◌+◌, ◌≤◌, ◌-◌, ◌^◌, ◌==◌, cond, min, true, IfOk, IsErrOf, IsTrue};
+ghost use Rattle.std.specs.Option.{IfSome};
+ghost use Rattle.ode_host.specs.Causes.{RoseIf};
+ghost use Rattle.ode_host.specs.Host.{Looks};
+ghost use Rattle.ode_keep.specs.Entries.{Entries};
+ghost use Rattle.ode_heap.specs.Answers.{Answers, There, UnlessFault, is_usable};
+ghost use Rattle.ode_heap.specs.Looking.{as_entry, entry_from, entry_key_from, of_entry};
+ghost use Rattle.ode_heap.specs.Queue.{queued_in};
+
+use crate::error::HeapError;
+use crate::looking::{least_key, look_up};
+use ode_codec::{Entry, Record};
+use ode_host::Host;
+use ode_keep::Keep;
+use ode_value::Key;
+use std::alloc::Global;
+
+// A key, if it is an entry's.
+fn of_entry(found: Option<Key>) -> Option<Key>
+    ensures { result ≡ of_entry found }
+{
+    match found {
+        Some(key) => {
+            if key.kind == Key::ENTRY {
+                Some(key)
+            } else {
+                None
+            }
+        }
+        None => None,
+    }
+}
+
+// The key of the entry with the least number at or above this one.
+fn next_entry_key<H: Host, K: Keep<H>>(
+    keeper: &mut K,
+    host: &mut H,
+    number: u64,
+) -> Result<Option<Key>, HeapError>
+    requires live { IsTrue (K.live keeper.old) }
+    ensures value { (entries : Entries) → K.holds keeper.old (H.view host.old) entries → Answers result (There (entry_key_from entries number)) }
+    ensures above { IfOk result (λ found. IfSome found (λ key. number ≤ key.a)) }
+    ensures holds { UnlessFault result ((entries : Entries) → K.holds keeper.old (H.view host.old) entries
+        → K.holds keeper.new (H.view host.new) entries) }
+    ensures looks { Looks (H.view host.old) (H.view host.new) }
+    ensures usable { K.live keeper.new ≡ is_usable result }
+    ensures cause { RoseIf (IsErrOf result HeapError.DiskFault) (H.view host.old).disk_faults (H.view host.new).disk_faults }
+{
+    let start = Key {
+        kind: Key::ENTRY,
+        a: number,
+        b: 0,
+    };
+    match least_key(keeper, host, start) {
+        Ok(found) => Ok(of_entry(found)),
+        Err(error) => Err(error),
+    }
+}
+
+// The entry in the record under a key.
+fn entry_of(key: Key, found: Option<Record>) -> Result<Option<(u64, Entry)>, HeapError>
+    ensures value { Answers result (as_entry key found) }
+    ensures usable { is_usable result ≡ true }
+    ensures calm { IsErrOf result HeapError.DiskFault → ⊥ }
+{
+    match found {
+        Some(Record::Entry { number, entry }) => Ok(Some((number, entry))),
+        _ => Err(HeapError::Damaged { key }),
+    }
+}
+
+// The entry with the least number at or above this one, with its number.
+#[tactic(auto, unfolding(crate::specs::Looking::entry_from))]
+pub(crate) fn read_entry_from<H: Host, K: Keep<H>>(
+    alloc: Global,
+    keeper: &mut K,
+    host: &mut H,
+    number: u64,
+) -> Result<Option<(u64, Entry)>, HeapError>
+    requires live { IsTrue (K.live keeper.old) }
+    ensures value { (entries : Entries) → K.holds keeper.old (H.view host.old) entries → Answers result (entry_from entries number) }
+    ensures holds { UnlessFault result ((entries : Entries) → K.holds keeper.old (H.view host.old) entries
+        → K.holds keeper.new (H.view host.new) entries) }
+    ensures looks { Looks (H.view host.old) (H.view host.new) }
+    ensures usable { K.live keeper.new ≡ is_usable result }
+    ensures cause { RoseIf (IsErrOf result HeapError.DiskFault) (H.view host.old).disk_faults (H.view host.new).disk_faults }
+{
+    match next_entry_key(keeper, host, number)? {
+        None => Ok(None),
+        Some(key) => {
+            let found = look_up(alloc, keeper, host, key)?;
+            entry_of(key, found)
+        }
+    }
+}
+
+// One more, where the key is that of an entry, as far as 32 bits count.
+fn counted(count: u32, key: Key) -> u32
+    ensures { result ≡ min (count + cond (key.b == 0) 1 0) (2 ^ 32 - 1) }
+{
+    if key.b == 0 {
+        count.saturating_add(1)
+    } else {
+        count
+    }
+}
+
+// The number of entries, by their keys alone.
+pub(crate) fn count_entries<H: Host, K: Keep<H>>(
+    keeper: &mut K,
+    host: &mut H,
+) -> Result<u32, HeapError>
+    requires live { IsTrue (K.live keeper.old) }
+    ensures value { (entries : Entries) → K.holds keeper.old (H.view host.old) entries → Answers result (There (queued_in entries)) }
+    ensures holds { UnlessFault result ((entries : Entries) → K.holds keeper.old (H.view host.old) entries
+        → K.holds keeper.new (H.view host.new) entries) }
+    ensures looks { Looks (H.view host.old) (H.view host.new) }
+    ensures usable { K.live keeper.new ≡ is_usable result }
+    ensures cause { RoseIf (IsErrOf result HeapError.DiskFault) (H.view host.old).disk_faults (H.view host.new).disk_faults }
+{
+    let mut count: u32 = 0;
+    let mut from: u64 = 0;
+    'entries: loop {
+        let Some(key) = next_entry_key(keeper, host, from)? else {
+            return Ok(count);
+        };
+        count = counted(count, key);
+        let Some(next) = key.a.checked_add(1) else {
+            return Ok(count);
+        };
+        from = next;
+    }
+}
