@@ -46,7 +46,12 @@ fn both(alloc: Global, first: StateTree, second: StateTree) -> Result<StateTree,
     Ok(StateTree::Both(Boxed::new(alloc, first)?, Boxed::new(alloc, second)?))
 }
 
-fn flagged(alloc: Global, first: StateTree, second: StateTree, flag: bool) -> Result<StateTree, AllocError>
+fn flagged(
+    alloc: Global,
+    first: StateTree,
+    second: StateTree,
+    flag: bool,
+) -> Result<StateTree, AllocError>
     ensures { IfOk result (λ t. t ≡ StateTree.Flag first second flag) }
 {
     Ok(StateTree::Flag(Boxed::new(alloc, first)?, Boxed::new(alloc, second)?, flag))
@@ -58,13 +63,21 @@ fn counted(alloc: Global, part: StateTree, count: u32) -> Result<StateTree, Allo
     Ok(StateTree::Count(Boxed::new(alloc, part)?, count))
 }
 
-fn with_started(alloc: Global, part: StateTree, set: List<StateTree>) -> Result<StateTree, AllocError>
+fn with_started(
+    alloc: Global,
+    part: StateTree,
+    set: List<StateTree>,
+) -> Result<StateTree, AllocError>
     ensures { IfOk result (λ t. t ≡ StateTree.Started part set) }
 {
     Ok(StateTree::Started(Boxed::new(alloc, part)?, set))
 }
 
-fn with_pairs(alloc: Global, part: StateTree, set: List<(StateTree, StateTree)>) -> Result<StateTree, AllocError>
+fn with_pairs(
+    alloc: Global,
+    part: StateTree,
+    set: List<(StateTree, StateTree)>,
+) -> Result<StateTree, AllocError>
     ensures { IfOk result (λ t. t ≡ StateTree.Pairs part set) }
 {
     Ok(StateTree::Pairs(Boxed::new(alloc, part)?, set))
@@ -400,7 +413,12 @@ fn step_pairs(
 }
 
 /// The tree after one more point, of which the mark says of each leaf, in the order of the text, whether it holds.
-pub fn step(alloc: Global, e: &EventExpr, s: &StateTree, mark: &[bool]) -> Result<StateTree, AllocError>
+pub fn step(
+    alloc: Global,
+    e: &EventExpr,
+    s: &StateTree,
+    mark: &[bool],
+) -> Result<StateTree, AllocError>
     requires whole { length mark.now ≡ length (leaves e.now) }
     requires numbers { has_numbers e.now ≡ true }
     ensures { IfOk result (λ t. (m : Mark) → mark.now ≡ spelled e.now m → t ≡ next_tree e.now m s.now) }
