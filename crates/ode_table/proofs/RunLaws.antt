@@ -1,20 +1,18 @@
 -- A table of trees leads by each word to the tree after it.
-use Rattle.std.proofs.Common.{◌≡◌, ℕ, zero, suc, ◌+◌, ◌*◌, ◌<◌, ◌≤◌, Bool, true, false, List, [], ◌∷◌, ◌++◌, length, map, take, get_or, refl, ap, sym, ◌∙◌, subst, arith, length-append, add-one, Some, None, Option}
-use Rattle.std.specs.Prelude.{fold, flat_map, slice_index, All, sum_by}
-use Rattle.std.specs.List.{slice_get, range_with_len}
+use Rattle.std.proofs.Common.{◌≡◌, ℕ, zero, suc, ◌+◌, ◌*◌, ◌<◌, ◌≤◌, false, List, [], ◌∷◌, length, map, take, get_or, refl, ap, sym, ◌∙◌, subst, arith, length-append, Some}
+use Rattle.std.specs.Prelude.{fold, flat_map, slice_index, All}
+use Rattle.std.specs.List.{slice_get}
 use Rattle.std.proofs.Math.Nat.{mul-le-mul_right}
-use Rattle.std.proofs.lemmas.List.{length-map, take_all, take_more, length-take-le, get_or-map}
+use Rattle.std.proofs.lemmas.List.{length-map, length-take-le, get_or-map}
 use Rattle.std.proofs.lemmas.List.Elements.{All-tail}
-use Rattle.std.proofs.lemmas.List.Concat.{get_or-flat_map, length-flat_map}
+use Rattle.std.proofs.lemmas.List.Concat.{get_or-flat_map}
 use Rattle.std.proofs.lemmas.List.FromFn.{get_or-map-range_with_len, length-map-range_with_len}
-use Rattle.std.proofs.lemmas.List.Sums.{fold-append}
-use Rattle.std.proofs.lemmas.Option.{slice_get_within, get_or_from_slice_get, slice_get-get_or}
+use Rattle.std.proofs.lemmas.Option.{slice_get_within, get_or_from_slice_get}
 use Rattle.ode_value.specs.declared.event.EventExpr.{EventExpr}
 use Rattle.ode_value.specs.declared.tree.StateTree.{StateTree}
 use Rattle.ode_value.specs.Marks.{Mark, no_mark}
-use Rattle.ode_value.specs.Points.{fires}
 use Rattle.ode_value.specs.Symbols.{symbol_mark, symbol_count}
-use Rattle.ode_value.specs.Tables.{Table, IsWord, next_state, says_yes, run, word_marks}
+use Rattle.ode_value.specs.Tables.{run, word_marks}
 use Rattle.ode_value.specs.TreeCount.{symbol_marks}
 use Rattle.ode_value.specs.Trees.{machine, answers, first_tree, next_tree}
 use Rattle.ode_trees.specs.declared.growth.Reached.{Reached}
