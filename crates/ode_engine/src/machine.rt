@@ -24,7 +24,7 @@ use crate::forms::{Assignment, Path, assignments, declared_field, shown_path};
 use ode_first_records::{ClassRow, ObjectRow, State};
 use ode_keep::Batch;
 use ode_script::{put_aborted, put_class, put_committed, put_new, put_value};
-use ode_value::{CheckError, ClassDecl, Expr, Name, Reason, Refusal, Rhs, Statement, Stmt};
+use ode_value::{CheckError, ClassDecl, Expr, Name, Reason, Refusal, Rhs, Statement, Stmt, Value};
 use std::alloc::{AllocError, Global};
 
 /// A statement that was refused, or the transaction that it settled.
@@ -209,7 +209,7 @@ fn show_held(alloc: Global, state: &mut State, held: i64) -> Result<Item, AllocE
     ensures keeps { IfOk result (λ item. Keeps item (world_of state.old) (world_of state.new)) }
 {
     let mut text = Vec::new(alloc);
-    put_value(alloc, &mut text, held)?;
+    put_value(alloc, &mut text, &Value::Int(held))?;
     commit(alloc, state, text, Batch::new(alloc))
 }
 

@@ -12,3 +12,4 @@ mod value;
 pub use class::print_class;
 pub use event::print_event;
 pub use expression::print_expr;
+pub use value::put_value;

@@ -1,4 +1,4 @@
--- How a script is cut into pieces with both limits, that on a statement and that on the whole.
+-- How a script is cut into pieces, with a limit on each and one on the whole.
 use Rattle.std.specs.Prelude.{ℕ, zero, suc, List, [], ◌∷◌, ◌++◌, length, Bool, nat_le, if◌then◌else◌}
 use Rattle.ode_value.specs.Limits.{statement_limit, script_limit}
 use Rattle.ode_script.specs.declared.reader.Part.{Part}
@@ -38,9 +38,13 @@ cut p (suc n) line (b ∷ bs) =
     else (if ends p b then Then p.line (p.text ++ b ∷ []) (cut (begun (line_after line b)) n (line_after line b) bs)
     else cut (with_byte p b) n (line_after line b) bs))
 
+-- the pieces of what is left of a script, of which so many bytes are allowed; its first byte is on this line
+abbrev pub pieces_from : (allowed line : ℕ) → List ℕ → Pieces
+pieces_from allowed line rest = cut (begun line) allowed line rest
+
 -- the pieces of a script
 abbrev pub pieces : List ℕ → Pieces
-pieces script = cut (begun 1) script_limit 1 script
+pieces script = pieces_from script_limit 1 script
 
 -- the ending
 abbrev pub ending_of : Pieces → Ending

@@ -1,23 +1,9 @@
--- How a script is cut into pieces.
-use Rattle.std.specs.Prelude.{ℕ, zero, suc, ◌+◌, ◌-◌, List, [], ◌∷◌, ◌++◌, Bool, true, false, ◌==◌, ◌||◌, ◌&&◌, if◌then◌else◌}
+-- A piece of a script, byte by byte: where each byte stands, which one ends the piece, and whether it has code.
+use Rattle.std.specs.Prelude.{ℕ, ◌+◌, ◌-◌, List, [], ◌∷◌, ◌++◌, Bool, true, false, ◌==◌, ◌||◌, ◌&&◌, if◌then◌else◌}
 use Rattle.std.specs.Str.{byte}
 use Rattle.ode_script.specs.declared.reader.Place.{Place}
 use Rattle.ode_script.specs.declared.reader.Place.TheVariants.{Outside, Slash, Comment, Text, Escape}
 use Rattle.ode_script.specs.declared.reader.Part.{Part}
-
--- how a script ends: by itself, or at the first byte past its limit
-pub data Ending : Type 0 where
-  End : Ending
-  LongScript : Ending
-
--- the pieces in order, each with the line of its first byte, and the ending
-pub data Pieces : Type 0 where
-  Then : (line : ℕ) (text : List ℕ) (rest : Pieces) → Pieces
-  Ended : (ending : Ending) → Pieces
-
--- how many bytes a script may have
-unfoldable pub script_limit : ℕ
-script_limit = 67108864
 
 abbrev pub is_blank : ℕ → Bool
 is_blank b = (b == byte " ") || (b == byte "\t") || (b == byte "\r") || (b == byte "\n")
@@ -85,24 +71,3 @@ has_code Comment [] = false
 has_code Comment (b ∷ bs) = has_code (place_after Comment b) bs
 has_code Text bs = true
 has_code Escape bs = true
-
--- what the piece comes to at the end of input
-abbrev pub last_piece : Part → Pieces
-last_piece p = if has_code Outside p.text then Then p.line p.text (Ended End) else Ended End
-
--- the pieces from the piece p on, of which so many more bytes are allowed; the next byte is on this line
-abbrev pub cut : Part → (allowed line : ℕ) → List ℕ → Pieces
-cut p allowed line [] = last_piece p
-cut p zero line (b ∷ bs) = Ended LongScript
-cut p (suc n) line (b ∷ bs) =
-    if is_leading p b then cut (begun (line_after line b)) n (line_after line b) bs
-    else (if ends p b then Then p.line (p.text ++ b ∷ []) (cut (begun (line_after line b)) n (line_after line b) bs)
-    else cut (with_byte p b) n (line_after line b) bs)
-
--- the pieces of what is left of a script
-abbrev pub pieces_from : (allowed line : ℕ) → List ℕ → Pieces
-pieces_from allowed line rest = cut (begun line) allowed line rest
-
--- the pieces of a script
-abbrev pub pieces : List ℕ → Pieces
-pieces script = pieces_from script_limit 1 script

@@ -1,11 +1,11 @@
 //! The lines that a run prints.
-ghost use Rattle.std.specs.Prelude.{◌≡◌, ◌++◌, codes, IfOk, OnOk};
+ghost use Rattle.std.specs.Prelude.{◌≡◌, ◌++◌, codes, OnOk};
 ghost use Rattle.ode_value.specs.Decimal.{digits_of};
-ghost use Rattle.ode_value.specs.References.{spelled_ref};
-ghost use Rattle.ode_value.specs.Texts.{class_line, new_line, value_line, committed_line, aborted_line, refused_line, check_text, reason_text, refusal_text};
-ghost use Rattle.ode_value.specs.declared.value.Value.TheVariants.{Int};
+ghost use Rattle.ode_value.specs.Texts.{aborted_line, active_line, class_line, committed_line, dropped_line, fired_line, new_line, said_line, value_line, version_line};
 
-use ode_value::{CheckError, Name, Reason, Ref, Refusal, ref_text};
+use crate::texts::{put_name, put_number, put_reason, put_ref};
+use ode_print::put_value as put_value_text;
+use ode_value::{Name, OdeText, Reason, Ref, Value};
 use std::alloc::{AllocError, Global};
 
 /// `class NAME`
@@ -25,12 +25,78 @@ pub fn put_new(alloc: Global, text: &mut Vec<u8>, id: u64) -> Result<(), AllocEr
     text.extend_from_slice(line.as_bytes())
 }
 
-/// `value V`, of an int
-pub fn put_value(alloc: Global, text: &mut Vec<u8>, held: i64) -> Result<(), AllocError>
-    ensures { OnOk result (text.new.items ≡ text.old.items ++ value_line (Int held)) }
+/// `version #N@V`
+pub fn put_version(alloc: Global, text: &mut Vec<u8>, of: Ref) -> Result<(), AllocError>
+    ensures { OnOk result (text.new.items ≡ text.old.items ++ version_line of) }
 {
-    let line = format!(in alloc; "value {held}\n")?;
+    put_ref(alloc, text, b"version ", of)?;
+    text.extend_from_slice(b"\n")
+}
+
+/// `active ID`
+pub fn put_active(alloc: Global, text: &mut Vec<u8>, number: u64) -> Result<(), AllocError>
+    ensures { OnOk result (text.new.items ≡ text.old.items ++ active_line number) }
+{
+    let line = format!(in alloc; "active {number}\n")?;
     text.extend_from_slice(line.as_bytes())
+}
+
+/// `value V`
+pub fn put_value(alloc: Global, text: &mut Vec<u8>, value: &Value) -> Result<(), AllocError>
+    ensures { OnOk result (text.new.items ≡ text.old.items ++ value_line value.now) }
+{
+    text.extend_from_slice(b"value ")?;
+    put_value_text(alloc, text, value)?;
+    text.extend_from_slice(b"\n")
+}
+
+/// `said TEXT`
+pub fn put_said(text: &mut Vec<u8>, said: &OdeText) -> Result<(), AllocError>
+    ensures { OnOk result (text.new.items ≡ text.old.items ++ said_line said.now) }
+{
+    text.extend_from_slice(b"said ")?;
+    text.extend_from_slice(said.as_bytes())?;
+    text.extend_from_slice(b"\n")
+}
+
+// A trigger, and the object that it is on.
+fn put_on(
+    alloc: Global,
+    text: &mut Vec<u8>,
+    front: &[u8],
+    trigger: &Name,
+    id: u64,
+) -> Result<(), AllocError>
+    ensures { OnOk result (text.new.items ≡ text.old.items ++ (front.now ++ (trigger.now ++ (codes " on #" ++ digits_of id)))) }
+{
+    put_name(text, front, trigger)?;
+    put_number(alloc, text, b" on #", u128::from(id))
+}
+
+/// `fired T on #N`
+pub fn put_fired(
+    alloc: Global,
+    text: &mut Vec<u8>,
+    trigger: &Name,
+    id: u64,
+) -> Result<(), AllocError>
+    ensures { OnOk result (text.new.items ≡ text.old.items ++ fired_line trigger.now id) }
+{
+    put_on(alloc, text, b"fired ", trigger, id)?;
+    text.extend_from_slice(b"\n")
+}
+
+/// `dropped T on #N`
+pub fn put_dropped(
+    alloc: Global,
+    text: &mut Vec<u8>,
+    trigger: &Name,
+    id: u64,
+) -> Result<(), AllocError>
+    ensures { OnOk result (text.new.items ≡ text.old.items ++ dropped_line trigger.now id) }
+{
+    put_on(alloc, text, b"dropped ", trigger, id)?;
+    text.extend_from_slice(b"\n")
 }
 
 /// `tx K committed`
@@ -39,64 +105,6 @@ pub fn put_committed(alloc: Global, text: &mut Vec<u8>, number: u64) -> Result<(
 {
     let line = format!(in alloc; "tx {number} committed\n")?;
     text.extend_from_slice(line.as_bytes())
-}
-
-// A text, and a number behind it.
-fn put_number(
-    alloc: Global,
-    text: &mut Vec<u8>,
-    front: &[u8],
-    number: u128,
-) -> Result<(), AllocError>
-    ensures { OnOk result (text.new.items ≡ text.old.items ++ (front.now ++ digits_of number)) }
-{
-    let digits = number.to_string(alloc)?;
-    text.extend_from_slice(front)?;
-    text.extend_from_slice(digits.as_bytes())
-}
-
-// A text, and a name behind it.
-fn put_name(text: &mut Vec<u8>, front: &[u8], name: &Name) -> Result<(), AllocError>
-    ensures { OnOk result (text.new.items ≡ text.old.items ++ (front.now ++ name.now)) }
-{
-    text.extend_from_slice(front)?;
-    text.extend_from_slice(name.as_bytes())
-}
-
-// A text, and a reference behind it.
-fn put_ref(alloc: Global, text: &mut Vec<u8>, front: &[u8], of: Ref) -> Result<(), AllocError>
-    ensures { OnOk result (text.new.items ≡ text.old.items ++ (front.now ++ spelled_ref of)) }
-{
-    let spelled = ref_text(alloc, of)?;
-    text.extend_from_slice(front)?;
-    text.extend_from_slice(spelled.as_slice())
-}
-
-fn put_reason(alloc: Global, text: &mut Vec<u8>, reason: &Reason) -> Result<(), AllocError>
-    ensures { OnOk result (text.new.items ≡ text.old.items ++ reason_text reason.now) }
-{
-    match reason {
-        Reason::Asked => text.extend_from_slice(b"asked"),
-        Reason::Constraint(name) => put_name(text, b"constraint ", name),
-        Reason::Overflow => text.extend_from_slice(b"overflow"),
-        Reason::DivideByZero => text.extend_from_slice(b"zero divisor"),
-        Reason::NoObject(id) => {
-            let object = Ref {
-                object: *id,
-                version: None,
-            };
-            put_ref(alloc, text, b"no object ", object)
-        }
-        Reason::NoVersion(of) => put_ref(alloc, text, b"no version ", *of),
-        Reason::LastVersion(id) => put_number(alloc, text, b"last version #", u128::from(*id)),
-        Reason::Depth => text.extend_from_slice(b"depth"),
-        Reason::Budget => text.extend_from_slice(b"budget"),
-        Reason::Cascade => text.extend_from_slice(b"cascade"),
-        Reason::Size => text.extend_from_slice(b"size"),
-        Reason::Space => text.extend_from_slice(b"space"),
-        Reason::Output => text.extend_from_slice(b"output"),
-        Reason::End => text.extend_from_slice(b"end"),
-    }
 }
 
 /// `tx K aborted REASON`
@@ -112,65 +120,4 @@ pub fn put_aborted(
     text.extend_from_slice(front.as_bytes())?;
     put_reason(alloc, text, reason)?;
     text.extend_from_slice(b"\n")
-}
-
-fn put_check(text: &mut Vec<u8>, error: &CheckError) -> Result<(), AllocError>
-    ensures { OnOk result (text.new.items ≡ text.old.items ++ check_text error.now) }
-{
-    match error {
-        CheckError::UnknownName(name) => put_name(text, b"unknown name ", name),
-        CheckError::Duplicate(name) => put_name(text, b"duplicate ", name),
-        CheckError::WrongSort(name) => put_name(text, b"wrong type ", name),
-        CheckError::NotInherited(name) => put_name(text, b"not inherited ", name),
-        CheckError::TooMany(name) => put_name(text, b"too many ", name),
-    }
-}
-
-fn put_symbols(
-    alloc: Global,
-    text: &mut Vec<u8>,
-    trigger: &Name,
-    count: u32,
-) -> Result<(), AllocError>
-    ensures { OnOk result (text.new.items ≡ text.old.items ++ (codes "too many symbols " ++ trigger.now ++ codes " " ++ digits_of count)) }
-{
-    put_name(text, b"too many symbols ", trigger)?;
-    put_number(alloc, text, b" ", u128::from(count))
-}
-
-fn put_refusal(alloc: Global, text: &mut Vec<u8>, refusal: &Refusal) -> Result<(), AllocError>
-    ensures { OnOk result (text.new.items ≡ text.old.items ++ refusal_text refusal.now) }
-{
-    match refusal {
-        Refusal::NoToken { at } => put_number(alloc, text, b"bad byte ", u128::from(*at)),
-        Refusal::Syntax { at } => put_number(alloc, text, b"syntax ", u128::from(*at)),
-        Refusal::TooDeep { at } => put_number(alloc, text, b"too deep ", u128::from(*at)),
-        Refusal::InTransaction => text.extend_from_slice(b"in transaction"),
-        Refusal::NoTransaction => text.extend_from_slice(b"no transaction"),
-        Refusal::NumbersSpent => text.extend_from_slice(b"numbers spent"),
-        Refusal::NoObject(id) => put_number(alloc, text, b"no object #", u128::from(*id)),
-        Refusal::NoVersion(of) => put_ref(alloc, text, b"no version ", *of),
-        Refusal::Check(error) => put_check(text, error),
-        Refusal::TooManySymbols { trigger, count } => put_symbols(alloc, text, trigger, *count),
-        Refusal::TooManyStates { trigger } => put_name(text, b"too many states ", trigger),
-        Refusal::ClassTooLarge { count } => {
-            put_number(alloc, text, b"class too large ", u128::from(*count))
-        }
-        Refusal::BadInstant => text.extend_from_slice(b"bad instant"),
-        Refusal::ClockBack => text.extend_from_slice(b"clock back"),
-        Refusal::TooManyDue { count } => put_number(alloc, text, b"too many due ", *count),
-        Refusal::NotBuilt => text.extend_from_slice(b"not built"),
-    }
-}
-
-/// `refused LINE REASON`
-pub fn refused_line(alloc: Global, at: u64, refusal: &Refusal) -> Result<Vec<u8>, AllocError>
-    ensures { IfOk result (λ text. text.items ≡ refused_line at refusal.now) }
-{
-    let mut text = Vec::new(alloc);
-    let front = format!(in alloc; "refused {at} ")?;
-    text.extend_from_slice(front.as_bytes())?;
-    put_refusal(alloc, &mut text, refusal)?;
-    text.extend_from_slice(b"\n")?;
-    Ok(text)
 }

@@ -1,14 +1,14 @@
 //! Statements from a source.
-ghost use Rattle.std.specs.Prelude.{◌≡◌, ◌≤◌, ◌<◌, ◌+◌, ◌-◌, ◌^◌, ℕ, length, OnOk, IfOk, IsErr, IfErr, [], Some};
-ghost use Rattle.ode_script.specs.Pieces.{is_blank, is_outside, place_after, depth_after, begun, with_byte, ends, has_code, last_piece};
+ghost use Rattle.std.specs.Prelude.{◌≡◌, ◌≤◌, ◌<◌, ◌+◌, ◌-◌, ◌^◌, ℕ, IsTrue, false, is_ok, length, OnOk, IfOk, IsErr, IfErr, IsSome, [], Some};
+ghost use Rattle.ode_script.specs.Cutting.{is_full, last_piece, pieces};
+ghost use Rattle.ode_script.specs.Pieces.{is_blank, is_outside, place_after, depth_after, begun, with_byte, ends, has_code};
 ghost use Rattle.ode_host.specs.Causes.{RoseIf};
+ghost use Rattle.ode_value.specs.Limits.{script_limit, statement_limit};
 
 use ode_host::Source;
 use ode_value::List;
+use ode_value::limits::{SCRIPT_LIMIT, STATEMENT_LIMIT};
 use std::alloc::{AllocError, Global};
-
-// How many bytes a script may have.
-const SCRIPT_LIMIT: u64 = 67_108_864;
 
 // How many bytes a read asks for.
 const CHUNK: usize = 4096;
@@ -93,7 +93,9 @@ pub enum ScriptError {
     Memory,
     /// A read failed.
     ReadFault,
-    /// The script has more than 67,108,864 bytes.
+    /// The statement has more than `ode_value::limits::STATEMENT_LIMIT` bytes.
+    LongStatement,
+    /// The script has more than `ode_value::limits::SCRIPT_LIMIT` bytes.
     LongScript,
 }
 
@@ -131,6 +133,14 @@ impl Part {
             place: Place::Outside,
             depth: 0,
         }
+    }
+
+    // Whether the piece may have no further byte.
+    #[tactic(auto, unfolding(ode_value::specs::Limits::statement_limit))]
+    fn is_full(&self) -> bool
+        ensures { result ≡ is_full self.now }
+    {
+        self.text.len() >= STATEMENT_LIMIT
     }
 
     // Whether the piece ends with this byte.
@@ -189,24 +199,25 @@ pub struct Reader {
     buffer: [u8; CHUNK],
     at: usize,
     end: usize,
-    /// How many bytes may still be taken.
-    pub allowed: u64,
-    /// The line of the next byte.
-    pub line: u64,
+    // How many bytes may still be taken.
+    allowed: usize,
+    // The line of the next byte.
+    line: u64,
+    // No call has answered an error.
+    live: bool,
     ghost in_buffer: { end ≤ length buffer },
     ghost countable: { line + allowed < 2 ^ 64 },
 }
 
 impl Reader {
-    ghost use Rattle.std.specs.Prelude.{List as Items, IfSome, ◌∷◌};
-    ghost use Rattle.ode_script.specs.Pieces.{script_limit};
-    ghost use Rattle.ode_script.specs.Left.{HasLeft, IsNext, Shows, Takes, SkipsBlanks, TakesPiece, IsStatement, IsWithin, held};
+    ghost use Rattle.std.specs.Prelude.{List as Items, Bool, IfSome, ◌∷◌};
+    ghost use Rattle.ode_script.specs.Cutting.{Pieces};
+    ghost use Rattle.ode_script.specs.Left.{Bars, HasLeft, HasPieces, IsNext, Shows, Takes, SkipsBlanks, TakesPiece, IsStatement, IsWithin, allowed, held, is_live};
 
     /// A reader at a script's first byte.
     pub fn new(alloc: Global) -> Reader
-        ensures rest { (left : Items ℕ) → HasLeft result (Some left) left }
-        ensures allowed { result.allowed ≡ script_limit }
-        ensures line { result.line ≡ 1 }
+        ensures pieces { (script : Items ℕ) → HasPieces result (Some script) (pieces script) }
+        ensures live { IsTrue (is_live result) }
     {
         Reader {
             alloc,
@@ -215,7 +226,15 @@ impl Reader {
             end: 0,
             allowed: SCRIPT_LIMIT,
             line: 1,
+            live: true,
         }
+    }
+
+    /// Whether `read_statement` may be called: no call of it has answered an error.
+    pub fn live(&self) -> bool
+        ensures { result ≡ is_live self.now }
+    {
+        self.live
     }
 
     // Reads on where all that was read is taken. Only here bytes come in chunks.
@@ -242,20 +261,23 @@ impl Reader {
         }
     }
 
-    // The next byte, which stays.
-    fn peek<S: Source>(&mut self, source: &mut S) -> Result<Option<u8>, ScriptError>
+    // The next byte, which stays. None comes behind a piece that is full.
+    fn peek<S: Source>(&mut self, source: &mut S, is_full: bool) -> Result<Option<u8>, ScriptError>
         ensures byte { (rest : Items ℕ) → HasLeft self.old (S.left source.old) rest
             → Shows rest self.new (S.left source.new) result }
         ensures next { IfOk result (λ byte. IfSome byte (IsNext self.new)) }
+        ensures room { IfOk result (λ byte. IsSome byte → is_full ≡ false) }
         ensures allowed { self.new.allowed ≡ self.old.allowed }
         ensures line { self.new.line ≡ self.old.line }
+        ensures bars { IfErr result (Bars is_full self.new.allowed) }
         ensures cause { RoseIf (result ≡ Err ScriptError.ReadFault) (S.faults source.old) (S.faults source.new) }
-        ensures long { result ≡ Err ScriptError.LongScript → self.new.allowed ≡ 0 }
-        ensures no_memory { result ≡ Err ScriptError.Memory → ⊥ }
     {
         self.fill(source)?;
         if self.at >= self.end {
             return Ok(None);
+        }
+        if is_full {
+            return Err(ScriptError::LongStatement);
         }
         if self.allowed == 0 {
             return Err(ScriptError::LongScript);
@@ -278,14 +300,13 @@ impl Reader {
 
     // Takes the blanks before the next piece.
     fn skip_blanks<S: Source>(&mut self, source: &mut S) -> Result<(), ScriptError>
-        ensures blanks { (rest : Items ℕ) → HasLeft self.old (S.left source.old) rest
-            → SkipsBlanks rest self.old self.new (S.left source.new) result }
+        ensures blanks { (ps : Pieces) → HasPieces self.old (S.left source.old) ps
+            → SkipsBlanks ps self.new (S.left source.new) result }
         ensures allowed { self.new.allowed ≤ self.old.allowed }
+        ensures bars { IfErr result (Bars false self.new.allowed) }
         ensures cause { RoseIf (result ≡ Err ScriptError.ReadFault) (S.faults source.old) (S.faults source.new) }
-        ensures long { result ≡ Err ScriptError.LongScript → self.new.allowed ≡ 0 }
-        ensures no_memory { result ≡ Err ScriptError.Memory → ⊥ }
     {
-        while let Some(b) = self.peek(source)? {
+        while let Some(b) = self.peek(source, false)? {
             if !is_blank(b) {
                 break;
             }
@@ -294,21 +315,23 @@ impl Reader {
         Ok(())
     }
 
-    /// The next piece of the script, in whatever chunks its bytes come. After an error the reader isn't used again. A byte
-    /// is kept before it is taken, so that want of memory never stands in place of a script that is too long.
-    pub fn read_statement<S: Source>(&mut self, source: &mut S) -> Result<Piece, ScriptError>
-        ensures piece { (rest : Items ℕ) → HasLeft self.old (S.left source.old) rest
-            → TakesPiece rest self.old self.new (S.left source.new) result }
+    // The next piece. A byte is kept before it is taken, so that want of memory never stands in place of a script that is
+    // too long.
+    fn read_piece<S: Source>(&mut self, source: &mut S) -> Result<Piece, ScriptError>
+        ensures piece { (ps : Pieces) → HasPieces self.old (S.left source.old) ps
+            → TakesPiece ps self.new (S.left source.new) result }
         ensures fewer { IfOk result (λ piece. IsStatement piece → self.new.allowed < self.old.allowed) }
+        ensures within { IfOk result (IsWithin statement_limit) }
         ensures short { IfOk result (IsWithin self.old.allowed) }
         ensures later_allowed { self.new.allowed ≤ self.old.allowed }
         ensures cause { RoseIf (result ≡ Err ScriptError.ReadFault) (S.faults source.old) (S.faults source.new) }
-        ensures long { result ≡ Err ScriptError.LongScript → self.new.allowed ≡ 0 }
+        ensures long_statement { result ≡ Err ScriptError.LongStatement → self.new.allowed + statement_limit ≤ self.old.allowed }
+        ensures long_script { result ≡ Err ScriptError.LongScript → self.new.allowed ≡ 0 }
         ensures memory { result ≡ Err ScriptError.Memory → 0 < self.new.allowed }
     {
         self.skip_blanks(source)?;
         let mut part = Part::new(self.alloc, self.line);
-        while let Some(b) = self.peek(source)? {
+        while let Some(b) = self.peek(source, part.is_full())? {
             let is_last = part.ends(b);
             part.push(b)?;
             self.take(b);
@@ -317,5 +340,26 @@ impl Reader {
             }
         }
         Ok(part.into_last())
+    }
+
+    /// The next piece of the script, in whatever chunks its bytes come. After an error the reader isn't used again.
+    pub fn read_statement<S: Source>(&mut self, source: &mut S) -> Result<Piece, ScriptError>
+        requires live { IsTrue (is_live self.old) }
+        ensures piece { (ps : Pieces) → HasPieces self.old (S.left source.old) ps
+            → TakesPiece ps self.new (S.left source.new) result }
+        ensures live { is_live self.new ≡ is_ok result }
+        ensures fewer { IfOk result (λ piece. IsStatement piece → allowed self.new < allowed self.old) }
+        ensures within { IfOk result (IsWithin statement_limit) }
+        ensures short { IfOk result (IsWithin (allowed self.old)) }
+        ensures later_allowed { allowed self.new ≤ allowed self.old }
+        ensures cause { RoseIf (result ≡ Err ScriptError.ReadFault) (S.faults source.old) (S.faults source.new) }
+        // Also where nothing is known of the source: a long statement has taken that many bytes, a long script all of them.
+        ensures long_statement { result ≡ Err ScriptError.LongStatement → allowed self.new + statement_limit ≤ allowed self.old }
+        ensures long_script { result ≡ Err ScriptError.LongScript → allowed self.new ≡ 0 }
+        ensures memory { result ≡ Err ScriptError.Memory → 0 < allowed self.new }
+    {
+        let piece = self.read_piece(source);
+        self.live = piece.is_ok();
+        piece
     }
 }

@@ -1,12 +1,12 @@
 -- What a stop leaves of a run.
-use Rattle.std.proofs.Common.{◌≡◌, ◌⊎◌, ⊎_elim, ℕ, suc, List, [], ◌∷◌, ◌++◌, take, drop, Bool, Some, refl, sym, ap, ◌∙◌, subst, append_assoc, append-nil}
+use Rattle.std.proofs.Common.{◌≡◌, ⊎_elim, ℕ, suc, List, [], ◌∷◌, ◌++◌, take, drop, Bool, refl, sym, ap, ◌∙◌, subst, append_assoc, append-nil}
 use Rattle.std.proofs.lemmas.List.{take-append-drop}
 use Rattle.ode_keep.specs.Entries.{Changes, Entries, applied}
 use Rattle.ode_open.specs.Holds.{HoldsBy}
 use Rattle.ode_host.specs.Host.{LeavesOnly}
 use Rattle.ode_host.specs.View.{View}
 use Rattle.ode_host.proofs.Moments.{joined, weaker}
-use Rattle.ode_script.specs.Pieces.{Pieces, Then}
+use Rattle.ode_script.specs.Cutting.{Pieces, Then}
 use Rattle.ode_value.specs.OneIntGood.{IsOneIntGood}
 use Rattle.ode_value.specs.OneIntRecords.{rows}
 use Rattle.ode_value.specs.OneIntWorld.{OneIntWorld}

@@ -1,5 +1,5 @@
 -- What a run is to the call of the program.
-use Rattle.std.proofs.Common.{◌≡◌, ◌<◌, ◌≤◌, ◌⊎◌, ⊎_elim, inl, inr, List, ℕ, Option, Some, None, IsSome, IsTrue, refl, sym, ◌∙◌, subst, arith}
+use Rattle.std.proofs.Common.{◌≡◌, ◌<◌, ◌≤◌, ◌⊎◌, ⊎_elim, List, ℕ, Option, Some, None, IsSome, IsTrue, refl, sym, ◌∙◌, subst, arith}
 use Rattle.std.proofs.lemmas.Bool.{cases_lt}
 use Rattle.std.specs.Prelude.{◌≢◌}
 use Rattle.ode_areas.specs.Image.{AreasMean}
@@ -7,9 +7,9 @@ use Rattle.ode_host.specs.Host.{Keeps, LeavesOnly, Looks, Nothing, Only, Stands,
 use Rattle.ode_host.specs.View.{View}
 use Rattle.ode_host.specs.declared.status.Status.{Status}
 use Rattle.ode_host.specs.declared.status.Status.TheVariants as status
-use Rattle.ode_host.proofs.Moments.{one_call, tells_looks}
+use Rattle.ode_host.proofs.Moments.{one_call}
 use Rattle.ode_open.specs.Holds.{Holds}
-use Rattle.ode_script.specs.Pieces.{pieces}
+use Rattle.ode_script.specs.Cutting.{pieces}
 use Rattle.ode_value.specs.OneIntRecords.{rows}
 use Rattle.ode_value.specs.OneIntWorld.{OneIntWorld}
 use Rattle.ode_top.specs.Answers.{IsMachineRun}

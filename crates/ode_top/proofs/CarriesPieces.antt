@@ -4,7 +4,6 @@ use Rattle.ode_host.specs.Host.{LeavesCut, LeavesOnly}
 use Rattle.ode_host.specs.View.{View}
 use Rattle.ode_host.proofs.Moments.{weaker}
 use Rattle.ode_keep.specs.Entries.{Changes, Entries, applied, record_bytes}
-use Rattle.ode_open.specs.Holds.{HoldsBy}
 use Rattle.ode_value.specs.OneIntCommands.{Refused, Settles}
 use Rattle.ode_value.specs.OneIntGood.{IsOneIntGood}
 use Rattle.ode_value.specs.OneIntRecords.{rows}

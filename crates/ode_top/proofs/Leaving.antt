@@ -1,12 +1,12 @@
 -- What a run leaves of a host, whatever it answers.
-use Rattle.std.proofs.Common.{◌≡◌, ◌⊎◌, ◌∙◌, ⊎_elim, inl, inr, Err, List, ℕ, Some, ap, refl, sym, subst}
+use Rattle.std.proofs.Common.{◌≡◌, ◌⊎◌, ◌∙◌, ⊎_elim, List, ℕ, Some, refl, sym, subst}
 use Rattle.std.specs.Prelude.{IsSome}
 use Rattle.ode_host.specs.declared.status.Status.{Status}
 use Rattle.ode_host.specs.declared.status.Status.TheVariants as status
 use Rattle.ode_host.specs.Causes.{RoseIf}
 use Rattle.ode_host.specs.Host.{HostCalls, Keeps, Looks, Prints}
 use Rattle.ode_host.specs.View.{View}
-use Rattle.ode_host.proofs.Calls.{disk_host, host_calls_as, host_calls_on, looks_calls, looks_spares, print_host, print_spares, rose_as, rose_none, spares_joined}
+use Rattle.ode_host.proofs.Calls.{disk_host, looks_calls, looks_spares, print_host, print_spares, rose_none, spares_joined}
 use Rattle.ode_host.proofs.Moments.{looks_none}
 use Rattle.ode_keep.specs.declared.error.KeepError.{KeepError}
 use Rattle.ode_keep.specs.declared.error.KeepError.TheVariants as keep
@@ -74,16 +74,19 @@ halt_no_end halt.Damaged is = is
 pub error_no_disk : (e : ScriptError) → status_of_error e ≡ status.DiskFault → ⊥
 error_no_disk error.Memory is = cc (is)
 error_no_disk error.ReadFault is = cc (is)
+error_no_disk error.LongStatement is = cc (is)
 error_no_disk error.LongScript is = cc (is)
 
 pub error_no_print : (e : ScriptError) → status_of_error e ≡ status.WriteFault → ⊥
 error_no_print error.Memory is = cc (is)
 error_no_print error.ReadFault is = cc (is)
+error_no_print error.LongStatement is = cc (is)
 error_no_print error.LongScript is = cc (is)
 
 pub error_read : (e : ScriptError) → status_of_error e ≡ status.ReadFault → e ≡ error.ReadFault
 error_read error.Memory is = cc (is)
 error_read error.ReadFault is = refl
+error_read error.LongStatement is = cc (is)
 error_read error.LongScript is = cc (is)
 
 -- a status with a line, or a fault of its print, isn't silent

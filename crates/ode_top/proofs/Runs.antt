@@ -9,9 +9,10 @@ use Rattle.ode_script.specs.declared.reader.ScriptError.{ScriptError}
 use Rattle.ode_script.specs.declared.reader.ScriptError.TheVariants as error
 use Rattle.ode_top.specs.Halts.{status_of_error}
 use Rattle.ode_script.specs.Left.{EndsBy}
-use Rattle.ode_script.specs.Pieces.{Ending, End, LongScript, Pieces, Then, Ended}
+use Rattle.ode_script.specs.Cutting.{Ending, End, LongStatement, LongScript, Pieces, Then, Ended, ending_of}
 use Rattle.ode_top.specs.Serves.{Carries, Holding, IsEnding, LeavesNothing, RanAs, Serves, SoFar}
-use Rattle.ode_top.specs.Trace.{Item, Settled, Refusal, piece_items, trace, final, text_of, any_refused, ending, status_at}
+use Rattle.ode_top.specs.Runs.{status_at}
+use Rattle.ode_top.specs.Trace.{Item, Settled, Refusal, piece_items, trace, final, text_of, any_refused}
 
 pub text_of-append : (xs ys : List Item) → text_of (xs ++ ys) ≡ text_of xs ++ text_of ys
 text_of-append [] ys = refl
@@ -36,7 +37,7 @@ same_next whole w0 text0 line piece rest ps w v text refused again held holds be
     record {
       before = so_far.before ++ items;
       split = so_far.split ∙ ap (λ (p : Pieces). so_far.before ++ trace w p) is ∙ ap (λ (u : OneIntWorld). so_far.before ++ (items ++ trace u rest)) (sym carries.world) ∙ sym (append_assoc so_far.before items (trace v rest));
-      ends = so_far.ends ∙ ap ending is;
+      ends = so_far.ends ∙ ap ending_of is;
       world = carries.world ∙ ap (λ (u : OneIntWorld). final u items) so_far.world ∙ sym (final-append w0 so_far.before items);
       printed = ap (λ (l : List ℕ). l ++ text_of items) so_far.printed ∙ append_assoc text0 (text_of so_far.before) (text_of items) ∙ ap (λ (l : List ℕ). text0 ++ l) (sym (text_of-append so_far.before items));
       stated = ap (λ (b : Bool). b || again) so_far.stated ∙ ap (λ (b : Bool). any_refused so_far.before || b) carries.stated ∙ sym (any_refused-append so_far.before items);
@@ -44,18 +45,18 @@ same_next whole w0 text0 line piece rest ps w v text refused again held holds be
 
 -- before the first piece
 pub same_at : (whole ps : Pieces) (w : OneIntWorld) (text : List ℕ) → ps ≡ whole → SoFar whole w text ps w text false
-same_at whole ps w text is = record { before = []; split = ap (trace w) (sym is); ends = ap ending (sym is); world = refl; printed = sym (append-nil text); stated = refl }
+same_at whole ps w text is = record { before = []; split = ap (trace w) (sym is); ends = ap ending_of (sym is); world = refl; printed = sym (append-nil text); stated = refl }
 
 -- the run has ended as the machine's
 pub ended_ran : (holds : Holding) (whole : Pieces) (w0 : OneIntWorld) (text0 : List ℕ) (ps : Pieces) (how : Ending) (w : OneIntWorld) (text : List ℕ) (refused : Bool) (left : Option (List ℕ)) (view : View) (result : Status)
     → ps ≡ Ended how → result ≡ status_at how refused → LeavesNothing result left → IsOneIntGood w → Serves holds view w text → SoFar whole w0 text0 ps w text refused → RanAs holds whole w0 text0 left view result
 ended_ran holds whole w0 text0 ps how w text refused left view result is stated nothing good serves so_far =
     let all : trace w0 whole ≡ so_far.before = so_far.split ∙ ap (λ (p : Pieces). so_far.before ++ trace w p) is ∙ append-nil so_far.before in
-    let ends : how ≡ ending whole = sym (so_far.ends ∙ ap ending is) in
+    let ends : how ≡ ending_of whole = sym (so_far.ends ∙ ap ending_of is) in
     let held : w ≡ final w0 (trace w0 whole) = so_far.world ∙ ap (final w0) (sym all) in
     let told : text ≡ text0 ++ text_of (trace w0 whole) = so_far.printed ∙ ap (λ (items : List Item). text0 ++ text_of items) (sym all) in
     record {
-      stated = stated ∙ ap (λ (e : Ending). status_at e refused) ends ∙ ap (status_at (ending whole)) (so_far.stated ∙ ap any_refused (sym all));
+      stated = stated ∙ ap (λ (e : Ending). status_at e refused) ends ∙ ap (status_at (ending_of whole)) (so_far.stated ∙ ap any_refused (sym all));
       good = subst IsOneIntGood held good;
       serves = subst (λ (v : OneIntWorld). Serves holds view v (text0 ++ text_of (trace w0 whole))) held (subst (λ (t : List ℕ). Serves holds view w t) told serves);
       nothing = nothing;
@@ -71,5 +72,7 @@ pub error_ran : (holds : Holding) (whole : Pieces) (w0 : OneIntWorld) (text0 : L
     → EndsBy ps e → result ≡ status_of_error e → IsEnding result → IsOneIntGood w → Serves holds view w text → SoFar whole w0 text0 ps w text refused → RanAs holds whole w0 text0 left view result
 error_ran holds whole w0 text0 ps w text refused left view result error.Memory ends is ending_status good serves same = absurd (subst IsEnding is ending_status)
 error_ran holds whole w0 text0 ps w text refused left view result error.ReadFault ends is ending_status good serves same = absurd (subst IsEnding is ending_status)
+error_ran holds whole w0 text0 ps w text refused left view result error.LongStatement ends is ending_status good serves same =
+    ended_ran holds whole w0 text0 ps LongStatement w text refused left view result ends is (subst (λ (s : Status). LeavesNothing s left) (sym is) tt) good serves same
 error_ran holds whole w0 text0 ps w text refused left view result error.LongScript ends is ending_status good serves same =
     ended_ran holds whole w0 text0 ps LongScript w text refused left view result ends is (subst (λ (s : Status). LeavesNothing s left) (sym is) tt) good serves same

@@ -1,5 +1,5 @@
 -- What a stop leaves of a transaction.
-use Rattle.std.proofs.Common.{◌≡◌, ◌≤◌, ◌⊎◌, inl, inr, ⊎_elim, IsTrue, ℕ, List, [], ◌++◌, take, Some, refl, sym, ◌∙◌, ap, subst, append-nil}
+use Rattle.std.proofs.Common.{◌≡◌, inl, inr, ⊎_elim, IsTrue, ℕ, List, ◌++◌, take, Some, sym, ◌∙◌, subst, append-nil}
 use Rattle.ode_host.specs.View.{View}
 use Rattle.ode_host.specs.Host.{CutPrint, LeavesCut, LeavesOnly, Prints, Stands}
 use Rattle.ode_host.proofs.Moments.{joined, now_from, print_leaves, weaker}

@@ -24,6 +24,7 @@ status_of_halt halt.Damaged = status.BadFile
 abbrev pub status_of_error : ScriptError → Status
 status_of_error error.Memory = status.Memory
 status_of_error error.ReadFault = status.ReadFault
+status_of_error error.LongStatement = status.LongStatement
 status_of_error error.LongScript = status.LongScript
 
 -- the statuses that a run of a script may end with
@@ -34,7 +35,7 @@ IsRunStatus status.DiskFault = Unit {0}
 IsRunStatus status.ReadFault = Unit {0}
 IsRunStatus status.WriteFault = Unit {0}
 IsRunStatus status.Memory = Unit {0}
+IsRunStatus status.LongStatement = Unit {0}
 IsRunStatus status.LongScript = Unit {0}
-IsRunStatus status.LongStatement = ⊥
 IsRunStatus status.Usage = ⊥
 IsRunStatus status.BadFile = ⊥

@@ -7,11 +7,12 @@ use Rattle.ode_host.specs.declared.status.Status.{Status}
 use Rattle.ode_host.specs.declared.status.Status.TheVariants.{Ok, Refused, Usage, BadFile, DiskFault, ReadFault, WriteFault, Memory, LongStatement, LongScript}
 use Rattle.ode_keep.specs.Entries.{Changes, Entries, applied}
 use Rattle.ode_open.specs.Holds.{HoldsBy}
-use Rattle.ode_script.specs.Pieces.{Pieces}
+use Rattle.ode_script.specs.Cutting.{Pieces, ending_of}
 use Rattle.ode_value.specs.OneIntGood.{IsOneIntGood}
 use Rattle.ode_value.specs.OneIntRecords.{rows}
 use Rattle.ode_value.specs.OneIntWorld.{OneIntWorld}
-use Rattle.ode_top.specs.Trace.{Item, trace, final, after, text_of, text_until, any_refused, ending, status_at}
+use Rattle.ode_top.specs.Runs.{status_at}
+use Rattle.ode_top.specs.Trace.{Item, trace, final, after, text_of, text_until, any_refused}
 
 -- what a keeper holds on a host of which something is known, and what an image stands for
 abbrev pub Holding : Type 1
@@ -45,6 +46,7 @@ LeavesSettling means entries changes text said image out =
 abbrev pub IsEnding : Status → Type 0
 IsEnding Ok = Unit {0}
 IsEnding Refused = Unit {0}
+IsEnding LongStatement = Unit {0}
 IsEnding LongScript = Unit {0}
 IsEnding Usage = ⊥
 IsEnding BadFile = ⊥
@@ -52,7 +54,6 @@ IsEnding DiskFault = ⊥
 IsEnding ReadFault = ⊥
 IsEnding WriteFault = ⊥
 IsEnding Memory = ⊥
-IsEnding LongStatement = ⊥
 
 -- nothing of the script is left where the status says that it was read to its end
 abbrev pub LeavesNothing : Status → Option (List ℕ) → Type 0
@@ -62,7 +63,7 @@ LeavesNothing _ left = Unit {0}
 
 -- A run of these pieces from a world, with this text printed before it, has ended as the machine's.
 pub record RanAs (holds : Holding) (ps : Pieces) (w : OneIntWorld) (text : List ℕ) (left : Option (List ℕ)) (view : View) (status : Status) : Type 0 where
-  pub stated : status ≡ status_at (ending ps) (any_refused (trace w ps))
+  pub stated : status ≡ status_at (ending_of ps) (any_refused (trace w ps))
   pub good : IsOneIntGood (final w (trace w ps))
   pub serves : Serves holds view (final w (trace w ps)) (text ++ text_of (trace w ps))
   pub nothing : LeavesNothing status left
@@ -72,7 +73,7 @@ pub record RanAs (holds : Holding) (ps : Pieces) (w : OneIntWorld) (text : List 
 pub record SoFar (whole : Pieces) (start : OneIntWorld) (text0 : List ℕ) (ps : Pieces) (w : OneIntWorld) (text : List ℕ) (refused : Bool) : Type 0 where
   pub before : List Item
   pub split : trace start whole ≡ before ++ trace w ps
-  pub ends : ending whole ≡ ending ps
+  pub ends : ending_of whole ≡ ending_of ps
   pub world : w ≡ final start before
   pub printed : text ≡ text0 ++ text_of before
   pub stated : refused ≡ any_refused before

@@ -1,14 +1,14 @@
 -- What a run of a script does.
-use Rattle.std.specs.Prelude.{ℕ, zero, suc, List, [], ◌∷◌, ◌++◌, map, Bool, true, false, cond, Option, Some, None}
+use Rattle.std.specs.Prelude.{ℕ, zero, suc, List, [], ◌∷◌, ◌++◌, map, Bool, true, false, Option, Some, None}
 use Rattle.ode_host.specs.declared.status.Status.{Status}
-use Rattle.ode_host.specs.declared.status.Status.TheVariants as status
 use Rattle.ode_value.specs.OneIntCommands.{OneIntOutcome, Refused, Settles, command}
 use Rattle.ode_value.specs.Texts.{refused_line}
 use Rattle.ode_value.specs.OneIntWorld.{OneIntWorld}
 use Rattle.ode_value.specs.declared.reason.Refusal.TheVariants.{NotBuilt}
 use Rattle.ode_value.specs.declared.statement.Statement.{Statement}
-use Rattle.ode_script.specs.Pieces.{Ending, End, LongScript, Pieces, Then, Ended, pieces}
+use Rattle.ode_script.specs.Cutting.{Pieces, Then, Ended, ending_of, pieces}
 use Rattle.ode_first_syntax.specs.Statements.{statement_of}
+use Rattle.ode_top.specs.Runs.{status_at}
 
 -- a settled transaction with its text, or a refusal's line
 pub data Item : Type 0 where
@@ -65,15 +65,6 @@ text_until k (Refusal line ∷ items) = line ++ text_until k items
 text_until zero (Settled world text ∷ items) = []
 text_until (suc k) (Settled world text ∷ items) = text ++ text_until k items
 
-abbrev pub ending : Pieces → Ending
-ending (Then line text rest) = ending rest
-ending (Ended how) = how
-
--- the status of a run that ends so, where some statement was refused or none
-abbrev pub status_at : Ending → Bool → Status
-status_at End refused = cond refused status.Refused status.Ok
-status_at LongScript refused = status.LongScript
-
 -- a run of a whole script from a world
 abbrev pub run_items : OneIntWorld → List ℕ → List Item
 run_items w script = trace w (pieces script)
@@ -85,4 +76,4 @@ abbrev pub run_world : OneIntWorld → List ℕ → OneIntWorld
 run_world w script = final w (run_items w script)
 
 abbrev pub run_status : OneIntWorld → List ℕ → Status
-run_status w script = status_at (ending (pieces script)) (any_refused (run_items w script))
+run_status w script = status_at (ending_of (pieces script)) (any_refused (run_items w script))

@@ -1,13 +1,14 @@
 //! A run of a script, piece by piece.
-ghost use Rattle.std.specs.Prelude.{◌≡◌, ◌≢◌, ◌≤◌, ◌<◌, ◌^◌, ◌++◌, ◌⊎◌, ℕ, List as Items, IsTrue, length, Some, OnOk, OnErr, IfOk};
+ghost use Rattle.std.specs.Prelude.{◌≡◌, ◌≢◌, ◌≤◌, ◌++◌, ◌⊎◌, ℕ, List as Items, IsTrue, length, Some, OnOk, OnErr, IfOk};
 ghost use Rattle.ode_first_records.specs.State.{world_of};
 ghost use Rattle.ode_engine.specs.Carried.{outcome_of, Keeps as StateKeeps};
 ghost use Rattle.ode_host.specs.Causes.{RoseIf};
 ghost use Rattle.ode_host.specs.Host.{HostCalls, LeavesCut, LeavesOnly, Printed, Stands};
+ghost use Rattle.ode_value.specs.Limits.{statement_limit};
 ghost use Rattle.ode_value.specs.OneIntGood.{IsOneIntGood};
 ghost use Rattle.ode_value.specs.OneIntRecords.{rows};
 ghost use Rattle.ode_value.specs.Texts.{refused_line};
-ghost use Rattle.ode_script.specs.Pieces.{pieces};
+ghost use Rattle.ode_script.specs.Cutting.{pieces};
 ghost use Rattle.ode_top.specs.Halts.{IsRunStatus, status_of_error};
 ghost use Rattle.ode_top.specs.Serves.{Carries, IsAfterSome, IsEnding, RanAs, Serves};
 ghost use Rattle.ode_top.specs.Trace.{Item as Done, piece_items, piece_outcome, run_items};
@@ -18,7 +19,7 @@ use ode_first_records::State;
 use ode_first_syntax::parse_statement;
 use ode_host::{Failed, Host, Source, Status};
 use ode_keep::Keep;
-use ode_script::{Piece, Reader, ScriptError, refused_line};
+use ode_script::{Piece, Reader, ScriptError, refusal_line};
 use ode_value::{Boxed, Refusal};
 use std::alloc::{AllocError, Global};
 
@@ -36,17 +37,18 @@ fn print_refusal<H: Host>(
     ensures disk { result ≡ Err Halt.DiskFault → ⊥ }
     ensures undamaged { result ≡ Err Halt.Damaged → ⊥ }
 {
-    let text = refused_line(alloc, line, refusal)?;
-    match host.print(&text) {
+    let text = refusal_line(alloc, line, refusal)?;
+    match host.print(text.as_slice()) {
         Ok(()) => Ok(()),
         Err(Failed) => Err(Halt::WriteFault),
     }
 }
 
 // What a piece comes to in memory.
+#[tactic(auto, unfolding(ode_value::specs::Limits::statement_limit))]
 fn evaluate(alloc: Global, state: &mut State, text: &[u8]) -> Result<Item, AllocError>
     requires good { IsOneIntGood (world_of state.old) }
-    requires short { length text.now < 2 ^ 32 }
+    requires short { length text.now ≤ statement_limit }
     ensures outcome { IfOk result (λ item. outcome_of item (world_of state.new) ≡ piece_outcome (world_of state.old) text.now) }
     ensures keeps { IfOk result (λ item. StateKeeps item (world_of state.old) (world_of state.new)) }
     ensures good { OnOk result (IsOneIntGood (world_of state.new)) }
@@ -71,7 +73,7 @@ pub fn carry_out<H: Host, K: Keep<H>>(
 ) -> Result<bool, Halt>
     requires live { IsTrue (K.live keeper.old) }
     requires good { IsOneIntGood (world_of state.old) }
-    requires short { length text.now < 2 ^ 32 }
+    requires short { length text.now ≤ statement_limit }
     ensures carries { IfOk result (λ refused. Carries (K.holds keeper.old) (K.holds keeper.new) (piece_items (world_of state.old) line text.now) refused
         (world_of state.old) (world_of state.new) (H.view host.old) (H.view host.new)) }
     ensures any_moment { (more : Items Done) (said : Items ℕ) → Serves (K.holds keeper.old) (H.view host.old) (world_of state.old) said
@@ -117,6 +119,7 @@ fn status_of_error(error: ScriptError) -> Status
     match error {
         ScriptError::Memory => Status::Memory,
         ScriptError::ReadFault => Status::ReadFault,
+        ScriptError::LongStatement => Status::LongStatement,
         ScriptError::LongScript => Status::LongScript,
     }
 }

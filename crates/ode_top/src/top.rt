@@ -16,7 +16,7 @@ ghost use Rattle.ode_top.specs.Calls.{bytes_of, call_of};
 ghost use Rattle.ode_top.specs.Halts.{IsRunStatus};
 ghost use Rattle.ode_top.specs.Serves.{CutShort, IsAfterSome, IsCut, IsEnding, RanAs, Serves};
 ghost use Rattle.ode_top.specs.Trace.{run_items};
-ghost use Rattle.ode_script.specs.Pieces.{pieces};
+ghost use Rattle.ode_script.specs.Cutting.{pieces};
 
 use crate::call::{Mode, call_of};
 use crate::run::run_script;

@@ -1,7 +1,6 @@
-use Rattle.std.proofs.Common.{◌++◌}
 use Rattle.ode_first_records.specs.State.{world_of}
 use Rattle.ode_value.specs.OneIntRecords.{rows}
-use Rattle.ode_top.proofs.CarriesPieces.{refused_carries, refused_leaves, settled_carries, settled_leaves, within}
+use Rattle.ode_top.proofs.CarriesPieces.{refused_carries, refused_leaves, settled_carries, settled_leaves}
 use Rattle.ode_top.proofs.run.carry_out.Goals as goal
 
 pub returns-in-Refused-clause-carries : goal.returns-in-Refused-clause-carries

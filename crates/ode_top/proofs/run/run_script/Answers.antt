@@ -1,4 +1,4 @@
-use Rattle.std.proofs.Common.{Err, ◌≡◌, ℕ, List, ◌++◌, Bool, arith, ap, sym, subst, ◌∙◌}
+use Rattle.std.proofs.Common.{Err, ◌≡◌, ℕ, List, ◌++◌, Bool, ap, refl, sym, subst, ◌∙◌}
 use Rattle.std.specs.Prelude.{◌||◌}
 use Rattle.ode_first_records.specs.State.{world_of}
 use Rattle.ode_host.specs.declared.status.Status.{Status}
@@ -6,12 +6,13 @@ use Rattle.ode_host.specs.declared.status.Status.TheVariants as status
 use Rattle.ode_host.proofs.Calls.{host_calls_as, host_calls_on, rose_as, rose_none, rose_on}
 use Rattle.ode_host.proofs.Moments.{started}
 use Rattle.ode_script.specs.declared.reader.ScriptError.TheVariants as error
-use Rattle.ode_script.specs.Left.{HasLeft}
-use Rattle.ode_script.specs.Pieces.{End, Pieces, Then, pieces, pieces_from, script_limit}
+use Rattle.ode_script.specs.Cutting.{End, Then, pieces}
+use Rattle.ode_script.specs.Left.{HasPieces}
 use Rattle.ode_top.specs.declared.settling.Halt.TheVariants as halt
 use Rattle.ode_top.specs.Halts.{status_of_error, status_of_halt}
 use Rattle.ode_top.specs.Serves.{IsAfterSome, IsEnding, LeavesNothing, SoFar}
-use Rattle.ode_top.specs.Trace.{final, piece_items, run_items, status_at, text_of, trace}
+use Rattle.ode_top.specs.Runs.{status_at}
+use Rattle.ode_top.specs.Trace.{final, piece_items, run_items, text_of, trace}
 use Rattle.ode_top.proofs.AfterSome.{goes_further}
 use Rattle.ode_top.proofs.Leaving.{error_no_disk, error_no_print, error_read, halt_disk, halt_no_end, halt_no_read, halt_print, no_calls}
 use Rattle.ode_top.proofs.Runs.{end_leaves, ended_ran, error_ran, same_at, same_next}
@@ -19,21 +20,19 @@ use Rattle.ode_top.proofs.run.run_script.Goals as goal
 use Rattle.ode_top.proofs.run.run_script.Goals.{then-refused, else-refused, then-refused-2, else-refused-2}
 
 pub pieces-init : goal.pieces-init
-unfolding script_limit
 pieces-init g c = record {
   whole = λ script text told printed. (
-    script,
+    pieces script,
     text,
-    subst (λ o. HasLeft c.new-reader.result o script) (sym told) (c.new-reader.ensures.rest script),
+    subst (λ o. HasPieces c.new-reader.result o (pieces script)) (sym told) (c.new-reader.ensures.pieces script),
     printed,
-    same_at (pieces script) _ (world_of c.args.state) text
-        (ap (λ (n : ℕ). pieces_from n c.new-reader.result.line script) c.new-reader.ensures.allowed ∙ ap (λ (n : ℕ). pieces_from script_limit n script) c.new-reader.ensures.line),
+    same_at (pieces script) (pieces script) (world_of c.args.state) text refl,
   );
   records = λ holds. holds;
   moments = λ script text told serves. started (g.H.Host.view c.args.host.now) (IsAfterSome g.K.Keep.means (run_items (world_of c.args.state) script) (world_of c.args.state) text);
   good = c.requires.good;
   live = c.requires.live;
-  allowed = omega (arith, c.new-reader.ensures.allowed);
+  reads_on = c.new-reader.ensures.live;
   leaves = no_calls ⊥ ⊥ (g.H.Host.view c.args.host.now) (λ none. none) (λ none. none);
   reads = rose_none ⊥ (g.S.Source.faults c.args.source.now) (λ none. none);
 }
@@ -62,12 +61,12 @@ pieces-preserved g c = record {
       let so_far = c.pieces.invariant.whole script text told said in
       let taken = rw c.in-Ok-Statement.field-0-is at (c.in-Ok-Statement.ensures.piece so_far.0 so_far.2) in
       let both : (c.pieces.refused || c.in-Ok.again) ≡ c.if-refused-2.refused = elim c.if-refused-2.branch [ then-refused-2 w ↦ ap (λ (b : Bool). b || c.in-Ok.again) w.if-refused-2.true ∙ sym (w.refused-is ∙ w.if-refused-2.true) | else-refused-2 w ↦ ap (λ (b : Bool). b || c.in-Ok.again) w.if-refused-2.false ∙ sym w.refused-is ] in
-      let rest = pieces_from c.read_statement.new.self.allowed c.read_statement.new.self.line taken.0 in
+      let rest = taken.0 in
       let carries = c.in-Ok.ensures.carries in
       let printed : List ℕ = so_far.1 ++ text_of (piece_items (world_of c.pieces.state) c.in-Ok-Statement.line c.as_slice.result.now) in
       let next = same_next (pieces script) (world_of c.args.state) text c.in-Ok-Statement.line c.as_slice.result.now rest _ (world_of c.pieces.state) (world_of c.carry_out.new.state) so_far.1 c.pieces.refused c.in-Ok.again
       (g.K.Keep.holds c.pieces.keeper) (g.K.Keep.holds c.carry_out.new.keeper) (g.H.Host.view c.pieces.host) (g.H.Host.view c.carry_out.new.host) (taken.1 ∙ ap (λ (p : List ℕ). Then c.in-Ok-Statement.line p rest) (sym c.as_slice.ensures)) carries so_far.4 in (
-        taken.0,
+        rest,
         printed,
         taken.2,
         carries.printed so_far.1 so_far.3,
@@ -78,7 +77,7 @@ pieces-preserved g c = record {
       let so_far = c.pieces.invariant.whole script text told serves.printed in
       let taken = rw c.in-Ok-Statement.field-0-is at (c.in-Ok-Statement.ensures.piece so_far.0 so_far.2) in
       let w = world_of c.pieces.state in
-      let rest = pieces_from c.read_statement.new.self.allowed c.read_statement.new.self.line taken.0 in
+      let rest = taken.0 in
       let items = piece_items w c.in-Ok-Statement.line c.as_slice.result.now in
       goes_further g.K.Keep.means (pieces script) (world_of c.args.state) text _ rest c.in-Ok-Statement.line c.as_slice.result.now w so_far.1 c.pieces.refused _ _ _
       (taken.1 ∙ ap (λ (p : List ℕ). Then c.in-Ok-Statement.line p rest) (sym c.as_slice.ensures)) so_far.4
@@ -86,7 +85,7 @@ pieces-preserved g c = record {
       (c.in-Ok.ensures.any_moment (trace (final w items) rest) so_far.1 (record { records = c.pieces.invariant.records serves.records; printed = so_far.3 }));
   good = c.in-Ok.ensures.good;
   live = c.in-Ok.ensures.live;
-  allowed = omega (arith, c.pieces.invariant.allowed, c.in-Ok-Statement.ensures.later_allowed);
+  reads_on = c.in-Ok-Statement.ensures.live;
   leaves = host_calls_on ⊥ ⊥ ⊥ ⊥ _ _ _ (λ none. none) (λ none. none) c.pieces.invariant.leaves
       (host_calls_as _ _ ⊥ ⊥ _ _ (λ is. cc (is)) absurd (λ is. cc (is)) absurd c.in-Ok.ensures.leaves);
   reads = rose_on ⊥ ⊥ _ _ _ (λ none. none) c.pieces.invariant.reads (rose_as _ ⊥ _ _ (λ is. cc (is)) absurd c.in-Ok-Statement.ensures.cause);
@@ -97,7 +96,7 @@ returns-in-Err-carry_out-clause-any_moment g c script text told serves =
     let so_far = c.pieces.invariant.whole script text told serves.printed in
     let taken = rw c.in-Ok-Statement.field-0-is at (c.in-Ok-Statement.ensures.piece so_far.0 so_far.2) in
     let w = world_of c.pieces.state in
-    let rest = pieces_from c.read_statement.new.self.allowed c.read_statement.new.self.line taken.0 in
+    let rest = taken.0 in
     let items = piece_items w c.in-Ok-Statement.line c.as_slice.result.now in
     goes_further g.K.Keep.means (pieces script) (world_of c.args.state) text _ rest c.in-Ok-Statement.line c.as_slice.result.now w so_far.1 c.pieces.refused _ _ _
     (taken.1 ∙ ap (λ (p : List ℕ). Then c.in-Ok-Statement.line p rest) (sym c.as_slice.ensures)) so_far.4

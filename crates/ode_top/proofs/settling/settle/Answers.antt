@@ -1,4 +1,4 @@
-use Rattle.std.proofs.Common.{◌∙◌, refl, subst, ℕ, List}
+use Rattle.std.proofs.Common.{refl, subst, ℕ, List}
 use Rattle.ode_host.specs.Host.{Prints}
 use Rattle.ode_host.proofs.Calls.{disk_host, host_calls_on, print_host, rose_as}
 use Rattle.ode_keep.specs.Entries.{applied}
