@@ -1,5 +1,5 @@
 //! Answers where each text on standard input is wrong or too high: a line is a sort of text, a blank and the text. Before the text it prints
-//! `right`, `right to N`, `bad byte N`, `syntax N` or `too deep N`. Each text in quotes is one that is no instant.
+//! `right`, `right to N`, `bad byte N`, `syntax N` or `too deep N`.
 #![tactic(auto)]
 
 use ode_grammar::{Start, Terminal, extent_of};

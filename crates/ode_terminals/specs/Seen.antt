@@ -1,6 +1,7 @@
 -- What the grammar sees of a token of a text.
-use Rattle.std.specs.Prelude.{ℕ, ◌-◌, ◌^◌, ◌==◌, ◌||◌, ℤ, pos, negsuc, nat_lt, nat_le, cond, codes, List, [], ◌∷◌, take, drop}
+use Rattle.std.specs.Prelude.{ℕ, ◌-◌, ◌^◌, ◌==◌, ◌||◌, ℤ, pos, negsuc, nat_lt, nat_le, cond, codes, List, [], ◌∷◌, take, drop, length, Option, None, Some}
 use Rattle.std.specs.Str.{bytes_eq}
+use Rattle.ode_timer.specs.Dates.{instant_of}
 use Rattle.ode_lex.specs.declared.token.Mark.{Mark}
 use Rattle.ode_lex.specs.declared.token.Mark.TheVariants as mark
 use Rattle.ode_lex.specs.declared.token.Token.{Token}
@@ -53,11 +54,19 @@ abbrev pub reference_terminal : Place → Terminal
 reference_terminal Class = terminal.Stray
 reference_terminal other = terminal.Leaf
 
--- by the token's bytes; whether a text is an instant isn't asked here
+-- what stands between the quotes of a text
+abbrev pub between_quotes : List ℕ → List ℕ
+between_quotes bytes = take (length bytes - 2) (drop 1 bytes)
+
+abbrev pub instant_terminal : Option ℤ → Terminal
+instant_terminal None = terminal.Text
+instant_terminal (Some second) = terminal.Instant
+
+-- by the token's bytes
 abbrev pub seen : Place → List ℕ → TokenKind → Terminal
 seen place bytes kind.Word = cond (bytes_eq bytes (codes "this")) (this_terminal place) (word_terminal bytes)
 seen place bytes (kind.Number n) = number_terminal n
-seen place bytes kind.Text = terminal.Text
+seen place bytes kind.Text = instant_terminal (instant_of (between_quotes bytes))
 seen place bytes (kind.Reference r) = reference_terminal place
 seen place bytes (kind.Mark m) = mark_terminal m
 

@@ -1,10 +1,12 @@
 //! Tokens as the grammar sees them.
 ghost use Rattle.std.specs.Prelude.{◌≡◌, IfOk, map, length};
-ghost use Rattle.ode_terminals.specs.Seen.{mark_terminal, number_terminal, place_of, reference_terminal, seen, terminal_of, this_terminal};
+ghost use Rattle.ode_timer.specs.Dates.{instant_of};
+ghost use Rattle.ode_terminals.specs.Seen.{between_quotes, instant_terminal, mark_terminal, number_terminal, place_of, reference_terminal, seen, terminal_of, this_terminal};
 
 use crate::words::word_terminal;
 use ode_grammar::Terminal;
 use ode_lex::{Mark, Token, TokenKind, slice_of};
+use ode_timer::instant;
 use std::alloc::{AllocError, Global};
 
 /// Where a text stands: in a class, among a script's own statements, or where nothing is known of it.
@@ -74,7 +76,25 @@ fn reference_terminal(place: Place) -> Terminal
     }
 }
 
-/// What the grammar sees of a token of a text that stands at this place. Each text is `Text`: whether it is an instant isn't asked here.
+// What stands between the quotes of a text.
+fn between_quotes(bytes: &[u8]) -> &[u8]
+    ensures { result.now ≡ between_quotes bytes.now }
+{
+    let (_, rest) = bytes.split_at(bytes.len().min(1));
+    let (content, _) = rest.split_at(bytes.len().saturating_sub(2));
+    content
+}
+
+fn text_terminal(bytes: &[u8]) -> Terminal
+    ensures { result ≡ instant_terminal (instant_of (between_quotes bytes.now)) }
+{
+    match instant(between_quotes(bytes)) {
+        Ok(_) => Terminal::Instant,
+        Err(_) => Terminal::Text,
+    }
+}
+
+/// What the grammar sees of a token of a text that stands at this place. A text is `Instant` where it is one.
 pub fn terminal_of(place: Place, text: &[u8], token: Token) -> Terminal
     ensures { result ≡ terminal_of place text.now token }
 {
@@ -88,7 +108,7 @@ pub fn terminal_of(place: Place, text: &[u8], token: Token) -> Terminal
             }
         }
         TokenKind::Number(number) => number_terminal(number),
-        TokenKind::Text => Terminal::Text,
+        TokenKind::Text => text_terminal(bytes),
         TokenKind::Reference(_) => reference_terminal(place),
         TokenKind::Mark(mark) => mark_terminal(mark),
     }

@@ -1,0 +1,91 @@
+//! What stands on top of a stack.
+ghost use Rattle.std.specs.Prelude.{◌≡◌, [], IfOk};
+ghost use Rattle.ode_syntax.specs.Built.{top, rest, name, tree, event_tree, right, stmt_tree};
+
+use crate::words::name_of;
+use ode_grammar::Stack;
+use ode_value::{Boxed, EventExpr, Expr, List, Name, Rhs, Stmt};
+use std::alloc::{AllocError, Global};
+
+/// Takes what is on top away. `none` stands for it where the stack is empty.
+pub fn take<T: Drop>(stack: &mut Stack<T>, none: T) -> T
+    ensures top { result ≡ top none stack.old }
+    ensures rest { stack.new ≡ rest stack.old }
+{
+    match stack.pop() {
+        Some(item) => item,
+        None => none,
+    }
+}
+
+/// Takes the list on top away.
+pub fn take_list<T: Drop>(alloc: Global, stack: &mut Stack<List<T>>) -> List<T>
+    ensures top { result ≡ top [] stack.old }
+    ensures rest { stack.new ≡ rest stack.old }
+{
+    take(stack, List::new(alloc))
+}
+
+/// Takes the name on top away.
+pub fn take_name(alloc: Global, names: &mut Stack<Name>) -> Result<Name, AllocError>
+    ensures top { IfOk result (λ n. n ≡ name names.old) }
+    ensures rest { names.new ≡ rest names.old }
+{
+    match names.pop() {
+        Some(name) => Ok(name),
+        None => name_of(alloc, b"x"),
+    }
+}
+
+/// Takes the expression on top away.
+pub fn take_expr(exprs: &mut Stack<Expr>) -> Expr
+    ensures top { result ≡ tree exprs.old }
+    ensures rest { exprs.new ≡ rest exprs.old }
+{
+    take(exprs, Expr::This)
+}
+
+/// Takes the expression on top away, into a box.
+pub fn take_boxed(alloc: Global, exprs: &mut Stack<Expr>) -> Result<Boxed<Expr>, AllocError>
+    ensures top { IfOk result (λ e. e ≡ tree exprs.old) }
+    ensures rest { exprs.new ≡ rest exprs.old }
+{
+    let e = take_expr(exprs);
+    Boxed::new(alloc, e)
+}
+
+/// Takes the event expression on top away.
+pub fn take_event(events: &mut Stack<EventExpr>) -> EventExpr
+    ensures top { result ≡ event_tree events.old }
+    ensures rest { events.new ≡ rest events.old }
+{
+    take(events, EventExpr::Any)
+}
+
+/// Takes the event expression on top away, into a box.
+pub fn take_boxed_event(
+    alloc: Global,
+    events: &mut Stack<EventExpr>,
+) -> Result<Boxed<EventExpr>, AllocError>
+    ensures top { IfOk result (λ e. e ≡ event_tree events.old) }
+    ensures rest { events.new ≡ rest events.old }
+{
+    let e = take_event(events);
+    Boxed::new(alloc, e)
+}
+
+/// Takes the right side on top away.
+pub fn take_right_side(right_sides: &mut Stack<Rhs>) -> Rhs
+    ensures top { result ≡ right right_sides.old }
+    ensures rest { right_sides.new ≡ rest right_sides.old }
+{
+    take(right_sides, Rhs::Plain(Expr::This))
+}
+
+/// Takes the statement on top away.
+pub fn take_statement(statements: &mut Stack<Stmt>) -> Stmt
+    ensures top { result ≡ stmt_tree statements.old }
+    ensures rest { statements.new ≡ rest statements.old }
+{
+    take(statements, Stmt::TAbort)
+}

@@ -1,0 +1,110 @@
+//! What is made of the parts of a text.
+ghost use Rattle.std.specs.Prelude.{◌≡◌, IfOk};
+ghost use Rattle.ode_syntax.specs.Built.{class_tree, event_tree, script_tree, tree};
+ghost use Rattle.ode_syntax.specs.Trees.{no_trees};
+
+use crate::top::{take, take_event, take_expr};
+use crate::words::name_of;
+use ode_grammar::Stack;
+use ode_lex::Mark;
+use ode_value::{
+    ClassDecl, EventExpr, Expr, Kind, List, Member, Mode, Name, Param, Rhs, Sort, Statement, Stmt,
+};
+use std::alloc::{AllocError, Global};
+
+/// The words and trees of the parts that were read, each sort on a stack of its own.
+#[derive(Drop)]
+pub struct Trees {
+    pub names: Stack<Name>,
+    pub leaves: Stack<Expr>,
+    pub marks: Stack<Mark>,
+    pub exprs: Stack<Expr>,
+    pub args: Stack<List<Expr>>,
+    pub sets: Stack<List<(Name, Expr)>>,
+    pub right_sides: Stack<Rhs>,
+    pub statements: Stack<Stmt>,
+    pub bodies: Stack<List<Stmt>>,
+    pub kinds: Stack<Kind>,
+    pub kind_lists: Stack<List<Kind>>,
+    pub events: Stack<EventExpr>,
+    pub sorts: Stack<Sort>,
+    pub params: Stack<List<Param>>,
+    pub parents: Stack<Option<Name>>,
+    /// Whether a trigger is initial, perpetual and whole.
+    pub flags: Stack<bool>,
+    pub modes: Stack<Mode>,
+    pub members: Stack<List<Member>>,
+    pub classes: Stack<ClassDecl>,
+    pub scripts: Stack<Statement>,
+}
+
+impl Trees {
+    /// No trees.
+    pub fn new(alloc: Global) -> Trees
+        ensures { result ≡ no_trees }
+    {
+        Trees {
+            names: Stack::new(alloc),
+            leaves: Stack::new(alloc),
+            marks: Stack::new(alloc),
+            exprs: Stack::new(alloc),
+            args: Stack::new(alloc),
+            sets: Stack::new(alloc),
+            right_sides: Stack::new(alloc),
+            statements: Stack::new(alloc),
+            bodies: Stack::new(alloc),
+            kinds: Stack::new(alloc),
+            kind_lists: Stack::new(alloc),
+            events: Stack::new(alloc),
+            sorts: Stack::new(alloc),
+            params: Stack::new(alloc),
+            parents: Stack::new(alloc),
+            flags: Stack::new(alloc),
+            modes: Stack::new(alloc),
+            members: Stack::new(alloc),
+            classes: Stack::new(alloc),
+            scripts: Stack::new(alloc),
+        }
+    }
+}
+
+impl Trees {
+    /// The expression on top.
+    pub fn into_expr(self) -> Expr
+        ensures { result ≡ tree self.exprs }
+    {
+        let mut made = self;
+        take_expr(&mut made.exprs)
+    }
+
+    /// The event expression on top.
+    pub fn into_event(self) -> EventExpr
+        ensures { result ≡ event_tree self.events }
+    {
+        let mut made = self;
+        take_event(&mut made.events)
+    }
+
+    /// The class on top.
+    pub fn into_class(self, alloc: Global) -> Result<ClassDecl, AllocError>
+        ensures { IfOk result (λ class. class ≡ class_tree self.classes) }
+    {
+        let mut made = self;
+        match made.classes.pop() {
+            Some(class) => Ok(class),
+            None => Ok(ClassDecl {
+                name: name_of(alloc, b"x")?,
+                parent: None,
+                members: List::new(alloc),
+            }),
+        }
+    }
+
+    /// The statement of a script on top.
+    pub fn into_statement(self) -> Statement
+        ensures { result ≡ script_tree self.scripts }
+    {
+        let mut made = self;
+        take(&mut made.scripts, Statement::Empty)
+    }
+}
