@@ -16,6 +16,41 @@ fn chunk_of(notes: &str) -> u32 {
     CHUNK
 }
 
+// How many blanks a line of a script stands for, if it is `\ N blanks`.
+fn blanks_in(line: &str) -> Option<u32> {
+    let number = line.strip_prefix("\\ ")?.strip_suffix(" blanks")?;
+    number.parse::<u32>().ok()
+}
+
+fn put_blanks(script: &mut String, count: u32) -> Result<(), AllocError> {
+    for _ in 0..count {
+        script.push_str(" ")?;
+    }
+    Ok(())
+}
+
+// The script in these lines, but for its end.
+fn joined(alloc: Global, lines: &str) -> Result<String, AllocError> {
+    let mut script = String::new(alloc);
+    let mut behind_line = false;
+    for line in lines.split('\n') {
+        match blanks_in(line) {
+            Some(count) => {
+                put_blanks(&mut script, count)?;
+                behind_line = false;
+            }
+            None => {
+                if behind_line {
+                    script.push_str("\n")?;
+                }
+                script.push_str(line)?;
+                behind_line = true;
+            }
+        }
+    }
+    Ok(script)
+}
+
 // The script in the lines behind a call.
 fn script_of(alloc: Global, lines: &str) -> Result<String, AllocError> {
     let lines = lines.trim_end_matches('\n');
@@ -23,8 +58,12 @@ fn script_of(alloc: Global, lines: &str) -> Result<String, AllocError> {
         return Ok(String::new(alloc));
     }
     match lines.strip_suffix("\n\\ no newline at the end") {
-        Some(lines) => String::from_str(alloc, lines),
-        None => format!(in alloc; "{lines}\n"),
+        Some(lines) => joined(alloc, lines),
+        None => {
+            let mut script = joined(alloc, lines)?;
+            script.push_str("\n")?;
+            Ok(script)
+        }
     }
 }
 

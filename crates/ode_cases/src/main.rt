@@ -6,7 +6,8 @@
 //!
 //! Lines between a case's name and its first call are notes, but for `chunks N`: the scripts of the case are read in chunks
 //! of N bytes. Empty lines at the end of a script are no part of it. Its last line ends with LF, unless the line
-//! `\ no newline at the end` stands behind it. What stands before the first case is a note too.
+//! `\ no newline at the end` stands behind it. A line `\ N blanks` stands for N blanks between the lines around it, without
+//! an LF. What stands before the first case is a note too.
 #![tactic(auto)]
 
 mod call;
