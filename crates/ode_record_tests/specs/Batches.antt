@@ -1,0 +1,10 @@
+-- Batches that a keeper takes.
+use Rattle.std.specs.Prelude.{◌≤◌, length}
+use Rattle.std.specs.List.{All}
+use Rattle.std.specs.Map.{values_of}
+use Rattle.std.specs.Option.{IfSome}
+use Rattle.ode_keep.specs.Entries.{Changes}
+
+-- no value is longer than a keeper takes
+abbrev pub AreShort : Changes → Type 0
+AreShort changes = All (λ v. IfSome v (λ bytes. length bytes ≤ 3968)) (values_of changes)
