@@ -9,17 +9,18 @@ use Rattle.ode_value.specs.Records.{snapshot}
 use Rattle.ode_areas.specs.declared.areas.Areas.{Areas}
 use Rattle.ode_areas.specs.declared.plan.Checkpoint.{Checkpoint}
 use Rattle.ode_areas.specs.declared.keeping.Ready.{Ready}
-use Rattle.ode_areas.specs.Holding.{Holds}
+use Rattle.ode_areas.specs.Holding.{AreasHold}
 use Rattle.ode_areas.specs.Ready.{IsReady}
-use Rattle.ode_areas.specs.Rows.{FitsRow}
+use Rattle.ode_keep.specs.Snapshots.{FitsRow}
+use Rattle.ode_keep.specs.declared.limits.TheConstants.{MAX_RECORD_BYTES}
 use Rattle.ode_areas.specs.Steps.{MovesOver, StandUnder, bytes_before, checkpoint_length}
 use Rattle.ode_areas.proofs.Fitting.{map_fits}
 
-pub under_of : (keeper : Areas) (view : View) (entries : Entries) → Holds keeper view entries → StandUnder keeper.header keeper.journal entries view
+pub under_of : (keeper : Areas) (view : View) (entries : Entries) → AreasHold keeper view entries → StandUnder keeper.header keeper.journal entries view
 under_of keeper view entries h = record { file = h.file; counts = h.counts; areas = h.areas; has = h.has; journal = h.journal; end = h.end }
 
-pub holds_of : (keeper : Areas) (view : View) (entries : Entries) → StandUnder keeper.header keeper.journal entries view → keeper.map ≡ entries → record_bytes entries ≤ 16777216
-    → Holds keeper view entries
+pub holds_of : (keeper : Areas) (view : View) (entries : Entries) → StandUnder keeper.header keeper.journal entries view → keeper.map ≡ entries → record_bytes entries ≤ MAX_RECORD_BYTES
+    → AreasHold keeper view entries
 holds_of keeper view entries stand is within = record {
   file = stand.file;
   counts = stand.counts;
@@ -40,7 +41,7 @@ if_some_lent None P some = tt
 if_some_lent (Some x) P some = some
 
 -- a batch was made in memory, and nothing is written yet
-module _ (keeper mid : Areas) (batch : Changes) (view : View) (entries : Entries) (ready : Ready) (h : Holds keeper view entries)
+module _ (keeper mid : Areas) (batch : Changes) (view : View) (entries : Entries) (ready : Ready) (h : AreasHold keeper view entries)
     (changed : mid ≡ record keeper { map = applied batch keeper.map }) (is : IsReady batch keeper.header keeper.journal keeper.map ready) where
   pub stand_now : StandUnder mid.header mid.journal entries view
   stand_now = subst (λ (k : Areas). StandUnder k.header k.journal entries view) (sym changed) (under_of keeper view entries h)
@@ -73,8 +74,8 @@ module _ (keeper mid : Areas) (batch : Changes) (view : View) (entries : Entries
   pub before_now : bytes_before ready.due ≤ checkpoint_length entries
   before_now = before_then ready.due is.moves
 
-  pub within_now : record_bytes (applied batch keeper.map) ≤ 16777216 → record_bytes (applied batch entries) ≤ 16777216
-  within_now within = subst (λ (l : Entries). record_bytes (applied batch l) ≤ 16777216) h.map within
+  pub within_now : record_bytes (applied batch keeper.map) ≤ MAX_RECORD_BYTES → record_bytes (applied batch entries) ≤ MAX_RECORD_BYTES
+  within_now within = subst (λ (l : Entries). record_bytes (applied batch l) ≤ MAX_RECORD_BYTES) h.map within
 
 -- where the frame fits its journal no checkpoint is due
 pub none_due : (due : Option Checkpoint) (lent : Option (Bor Checkpoint)) (need room : ℕ) → option_copied lent ≡ due → IfSome due (λ c. room < need) → need ≤ room → lent ≡ None

@@ -1,13 +1,15 @@
--- What is added to a frame bit by bit, and how long snapshots and payloads are.
-use Rattle.std.proofs.Common.{◌≡◌, ◌≤◌, ◌<◌, ℕ, suc, ◌+◌, ◌-◌, ◌*◌, List, [], ◌∷◌, ◌++◌, length, Option, None, refl, sym, ap, subst, ◌∙◌, arith, append_assoc, length-append}
-use Rattle.std.specs.List.{All, AllByRecursion}
-use Rattle.std.specs.Map.{values_of}
-use Rattle.std.specs.Option.{IfSome}
+-- What is added to a frame bit by bit, and to a snapshot.
+use Rattle.std.proofs.Common.{◌≡◌, ◌≤◌, ◌<◌, ℕ, ◌+◌, ◌-◌, ◌^◌, List, [], ◌∷◌, ◌++◌, length, sym, ap, subst, ◌∙◌, arith, append_assoc, length-append}
+use Rattle.std.specs.List.{AllByRecursion}
+use Rattle.ode_gate.specs.declared.places.TheConstants.{AREA_LEN}
 use Rattle.ode_journal.specs.Filling.{Filling, filled_by}
+use Rattle.ode_journal.specs.declared.frame.TheConstants.{FRAME_BYTES}
 use Rattle.ode_value.specs.declared.key.Key.{Key}
-use Rattle.ode_value.specs.Records.{key_bytes, row_bytes, snapshot}
-use Rattle.ode_keep.specs.Entries.{Changes, Entries, record_bytes}
-use Rattle.ode_areas.specs.Rows.{FitsRow}
+use Rattle.ode_value.specs.Records.{row_bytes, snapshot}
+use Rattle.ode_keep.specs.Entries.{Entries, record_bytes}
+use Rattle.ode_keep.specs.Snapshots.{FitsRow}
+use Rattle.ode_keep.specs.declared.limits.TheConstants.{MAX_PAYLOAD_LEN, MAX_RECORD_BYTES}
+use Rattle.ode_keep.proofs.Lengths.{keys_count, length-snapshot}
 
 -- two pieces that are added one after the other
 pub filled_twice : (f g h : Filling) (a b c : List ℕ) → g ≡ filled_by f a → c ≡ b → h ≡ filled_by g c → h ≡ filled_by f (a ++ b)
@@ -26,30 +28,12 @@ started_frame f g head bytes rest n first second is long =
     second ∙ ap (λ (l : List ℕ). filled_by f l) is ∙ ap (λ (k : Filling). filled_by k head) first in
     (ap (λ (k : Filling). k.payload ++ rest) whole, ap (λ (k : Filling). k.spare) whole ∙ (let same : n - length head ≡ length rest = omega (arith, long, length-append head rest) in same))
 
--- a change whose value is short enough for a batch
-abbrev pub IsShortChange : Key × Option (List ℕ) → Type 0
-IsShortChange c = IfSome c.1 (λ v. length v ≤ 3968)
-
-pub short_each : (cs : Changes) → All (λ (value : Option (List ℕ)). IfSome value (λ v. length v ≤ 3968)) (values_of cs) → AllByRecursion IsShortChange cs
-short_each [] all = tt
-short_each (c ∷ cs) all = (all 0 None (omega arith), short_each cs (λ k d within. all (suc k) d (omega arith)))
-
--- each record has two bytes more in a snapshot than it counts
-pub length-snapshot : (es : Entries) → length (snapshot es) ≡ record_bytes es + 2 * length es
-length-snapshot [] = refl
-length-snapshot (e ∷ es) = omega (arith, length-append (row_bytes e) (snapshot es), length-append (key_bytes e.0) e.1, length-snapshot es)
-
--- and counts 17 bytes at least
-pub seventeen_each : (es : Entries) → 17 * length es ≤ record_bytes es
-seventeen_each [] = omega arith
-seventeen_each (e ∷ es) = omega (arith, seventeen_each es)
-
 -- a snapshot of records within the limit leaves room for a frame in its area
-pub frame_fits : (es : Entries) (payload : ℕ) → record_bytes es ≤ 16777216 → payload ≤ 4083716 → length (snapshot es) + payload + 6 ≤ 33554432
-frame_fits es payload within short = omega (arith, length-snapshot es, seventeen_each es)
+pub frame_fits : (es : Entries) (payload : ℕ) → record_bytes es ≤ MAX_RECORD_BYTES → payload ≤ MAX_PAYLOAD_LEN → length (snapshot es) + payload + FRAME_BYTES ≤ AREA_LEN
+frame_fits es payload within short = omega (arith, length-snapshot es, keys_count es)
 
 -- one record more of a snapshot
-pub row_more : (map iter next : Entries) (k : Key) (v s now new : List ℕ) → iter ≡ (k, v) ∷ next → s ≡ v → (length s < 65536 → new ≡ now ++ row_bytes (k, s))
+pub row_more : (map iter next : Entries) (k : Key) (v s now new : List ℕ) → iter ≡ (k, v) ∷ next → s ≡ v → (length s < 2 ^ 16 → new ≡ now ++ row_bytes (k, s))
     → AllByRecursion FitsRow iter × (now ++ snapshot iter ≡ snapshot map) → AllByRecursion FitsRow next × (new ++ snapshot next ≡ snapshot map)
 row_more map iter next k v s now new first is put was =
     let all : AllByRecursion FitsRow ((k, v) ∷ next) = subst (λ (l : Entries). AllByRecursion FitsRow l) first was.0 in

@@ -13,8 +13,9 @@ use Rattle.ode_keep.specs.Entries.{Changes, Entries, applied, changed}
 use Rattle.ode_value.specs.Keys.{key_cmp}
 use Rattle.ode_keep.proofs.Applying.{applied_rising}
 use Rattle.ode_areas.specs.Image.{HasMap}
-use Rattle.ode_areas.specs.Payloads.{ArePayloads, FitsChange, IsPayload, replayed}
-use Rattle.ode_areas.specs.Rows.{FitsRow, FitsSnapshot}
+use Rattle.ode_areas.specs.Batches.{ArePayloads, replayed}
+use Rattle.ode_keep.specs.Payloads.{FitsChange, IsPayload}
+use Rattle.ode_keep.specs.Snapshots.{FitsRow, FitsSnapshot}
 
 abbrev AllFit : Entries → Type 0
 AllFit es = AllByRecursion FitsRow es

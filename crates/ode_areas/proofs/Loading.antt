@@ -11,11 +11,13 @@ use Rattle.ode_value.specs.Records.{Row, row_bytes, snapshot}
 use Rattle.ode_keep.specs.Entries.{Changes, Entries, HasRisingKeys, applied, changed}
 use Rattle.ode_value.specs.Keys.{key_cmp}
 use Rattle.ode_keep.proofs.Keys.{key_total}
-use Rattle.ode_areas.specs.Rows.{FitsRow, FitsSnapshot, IsBrokenSnapshot}
-use Rattle.ode_areas.specs.Payloads.{FitsChange, IsPayload, change_bytes}
-use Rattle.ode_areas.specs.Pieces.{IsAhead, all_behind, all_push, forked}
-use Rattle.ode_areas.specs.Rising.{MayFollow, above_all, follows, inserted_last, last_of, last_of-push, rising_push}
-use Rattle.ode_areas.specs.FirstRows.{same_change_first}
+use Rattle.ode_keep.specs.Snapshots.{FitsRow, FitsSnapshot, IsBrokenSnapshot}
+use Rattle.ode_keep.specs.Payloads.{FitsChange, IsPayload, change_bytes}
+use Rattle.ode_host.proofs.Determinacy.{IsAhead, NextSpelled, Reads, forked, spelled_once, spelled_reads}
+use Rattle.ode_keep.proofs.Lists.{all_behind, all_push}
+use Rattle.ode_keep.specs.Rising.{MayFollow, above_all, follows, inserted_last, last_of, last_of-push, rising_push}
+use Rattle.ode_keep.proofs.Firsts.{same_change_first}
+use Rattle.ode_keep.specs.declared.spelling.TheConstants.{COUNT_LEN}
 
 spelled_push : {X : Type 0} (spell : X → List ℕ) (xs : List X) (x : X) (rest : List ℕ) → flat_map spell (xs ++ x ∷ []) ++ rest ≡ flat_map spell xs ++ (spell x ++ rest)
 spelled_push spell xs x rest = ap (λ (l : List ℕ). l ++ rest) (sym (flat_map_more spell [] xs x)) ∙ append_assoc (flat_map spell xs) (spell x) rest
@@ -77,6 +79,13 @@ applied-push : (cs : Changes) (c : Key × Option (List ℕ)) (entries : Entries)
 applied-push [] c entries = refl
 applied-push (d ∷ cs) c entries = applied-push cs c (changed entries d.0 d.1)
 
+abbrev NextChange : List ℕ → Key × Option (List ℕ) → List ℕ → Type 0
+NextChange = NextSpelled change_bytes FitsChange
+
+none_read : (others : Changes) (s t : List ℕ) → length others ≡ 0 → Reads NextChange s others t → s ≡ t
+none_read [] s t none reads = reads
+none_read (c ∷ others) s t none reads = absurd (omega (arith, none))
+
 module _ (payload : List ℕ) (count made : ℕ) (old map : Entries) (rest : List ℕ) (last : Option Key) (is : IsMade payload count made old map rest last) where
   pub made_more : (c : Key × Option (List ℕ)) (more : List ℕ) (next : Entries) → FitsChange c → MayFollow key_cmp last c.0 → rest ≡ change_bytes c ++ more → next ≡ changed map c.0 c.1
       → made < count → IsMade payload count (made + 1) old next more (Some c.0)
@@ -95,43 +104,39 @@ module _ (payload : List ℕ) (count made : ℕ) (old map : Entries) (rest : Lis
     count_is : length changes ≡ count
     count_is =
         sym (from_be_bytes-to_be_bytes_4 (length changes) form.few)
-        ∙ ap (λ (l : List ℕ). from_be_bytes w32 (take 4 l)) (sym form.spelled ∙ is.split)
+        ∙ ap (λ (l : List ℕ). from_be_bytes w32 (take COUNT_LEN l)) (sym form.spelled ∙ is.split)
         ∙ from_be_bytes-to_be_bytes_4 count fit
 
     same_behind : flat_map change_bytes is.done ++ rest ≡ flat_map change_bytes changes ++ []
-    same_behind = ap (λ (l : List ℕ). drop 4 l) (sym is.split ∙ form.spelled) ∙ sym (append-nil (flat_map change_bytes changes))
+    same_behind = ap (λ (l : List ℕ). drop COUNT_LEN l) (sym is.split ∙ form.spelled) ∙ sym (append-nil (flat_map change_bytes changes))
 
-    split_either : IsAhead change_bytes is.done rest changes [] ⊎ IsAhead change_bytes changes [] is.done rest
-    split_either = forked change_bytes FitsChange same_change_first is.done changes rest [] is.each form.each same_behind
+    split_either : IsAhead NextChange is.done rest changes [] ⊎ IsAhead NextChange changes [] is.done rest
+    split_either =
+        forked NextChange (spelled_once change_bytes FitsChange same_change_first) is.done changes (flat_map change_bytes is.done ++ rest) rest [] (spelled_reads change_bytes FitsChange is.done rest is.each)
+        (subst (λ (l : List ℕ). Reads NextChange l changes []) (sym same_behind) (spelled_reads change_bytes FitsChange changes [] form.each))
 
     -- where changes are left, one of them is next
-    no_more : (others : Changes) → changes ≡ is.done ++ others → rest ≡ flat_map change_bytes others ++ [] → made < count
+    no_more : (others : Changes) → changes ≡ is.done ++ others → Reads NextChange rest others [] → made < count
         → ((c : Key × Option (List ℕ)) (more : List ℕ) → FitsChange c → MayFollow key_cmp last c.0 → rest ≡ change_bytes c ++ more → ⊥) → ⊥
-    no_more [] pieces begins room none = absurd (omega (arith, ap length pieces, length-append is.done [], count_is, is.many))
-    no_more (c ∷ others) pieces begins room none =
-        none c (flat_map change_bytes others ++ [])
-        (all_behind FitsChange is.done (c ∷ others) (subst (λ (l : Changes). AllByRecursion FitsChange l) pieces form.each)).0
+    no_more [] pieces reads room none = absurd (omega (arith, ap length pieces, length-append is.done [], count_is, is.many))
+    no_more (c ∷ others) pieces reads room none =
+        none c reads.0 reads.1.0
         (subst (λ (l : Option Key). MayFollow key_cmp l c.0) (sym is.last_is) (follows key_cmp is.done c others (subst (λ (l : Changes). HasRisingKeys l) pieces form.rising)))
-        (begins ∙ append_assoc (change_bytes c) (flat_map change_bytes others) [])
+        reads.1.1
 
     pub not_other : made < count → ((c : Key × Option (List ℕ)) (more : List ℕ) → FitsChange c → MayFollow key_cmp last c.0 → rest ≡ change_bytes c ++ more → ⊥) → ⊥
     not_other room none = ⊎_elim
-        (λ (ahead : IsAhead change_bytes is.done rest changes []). no_more ahead.others ahead.pieces ahead.bytes room none)
-        (λ (ahead : IsAhead change_bytes changes [] is.done rest). absurd (omega (arith, room, ap length ahead.pieces, length-append changes ahead.others, count_is, is.many)))
+        (λ (ahead : IsAhead NextChange is.done rest changes []). no_more ahead.others ahead.items ahead.reads room none)
+        (λ (ahead : IsAhead NextChange changes [] is.done rest). absurd (omega (arith, room, ap length ahead.items, length-append changes ahead.others, count_is, is.many)))
         split_either
-
-    none_left : (others : Changes) → length others ≡ 0 → rest ≡ flat_map change_bytes others ++ [] → length rest ≡ 0
-    none_left [] none begins = ap length begins
-    none_left (c ∷ others) none begins = absurd (omega (arith, none))
 
     -- where all are made, nothing is left
     pub nothing_left : made ≡ count → length rest ≡ 0
     nothing_left all = ⊎_elim
-        (λ (ahead : IsAhead change_bytes is.done rest changes []).
-        none_left ahead.others (omega (arith, all, ap length ahead.pieces, length-append is.done ahead.others, count_is, is.many)) ahead.bytes)
-        (λ (ahead : IsAhead change_bytes changes [] is.done rest).
-        let long : 0 ≡ length (flat_map change_bytes ahead.others) + length rest = ap length ahead.bytes ∙ length-append (flat_map change_bytes ahead.others) rest in
-        omega (arith, long))
+        (λ (ahead : IsAhead NextChange is.done rest changes []).
+        ap length (none_read ahead.others rest [] (omega (arith, all, ap length ahead.items, length-append is.done ahead.others, count_is, is.many)) ahead.reads))
+        (λ (ahead : IsAhead NextChange changes [] is.done rest).
+        ap length (sym (none_read ahead.others [] rest (omega (arith, all, ap length ahead.items, length-append changes ahead.others, count_is, is.many)) ahead.reads)))
         split_either
 
   -- all changes are made, and nothing is left

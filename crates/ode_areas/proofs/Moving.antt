@@ -3,13 +3,14 @@ use Rattle.std.proofs.Common.{◌≡◌, ◌≢◌, ◌≤◌, ◌⊎◌, inl, i
 use Rattle.std.proofs.lemmas.List.{take_at, drop_at, drop-drop, length-replicate, take-take}
 use Rattle.ode_host.specs.View.{View}
 use Rattle.ode_host.specs.Host.{LeavesTorn, Stands, Torn, written_over}
-use Rattle.ode_host.proofs.Bytes.{length-written_over, written-torn}
+use Rattle.ode_host.proofs.Bytes.{length-written_over, same_part, written-torn, wrote_here}
 use Rattle.ode_gate.specs.declared.header.Header.{Header}
 use Rattle.ode_gate.specs.Changes.{IsChanged, IsSameBehind, LeavesHeader, MayFollow}
-use Rattle.ode_gate.specs.Gate.{open_gate}
+use Rattle.ode_gate.specs.declared.gate.TheConstants.{OPEN}
 use Rattle.ode_gate.specs.Headers.{IsOfAreas}
 use Rattle.ode_gate.specs.Slots.{Counts}
 use Rattle.ode_gate.proofs.Fronts.{counts_front}
+use Rattle.ode_gate.specs.declared.places.TheConstants.{AREA_0, AREA_1, AREA_LEN, SLOTS_END}
 use Rattle.ode_journal.specs.declared.journal.Journal.{Journal}
 use Rattle.ode_journal.specs.Appends.{IsBeforeOrAfter, JournalStands, SameOutside}
 use Rattle.ode_journal.specs.Frames.{IsJournal, spelled}
@@ -17,26 +18,14 @@ use Rattle.ode_keep.specs.Entries.{Changes, Entries, applied}
 use Rattle.ode_keep.specs.Keeping.{LeavesOldOrNew}
 use Rattle.ode_value.specs.Records.{snapshot}
 use Rattle.ode_areas.specs.Image.{AreasMean, HasMap}
-use Rattle.ode_areas.specs.Payloads.{IsPayload}
-use Rattle.ode_areas.specs.Rows.{IsSnapshot}
+use Rattle.ode_keep.specs.Payloads.{IsPayload}
+use Rattle.ode_keep.specs.Snapshots.{IsSnapshot}
 use Rattle.ode_areas.specs.Steps.{LeavesMap, MovesOver, StandUnder, empty_under}
 use Rattle.ode_areas.proofs.Fitting.{map_fits, payloads_more, replayed_more}
-use Rattle.ode_areas.proofs.Windows.{has_window, has_window-frames, journal_at, still_counts, still_has, wide, window}
+use Rattle.ode_areas.proofs.Windows.{has_window, has_window-frames, journal_at, still_counts, still_has, wide}
 
--- what stands where a write was made
-pub drop_written : (at : ℕ) (bytes old : List ℕ) → drop at (written_over old at bytes) ≡ bytes ++ drop (at + length bytes) old
-drop_written at bytes old =
-    let front = take at old ++ replicate (at - length old) 0 in
-    let long : length (take at old ++ replicate (at - length old) 0) ≡ at =
-    omega (arith, length-append (take at old) (replicate (at - length old) 0), length-take at old, length-replicate {A = ℕ} (at - length old) 0) in
-    ap (λ (l : List ℕ). drop at l) (append_assoc front bytes (drop (at + length bytes) old))
-    ∙ drop_at front (bytes ++ drop (at + length bytes) old) at long
-
-area_of : (h : Header) → IsOfAreas h → (h.body_at ≡ 4096) ⊎ (h.body_at ≡ 33558528)
+area_of : (h : Header) → IsOfAreas h → (h.body_at ≡ AREA_0) ⊎ (h.body_at ≡ AREA_1)
 area_of h areas = ⊎_elim (λ first. inl first.0) (λ second. inr second.0) areas.area
-
-front_take : (n m : ℕ) (c file : List ℕ) → n ≤ m → take m c ≡ take m file → take n c ≡ take n file
-front_take n m c file within same = sym (take-take n m c within) ∙ ap (λ (l : List ℕ). take n l) same ∙ take-take n m file within
 
 -- A snapshot in the other area, and the header's change.
 module _ (older h : Header) (place : Journal) (entries : Entries) (bytes : List ℕ) (old : View)
@@ -53,7 +42,7 @@ module _ (older h : Header) (place : Journal) (entries : Entries) (bytes : List 
   size : length bytes ≡ h.body_len + 1
   size = omega (arith, ap length moves.spelled, length-append (snapshot entries) (0 ∷ []), moves.long)
 
-  short : length bytes ≤ 33554432
+  short : length bytes ≤ AREA_LEN
   short = omega (arith, size, moves.follows.areas.journal, moves.follows.areas.room, moves.follows.areas.area)
 
   torn_means : (c : List ℕ) → Torn h.body_at (length bytes) file c → AreasMean c entries
@@ -79,7 +68,7 @@ module _ (older h : Header) (place : Journal) (entries : Entries) (bytes : List 
 
   staged_at : drop h.body_at staged ≡ snapshot entries ++ 0 ∷ rest
   staged_at =
-      drop_written h.body_at bytes file ∙ ap (λ (l : List ℕ). l ++ rest) moves.spelled
+      wrote_here h.body_at bytes file ∙ ap (λ (l : List ℕ). l ++ rest) moves.spelled
       ∙ append_assoc (snapshot entries) (0 ∷ []) rest
 
   staged_body : take h.body_len (drop h.body_at staged) ≡ snapshot entries
@@ -90,7 +79,7 @@ module _ (older h : Header) (place : Journal) (entries : Entries) (bytes : List 
       ap (λ (k : ℕ). drop k staged) moves.follows.areas.journal ∙ sym (drop-drop h.body_len h.body_at staged)
       ∙ ap (λ (l : List ℕ). drop h.body_len l) staged_at ∙ drop_at (snapshot entries) (0 ∷ rest) h.body_len (sym moves.long)
 
-  shut_zero : 0 ≢ open_gate
+  shut_zero : 0 ≢ OPEN
   shut_zero = omega arith
 
   -- under the new header the snapshot has the same records
@@ -105,7 +94,7 @@ module _ (older h : Header) (place : Journal) (entries : Entries) (bytes : List 
     map = refl;
   }
 
-  long : 4096 ≤ length staged
+  long : SLOTS_END ≤ length staged
   long = omega (arith, length-written_over h.body_at bytes file, size, area_of h moves.follows.areas)
 
   pub may_follow : MayFollow staged older h
@@ -117,11 +106,11 @@ module _ (older h : Header) (place : Journal) (entries : Entries) (bytes : List 
     next = moves.follows.next;
   }
 
-  same_from : (c : List ℕ) (at : ℕ) → 4096 ≤ at → IsSameBehind staged c → drop at c ≡ drop at staged
+  same_from : (c : List ℕ) (at : ℕ) → SLOTS_END ≤ at → IsSameBehind staged c → drop at c ≡ drop at staged
   same_from c at behind same =
-      let is : 4096 + (at - 4096) ≡ at = omega arith in
-      ap (λ (k : ℕ). drop k c) (sym is) ∙ sym (drop-drop (at - 4096) 4096 c) ∙ ap (λ (l : List ℕ). drop (at - 4096) l) same.behind
-      ∙ drop-drop (at - 4096) 4096 staged ∙ ap (λ (k : ℕ). drop k staged) is
+      let is : SLOTS_END + (at - SLOTS_END) ≡ at = omega arith in
+      ap (λ (k : ℕ). drop k c) (sym is) ∙ sym (drop-drop (at - SLOTS_END) SLOTS_END c) ∙ ap (λ (l : List ℕ). drop (at - SLOTS_END) l) same.behind
+      ∙ drop-drop (at - SLOTS_END) SLOTS_END staged ∙ ap (λ (k : ℕ). drop k staged) is
 
   old_still : (c : List ℕ) → IsSameBehind staged c → HasMap older c entries
   old_still c same =
@@ -164,11 +153,11 @@ module _ (older h : Header) (place : Journal) (entries : Entries) (bytes : List 
 module _ (h : Header) (place : Journal) (entries : Entries) (changes : Changes) (payload : List ℕ) (old : View)
     (stand : StandUnder h place entries old) (is : IsPayload changes payload) where
   front_counts : (c : List ℕ) → take h.journal_at c ≡ take h.journal_at stand.file → Counts c h
-  front_counts c same = counts_front stand.file c h (front_take 4096 h.journal_at c stand.file (omega (arith, area_of h stand.areas, stand.areas.journal)) same) stand.counts
+  front_counts c same = counts_front stand.file c h (same_part h.journal_at 0 SLOTS_END stand.file c (omega (arith, area_of h stand.areas, stand.areas.journal)) same) stand.counts
 
   body_same : (c : List ℕ) → take h.journal_at c ≡ take h.journal_at stand.file → IsSnapshot stand.has.body (take h.body_len (drop h.body_at c))
   body_same c same =
-      subst (λ (l : List ℕ). IsSnapshot stand.has.body l) (sym (window h.journal_at h.body_at h.body_len c stand.file (omega (arith, stand.areas.journal)) same)) stand.has.snapshot
+      subst (λ (l : List ℕ). IsSnapshot stand.has.body l) (sym (same_part h.journal_at h.body_at h.body_len stand.file c (omega (arith, stand.areas.journal)) same)) stand.has.snapshot
 
   before : (c : List ℕ) → take h.journal_at c ≡ take h.journal_at stand.file → IsJournal h.journal_at h.journal_end stand.has.frames c → HasMap h c entries
   before c same journal = record {

@@ -2,10 +2,13 @@
 use Rattle.std.proofs.Common.{◌≡◌, inl, inr, ℕ, ◌+◌, List, [], ◌∷◌, ◌++◌, length, refl, sym, ◌∙◌, ap, subst, arith}
 use Rattle.ode_journal.specs.Frames.{HasFrames, IsBad, IsFramed, IsShut, gate_behind}
 use Rattle.ode_journal.proofs.Frames.{gate_behind-push, no_frames, one_more}
+use Rattle.ode_journal.specs.declared.frame.TheConstants.{FRAME_HEAD}
 use Rattle.ode_keep.specs.Entries.{Changes, Entries, applied}
-use Rattle.ode_areas.specs.Payloads.{ArePayloads, IsPayload, replayed}
+use Rattle.ode_areas.specs.Batches.{ArePayloads, replayed}
+use Rattle.ode_keep.specs.Payloads.{IsPayload}
 use Rattle.ode_areas.specs.Image.{IsBadFrom, IsMalformed}
 use Rattle.ode_areas.specs.Replaying.{IsReplayed}
+use Rattle.ode_areas.proofs.Fitting.{payloads_more, replayed_more}
 
 -- so far these frames, up to this place
 pub record IsSoFar (start end at : ℕ) (old new : Entries) (file : List ℕ) : Type 0 where
@@ -19,26 +22,15 @@ pub record IsSoFar (start end at : ℕ) (old new : Entries) (file : List ℕ) : 
 pub none_yet : (start end : ℕ) (map : Entries) (file : List ℕ) → IsSoFar start end start map map file
 none_yet start end map file = record { frames = []; has = no_frames start end file; batches = []; payloads = tt; map = refl; place = omega arith }
 
-payloads_push : (batches : List Changes) (frames : List (List ℕ)) (changes : Changes) (payload : List ℕ) → ArePayloads batches frames → IsPayload changes payload
-    → ArePayloads (batches ++ changes ∷ []) (frames ++ payload ∷ [])
-payloads_push [] [] changes payload are is = (is, tt)
-payloads_push [] (p ∷ frames) changes payload are is = absurd are
-payloads_push (c ∷ batches) [] changes payload are is = absurd are
-payloads_push (c ∷ batches) (p ∷ frames) changes payload are is = (are.0, payloads_push batches frames changes payload are.1 is)
-
-replayed-push : (batches : List Changes) (changes : Changes) (entries : Entries) → replayed (batches ++ changes ∷ []) entries ≡ applied changes (replayed batches entries)
-replayed-push [] changes entries = refl
-replayed-push (c ∷ batches) changes entries = replayed-push batches changes (applied c entries)
-
 module _ (start end at : ℕ) (old map : Entries) (file : List ℕ) (so_far : IsSoFar start end at old map file) where
   pub one_frame : (payload : List ℕ) (changes : Changes) (next : Entries) → IsFramed end at payload file → IsPayload changes payload → next ≡ applied changes map
-      → IsSoFar start end (at + (5 + length payload)) old next file
+      → IsSoFar start end (at + (FRAME_HEAD + length payload)) old next file
   one_frame payload changes next stands form made = record {
     frames = so_far.frames ++ payload ∷ [];
     has = one_more start end so_far.frames payload file so_far.has (subst (λ (k : ℕ). IsFramed end k payload file) so_far.place stands);
     batches = so_far.batches ++ changes ∷ [];
-    payloads = payloads_push so_far.batches so_far.frames changes payload so_far.payloads form;
-    map = made ∙ ap (applied changes) so_far.map ∙ sym (replayed-push so_far.batches changes old);
+    payloads = payloads_more so_far.batches so_far.frames changes payload so_far.payloads form;
+    map = made ∙ ap (applied changes) so_far.map ∙ sym (replayed_more so_far.batches changes old);
     place = omega (arith, so_far.place, gate_behind-push start so_far.frames payload);
   }
 

@@ -21,7 +21,9 @@ use Rattle.ode_keep.proofs.Growing.{applied_grows, removed_shrinks}
 use Rattle.ode_keep.proofs.Keys.{distinct_keys, key_total, same_key}
 use Rattle.ode_keep.proofs.Maps.{lookup_put, rising_put, rising_some}
 use Rattle.ode_areas.specs.Puts.{LeadBack, NeedNoRoom, puts, removals}
-use Rattle.ode_areas.proofs.Encoding.{IsShortChange}
+use Rattle.ode_keep.proofs.Lengths.{IsShortChange}
+use Rattle.ode_keep.specs.declared.limits.TheConstants.{MAX_CHANGES, MAX_GROWTH, MAX_VALUE}
+use Rattle.ode_keep.specs.declared.spelling.TheConstants.{KEY_LEN}
 
 both : (a b : Bool) → T a → T b → T (a && b)
 both true b p q = q
@@ -139,19 +141,19 @@ taken_within cs es changes rising =
 pub value_within : (k : Key) (es : Entries) → bytes_of (value_under es k) ≤ record_bytes es
 value_within k es = omega (arith, removed_shrinks (is_at (key_cmp k)) es)
 
-one_short : (w : Option (List ℕ)) (rest n : ℕ) → IfSome w (λ v. length v ≤ 3968) → rest ≤ 3985 * n → bytes_of w + rest ≤ 3985 * suc n
+one_short : (w : Option (List ℕ)) (rest n : ℕ) → IfSome w (λ v. length v ≤ MAX_VALUE) → rest ≤ (KEY_LEN + MAX_VALUE) * n → bytes_of w + rest ≤ (KEY_LEN + MAX_VALUE) * suc n
 one_short None rest n short more = omega arith
 one_short (Some v) rest n short more = omega arith
 
 -- how much a batch puts at most
-pub put_short : (cs : Changes) → AllByRecursion IsShortChange cs → put_bytes cs ≤ 3985 * length cs
+pub put_short : (cs : Changes) → AllByRecursion IsShortChange cs → put_bytes cs ≤ (KEY_LEN + MAX_VALUE) * length cs
 put_short [] short = omega arith
 put_short (c ∷ cs) short =
     one_short c.1 (put_bytes cs) (length cs) short.0 (put_short cs short.1)
 
 -- how much the records count at most behind a batch
-pub grown_at_most : (cs : Changes) (es : Entries) → HasRisingKeys cs → HasRisingKeys es → AllByRecursion IsShortChange cs → length cs ≤ 1024
-    → record_bytes (applied cs es) ≤ record_bytes es + 4080640
+pub grown_at_most : (cs : Changes) (es : Entries) → HasRisingKeys cs → HasRisingKeys es → AllByRecursion IsShortChange cs → length cs ≤ MAX_CHANGES
+    → record_bytes (applied cs es) ≤ record_bytes es + MAX_GROWTH
 grown_at_most cs es changes rising short few = omega (arith, applied_grows cs es changes rising, put_short cs short)
 
 -- notes that grew by what stood under a key lead back still

@@ -13,11 +13,12 @@ use Rattle.ode_keep.specs.Entries.{Entries, record_bytes}
 use Rattle.ode_areas.specs.declared.areas.Areas.{Areas}
 use Rattle.ode_areas.specs.declared.error.StartError.{StartError}
 use Rattle.ode_areas.specs.declared.error.StartError.TheVariants.{Memory, DiskFault, BadJournal, BadPage}
-use Rattle.ode_areas.specs.Holding.{Holds}
+use Rattle.ode_areas.specs.Holding.{AreasHold}
 use Rattle.ode_areas.specs.Image.{HasMap, IsBadAt, body_of}
 use Rattle.ode_areas.specs.OneMap.{never_both, one_has, one_place}
 use Rattle.ode_areas.specs.Replaying.{IsReplayed}
-use Rattle.ode_areas.specs.Rows.{IsSnapshot}
+use Rattle.ode_keep.specs.Snapshots.{IsSnapshot}
+use Rattle.ode_keep.specs.declared.limits.TheConstants.{MAX_RECORD_BYTES}
 use Rattle.ode_areas.specs.Starting.{Refuses, Starts, start_error}
 
 pub of_areas : (h : Header) → IsHeader h → h.layout ≡ 1 → IsOfAreas h
@@ -38,11 +39,11 @@ has_map header file body map journal snapshot after = record {
 
 pub holds_map : (keeper : Areas) (file : List ℕ) (body entries : Entries) (view : View) → IsOfAreas keeper.header → Stands file view → Counts file keeper.header
     → IsSnapshot body (body_of keeper.header file) → IsReplayed keeper.header.journal_at keeper.header.journal_end body keeper.map keeper.journal file
-    → HasMap keeper.header file entries → record_bytes entries ≤ 16777216 → Holds keeper view entries
+    → HasMap keeper.header file entries → record_bytes entries ≤ MAX_RECORD_BYTES → AreasHold keeper view entries
 holds_map keeper file body entries view areas stands counts snapshot after has within =
     let own = has_map keeper.header file body keeper.map keeper.journal snapshot after in
     let same : keeper.map ≡ entries = one_has keeper.header file keeper.map entries own has in
-    subst (λ (l : Entries). Holds keeper view l) same (record {
+    subst (λ (l : Entries). AreasHold keeper view l) same (record {
       file = file;
       counts = counts;
       areas = areas;
@@ -54,7 +55,7 @@ holds_map keeper file body entries view areas stands counts snapshot after has w
       };
       end = ap (λ (j : Journal). j.end) after.behind;
       map = refl;
-      within = subst (λ (l : Entries). record_bytes l ≤ 16777216) (sym same) within;
+      within = subst (λ (l : Entries). record_bytes l ≤ MAX_RECORD_BYTES) (sym same) within;
     })
 
 pub only_bad : (e : JournalError) (at : ℕ) → start_error e ≡ BadJournal at → e ≡ journal.BadJournal at

@@ -1,29 +1,23 @@
 -- What an image stands for rests on its slots and on the bytes from the body's start to the journal's last gate.
-use Rattle.std.proofs.Common.{◌≡◌, ◌≢◌, ◌≤◌, ◌<◌, ◌⊎◌, ⊎_elim, ℕ, ◌+◌, ◌-◌, min, List, [], ◌∷◌, ◌++◌, length, take, drop, refl, sym, ◌∙◌, ap, subst, arith, append_assoc, length-append, length-take, length-drop, take-append-drop}
-use Rattle.std.proofs.lemmas.List.{take_at, drop-drop, drop-take, take-take, take_min}
+use Rattle.std.proofs.Common.{◌≡◌, ◌≢◌, ◌≤◌, ◌<◌, ◌⊎◌, inl, inr, ⊎_elim, ℕ, ◌+◌, ◌-◌, List, [], ◌∷◌, ◌++◌, length, take, drop, refl, sym, ◌∙◌, ap, subst, arith, append_assoc, length-append, length-take, length-drop, take-append-drop}
+use Rattle.std.proofs.lemmas.List.{take_at, drop-drop, take-take}
 use Rattle.ode_host.specs.Host.{Torn}
-use Rattle.ode_host.proofs.Bytes.{torn_outside}
+use Rattle.ode_host.proofs.Bytes.{same_part, torn_apart}
 use Rattle.ode_gate.specs.declared.header.Header.{Header}
-use Rattle.ode_gate.specs.Gate.{open_gate}
+use Rattle.ode_gate.specs.declared.gate.TheConstants.{OPEN}
 use Rattle.ode_gate.specs.Headers.{IsOfAreas}
 use Rattle.ode_gate.specs.Slots.{Counts}
-use Rattle.ode_gate.proofs.Fronts.{counts_front, torn_front}
+use Rattle.ode_gate.proofs.Fronts.{counts_front}
+use Rattle.ode_gate.specs.declared.places.TheConstants.{AREAS_END, AREA_0, AREA_1, AREA_LEN, SLOTS_END}
 use Rattle.ode_journal.specs.Frames.{AreShort, IsJournal, gate_behind, spelled}
 use Rattle.ode_journal.proofs.Appending.{is_journal}
 use Rattle.ode_keep.specs.Entries.{Entries}
 use Rattle.ode_areas.specs.Image.{HasMap}
-use Rattle.ode_areas.specs.Rows.{IsSnapshot}
-
--- a part of a window that two files share
-pub window : (m d n : ℕ) (c file : List ℕ) → d + n ≤ m → take m c ≡ take m file → take n (drop d c) ≡ take n (drop d file)
-window m d n c file within same =
-    let of : (l : List ℕ) → drop d (take (d + n) (take m l)) ≡ take n (drop d l) =
-    λ l. ap (λ (k : List ℕ). drop d k) (take-take (d + n) m l within) ∙ drop-take d n l in
-    sym (of c) ∙ ap (λ (l : List ℕ). drop d (take (d + n) l)) same ∙ of file
+use Rattle.ode_keep.specs.Snapshots.{IsSnapshot}
 
 -- frames and a shut gate from a place on are a journal
 pub journal_at : (start end : ℕ) (frames : List (List ℕ)) (gate : ℕ) (behind c : List ℕ) → drop start c ≡ spelled frames ++ gate ∷ behind
-    → AreShort frames → gate ≢ open_gate → gate_behind start frames < end → IsJournal start end frames c
+    → AreShort frames → gate ≢ OPEN → gate_behind start frames < end → IsJournal start end frames c
 journal_at start end frames gate behind c stand short shut within =
     let long : length (take start c) ≡ start =
     omega (arith, length-take start c, ap length stand, length-drop start c, length-append (spelled frames) (gate ∷ behind)) in
@@ -77,7 +71,7 @@ module _ (h : Header) (areas : IsOfAreas h) (file c : List ℕ) (entries : Entri
       omega (arith, length-append (spelled has.frames) (has.journal.shut.gate ∷ [])) in
       let size = length (spelled has.frames ++ has.journal.shut.gate ∷ []) in
       let part : take size (drop h.body_len (drop h.body_at c)) ≡ take size (drop h.body_len (drop h.body_at file)) =
-      window wide h.body_len size (drop h.body_at c) (drop h.body_at file) (omega (arith, areas.journal, length_is)) same in
+      same_part wide h.body_len size (drop h.body_at file) (drop h.body_at c) (omega (arith, areas.journal, length_is)) same in
       let at : (l : List ℕ) → drop h.body_len (drop h.body_at l) ≡ drop h.journal_at l =
       λ l. drop-drop h.body_len h.body_at l ∙ ap (λ (k : ℕ). drop k l) (sym areas.journal) in
       record {
@@ -98,25 +92,20 @@ module _ (h : Header) (areas : IsOfAreas h) (file c : List ℕ) (entries : Entri
 
 -- a write into the other area leaves what a header counts and what it has
 module _ (h : Header) (areas : IsOfAreas h) (file c : List ℕ) (entries : Entries) (has : HasMap h file entries) (counts : Counts file h)
-    (at n : ℕ) (other : at ≢ h.body_at) (is_area : (at ≡ 4096) ⊎ (at ≡ 33558528)) (within : n ≤ 33554432) (torn : Torn at n file c) where
+    (at n : ℕ) (other : at ≢ h.body_at) (is_area : (at ≡ AREA_0) ⊎ (at ≡ AREA_1)) (within : n ≤ AREA_LEN) (torn : Torn at n file c) where
   long : reach h file entries has ≤ length file
   long = gate_inside h file entries has
 
   pub still_counts : Counts c h
-  still_counts = counts_front file c h (torn_front at n file c (omega (arith, is_area)) (omega (arith, long, areas.area, areas.journal)) torn) counts
+  still_counts =
+      counts_front file c h (torn_apart at n 0 SLOTS_END file c torn (inl (omega (arith, is_area), omega (arith, long, areas.area, areas.journal)))) counts
 
-  low : (h.body_at ≡ 4096) × (h.journal_end ≡ 33558528) → take (wide h areas file c entries has) (drop h.body_at c) ≡ take (wide h areas file c entries has) (drop h.body_at file)
-  low first =
-      let end = min at (length file) in
-      let there : at ≡ 33558528 = omega (arith, is_area, other, first.0) in
-      let front : take end c ≡ take end file = torn.before ∙ sym (take_min at file) in
-      window end h.body_at (wide h areas file c entries has) c file (omega (arith, long, there, first.1, has.journal.shut.within, areas.journal)) front
-
-  high : (h.body_at ≡ 33558528) × (h.journal_end ≡ 67112960) → take (wide h areas file c entries has) (drop h.body_at c) ≡ take (wide h areas file c entries has) (drop h.body_at file)
-  high second =
-      let there : at ≡ 4096 = omega (arith, is_area, other, second.0) in
-      ap (λ (l : List ℕ). take (wide h areas file c entries has) l)
-      (torn_outside at n h.body_at file c (omega (arith, there, second.0, within)) torn)
+  apart : ((h.body_at + wide h areas file c entries has ≤ at) × (h.body_at + wide h areas file c entries has ≤ length file)) ⊎ (at + n ≤ h.body_at)
+  apart = ⊎_elim
+      (λ (first : (h.body_at ≡ AREA_0) × (h.journal_end ≡ AREA_1)).
+      inl (omega (arith, is_area, other, first.0, first.1, has.journal.shut.within, areas.journal), omega (arith, long, areas.journal)))
+      (λ (second : (h.body_at ≡ AREA_1) × (h.journal_end ≡ AREAS_END)). inr (omega (arith, is_area, other, second.0, within)))
+      areas.area
 
   pub still_has : HasMap h c entries
-  still_has = has_window h areas file c entries has (⊎_elim low high areas.area)
+  still_has = has_window h areas file c entries has (torn_apart at n h.body_at (wide h areas file c entries has) file c torn apart)

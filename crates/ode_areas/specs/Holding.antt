@@ -7,7 +7,8 @@ use Rattle.ode_journal.specs.Appends.{JournalStands, need_of, room_of}
 use Rattle.ode_keep.specs.Entries.{Changes, Entries, record_bytes}
 use Rattle.ode_areas.specs.declared.areas.Areas.{Areas}
 use Rattle.ode_areas.specs.Image.{HasMap}
-use Rattle.ode_areas.specs.Payloads.{payload_of}
+use Rattle.ode_keep.specs.Payloads.{payload_of}
+use Rattle.ode_keep.specs.declared.limits.TheConstants.{MAX_RECORD_BYTES}
 
 -- whether the disk never failed it
 abbrev pub is_live : Areas → Bool
@@ -23,7 +24,7 @@ FitsJournal keeper changes = need_of (payload_of changes) ≤ room_of keeper.jou
 
 -- It holds these records: a file stands on the disk in which its header counts, and that has them under this header. It
 -- has them in memory too, and knows where the journal ends. They aren't above the limit.
-pub record Holds (keeper : Areas) (view : View) (entries : Entries) : Type 0 where
+pub record AreasHold (keeper : Areas) (view : View) (entries : Entries) : Type 0 where
   pub file : List ℕ
   pub counts : Counts file keeper.header
   pub areas : IsOfAreas keeper.header
@@ -31,4 +32,4 @@ pub record Holds (keeper : Areas) (view : View) (entries : Entries) : Type 0 whe
   pub journal : JournalStands keeper.header.journal_at has.frames file keeper.journal view
   pub end : keeper.journal.end ≡ keeper.header.journal_end
   pub map : keeper.map ≡ entries
-  pub within : record_bytes entries ≤ 16777216
+  pub within : record_bytes entries ≤ MAX_RECORD_BYTES

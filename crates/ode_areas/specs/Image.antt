@@ -5,8 +5,9 @@ use Rattle.ode_gate.specs.Headers.{IsOfAreas}
 use Rattle.ode_gate.specs.Slots.{Counts}
 use Rattle.ode_journal.specs.Frames.{HasFrames, IsBad, IsFramed, IsJournal, gate_behind}
 use Rattle.ode_keep.specs.Entries.{Changes, Entries}
-use Rattle.ode_areas.specs.Rows.{IsBrokenSnapshot, IsSnapshot}
-use Rattle.ode_areas.specs.Payloads.{ArePayloads, IsPayload, replayed}
+use Rattle.ode_keep.specs.Snapshots.{IsBrokenSnapshot, IsSnapshot}
+use Rattle.ode_areas.specs.Batches.{ArePayloads, replayed}
+use Rattle.ode_keep.specs.Payloads.{IsPayload}
 
 -- the bytes of the body, as far as the file has them
 abbrev pub body_of : Header → List ℕ → List ℕ

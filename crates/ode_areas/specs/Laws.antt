@@ -4,12 +4,12 @@ use Rattle.ode_host.specs.View.{View}
 use Rattle.ode_host.specs.Host.{Stands}
 use Rattle.ode_keep.specs.Entries.{Entries, HasRisingKeys}
 use Rattle.ode_areas.specs.declared.areas.Areas.{Areas}
-use Rattle.ode_areas.specs.Holding.{Holds}
+use Rattle.ode_areas.specs.Holding.{AreasHold}
 use Rattle.ode_areas.specs.Image.{AreasMean}
 use Rattle.ode_areas.specs.OneMap.{one_map, rising}
 
 -- what it holds stands on the disk
-pub stands_law : (keeper : Areas) (view : View) (entries : Entries) → Holds keeper view entries → (file : List ℕ) × Stands file view × AreasMean file entries
+pub stands_law : (keeper : Areas) (view : View) (entries : Entries) → AreasHold keeper view entries → (file : List ℕ) × Stands file view × AreasMean file entries
 stands_law keeper view entries h = (
   h.file,
   h.journal.stands,
@@ -17,7 +17,7 @@ stands_law keeper view entries h = (
 )
 
 -- and it holds it still where the disk is left alone
-pub stays_law : (keeper : Areas) (old new : View) (entries : Entries) → Holds keeper old entries → ((file : List ℕ) → Stands file old → Stands file new) → Holds keeper new entries
+pub stays_law : (keeper : Areas) (old new : View) (entries : Entries) → AreasHold keeper old entries → ((file : List ℕ) → Stands file old → Stands file new) → AreasHold keeper new entries
 stays_law keeper old new entries h still = record {
   file = h.file;
   counts = h.counts;

@@ -1,12 +1,8 @@
-pub mod Rows
-pub mod Payloads
+pub mod Batches
 pub mod Image
 pub mod Replaying
 pub mod Holding
 pub mod Starting
-pub mod Pieces
-pub mod Rising
-pub mod FirstRows
 pub mod OneMap
 pub mod Puts
 pub mod Steps

@@ -2,24 +2,27 @@
 use Rattle.std.proofs.Common.{◌≡◌, ◌<◌, ◌≤◌, ⊎_elim, ℕ, ◌+◌, List, [], ◌∷◌, ◌++◌, length, drop, Option, Some, None, refl, sym, ◌∙◌, ap, subst, arith, append_assoc, length-append, length-drop, length-take}
 use Rattle.std.proofs.lemmas.List.{append-nil}
 use Rattle.std.specs.Prelude.{◌⊎◌}
-use Rattle.std.specs.List.{AllByRecursion, flat_map}
+use Rattle.std.specs.List.{AllByRecursion}
 use Rattle.ode_value.specs.declared.key.Key.{Key}
 use Rattle.ode_value.specs.Records.{Row, row_bytes, snapshot}
 use Rattle.ode_gate.specs.declared.header.Header.{Header}
 use Rattle.ode_gate.specs.Headers.{IsOfAreas}
 use Rattle.ode_gate.proofs.Counting.{one_counts}
-use Rattle.ode_journal.specs.Frames.{HasFrames, HasGate, IsBad, IsFramed, IsJournal, IsShut, framed, gate_behind, spelled}
-use Rattle.ode_journal.proofs.Frames.{first_frame, other_frames}
-use Rattle.ode_journal.proofs.Unique.{bad_stops, framed_unique, journal_unique, shut_not_bad, shut_stops}
+use Rattle.ode_journal.specs.Frames.{HasGate, IsBad, IsJournal, IsShut, gate_behind}
+use Rattle.ode_journal.proofs.Unique.{NoneHas, bad_stops, framed_unique, frames_unique, journal_unique, shut_not_bad, shut_stops}
+use Rattle.ode_journal.specs.declared.frame.TheConstants.{FRAME_HEAD}
 use Rattle.ode_keep.specs.Entries.{Changes, Entries, HasRisingKeys, applied}
 use Rattle.ode_value.specs.Keys.{key_cmp}
 use Rattle.ode_keep.proofs.Applying.{applied_rising}
-use Rattle.ode_areas.specs.Rows.{FitsRow, FitsSnapshot, IsBrokenSnapshot, IsSnapshot}
-use Rattle.ode_areas.specs.Payloads.{ArePayloads, FitsChange, IsPayload, change_bytes, replayed, spelled_change}
+use Rattle.ode_keep.specs.Snapshots.{FitsRow, FitsSnapshot, IsBrokenSnapshot, IsSnapshot}
+use Rattle.ode_areas.specs.Batches.{ArePayloads, replayed}
+use Rattle.ode_keep.specs.Payloads.{FitsChange, IsPayload, change_bytes, spelled_change}
 use Rattle.ode_areas.specs.Image.{AreasMean, HasMap, IsBadAt, IsBadBody, IsBadFrom, IsBadJournal, IsMalformed, body_of}
-use Rattle.ode_areas.specs.Pieces.{IsAhead, all_front, forked, one_list}
-use Rattle.ode_areas.specs.Rising.{rising_front}
-use Rattle.ode_areas.specs.FirstRows.{same_change_first, same_row_first}
+use Rattle.ode_host.proofs.Determinacy.{IsOnce, Reads, Stops, one_list, one_reading}
+use Rattle.ode_keep.proofs.Lists.{all_behind, all_front}
+use Rattle.ode_keep.specs.Rising.{rising_front}
+use Rattle.ode_keep.proofs.Firsts.{same_change_first, same_row_first}
+use Rattle.ode_keep.specs.declared.spelling.TheConstants.{COUNT_LEN}
 
 row_some : (r : Row) (rest : List ℕ) → [] ≡ row_bytes r ++ rest → ⊥
 row_some r rest same = absurd (omega (arith, ap length same))
@@ -35,39 +38,52 @@ fits_first front r others fits =
       rising = rising_front key_cmp (front ++ r ∷ []) others (subst (λ (l : Entries). HasRisingKeys l) split fits.rising);
     }
 
--- no record follows where a snapshot is broken
-module _ (size at : ℕ) (bytes : List ℕ) (is : IsBrokenSnapshot size at bytes) where
-  no_further : (others : Entries) (more : List ℕ) → FitsSnapshot (is.front ++ others) → is.behind ≡ flat_map row_bytes others ++ more → others ≡ []
-  no_further [] more fits begins = refl
-  no_further (r ∷ others) more fits begins =
-      absurd (is.bad r (flat_map row_bytes others ++ more) (begins ∙ append_assoc (row_bytes r) (flat_map row_bytes others) more) (fits_first is.front r others fits))
+-- The records of a snapshot are read one behind the other. A state is those so far, and the bytes behind them.
+abbrev SoFar : Type 0
+SoFar = Entries × List ℕ
 
-  ahead_of_broken : (others : Entries) (whole : Entries) (more : List ℕ) → FitsSnapshot whole → whole ≡ is.front ++ others → is.behind ≡ flat_map row_bytes others ++ more → whole ≡ is.front
-  ahead_of_broken others whole more fits pieces begins =
-      let none = no_further others more (subst (λ (l : Entries). FitsSnapshot l) pieces fits) begins in
-      pieces ∙ ap (λ (l : Entries). is.front ++ l) none ∙ append-nil is.front
+abbrev NextRow : SoFar → Row → SoFar → Type 0
+NextRow s r t = FitsSnapshot (s.0 ++ r ∷ []) × (s.1 ≡ row_bytes r ++ t.1) × (t.0 ≡ s.0 ++ r ∷ [])
+
+last_fits : (front : Entries) (r : Row) → FitsSnapshot (front ++ r ∷ []) → FitsRow r
+last_fits front r fits = (all_behind FitsRow front (r ∷ []) fits.rows).0
+
+row_once : IsOnce NextRow
+row_once s r q t u first second =
+    let one = same_row_first r q t.1 u.1 (last_fits s.0 r first.0) (last_fits s.0 q second.0) (sym first.1 ∙ second.1) in
+    let front : t.0 ≡ u.0 = first.2 ∙ ap (λ (x : Row). s.0 ++ x ∷ []) one.0 ∙ sym second.2 in
+    (one.0, λ i. (front i, one.1 i))
+
+rows_read : (others front : Entries) (bytes rest : List ℕ) → FitsSnapshot (front ++ others) → bytes ≡ snapshot others ++ rest → Reads NextRow (front, bytes) others (front ++ others, rest)
+rows_read [] front bytes rest fits is = let all : front ≡ front ++ [] = sym (append-nil front) in λ i. (all i, is i)
+rows_read (r ∷ others) front bytes rest fits is =
+    let split : front ++ r ∷ others ≡ (front ++ r ∷ []) ++ others = sym (append_assoc front (r ∷ []) others) in
+    let more = rows_read others (front ++ r ∷ []) (snapshot others ++ rest) rest (subst (λ (l : Entries). FitsSnapshot l) split fits) refl in (
+      (front ++ r ∷ [], snapshot others ++ rest),
+      (fits_first front r others fits, is ∙ append_assoc (row_bytes r) (snapshot others) rest, refl),
+      subst (λ (l : Entries). Reads NextRow (front ++ r ∷ [], snapshot others ++ rest) others (l, rest)) (sym split) more,
+    )
+
+module _ (size at : ℕ) (bytes : List ℕ) (is : IsBrokenSnapshot size at bytes) where
+  broken_read : Reads NextRow ([], bytes) is.front (is.front, is.behind)
+  broken_read = rows_read is.front [] bytes is.behind is.fits is.split
+
+  broken_stops : Stops NextRow (is.front, is.behind)
+  broken_stops r t next = is.bad r t.1 next.1 next.0
 
   some_missing : length bytes ≡ size → length is.behind ≡ 0 → ⊥
   some_missing whole none = absurd (omega (arith, whole, none, ap length is.split, length-append (snapshot is.front) is.behind, is.place, is.within))
 
   pub snapshot_not_broken : (entries : Entries) → IsSnapshot entries bytes → length bytes ≡ size → ⊥
-  snapshot_not_broken entries snapshot_is whole = ⊎_elim
-      (λ (ahead : IsAhead row_bytes entries [] is.front is.behind).
-      let none : 0 ≡ length (flat_map row_bytes ahead.others) + length is.behind = ap length ahead.bytes ∙ length-append (flat_map row_bytes ahead.others) is.behind in
-      some_missing whole (omega (arith, none)))
-      (λ (ahead : IsAhead row_bytes is.front is.behind entries []).
-      let none = no_further ahead.others [] (subst (λ (l : Entries). FitsSnapshot l) ahead.pieces snapshot_is.fits) ahead.bytes in
-      some_missing whole (ap length (ahead.bytes ∙ ap (λ (l : Entries). flat_map row_bytes l ++ []) none)))
-      (forked row_bytes FitsRow same_row_first entries is.front [] is.behind snapshot_is.fits.rows is.fits.rows (append-nil (snapshot entries) ∙ sym snapshot_is.spelled ∙ is.split))
+  snapshot_not_broken entries snapshot_is whole =
+      let whole_read : Reads NextRow ([], bytes) entries (entries, []) = rows_read entries [] bytes [] snapshot_is.fits (snapshot_is.spelled ∙ sym (append-nil (snapshot entries))) in
+      let same = (one_reading NextRow row_once entries is.front ([], bytes) (entries, []) (is.front, is.behind) whole_read broken_read (λ r t next. row_some r t.1 next.1) broken_stops).1 in
+      some_missing whole (ap (λ (s : SoFar). length s.1) (sym same))
 
 pub one_break : (size p q : ℕ) (bytes : List ℕ) → IsBrokenSnapshot size p bytes → IsBrokenSnapshot size q bytes → p ≡ q
 one_break size p q bytes first second =
-    let same : first.front ≡ second.front = ⊎_elim
-    (λ (ahead : IsAhead row_bytes first.front first.behind second.front second.behind).
-    sym (ahead_of_broken size p bytes first ahead.others second.front second.behind second.fits ahead.pieces ahead.bytes))
-    (λ (ahead : IsAhead row_bytes second.front second.behind first.front first.behind).
-    ahead_of_broken size q bytes second ahead.others first.front first.behind first.fits ahead.pieces ahead.bytes)
-    (forked row_bytes FitsRow same_row_first first.front second.front first.behind second.behind first.fits.rows second.fits.rows (sym first.split ∙ second.split)) in
+    let same = (one_reading NextRow row_once first.front second.front ([], bytes) (first.front, first.behind) (second.front, second.behind)
+    (broken_read size p bytes first) (broken_read size q bytes second) (broken_stops size p bytes first) (broken_stops size q bytes second)).0 in
     first.place ∙ ap (λ (l : Entries). length (snapshot l)) same ∙ sym second.place
 
 spelled_some : (k : Key) (v : Option (List ℕ)) (rest : List ℕ) → [] ≡ spelled_change k v ++ rest → ⊥
@@ -79,7 +95,7 @@ change_some c rest same = spelled_some c.0 c.1 rest same
 
 pub one_batch : (a b : Changes) (payload : List ℕ) → IsPayload a payload → IsPayload b payload → a ≡ b
 one_batch a b payload first second =
-    one_list change_bytes FitsChange same_change_first change_some a b first.each second.each (ap (λ (l : List ℕ). drop 4 l) (sym first.spelled ∙ second.spelled))
+    one_list change_bytes FitsChange same_change_first change_some a b first.each second.each (ap (λ (l : List ℕ). drop COUNT_LEN l) (sym first.spelled ∙ second.spelled))
 
 pub one_history : (a b : List Changes) (frames : List (List ℕ)) → ArePayloads a frames → ArePayloads b frames → a ≡ b
 one_history [] [] [] first second = refl
@@ -101,58 +117,33 @@ formed [] (p ∷ frames) are = absurd are
 formed (c ∷ batches) [] are = absurd are
 formed (c ∷ batches) (p ∷ frames) are = ((c, are.0), formed batches frames are.1)
 
-NoneAt : ℕ → ℕ → List ℕ → Type 0
-NoneAt end at file = (payload : List ℕ) → IsFramed end at payload file → HasForm payload → ⊥
-
 module _ (end : ℕ) (file : List ℕ) where
-  none_moved : (p q : ℕ) → p ≡ q → NoneAt end p file → NoneAt end q file
-  unfolding NoneAt
-  none_moved p q same none = subst (λ (k : ℕ). (payload : List ℕ) → IsFramed end k payload file → HasForm payload → ⊥) same none
+  abbrev NoneAt : ℕ → Type 0
+  NoneAt at = NoneHas HasForm end file at
 
-  one_front : (a b : List (List ℕ)) (start : ℕ) → HasFrames start end a file → HasFrames start end b file → AllByRecursion HasForm a → AllByRecursion HasForm b
-      → NoneAt end (gate_behind start a) file → NoneAt end (gate_behind start b) file → a ≡ b
-  unfolding NoneAt
-  one_front [] [] start has_a has_b form_a form_b none_a none_b = refl
-  one_front [] (q ∷ b) start has_a has_b form_a form_b none_a none_b =
-      absurd (none_moved (gate_behind start []) start (omega arith) none_a q (first_frame start end b q file has_b) form_b.0)
-  one_front (p ∷ a) [] start has_a has_b form_a form_b none_a none_b =
-      absurd (none_moved (gate_behind start []) start (omega arith) none_b p (first_frame start end a p file has_a) form_a.0)
-  one_front (p ∷ a) (q ∷ b) start has_a has_b form_a form_b none_a none_b =
-      let same : p ≡ q = framed_unique end start p q file (first_frame start end a p file has_a) (first_frame start end b q file has_b) in
-      let next : start + 5 + length q ≡ start + 5 + length p = omega (arith, ap length same) in
-      let others = one_front a b (start + 5 + length p)
-      (other_frames start end a p file has_a)
-      (subst (λ (k : ℕ). HasFrames k end b file) next (other_frames start end b q file has_b))
-      form_a.1 form_b.1
-      (none_moved (gate_behind start (p ∷ a)) (gate_behind (start + 5 + length p) a) (omega (arith, length-append (framed p) (spelled a))) none_a)
-      (none_moved (gate_behind start (q ∷ b)) (gate_behind (start + 5 + length p) b) (omega (arith, next, length-append (framed q) (spelled b))) none_b) in
-      ap (λ (x : List ℕ). x ∷ a) same ∙ ap (λ (l : List (List ℕ)). q ∷ l) others
-
-  none_shut : (at : ℕ) → IsShut end at file → NoneAt end at file
-  unfolding NoneAt
+  none_shut : (at : ℕ) → IsShut end at file → NoneAt at
   none_shut at shut payload framed_is form = shut_stops end at file shut payload framed_is
 
-  none_bad : (at : ℕ) → IsBad end at file ⊎ IsMalformed end at file → NoneAt end at file
-  unfolding NoneAt HasForm
+  none_bad : (at : ℕ) → IsBad end at file ⊎ IsMalformed end at file → NoneAt at
+  unfolding HasForm
   none_bad at bad payload framed_is form = ⊎_elim
       (λ (is : IsBad end at file). bad_stops end at file is payload framed_is)
       (λ (is : IsMalformed end at file). is.other form.0 (subst (λ (l : List ℕ). IsPayload form.0 l) (framed_unique end at payload is.payload file framed_is is.stands) form.1))
       bad
 
   module _ (start : ℕ) where
-    none_from : (at : ℕ) (is : IsBadFrom start end at file) → NoneAt end (gate_behind start is.frames) file
-    none_from at is = none_moved at (gate_behind start is.frames) is.place (none_bad at is.bad)
+    none_from : (at : ℕ) (is : IsBadFrom start end at file) → NoneAt (gate_behind start is.frames)
+    none_from at is = subst (λ (k : ℕ). NoneAt k) is.place (none_bad at is.bad)
 
     pub one_bad : (p q : ℕ) → IsBadFrom start end p file → IsBadFrom start end q file → p ≡ q
     one_bad p q first second =
-        let same = one_front first.frames second.frames start first.has second.has (formed first.batches first.frames first.payloads) (formed second.batches second.frames second.payloads)
+        let same = frames_unique HasForm end file first.frames second.frames start first.has second.has (formed first.batches first.frames first.payloads) (formed second.batches second.frames second.payloads)
         (none_from p first) (none_from q second) in
         first.place ∙ ap (λ (l : List (List ℕ)). gate_behind start l) same ∙ sym second.place
 
     pub journal_not_bad : (frames : List (List ℕ)) (batches : List Changes) (at : ℕ) → IsJournal start end frames file → ArePayloads batches frames → IsBadFrom start end at file → ⊥
-    unfolding NoneAt
     journal_not_bad frames batches at is are bad =
-        let same = one_front frames bad.frames start is.has bad.has (formed batches frames are) (formed bad.batches bad.frames bad.payloads) (none_shut (gate_behind start frames) is.shut) (none_from at bad) in
+        let same = frames_unique HasForm end file frames bad.frames start is.has bad.has (formed batches frames are) (formed bad.batches bad.frames bad.payloads) (none_shut (gate_behind start frames) is.shut) (none_from at bad) in
         let here : gate_behind start frames ≡ at = ap (λ (l : List (List ℕ)). gate_behind start l) same ∙ sym bad.place in
         let shut : IsShut end at file = subst (λ (k : ℕ). IsShut end k file) here is.shut in
         ⊎_elim

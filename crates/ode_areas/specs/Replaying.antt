@@ -3,7 +3,7 @@ use Rattle.std.specs.Prelude.{◌≡◌, ℕ, List}
 use Rattle.ode_journal.specs.declared.journal.Journal.{Journal}
 use Rattle.ode_journal.specs.Frames.{IsJournal, gate_behind}
 use Rattle.ode_keep.specs.Entries.{Changes, Entries}
-use Rattle.ode_areas.specs.Payloads.{ArePayloads, replayed}
+use Rattle.ode_areas.specs.Batches.{ArePayloads, replayed}
 
 -- from `start` on this journal stands, and the changes of its frames make the new records of the old
 pub record IsReplayed (start end : ℕ) (old new : Entries) (journal : Journal) (file : List ℕ) : Type 0 where

@@ -3,7 +3,8 @@ use Rattle.std.specs.Prelude.{◌≡◌, ◌≢◌, ◌≤◌, ◌+◌, ℕ, Lis
 use Rattle.ode_gate.specs.declared.header.Header.{Header}
 use Rattle.ode_gate.specs.Changes.{header_change_length}
 use Rattle.ode_gate.specs.Headers.{IsHeader, IsOfAreas, next_generation}
-use Rattle.ode_gate.specs.Slots.{Counts}
+use Rattle.ode_gate.specs.Slots.{Counts, IsSlot}
+use Rattle.ode_gate.specs.declared.gate.TheConstants.{SHUT}
 use Rattle.ode_host.specs.View.{View}
 use Rattle.ode_journal.specs.declared.journal.Journal.{Journal}
 use Rattle.ode_journal.specs.Appends.{JournalStands}
@@ -31,7 +32,7 @@ pub record IsNext (older h : Header) : Type 0 where
   pub rules : IsHeader h
   pub areas : IsOfAreas h
   pub other : h.body_at ≢ older.body_at
-  pub slot : h.slot ≤ 1
+  pub slot : IsSlot h.slot
   pub beside : h.slot ≢ older.slot
   pub next : h.generation ≡ next_generation older.generation
 
@@ -39,7 +40,7 @@ pub record IsNext (older h : Header) : Type 0 where
 pub record MovesOver (older : Header) (entries : Entries) (h : Header) (bytes : List ℕ) : Type 0 where
   pub follows : IsNext older h
   pub long : h.body_len ≡ length (snapshot entries)
-  pub spelled : bytes ≡ snapshot entries ++ 0 ∷ []
+  pub spelled : bytes ≡ snapshot entries ++ SHUT ∷ []
 
 -- the journal of a header, where it is empty
 abbrev pub empty_under : Header → Journal

@@ -18,7 +18,7 @@ pub struct Areas {
 }
 
 impl Areas {
-    /// The bytes of the records that it has in memory: 17 for each key, and those of each value.
+    /// The bytes of the keys and values of the records that it has in memory.
     pub fn bytes(&self) -> u64
         ensures { result ≡ held_bytes self.now }
     {

@@ -10,16 +10,13 @@ ghost use Rattle.ode_keep.specs.Growth.{bytes_of};
 ghost use Rattle.ode_areas.specs.Puts.{LeadBack, NeedNoRoom, puts, removals};
 
 use crate::map::Map;
-use ode_keep::{Batch, MAX_CHANGES, MAX_VALUE};
+use ode_keep::{Batch, KEY_LEN, MAX_CHANGES, MAX_GROWTH, MAX_VALUE};
 use ode_value::{Key, List};
 use std::alloc::{AllocError, Global};
 use std::collections::BTreeMap;
 
 // What stood under a key before a value was put there.
 type Note = (Key, Option<List<u8>>);
-
-// The bytes that the key of a record counts.
-const KEY_BYTES: u64 = 17;
 
 // The bytes that a record counts, if there is one.
 fn counted(value: Option<&List<u8>>) -> u64
@@ -28,7 +25,7 @@ fn counted(value: Option<&List<u8>>) -> u64
 {
     match value {
         None => 0,
-        Some(value) => KEY_BYTES + value.len() as u64,
+        Some(value) => KEY_LEN as u64 + value.len() as u64,
     }
 }
 
@@ -125,7 +122,7 @@ impl Map {
         requires few { length batch.now ≤ MAX_CHANGES }
         requires short { All (λ value. IfSome value (λ bytes. length bytes ≤ MAX_VALUE)) (values_of batch.now) }
         ensures exact { result ≡ min (record_bytes (applied batch.now self.now)) (2 ^ 64 - 1) }
-        ensures grows { record_bytes (applied batch.now self.now) ≤ record_bytes self.now + 4080640 }
+        ensures grows { record_bytes (applied batch.now self.now) ≤ record_bytes self.now + MAX_GROWTH }
     {
         let bytes = self.bytes();
         let mut put = 0;

@@ -8,7 +8,7 @@ ghost use Rattle.ode_areas.specs.Replaying.{IsReplayed};
 use crate::map::Map;
 use crate::payload::replay;
 use ode_host::Host;
-use ode_journal::{Block, Journal, JournalError, next_frame};
+use ode_journal::{Block, FRAME_HEAD, Journal, JournalError, next_frame};
 use std::alloc::Global;
 
 /// Makes the changes of all frames from the gate at `start` on, and answers where the journal stands behind them. All
@@ -36,6 +36,6 @@ pub(crate) fn replay_frames<H: Host>(
         if !replay(alloc, payload.as_slice(), map)? {
             return Err(JournalError::BadJournal { at });
         }
-        at += 5 + payload.len() as u64;
+        at += FRAME_HEAD as u64 + payload.len() as u64;
     }
 }

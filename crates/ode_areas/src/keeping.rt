@@ -7,12 +7,12 @@ ghost use Rattle.ode_keep.specs.Entries.{applied, record_bytes};
 ghost use Rattle.ode_keep.specs.Keeping.{OnDamaged, OnDiskFault, OnTooLarge};
 
 use crate::areas::Areas;
-use crate::encode::{frame_of, payload_length};
+use crate::encode::frame_of;
 use crate::plan::{Checkpoint, checkpoint_for};
 use crate::steps::write_changes;
 use ode_host::Host;
 use ode_journal::Frame;
-use ode_keep::{Batch, Keep, KeepError, MAX_CHANGES, MAX_RECORD_BYTES, MAX_VALUE};
+use ode_keep::{Batch, Keep, KeepError, MAX_CHANGES, MAX_RECORD_BYTES, MAX_VALUE, payload_length};
 use ode_value::{Key, List};
 
 /// What a commit writes: a frame, and before it a checkpoint where one is due.
@@ -51,9 +51,9 @@ impl Areas {
 }
 
 impl<H: Host> Keep<H> for Areas {
-    ghost use Rattle.ode_areas.specs.Holding.{FitsJournal, Holds, is_live};
+    ghost use Rattle.ode_areas.specs.Holding.{FitsJournal, AreasHold, is_live};
     ghost use Rattle.ode_areas.specs.Image.{AreasMean};
-    ghost use Rattle.ode_areas.specs.Payloads.{payload_of};
+    ghost use Rattle.ode_keep.specs.Payloads.{payload_of};
     ghost use Rattle.ode_areas.specs.Steps.{checkpoint_length};
     ghost use Rattle.ode_host.specs.Host.{DiskCalls, LeavesOnly, Looks, Puts};
     ghost use Rattle.ode_gate.specs.Changes.{WritesAtMost};
@@ -62,7 +62,7 @@ impl<H: Host> Keep<H> for Areas {
     ghost use Rattle.ode_keep.specs.Keeping.{LeavesOldOrNew, OnRefusal, is_usable};
     ghost use Rattle.ode_areas.specs.Laws.{one_map_law, rising_law, stands_law, stays_law};
 
-    ghost holds = { Holds };
+    ghost holds = { AreasHold };
 
     ghost means = { AreasMean };
 
@@ -95,25 +95,25 @@ impl<H: Host> Keep<H> for Areas {
         requires live { IsTrue (is_live self.old) }
         requires few { length batch.now ≤ MAX_CHANGES }
         requires short { All (λ value. IfSome value (λ bytes. length bytes ≤ MAX_VALUE)) (values_of batch.now) }
-        ensures done { OnOk result ((entries : Entries) → Holds self.old (H.view host.old) entries
-            → Holds self.new (H.view host.new) (applied batch.now entries)) }
-        ensures fits { OnOk result ((entries : Entries) → Holds self.old (H.view host.old) entries
+        ensures done { OnOk result ((entries : Entries) → AreasHold self.old (H.view host.old) entries
+            → AreasHold self.new (H.view host.new) (applied batch.now entries)) }
+        ensures fits { OnOk result ((entries : Entries) → AreasHold self.old (H.view host.old) entries
             → record_bytes (applied batch.now entries) ≤ MAX_RECORD_BYTES) }
-        ensures too_large { OnTooLarge result (λ total. (entries : Entries) → Holds self.old (H.view host.old) entries
+        ensures too_large { OnTooLarge result (λ total. (entries : Entries) → AreasHold self.old (H.view host.old) entries
             → (total ≡ record_bytes (applied batch.now entries)) × (MAX_RECORD_BYTES < total)) }
-        ensures refused { OnRefusal result ((entries : Entries) → Holds self.old (H.view host.old) entries
-            → Holds self.new (H.view host.new) entries) }
+        ensures refused { OnRefusal result ((entries : Entries) → AreasHold self.old (H.view host.old) entries
+            → AreasHold self.new (H.view host.new) entries) }
         ensures looks { OnRefusal result (Looks (H.view host.old) (H.view host.new)) }
-        ensures any_moment { (entries : Entries) → Holds self.old (H.view host.old) entries
+        ensures any_moment { (entries : Entries) → AreasHold self.old (H.view host.old) entries
             → LeavesOnly (H.view host.old) (H.view host.new) (LeavesOldOrNew AreasMean entries batch.now (H.view host.old)) }
         ensures leaves { DiskCalls (IsErrOf result KeepError.DiskFault) (H.view host.old) (H.view host.new) }
         ensures usable { is_live self.new ≡ is_usable result }
-        ensures damaged { OnDamaged result ((entries : Entries) → Holds self.old (H.view host.old) entries → ⊥) }
+        ensures damaged { OnDamaged result ((entries : Entries) → AreasHold self.old (H.view host.old) entries → ⊥) }
 
         // Where the frame fits its journal it is all that is written. Else a checkpoint of the records stands in front of it.
         ensures frame { OnOk result (FitsJournal self.old batch.now
             → Puts (need_of (payload_of batch.now)) (H.view host.old) (H.view host.new)) }
-        ensures checkpoint { OnOk result ((entries : Entries) → Holds self.old (H.view host.old) entries
+        ensures checkpoint { OnOk result ((entries : Entries) → AreasHold self.old (H.view host.old) entries
             → WritesAtMost (checkpoint_length entries + need_of (payload_of batch.now)) (H.view host.old) (H.view host.new)) }
     {
         let ready = self.prepare(batch)?;

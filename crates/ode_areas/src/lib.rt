@@ -10,7 +10,7 @@ mod keeping;
 mod map;
 mod payload;
 mod plan;
-mod rows;
+mod snapshot;
 mod start;
 mod steps;
 

@@ -3,13 +3,11 @@ ghost use Rattle.std.specs.Prelude.{◌≡◌, [], Some, None, OnErr, OnOk};
 ghost use Rattle.std.specs.Option.{option_copied};
 ghost use Rattle.ode_keep.specs.Entries.{Entries, HasRisingKeys, changed, least_from, record_bytes, value_under};
 
+use ode_keep::KEY_LEN;
 use ode_value::{Key, List};
 use std::alloc::{AllocError, Global};
 use std::collections::BTreeMap;
 use std::marker::Model;
-
-// Bytes that the key of a record counts.
-const KEY_BYTES: u64 = 17;
 
 /// Records in rising order of their keys, and how many bytes they count.
 #[derive(Drop)]
@@ -43,12 +41,12 @@ impl Map {
         ensures err { OnErr result (self.new ≡ self.old) }
     {
         let length = value.len() as u64;
-        let Some(bytes) = self.bytes.checked_add(KEY_BYTES + length) else {
+        let Some(bytes) = self.bytes.checked_add(KEY_LEN as u64 + length) else {
             return Err(AllocError);
         };
         let old = self.records.insert(key, value)?;
         self.bytes = match old {
-            Some(old) => bytes - (KEY_BYTES + old.len() as u64),
+            Some(old) => bytes - (KEY_LEN as u64 + old.len() as u64),
             None => bytes,
         };
         Ok(())
@@ -59,7 +57,7 @@ impl Map {
         ensures { self.new ≡ changed self.old key None }
     {
         if let Some(old) = self.records.remove(&key) {
-            self.bytes -= KEY_BYTES + old.len() as u64;
+            self.bytes -= KEY_LEN as u64 + old.len() as u64;
         }
     }
 
@@ -78,7 +76,7 @@ impl Map {
         Some(*least)
     }
 
-    /// How many bytes the keys and values count, a key being 17.
+    /// How many bytes the keys and values count.
     pub(crate) fn bytes(&self) -> u64
         ensures bytes { result ≡ record_bytes self.now }
         ensures rising { HasRisingKeys self.now }

@@ -1,74 +1,15 @@
-//! The changes of a frame, as they lie in its payload.
-ghost use Rattle.std.specs.Prelude.{◌≡◌, ◌++◌, IfOk, List, OnOk, Option, ℕ};
+//! The changes of a payload are made.
+ghost use Rattle.std.specs.Prelude.{◌≡◌, IfOk, OnOk};
 ghost use Rattle.std.specs.Bool.{OnFalse, OnTrue};
-ghost use Rattle.std.specs.Option.{IfNone, IfSome, option_map};
+ghost use Rattle.std.specs.Option.{option_map};
 ghost use Rattle.ode_keep.specs.Entries.{Changes, applied, changed};
-ghost use Rattle.ode_value.specs.Keys.{key_cmp};
-ghost use Rattle.ode_value.specs.declared.key.Key.{Key};
-ghost use Rattle.ode_areas.specs.Payloads.{FitsChange, IsPayload, change_bytes, spelled_change};
-ghost use Rattle.ode_areas.specs.Rising.{MayFollow};
+ghost use Rattle.ode_keep.specs.Payloads.{IsPayload};
 
 use crate::map::Map;
-use crate::rows::{first_key, first_row, may_follow};
 use ode_host::take_u32;
-use ode_value::{Key, List};
+use ode_keep::{COUNT_LEN, FirstChange, next_change};
+use ode_value::List;
 use std::alloc::{AllocError, Global};
-
-// What a change begins with.
-const REMOVAL: u8 = 0;
-
-const PUT: u8 = 1;
-
-// A change in some bytes, and what stands behind it.
-#[derive(Clone, Copy, Debug)]
-struct FirstChange<'a> {
-    key: Key,
-    value: Option<&'a [u8]>,
-    rest: &'a [u8],
-}
-
-// The change that the bytes begin with, and none where they begin with none.
-fn first_change(bytes: &[u8]) -> Option<FirstChange<'_>>
-    ensures some { IfSome result (λ x. FitsChange (x.key, option_map (λ v. v.now) x.value)
-        × (bytes.now ≡ spelled_change x.key (option_map (λ v. v.now) x.value) ++ x.rest.now)) }
-    ensures none { IfNone result ((c : Key × Option (List ℕ)) (rest : List ℕ) → FitsChange c
-        → bytes.now ≡ change_bytes c ++ rest → ⊥) }
-{
-    let (mark, behind) = bytes.split_first()?;
-    if *mark == REMOVAL {
-        let key = first_key(behind)?;
-        let (_, rest) = behind.split_at(17);
-        return Some(FirstChange {
-            key,
-            value: None,
-            rest,
-        });
-    }
-    if *mark == PUT {
-        let row = first_row(behind)?;
-        return Some(FirstChange {
-            key: row.key,
-            value: Some(row.value),
-            rest: row.rest,
-        });
-    }
-    None
-}
-
-// The change that the bytes begin with, where its key may come behind the last one.
-fn next_change(bytes: &[u8], last: Option<Key>) -> Option<FirstChange<'_>>
-    ensures some { IfSome result (λ x. FitsChange (x.key, option_map (λ v. v.now) x.value)
-        × (bytes.now ≡ spelled_change x.key (option_map (λ v. v.now) x.value) ++ x.rest.now)) }
-    ensures follows { IfSome result (λ x. MayFollow key_cmp last x.key) }
-    ensures none { IfNone result ((c : Key × Option (List ℕ)) (rest : List ℕ) → FitsChange c
-        → MayFollow key_cmp last c.0 → bytes.now ≡ change_bytes c ++ rest → ⊥) }
-{
-    let change = first_change(bytes)?;
-    if !may_follow(last, change.key) {
-        return None;
-    }
-    Some(change)
-}
 
 // Makes a change.
 fn make(alloc: Global, change: FirstChange<'_>, map: &mut Map) -> Result<(), AllocError>
@@ -93,7 +34,7 @@ pub(crate) fn replay(alloc: Global, payload: &[u8], map: &mut Map) -> Result<boo
     let Some(count) = take_u32(payload, 0) else {
         return Ok(false);
     };
-    let (_, mut rest) = payload.split_at(4);
+    let (_, mut rest) = payload.split_at(COUNT_LEN);
     let mut last = None;
     let mut made = 0;
     'changes: while made < count {

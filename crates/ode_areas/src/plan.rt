@@ -2,37 +2,19 @@
 ghost use Rattle.std.specs.Prelude.{◌≡◌, ◌+◌, ◌<◌, ◌≤◌, length, IfOk, MatchOption};
 ghost use Rattle.std.specs.List.{AllByRecursion};
 ghost use Rattle.std.specs.Option.{IfSome};
+ghost use Rattle.ode_gate.specs.Slots.{IsSlot};
 ghost use Rattle.ode_journal.specs.Appends.{room_of};
 ghost use Rattle.ode_keep.specs.Keeping.{OnDamaged, OnDiskFault, OnTooLarge};
 ghost use Rattle.ode_value.specs.Records.{snapshot};
-ghost use Rattle.ode_areas.specs.Rows.{FitsRow};
+ghost use Rattle.ode_keep.specs.Snapshots.{FitsRow};
 ghost use Rattle.ode_areas.specs.Steps.{IsNext, MovesOver, empty_under};
 
-use crate::encode::{shut_snapshot, snapshot_length};
 use crate::map::Map;
-use ode_gate::{Header, next_generation};
-use ode_journal::Journal;
-use ode_keep::KeepError;
+use crate::snapshot::{shut_snapshot, snapshot_length};
+use ode_gate::{AREA_0, AREA_1, AREA_LEN, AREAS_END, FORMAT, Header, TWO_AREAS, next_generation};
+use ode_journal::{FRAME_BYTES, Journal};
+use ode_keep::{KeepError, MAX_PAYLOAD_LEN};
 use std::alloc::Global;
-
-// The format of the file.
-const FORMAT: u32 = 1;
-
-// The layout of two areas.
-const TWO_AREAS: u32 = 1;
-
-// Where the areas start, and where the second ends.
-const AREA_0: u64 = 4_096;
-
-const AREA_1: u64 = 33_558_528;
-
-const AREAS_END: u64 = 67_112_960;
-
-// The length of an area.
-const AREA_LEN: u64 = 33_554_432;
-
-// What a frame takes besides its payload: its gate, its length, and the gate behind it.
-const FRAME_BYTES: u64 = 6;
 
 /// A snapshot for the other area, with a shut gate behind it, and the header that is to follow.
 #[derive(Drop)]
@@ -43,7 +25,7 @@ pub(crate) struct Checkpoint {
 
 // The header of the other area, in the other slot, over a snapshot of this length.
 fn next_header(older: &Header, length: u64) -> Header
-    requires { length < 33554432 }
+    requires { length < AREA_LEN }
     ensures follows { IsNext older.now result }
     ensures long { result.body_len ≡ length }
 {
@@ -74,18 +56,18 @@ pub(crate) fn checkpoint_for(
     map: &Map,
     payload: u32,
 ) -> Result<Option<Checkpoint>, KeepError>
-    requires { payload ≤ 4083716 }
-    ensures room { IfOk result (λ due. MatchOption due (payload + 6 ≤ room_of journal.now)
-        (λ c. payload + 6 ≤ room_of (empty_under c.header))) }
-    ensures needed { IfOk result (λ due. IfSome due (λ c. room_of journal.now < payload + 6)) }
+    requires { payload ≤ MAX_PAYLOAD_LEN }
+    ensures room { IfOk result (λ due. MatchOption due (payload + FRAME_BYTES ≤ room_of journal.now)
+        (λ c. payload + FRAME_BYTES ≤ room_of (empty_under c.header))) }
+    ensures needed { IfOk result (λ due. IfSome due (λ c. room_of journal.now < payload + FRAME_BYTES)) }
     ensures moves { IfOk result (λ due. IfSome due (λ c. AllByRecursion FitsRow map.now
         → MovesOver header.now map.now c.header c.bytes.items)) }
-    ensures slot { IfOk result (λ due. IfSome due (λ c. c.header.slot ≤ 1)) }
-    ensures too_large { OnTooLarge result (λ total. 33554432 < length (snapshot map.now) + payload + 6) }
+    ensures slot { IfOk result (λ due. IfSome due (λ c. IsSlot c.header.slot)) }
+    ensures too_large { OnTooLarge result (λ total. AREA_LEN < length (snapshot map.now) + payload + FRAME_BYTES) }
     ensures no_fault { OnDiskFault result ⊥ }
     ensures not_damaged { OnDamaged result ⊥ }
 {
-    let need = u64::from(payload) + FRAME_BYTES;
+    let need = u64::from(payload) + FRAME_BYTES as u64;
     if need <= journal.end.saturating_sub(journal.at) {
         return Ok(None);
     }

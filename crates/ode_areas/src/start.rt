@@ -5,17 +5,17 @@ ghost use Rattle.ode_gate.specs.Slots.{Counts};
 ghost use Rattle.ode_host.specs.Causes.{RoseIf};
 ghost use Rattle.ode_host.specs.Host.{Looks, Stands, Tells};
 ghost use Rattle.ode_keep.specs.Entries.{Entries, record_bytes};
-ghost use Rattle.ode_areas.specs.Holding.{Holds, held_bytes, is_live};
+ghost use Rattle.ode_areas.specs.Holding.{AreasHold, held_bytes, is_live};
 ghost use Rattle.ode_areas.specs.Image.{HasMap, IsBadAt, IsBadBody, body_of};
-ghost use Rattle.ode_areas.specs.Rows.{IsSnapshot};
+ghost use Rattle.ode_keep.specs.Snapshots.{IsSnapshot};
 ghost use Rattle.ode_areas.specs.Starting.{Refuses, Starts};
 
 use crate::areas::Areas;
 use crate::error::StartError;
 use crate::frames::replay_frames;
 use crate::map::Map;
-use crate::rows::load_rows;
-use ode_gate::Header;
+use crate::snapshot::load_rows;
+use ode_gate::{Header, TWO_AREAS};
 use ode_host::{Host, read_whole};
 use ode_keep::MAX_RECORD_BYTES;
 use std::alloc::Global;
@@ -53,12 +53,12 @@ impl Areas {
     /// the journal, in order, at which something is wrong, and never `BadPage`.
     pub fn start<H: Host>(alloc: Global, host: &mut H, h: &Header) -> Result<Areas, StartError>
         requires rules { IsHeader h.now }
-        requires areas { h.now.layout ≡ 1 }
+        requires areas { h.now.layout ≡ TWO_AREAS }
         ensures found { IfOk result (λ _. (file : List ℕ) → Tells (H.view host.old) file
             → (entries : Entries) × HasMap h.now file entries) }
         ensures holds { IfOk result (λ keeper. (file : List ℕ) (entries : Entries) → Stands file (H.view host.old)
             → Counts file h.now → HasMap h.now file entries → record_bytes entries ≤ MAX_RECORD_BYTES
-            → Holds keeper (H.view host.new) entries) }
+            → AreasHold keeper (H.view host.new) entries) }
         ensures bytes { IfOk result (λ keeper. (file : List ℕ) (entries : Entries) → Tells (H.view host.old) file
             → HasMap h.now file entries → held_bytes keeper ≡ record_bytes entries) }
         ensures live { IfOk result (λ keeper. IsTrue (is_live keeper)) }

@@ -2,6 +2,7 @@
 ghost use Rattle.std.specs.Prelude.{◌≡◌, ◌+◌, ◌≤◌, length, MatchOption, None, IsErr, OnOk};
 ghost use Rattle.std.specs.Option.{IfSome, option_copied};
 ghost use Rattle.ode_gate.specs.Changes.{WritesAtMost, header_change_length};
+ghost use Rattle.ode_gate.specs.Slots.{IsSlot};
 ghost use Rattle.ode_gate.specs.declared.header.Header.{Header};
 ghost use Rattle.ode_host.specs.Host.{DiskCalls, LeavesOnly, Puts};
 ghost use Rattle.ode_journal.specs.declared.journal.Journal.{Journal};
@@ -9,17 +10,17 @@ ghost use Rattle.ode_journal.specs.Appends.{need_of, room_of};
 ghost use Rattle.ode_keep.specs.Entries.{Changes, Entries, applied};
 ghost use Rattle.ode_keep.specs.Keeping.{LeavesOldOrNew};
 ghost use Rattle.ode_areas.specs.Image.{AreasMean};
-ghost use Rattle.ode_areas.specs.Payloads.{IsPayload};
+ghost use Rattle.ode_keep.specs.Payloads.{IsPayload};
 ghost use Rattle.ode_areas.specs.Steps.{LeavesMap, MovesOver, StandUnder, bytes_before, empty_under};
 
 use crate::plan::Checkpoint;
-use ode_gate::{Header, change_header};
+use ode_gate::{Header, SLOT_LEN, change_header};
 use ode_host::{Failed, Host, write_synced};
 use ode_journal::{AppendError, Frame, Journal};
 
 // Writes a snapshot into the area that no header counts, and then changes the header to it.
 fn move_over<H: Host>(host: &mut H, checkpoint: &Checkpoint) -> Result<(), Failed>
-    requires { checkpoint.now.header.slot ≤ 1 }
+    requires { IsSlot checkpoint.now.header.slot }
     ensures moved { OnOk result ((older : Header) (place : Journal) (entries : Entries)
         → StandUnder older place entries (H.view host.old)
         → MovesOver older entries checkpoint.now.header checkpoint.now.bytes.items
@@ -32,7 +33,7 @@ fn move_over<H: Host>(host: &mut H, checkpoint: &Checkpoint) -> Result<(), Faile
     ensures leaves { DiskCalls (IsErr result) (H.view host.old) (H.view host.new) }
 {
     write_synced(host, checkpoint.header.body_at, &checkpoint.bytes)?;
-    match change_header(host, &checkpoint.header, &mut [0; 57]) {
+    match change_header(host, &checkpoint.header, &mut [0; SLOT_LEN]) {
         Ok(()) => Ok(()),
         Err(_) => Err(Failed),
     }
@@ -67,7 +68,7 @@ pub(crate) fn write_changes<H: Host>(
     frame: &Frame,
 ) -> Result<(), Failed>
     requires full { frame.now.spare ≡ 0 }
-    requires slot { IfSome due (λ c. c.now.header.slot ≤ 1) }
+    requires slot { IfSome due (λ c. IsSlot c.now.header.slot) }
     requires room { MatchOption due (need_of frame.now.payload ≤ room_of journal.old)
         (λ c. need_of frame.now.payload ≤ room_of (empty_under c.now.header)) }
     ensures written { OnOk result ((entries : Entries) (changes : Changes)

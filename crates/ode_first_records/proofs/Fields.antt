@@ -1,30 +1,14 @@
 -- The fields of a record that was written.
-use Rattle.std.proofs.Common.{◌≡◌, ℕ, ◌<◌, List, ◌++◌, length, drop, refl, ap, ◌∙◌, ◌^◌, arith}
+use Rattle.std.proofs.Common.{◌≡◌, ◌<◌, ap, ◌∙◌, ◌^◌, arith}
 use Rattle.std.specs.Prelude.{ℤ, FitsSigned}
-use Rattle.std.specs.Int.{w16, w32, w64, cast_signed, cast_unsigned}
+use Rattle.std.specs.Int.{w32, w64, cast_signed, cast_unsigned}
 use Rattle.std.proofs.lemmas.Int.{ints, to_z-of_z}
-use Rattle.std.proofs.lemmas.Nat.{from_be_bytes-to_be_bytes_2, from_be_bytes-to_be_bytes_4, from_be_bytes-to_be_bytes_8}
+use Rattle.std.proofs.lemmas.Nat.{from_be_bytes-to_be_bytes_4, from_be_bytes-to_be_bytes_8}
 use Rattle.ode_host.specs.Fields.{number_at}
-use Rattle.ode_value.specs.Records.{Row, row_bytes}
 use Rattle.ode_value.specs.OneIntRecords.{counters_row}
 use Rattle.ode_value.specs.OneIntWorld.{OneIntWorld}
-use Rattle.ode_first_records.specs.Reading.{IsRow, key_of, FitsCounters, FitsObject, version_of, whole_of}
+use Rattle.ode_first_records.specs.Reading.{FitsCounters, FitsObject, version_of, whole_of}
 use Rattle.ode_first_records.specs.declared.state.ObjectRow.{ObjectRow}
-
--- its key
-pub key_of_row : (r : Row) (rest : List ℕ) → IsRow r → key_of (row_bytes r ++ rest) ≡ r.0
-key_of_row r rest h =
-    let a : number_at w64 (row_bytes r ++ rest) 1 ≡ r.0.a = from_be_bytes-to_be_bytes_8 r.0.a h.a in
-    let b : number_at w64 (row_bytes r ++ rest) 9 ≡ r.0.b = from_be_bytes-to_be_bytes_8 r.0.b h.b in
-    λ i. record { kind = r.0.kind; a = a i; b = b i }
-
--- how long its value is
-pub length_of_row : (r : Row) (rest : List ℕ) → IsRow r → number_at w16 (row_bytes r ++ rest) 17 ≡ length r.1
-length_of_row r rest h = from_be_bytes-to_be_bytes_2 (length r.1) h.value
-
--- its value and what stands behind it
-pub value_of_row : (r : Row) (rest : List ℕ) → drop 19 (row_bytes r ++ rest) ≡ r.1 ++ rest
-value_of_row r rest = refl
 
 -- ---- an object
 

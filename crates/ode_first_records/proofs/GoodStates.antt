@@ -3,6 +3,7 @@ use Rattle.std.proofs.Common.{◌≡◌, ℕ, ◌+◌, ◌<◌, ◌≤◌, ◌^�
 use Rattle.std.specs.Prelude.{IsSome, codes}
 use Rattle.std.specs.List.{AllByRecursion}
 use Rattle.std.proofs.lemmas.Bool.Decides.{Decides-eqb}
+use Rattle.ode_keep.specs.Snapshots.{FitsRow}
 use Rattle.ode_value.specs.declared.class.Class.{Class}
 use Rattle.ode_value.specs.OneIntGood.{IsOneIntGood, AreBuiltClasses, AreBuiltObjects}
 use Rattle.ode_value.specs.Records.{Row}
@@ -12,7 +13,7 @@ use Rattle.ode_value.specs.Worlds.{Declared, class_numbered}
 use Rattle.ode_first_records.specs.declared.state.ClassRow.{ClassRow}
 use Rattle.ode_first_records.specs.declared.state.ObjectRow.{ObjectRow}
 use Rattle.ode_first_records.specs.declared.state.State.{State}
-use Rattle.ode_first_records.specs.Reading.{IsRow, FitClasses, FitsClass, FitsObject, FitsState, head_of, text_of, whole_of, version_of}
+use Rattle.ode_first_records.specs.Reading.{FitClasses, FitsClass, FitsObject, FitsState, head_of, text_of, whole_of, version_of}
 use Rattle.ode_first_records.specs.State.{class_of, object_of, world_of}
 use Rattle.ode_first_records.proofs.Division.{rows_of_state}
 use Rattle.ode_value.proofs.FreeNames.{free_name}
@@ -102,53 +103,51 @@ state_of_good w good =
 
 -- ---- rows
 
-head_is_row : (number : ℕ) (c : ClassRow) → FitsClass number c → IsRow (head_of c)
+head_is_row : (number : ℕ) (c : ClassRow) → FitsClass number c → FitsRow (head_of c)
 head_is_row number c fits =
     let short = (free_name c.name fits.name).short in
     record {
-      a = omega (arith, fits.numbered, fits.low);
-      b = omega arith;
+      key = record { kind = omega arith; a = omega (arith, fits.numbered, fits.low); b = omega arith };
       value = omega (arith, short, ap length (head_parts c), length-append c.name (head_back c));
     }
 
-text_is_row : (number : ℕ) (c : ClassRow) → FitsClass number c → IsRow (text_of c)
+text_is_row : (number : ℕ) (c : ClassRow) → FitsClass number c → FitsRow (text_of c)
 text_is_row number c fits =
     let name = (free_name c.name fits.name).short in
     let field = (free_name c.field fits.field).short in
     record {
-      a = omega (arith, fits.numbered, fits.low);
-      b = omega arith;
+      key = record { kind = omega arith; a = omega (arith, fits.numbered, fits.low); b = omega arith };
       value = omega (arith, name, field, ap length (text_parts c), length-append (text_front c.name) (c.field ++ codes "; }"), length-text_front c.name, length-append c.field (codes "; }"));
     }
 
-heads_are_rows : (number : ℕ) (cs : List ClassRow) → FitClasses number cs → AllByRecursion IsRow (map head_of cs)
+heads_are_rows : (number : ℕ) (cs : List ClassRow) → FitClasses number cs → AllByRecursion FitsRow (map head_of cs)
 heads_are_rows number [] h = tt
 heads_are_rows number (c ∷ cs) h = (head_is_row number c h.0, heads_are_rows (number + 1) cs h.1)
 
-texts_are_rows : (number : ℕ) (cs : List ClassRow) → FitClasses number cs → AllByRecursion IsRow (map text_of cs)
+texts_are_rows : (number : ℕ) (cs : List ClassRow) → FitClasses number cs → AllByRecursion FitsRow (map text_of cs)
 texts_are_rows number [] h = tt
 texts_are_rows number (c ∷ cs) h = (text_is_row number c h.0, texts_are_rows (number + 1) cs h.1)
 
-objects_are_rows : (os : List ObjectRow) → AllByRecursion FitsObject os → AllByRecursion IsRow (map whole_of os)
+objects_are_rows : (os : List ObjectRow) → AllByRecursion FitsObject os → AllByRecursion FitsRow (map whole_of os)
 objects_are_rows [] h = tt
-objects_are_rows (o ∷ os) h = (record { a = h.0.id; b = omega arith; value = omega arith }, objects_are_rows os h.1)
+objects_are_rows (o ∷ os) h = (record { key = record { kind = omega arith; a = h.0.id; b = omega arith }; value = omega arith }, objects_are_rows os h.1)
 
-versions_are_rows : (os : List ObjectRow) → AllByRecursion FitsObject os → AllByRecursion IsRow (map version_of os)
+versions_are_rows : (os : List ObjectRow) → AllByRecursion FitsObject os → AllByRecursion FitsRow (map version_of os)
 versions_are_rows [] h = tt
-versions_are_rows (o ∷ os) h = (record { a = h.0.id; b = omega arith; value = omega arith }, versions_are_rows os h.1)
+versions_are_rows (o ∷ os) h = (record { key = record { kind = omega arith; a = h.0.id; b = omega arith }; value = omega arith }, versions_are_rows os h.1)
 
-all_both : (xs ys : List Row) → AllByRecursion IsRow xs → AllByRecursion IsRow ys → AllByRecursion IsRow (xs ++ ys)
+all_both : (xs ys : List Row) → AllByRecursion FitsRow xs → AllByRecursion FitsRow ys → AllByRecursion FitsRow (xs ++ ys)
 all_both [] ys h k = k
 all_both (x ∷ xs) ys h k = (h.0, all_both xs ys h.1 k)
 
-pub are_rows : (s : State) → FitsState s → AllByRecursion IsRow (rows (world_of s))
+pub are_rows : (s : State) → FitsState s → AllByRecursion FitsRow (rows (world_of s))
 are_rows s fits =
     let hs = map head_of s.classes in
     let ts = map text_of s.classes in
     let os = map whole_of s.objects in
     let vs = map version_of s.objects in
-    let counters : IsRow (counters_row (world_of s)) = record { a = omega arith; b = omega arith; value = omega arith } in
-    subst (AllByRecursion IsRow) (sym (rows_of_state s)) (
+    let counters : FitsRow (counters_row (world_of s)) = record { key = record { kind = omega arith; a = omega arith; b = omega arith }; value = omega arith } in
+    subst (AllByRecursion FitsRow) (sym (rows_of_state s)) (
       counters,
       all_both hs (ts ++ (os ++ vs)) (heads_are_rows 1 s.classes fits.classes) (all_both ts (os ++ vs) (texts_are_rows 1 s.classes fits.classes)
           (all_both os vs (objects_are_rows s.objects fits.objects) (versions_are_rows s.objects fits.objects))),

@@ -1,12 +1,9 @@
 -- A record as it is read from a snapshot.
-use Rattle.std.specs.Prelude.{◌≡◌, ℕ, ◌+◌, ◌<◌, ◌^◌, List, [], ◌∷◌, length, slice_index, true, None, FitsSigned}
+use Rattle.std.specs.Prelude.{◌≡◌, ℕ, ◌+◌, ◌<◌, ◌^◌, List, [], ◌∷◌, true, None, FitsSigned}
 use Rattle.std.specs.Int.{w64}
 use Rattle.std.specs.List.{AllByRecursion}
-use Rattle.ode_host.specs.Fields.{number_at}
-use Rattle.ode_value.specs.declared.key.Key.{Key}
 use Rattle.ode_value.specs.declared.value.Value.TheVariants as value
 use Rattle.ode_value.specs.Records.{Row, version_row}
-use Rattle.ode_value.specs.Keys.{key}
 use Rattle.ode_value.specs.OneIntRecords.{head_row, text_row, object_row}
 use Rattle.ode_value.specs.Words.{is_free}
 use Rattle.ode_value.specs.OneIntWorld.{OneIntWorld}
@@ -16,19 +13,9 @@ use Rattle.ode_first_records.specs.declared.state.ObjectRow.{ObjectRow}
 use Rattle.ode_first_records.specs.declared.state.State.{State}
 use Rattle.ode_first_records.specs.State.{class_of, object_of, world_of}
 
--- the key that the bytes begin with
-abbrev pub key_of : List ℕ → Key
-key_of bytes = key (slice_index bytes 0) (number_at w64 bytes 1) (number_at w64 bytes 9)
-
 -- a record without where it lies
 abbrev pub row_of : Record → Row
 row_of r = (r.key, r.value.now)
-
--- a record whose key and length fit their fields
-pub record IsRow (r : Row) : Type 0 where
-  pub a : r.0.a < 2 ^ 64
-  pub b : r.0.b < 2 ^ 64
-  pub value : length r.1 < 2 ^ 16
 
 -- a class that a head and a text spell: numbered, with names that are free
 pub record FitsClass (number : ℕ) (c : ClassRow) : Type 0 where

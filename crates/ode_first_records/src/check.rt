@@ -9,12 +9,7 @@ ghost use Rattle.ode_first_records.specs.State.{class_of, object_of, world_of};
 
 use crate::state::{ClassRow, ObjectRow, State};
 use ode_value::is_free;
-
-const NUMBER_LIMIT: u64 = 4_611_686_018_427_387_904;
-
-const TRANSACTION_LIMIT: u64 = NUMBER_LIMIT + 65_536;
-
-const WEIGHT_LIMIT: u64 = 8_388_608;
+use ode_value::limits::{NUMBER_LIMIT, TRANSACTION_LIMIT, WEIGHT_LIMIT};
 
 fn is_named(classes: &[ClassRow], name: &[u8]) -> bool
     ensures { result ≡ list_any (λ c. bytes_eq c.name name.now) classes.now }

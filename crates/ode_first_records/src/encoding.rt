@@ -10,6 +10,7 @@ ghost use Rattle.ode_first_records.specs.State.{class_of, object_of, world_of};
 
 use crate::state::{ClassRow, ObjectRow, State};
 use ode_host::{put_i64, put_u8, put_u16, put_u32, put_u64};
+use ode_keep::row_head;
 use ode_value::{Key, List, Value};
 use std::alloc::{AllocError, Global};
 
@@ -24,10 +25,7 @@ pub struct Snapshot {
 fn put_start(out: &mut Vec<u8>, key: Key, length: u16) -> Result<(), AllocError>
     ensures { OnOk result (out.new.items ≡ out.old.items ++ (key_bytes key ++ to_be_bytes w16 length)) }
 {
-    put_u8(out, key.kind)?;
-    put_u64(out, key.a)?;
-    put_u64(out, key.b)?;
-    put_u16(out, length)
+    out.extend_from_slice(&row_head(key, length))
 }
 
 fn text_length(class: &ClassRow) -> u16

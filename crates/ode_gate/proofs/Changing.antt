@@ -7,15 +7,17 @@ use Rattle.ode_host.proofs.Moments.{joined, looks_on, stands_looks, started, tor
 use Rattle.ode_gate.specs.declared.header.Header.{Header}
 use Rattle.ode_gate.specs.Changes.{IsChanged, LeavesHeader, MayFollow}
 use Rattle.ode_gate.specs.Headers.{header_bytes, next_generation}
-use Rattle.ode_gate.specs.Slots.{Counts, Holds, IsOpen, IsShut, IsSlot, bytes_of, open_body, other_slot, place_of}
+use Rattle.ode_gate.specs.Slots.{Counts, HoldsHeader, IsOpen, IsShut, IsSlot, bytes_of, open_body, other_slot, place_of}
 use Rattle.ode_gate.proofs.Slotted.{Around, around_of, opens, own, same_behind, same_beside, shut_any, torn_body_around, torn_gate_around, wrote_body_around, wrote_gate_around}
 use Rattle.ode_gate.proofs.Spelling.{length-header_bytes}
+use Rattle.ode_gate.specs.declared.gate.TheConstants.{OPEN, SHUT}
+use Rattle.ode_gate.specs.declared.places.TheConstants.{HEADER_LEN}
 
 pub shut_or_open : (bytes : List ℕ) → IsShut bytes ⊎ IsOpen bytes
 shut_or_open [] = inl refl
 shut_or_open (gate ∷ body) = ⊎_elim
     (λ (shut : open_body (gate ∷ body) ≡ None). inl shut)
-    (λ (opened : (gate ≡ 165) × (open_body (gate ∷ body) ≡ Some body)). inr (ap is_some opened.1))
+    (λ (opened : (gate ≡ OPEN) × (open_body (gate ∷ body) ≡ Some body)). inr (ap is_some opened.1))
     (opens gate body)
 
 module _ (image : List ℕ) (older h : Header) (follows : MayFollow image older h) (is_slot : IsSlot h.slot) where
@@ -23,13 +25,13 @@ module _ (image : List ℕ) (older h : Header) (follows : MayFollow image older 
   front = take (place_of h.slot) image
 
   pub rest : List ℕ
-  rest = drop (place_of h.slot + 1 + 56) image
+  rest = drop (place_of h.slot + 1 + HEADER_LEN) image
 
   pub gate : ℕ
   gate = get_or image (place_of h.slot) 0
 
   pub body : List ℕ
-  body = take 56 (drop (place_of h.slot + 1) image)
+  body = take HEADER_LEN (drop (place_of h.slot + 1) image)
 
   first : Around h.slot front rest gate body image
   unfolding front rest gate body
@@ -43,8 +45,8 @@ module _ (image : List ℕ) (older h : Header) (follows : MayFollow image older 
   beside_older = omega (arith, is_slot, follows.beside, follows.counts.slot)
 
   module _ (gate' : ℕ) (body' c : List ℕ) (around : Around h.slot front rest gate' body' c) where
-    older_holds : Holds (bytes_of older.slot c) older
-    older_holds = subst (λ (l : List ℕ). Holds l older) (sym (same_beside h.slot is_slot front rest gate gate' body body' image c first around older.slot beside)) follows.counts.leads.holds
+    older_holds : HoldsHeader (bytes_of older.slot c) older
+    older_holds = subst (λ (l : List ℕ). HoldsHeader l older) (sym (same_beside h.slot is_slot front rest gate gate' body body' image c first around older.slot beside)) follows.counts.leads.holds
 
     -- the old header counts where the slot is shut
     stays_shut : IsShut (gate' ∷ body') → Counts c older
@@ -65,7 +67,7 @@ module _ (image : List ℕ) (older h : Header) (follows : MayFollow image older 
           slot = follows.counts.slot;
           leads = record {
             holds = older_holds;
-            over = subst (λ (l : List ℕ). IsShut l ⊎ ((o : Header) × Holds l o × (older.generation ≡ next_generation o.generation))) (sym is) follows.counts.leads.over;
+            over = subst (λ (l : List ℕ). IsShut l ⊎ ((o : Header) × HoldsHeader l o × (older.generation ≡ next_generation o.generation))) (sym is) follows.counts.leads.over;
           };
         }
 
@@ -75,7 +77,7 @@ module _ (image : List ℕ) (older h : Header) (follows : MayFollow image older 
       slot = is_slot;
       leads = record {
         holds = record { spells = ap open_body (own h.slot is_slot front rest gate' body' c around) ∙ spells; rules = follows.rules };
-        over = inr (older, subst (λ (k : ℕ). Holds (bytes_of k c) older) beside older_holds, follows.next);
+        over = inr (older, subst (λ (k : ℕ). HoldsHeader (bytes_of k c) older) beside older_holds, follows.next);
       };
     }
 
@@ -93,12 +95,12 @@ module _ (image : List ℕ) (older h : Header) (follows : MayFollow image older 
       let around = torn_gate_around h.slot is_slot front rest gate body image first c left.0 in
       leaves gate' body c around old o (inl (⊎_elim
       (λ (shut : open_body (gate' ∷ body) ≡ None). stays_shut gate' body c around shut)
-      (λ (now : (gate' ≡ 165) × (open_body (gate' ∷ body) ≡ Some body)). stays_same gate' body c around
+      (λ (now : (gate' ≡ OPEN) × (open_body (gate' ∷ body) ≡ Some body)). stays_same gate' body c around
       (⊎_elim
       (λ (was_shut : open_body (gate ∷ body) ≡ None).
       let no : IsOpen (gate ∷ body) = subst IsOpen (own h.slot is_slot front rest gate body image first) opened in
       absurd (shut_open (gate ∷ body) was_shut no))
-      (λ (was : (gate ≡ 165) × (open_body (gate ∷ body) ≡ Some body)). ap (λ (k : ℕ). k ∷ body) (now.0 ∙ sym was.0))
+      (λ (was : (gate ≡ OPEN) × (open_body (gate ∷ body) ≡ Some body)). ap (λ (k : ℕ). k ∷ body) (now.0 ∙ sym was.0))
       (opens gate body)))
       (opens gate' body))) left.1
     where
@@ -122,19 +124,19 @@ module _ (image : List ℕ) (older h : Header) (follows : MayFollow image older 
     shut = sym (ap open_body (own h.slot is_slot front rest gate body image first)) ∙ shut;
   }
 
-  ready_closed : (v : View) → Stands (written_over image (place_of h.slot) (0 ∷ [])) v → IsReady v
+  ready_closed : (v : View) → Stands (written_over image (place_of h.slot) (SHUT ∷ [])) v → IsReady v
   ready_closed v stands = record {
-    now = written_over image (place_of h.slot) (0 ∷ []);
-    shut_gate = 0;
+    now = written_over image (place_of h.slot) (SHUT ∷ []);
+    shut_gate = SHUT;
     stands = stands;
-    around = wrote_gate_around h.slot is_slot front rest gate body image first 0;
+    around = wrote_gate_around h.slot is_slot front rest gate body image first SHUT;
     shut = refl;
   }
 
   -- while the slot is filled
-  pub fills : (old mid : View) (ready : IsReady mid) → mid.text ≡ old.text → (c o : List ℕ) → LeavesTorn (place_of h.slot + 1) 56 ready.now mid c o → LeavesHeader image older h old c o
+  pub fills : (old mid : View) (ready : IsReady mid) → mid.text ≡ old.text → (c o : List ℕ) → LeavesTorn (place_of h.slot + 1) HEADER_LEN ready.now mid c o → LeavesHeader image older h old c o
   fills old mid ready text c o left =
-      let body' = take 56 (drop (place_of h.slot + 1) c) in
+      let body' = take HEADER_LEN (drop (place_of h.slot + 1) c) in
       let around = torn_body_around h.slot is_slot front rest ready.shut_gate body ready.now ready.around c left.0 in
       leaves ready.shut_gate body' c around old o (inl (stays_shut ready.shut_gate body' c around (shut_any ready.shut_gate body body' ready.shut))) (sym text ∙ left.1)
 
@@ -161,20 +163,20 @@ module _ (image : List ℕ) (older h : Header) (follows : MayFollow image older 
       leaves gate' (header_bytes h) c around old o
       (⊎_elim
       (λ (shut : open_body (gate' ∷ header_bytes h) ≡ None). inl (stays_shut gate' (header_bytes h) c around shut))
-      (λ (now : (gate' ≡ 165) × (open_body (gate' ∷ header_bytes h) ≡ Some (header_bytes h))). inr (becomes gate' (header_bytes h) c around now.1))
+      (λ (now : (gate' ≡ OPEN) × (open_body (gate' ∷ header_bytes h) ≡ Some (header_bytes h))). inr (becomes gate' (header_bytes h) c around now.1))
       (opens gate' (header_bytes h)))
       (sym text ∙ left.1)
 
   -- and behind it
-  pub changed : (mid v : View) (full : IsFilled mid) → Stands (written_over full.now (place_of h.slot) (165 ∷ [])) v → (next : List ℕ) × Stands next v × IsChanged image h next
+  pub changed : (mid v : View) (full : IsFilled mid) → Stands (written_over full.now (place_of h.slot) (OPEN ∷ [])) v → (next : List ℕ) × Stands next v × IsChanged image h next
   changed mid v full stands =
-      let next = written_over full.now (place_of h.slot) (165 ∷ []) in
-      let around = wrote_gate_around h.slot is_slot front rest full.some_gate (header_bytes h) full.now full.around 165 in (
+      let next = written_over full.now (place_of h.slot) (OPEN ∷ []) in
+      let around = wrote_gate_around h.slot is_slot front rest full.some_gate (header_bytes h) full.now full.around OPEN in (
         next,
         stands,
         record {
-          counts = becomes 165 (header_bytes h) next around refl;
-          same = same_behind h.slot is_slot front rest gate 165 body (header_bytes h) image next first around;
+          counts = becomes OPEN (header_bytes h) next around refl;
+          same = same_behind h.slot is_slot front rest gate OPEN body (header_bytes h) image next first around;
         },
       )
 
@@ -193,7 +195,7 @@ module _ (image : List ℕ) (older h : Header) (follows : MayFollow image older 
       (shut_or_open (bytes_of h.slot image))
 
   pub ready : (old mid : View) → Stands image old → (IsShut (bytes_of h.slot image) → Looks old mid)
-      → (IsOpen (bytes_of h.slot image) → Stands (written_over image (place_of h.slot) (0 ∷ [])) mid) → IsReady mid
+      → (IsOpen (bytes_of h.slot image) → Stands (written_over image (place_of h.slot) (SHUT ∷ [])) mid) → IsReady mid
   ready old mid stands nothing closed = ⊎_elim
       (λ (shut : IsShut (bytes_of h.slot image)). ready_same mid (stands_looks image old mid (nothing shut) stands) shut)
       (λ (opened : IsOpen (bytes_of h.slot image)). ready_closed mid (closed opened))

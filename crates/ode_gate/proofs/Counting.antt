@@ -12,43 +12,45 @@ use Rattle.ode_gate.specs.declared.header.Header.{Header}
 use Rattle.ode_gate.specs.declared.slot.Slot.{Slot}
 use Rattle.ode_gate.specs.declared.slot.Slot.TheVariants.{Shut, Newer, Broken, Good}
 use Rattle.ode_gate.specs.Headers.{IsHeader, header_bytes, next_generation}
-use Rattle.ode_gate.specs.Slots.{Counts, HasOpenSlot, Holds, IsBroken, IsNewer, IsOpen, IsShut, Leads, bytes_of, open_body, other_slot}
+use Rattle.ode_gate.specs.Slots.{Counts, HasOpenSlot, HoldsHeader, IsBroken, IsNewer, IsOpen, IsShut, Leads, bytes_of, open_body, other_slot, place_of}
 use Rattle.ode_gate.specs.Readings.{HasNone, IsBadAt, IsFirstNewer, NoneNewer, ReadsAs, Says, later_of, said_by}
 use Rattle.ode_gate.proofs.Slotted.{opens}
 use Rattle.ode_gate.proofs.Spelling.{is_in_range, moved_header, same_header}
+use Rattle.ode_gate.specs.declared.places.TheConstants.{FORMAT, FORMAT_AT}
+use Rattle.ode_gate.specs.declared.gate.TheConstants.{OPEN}
 
 pub shut_open : (bytes : List ℕ) → IsShut bytes → IsOpen bytes → ⊥
 shut_open bytes shut opened = cc (shut, opened)
 
-pub holds_open : (bytes : List ℕ) (h : Header) → Holds bytes h → IsOpen bytes
+pub holds_open : (bytes : List ℕ) (h : Header) → HoldsHeader bytes h → IsOpen bytes
 holds_open bytes h holds = ap is_some holds.spells
 
-pub holds_one : (bytes : List ℕ) (g h : Header) → Holds bytes g → Holds bytes h → g.slot ≡ h.slot → g ≡ h
+pub holds_one : (bytes : List ℕ) (g h : Header) → HoldsHeader bytes g → HoldsHeader bytes h → g.slot ≡ h.slot → g ≡ h
 holds_one bytes g h first second slot =
     let both : Some (header_bytes g) ≡ Some (header_bytes h) = sym first.spells ∙ second.spells in
     let same : header_bytes g ≡ header_bytes h = cc (both) in
     same_header g h (is_in_range g first.rules) (is_in_range h second.rules) same slot
 
 -- the generation that a slot holds, in whatever slot the header is said to stand
-pub one_generation : (bytes : List ℕ) (g h : Header) → Holds bytes g → Holds bytes h → g.generation ≡ h.generation
+pub one_generation : (bytes : List ℕ) (g h : Header) → HoldsHeader bytes g → HoldsHeader bytes h → g.generation ≡ h.generation
 one_generation bytes g h first second =
     let moved = moved_header g h.slot first.rules in
-    let there : Holds bytes (record g { slot = h.slot }) = record { spells = first.spells ∙ ap Some (sym moved.1); rules = moved.0 } in
+    let there : HoldsHeader bytes (record g { slot = h.slot }) = record { spells = first.spells ∙ ap Some (sym moved.1); rules = moved.0 } in
     ap (λ (x : Header). x.generation) (holds_one bytes (record g { slot = h.slot }) h there second refl)
 
-format_at : (gate : ℕ) (h : Header) → IsHeader h → number_at w32 (gate ∷ header_bytes h) 9 ≡ 1
+format_at : (gate : ℕ) (h : Header) → IsHeader h → number_at w32 (gate ∷ header_bytes h) FORMAT_AT ≡ FORMAT
 unfolding header_bytes
 format_at gate h rules = from_be_bytes-to_be_bytes_4 h.format (is_in_range h rules).format ∙ rules.format
 
 -- a header that keeps the rules has the known format
-pub holds_newer : (bytes : List ℕ) (h : Header) (format : ℕ) → Holds bytes h → IsNewer bytes format → ⊥
+pub holds_newer : (bytes : List ℕ) (h : Header) (format : ℕ) → HoldsHeader bytes h → IsNewer bytes format → ⊥
 holds_newer [] h format holds newer = let no : None ≡ Some (header_bytes h) = holds.spells in cc (no)
 holds_newer (gate ∷ body) h format holds newer = ⊎_elim
     (λ (shut : open_body (gate ∷ body) ≡ None). let no : None ≡ Some (header_bytes h) = sym shut ∙ holds.spells in cc (no))
-    (λ (opened : (gate ≡ 165) × (open_body (gate ∷ body) ≡ Some body)).
+    (λ (opened : (gate ≡ OPEN) × (open_body (gate ∷ body) ≡ Some body)).
     let both : Some body ≡ Some (header_bytes h) = sym opened.1 ∙ holds.spells in
     let is : body ≡ header_bytes h = cc (both) in
-    let one : format ≡ 1 = newer.says ∙ ap (λ (l : List ℕ). number_at w32 (gate ∷ l) 9) is ∙ format_at gate h holds.rules in
+    let one : format ≡ FORMAT = newer.says ∙ ap (λ (l : List ℕ). number_at w32 (gate ∷ l) FORMAT_AT) is ∙ format_at gate h holds.rules in
     omega (arith, one, newer.above))
     (opens gate body)
 
@@ -97,7 +99,7 @@ says_counts image h counts = ⊎_elim (λ (zero : h.slot ≡ 0). first zero) (λ
         let leads : Leads (bytes_of 0 image) (bytes_of 1 image) h = subst (λ (k : ℕ). Leads (bytes_of k image) (bytes_of (other_slot k) image) h) zero counts.leads in
         ⊎_elim
         (λ (shut : IsShut (bytes_of 1 image)). record { first = Good h; second = Shut; reads_first = (zero, leads.holds); reads_second = shut; said = refl })
-        (λ (older : (o : Header) × Holds (bytes_of 1 image) o × (h.generation ≡ next_generation o.generation)).
+        (λ (older : (o : Header) × HoldsHeader (bytes_of 1 image) o × (h.generation ≡ next_generation o.generation)).
         let there = moved_header older.0 1 older.1.rules in
         record {
           first = Good h;
@@ -113,7 +115,7 @@ says_counts image h counts = ⊎_elim (λ (zero : h.slot ≡ 0). first zero) (λ
         let leads : Leads (bytes_of 1 image) (bytes_of 0 image) h = subst (λ (k : ℕ). Leads (bytes_of k image) (bytes_of (other_slot k) image) h) one counts.leads in
         ⊎_elim
         (λ (shut : IsShut (bytes_of 0 image)). record { first = Shut; second = Good h; reads_first = shut; reads_second = (one, leads.holds); said = refl })
-        (λ (older : (o : Header) × Holds (bytes_of 0 image) o × (h.generation ≡ next_generation o.generation)).
+        (λ (older : (o : Header) × HoldsHeader (bytes_of 0 image) o × (h.generation ≡ next_generation o.generation)).
         let there = moved_header older.0 0 older.1.rules in
         record {
           first = Good (record older.0 { slot = 0 });
@@ -124,12 +126,12 @@ says_counts image h counts = ⊎_elim (λ (zero : h.slot ≡ 0). first zero) (λ
         })
         leads.over
 
-later_same : (g h : Header) → g.generation ≡ h.generation → later_of g h ≡ Err (BadHeader 0)
+later_same : (g h : Header) → g.generation ≡ h.generation → later_of g h ≡ Err (BadHeader (place_of 0))
 later_same g h same = grind (arith, nat_tests)
 
 -- one of two headers counts, or both have one generation
 later_cases : (g h : Header) → IsHeader g → IsHeader h
-    → ((g.generation ≡ h.generation) × (later_of g h ≡ Err (BadHeader 0)))
+    → ((g.generation ≡ h.generation) × (later_of g h ≡ Err (BadHeader (place_of 0))))
     ⊎ ((g.generation ≡ next_generation h.generation) × (later_of g h ≡ Ok g))
     ⊎ ((h.generation ≡ next_generation g.generation) × (later_of g h ≡ Ok h))
 later_cases g h g_rules h_rules = elim (cases_eq g.generation h.generation) [
@@ -148,7 +150,7 @@ CountsAmong a b h = ((h.slot ≡ 0) × Leads a b h) ⊎ ((h.slot ≡ 1) × Leads
 
 found_later : (a b : List ℕ) (h g k : Header) → ReadsAs 0 a (Good g) → ReadsAs 1 b (Good k) → Ok h ≡ later_of g k → CountsAmong a b h
 found_later a b h g k x y said = ⊎_elim
-    (λ (same : (g.generation ≡ k.generation) × (later_of g k ≡ Err (BadHeader 0))). let no = said ∙ same.1 in absurd (cc (no)))
+    (λ (same : (g.generation ≡ k.generation) × (later_of g k ≡ Err (BadHeader (place_of 0)))). let no = said ∙ same.1 in absurd (cc (no)))
     (λ (one : ((g.generation ≡ next_generation k.generation) × (later_of g k ≡ Ok g)) ⊎ ((k.generation ≡ next_generation g.generation) × (later_of g k ≡ Ok k))). ⊎_elim
     (λ (first : (g.generation ≡ next_generation k.generation) × (later_of g k ≡ Ok g)).
     let both = said ∙ first.1 in
@@ -218,9 +220,9 @@ IsReason image NoDatabase = HasNone image
 IsReason image (NewerFormat format) = IsFirstNewer image format
 IsReason image (BadHeader at) = NoneNewer image × IsBadAt image at
 
-no_later : (g h : Header) (e : GateError) → IsHeader g → IsHeader h → Err e ≡ later_of g h → (e ≡ BadHeader 0) × (g.generation ≡ h.generation)
+no_later : (g h : Header) (e : GateError) → IsHeader g → IsHeader h → Err e ≡ later_of g h → (e ≡ BadHeader (place_of 0)) × (g.generation ≡ h.generation)
 no_later g h e g_rules h_rules said = ⊎_elim
-    (λ (same : (g.generation ≡ h.generation) × (later_of g h ≡ Err (BadHeader 0))). let is = said ∙ same.1 in (cc (is), same.0))
+    (λ (same : (g.generation ≡ h.generation) × (later_of g h ≡ Err (BadHeader (place_of 0)))). let is = said ∙ same.1 in (cc (is), same.0))
     (λ (one : ((g.generation ≡ next_generation h.generation) × (later_of g h ≡ Ok g)) ⊎ ((h.generation ≡ next_generation g.generation) × (later_of g h ≡ Ok h))). ⊎_elim
     (λ (first : (g.generation ≡ next_generation h.generation) × (later_of g h ≡ Ok g)). let no = said ∙ first.1 in absurd (cc (no)))
     (λ (second : (h.generation ≡ next_generation g.generation) × (later_of g h ≡ Ok h)). let no = said ∙ second.1 in absurd (cc (no)))
@@ -240,19 +242,19 @@ reason_from : (image : List ℕ) (e : GateError) (x y : Slot) → ReadsAs 0 (byt
 reason_from image e (Newer f) y r s said = let is : NewerFormat f ≡ e = cc (said) in subst (IsReason image) is (inl r)
 reason_from image e Broken (Newer f) r s said = let is : NewerFormat f ≡ e = cc (said) in subst (IsReason image) is (inr (r.1, s))
 reason_from image e Broken Broken r s said =
-    let is : BadHeader 0 ≡ e = cc (said) in
+    let is : BadHeader (place_of 0) ≡ e = cc (said) in
     subst (IsReason image) is (neither (bytes_of 0 image) (bytes_of 1 image) r.1 s.1, inl (refl, r.0))
 reason_from image e Broken Shut r s said =
-    let is : BadHeader 0 ≡ e = cc (said) in
+    let is : BadHeader (place_of 0) ≡ e = cc (said) in
     subst (IsReason image) is (neither (bytes_of 0 image) (bytes_of 1 image) r.1 (λ f. shut_newer (bytes_of 1 image) f s), inl (refl, r.0))
 reason_from image e Broken (Good k) r s said =
-    let is : BadHeader 0 ≡ e = cc (said) in
+    let is : BadHeader (place_of 0) ≡ e = cc (said) in
     subst (IsReason image) is (neither (bytes_of 0 image) (bytes_of 1 image) r.1 (λ f. holds_newer (bytes_of 1 image) k f s.1), inl (refl, r.0))
 reason_from image e Shut (Newer f) r s said =
     let is : NewerFormat f ≡ e = cc (said) in
     subst (IsReason image) is (inr (λ g. shut_newer (bytes_of 0 image) g r, s))
 reason_from image e Shut Broken r s said =
-    let is : BadHeader 2048 ≡ e = cc (said) in
+    let is : BadHeader (place_of 1) ≡ e = cc (said) in
     subst (IsReason image) is (neither (bytes_of 0 image) (bytes_of 1 image) (λ f. shut_newer (bytes_of 0 image) f r) s.1, inr (inl (refl, shut_broken (bytes_of 0 image) r, s.0)))
 reason_from image e Shut Shut r s said = let is : NoDatabase ≡ e = cc (said) in subst (IsReason image) is (r, s)
 reason_from image e Shut (Good k) r s said = absurd (cc (said))
@@ -260,7 +262,7 @@ reason_from image e (Good g) (Newer f) r s said =
     let is : NewerFormat f ≡ e = cc (said) in
     subst (IsReason image) is (inr (λ f. holds_newer (bytes_of 0 image) g f r.1, s))
 reason_from image e (Good g) Broken r s said =
-    let is : BadHeader 2048 ≡ e = cc (said) in
+    let is : BadHeader (place_of 1) ≡ e = cc (said) in
     subst (IsReason image) is
     (neither (bytes_of 0 image) (bytes_of 1 image) (λ f. holds_newer (bytes_of 0 image) g f r.1) s.1, inr (inl (refl, λ broken. broken.holds_none g r.1, s.0)))
 reason_from image e (Good g) Shut r s said = absurd (cc (said))

@@ -6,8 +6,9 @@ use Rattle.std.specs.Prelude.{codes}
 use Rattle.std.specs.Int.{w32, w64, to_be_bytes, from_be_bytes}
 use Rattle.ode_gate.specs.declared.header.Header.{Header}
 use Rattle.ode_gate.specs.Headers.{header_bytes, IsHeader, IsOfAreas, IsOfPages}
+use Rattle.ode_gate.specs.declared.places.TheConstants.{PAGES_AT, AREAS_END, AREA_0, AREA_1, HEADER_LEN, REGION_0, REGION_1}
 
-pub length-header_bytes : (h : Header) → length (header_bytes h) ≡ 56
+pub length-header_bytes : (h : Header) → length (header_bytes h) ≡ HEADER_LEN
 unfolding header_bytes
 length-header_bytes h = refl
 
@@ -23,9 +24,9 @@ pub record InRange (h : Header) : Type 0 where
 
 areas_in_range : (h : Header) → IsHeader h → IsOfAreas h → InRange h
 areas_in_range h rules areas =
-    let starts : (h.body_at ≤ 33558528) × (h.journal_end ≤ 67112960) = ⊎_elim
-    (λ (a : (h.body_at ≡ 4096) × (h.journal_end ≡ 33558528)). (omega (arith, a.0), omega (arith, a.1)))
-    (λ (b : (h.body_at ≡ 33558528) × (h.journal_end ≡ 67112960)). (omega (arith, b.0), omega (arith, b.1)))
+    let starts : (h.body_at ≤ AREA_1) × (h.journal_end ≤ AREAS_END) = ⊎_elim
+    (λ (a : (h.body_at ≡ AREA_0) × (h.journal_end ≡ AREA_1)). (omega (arith, a.0), omega (arith, a.1)))
+    (λ (b : (h.body_at ≡ AREA_1) × (h.journal_end ≡ AREAS_END)). (omega (arith, b.0), omega (arith, b.1)))
     areas.area in
     record {
       format = omega (arith, rules.format);
@@ -39,9 +40,9 @@ areas_in_range h rules areas =
 
 pages_in_range : (h : Header) → IsHeader h → IsOfPages h → InRange h
 pages_in_range h rules pages =
-    let ends : (h.journal_at ≤ 16781312) × (h.journal_end ≤ 33558528) = ⊎_elim
-    (λ (a : (h.journal_at ≡ 4096) × (h.journal_end ≡ 16781312)). (omega (arith, a.0), omega (arith, a.1)))
-    (λ (b : (h.journal_at ≡ 16781312) × (h.journal_end ≡ 33558528)). (omega (arith, b.0), omega (arith, b.1)))
+    let ends : (h.journal_at ≤ REGION_1) × (h.journal_end ≤ PAGES_AT) = ⊎_elim
+    (λ (a : (h.journal_at ≡ REGION_0) × (h.journal_end ≡ REGION_1)). (omega (arith, a.0), omega (arith, a.1)))
+    (λ (b : (h.journal_at ≡ REGION_1) × (h.journal_end ≡ PAGES_AT)). (omega (arith, b.0), omega (arith, b.1)))
     pages.region in
     record {
       format = omega (arith, rules.format);

@@ -1,4 +1,3 @@
-pub mod Gate
 pub mod Headers
 pub mod Slots
 pub mod Readings

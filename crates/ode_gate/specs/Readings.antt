@@ -6,14 +6,14 @@ use Rattle.ode_gate.specs.declared.header.Header.{Header}
 use Rattle.ode_gate.specs.declared.slot.Slot.{Slot}
 use Rattle.ode_gate.specs.declared.slot.Slot.TheVariants.{Shut, Newer, Broken, Good}
 use Rattle.ode_gate.specs.Headers.{next_generation}
-use Rattle.ode_gate.specs.Slots.{Holds, IsShut, IsNewer, IsBroken, HaveOneGeneration, bytes_of, place_of}
+use Rattle.ode_gate.specs.Slots.{HoldsHeader, IsShut, IsNewer, IsBroken, HaveOneGeneration, bytes_of, place_of}
 
 -- what stands in the slot of this number, which has these bytes
 abbrev pub ReadsAs : ℕ → List ℕ → Slot → Type 0
 ReadsAs slot bytes Shut = IsShut bytes
 ReadsAs slot bytes (Newer format) = IsNewer bytes format
 ReadsAs slot bytes Broken = IsBroken bytes × ((format : ℕ) → IsNewer bytes format → ⊥)
-ReadsAs slot bytes (Good h) = (h.slot ≡ slot) × Holds bytes h
+ReadsAs slot bytes (Good h) = (h.slot ≡ slot) × HoldsHeader bytes h
 
 -- of two headers the one that comes after the other
 abbrev pub later_of : Header → Header → Result Header GateError

@@ -4,7 +4,6 @@ ghost use Rattle.ode_host.specs.Causes.{RoseIf};
 ghost use Rattle.ode_host.specs.Host.{DiskCalls, Looks, LeavesOnly, LeavesTorn, Puts, Stands, Tells, written_over};
 ghost use Rattle.ode_gate.specs.declared.error.GateError.TheVariants.{DiskFault};
 ghost use Rattle.ode_gate.specs.declared.header.Header.{Header};
-ghost use Rattle.ode_gate.specs.Gate.{open_gate};
 ghost use Rattle.ode_gate.specs.Headers.{header_bytes};
 ghost use Rattle.ode_gate.specs.Slots.{IsOpen, IsShut, IsSlot, bytes_of, place_of};
 ghost use Rattle.ode_gate.specs.Changes.{IsChanged, LeavesHeader, MayFollow, WritesAtMost, header_change_length};
@@ -12,6 +11,7 @@ ghost use Rattle.ode_gate.specs.Changes.{IsChanged, LeavesHeader, MayFollow, Wri
 use crate::error::GateError;
 use crate::gate::{OPEN, SHUT};
 use crate::header::Header;
+use crate::places::{HEADER_LEN, SLOT_LEN};
 use crate::slot::place_of;
 use ode_host::{Failed, Host, read_whole, write_synced};
 
@@ -34,7 +34,7 @@ pub fn close_slot<H: Host>(host: &mut H, slot: u8) -> Result<(), GateError>
     ensures nothing { (image : List ℕ) → Tells (H.view host.old) image → IsShut (bytes_of slot image)
         → Looks (H.view host.old) (H.view host.new) }
     ensures closed { OnOk result ((image : List ℕ) → Tells (H.view host.old) image → IsOpen (bytes_of slot image)
-        → Stands (written_over image (place_of slot) (0 ∷ [])) (H.view host.new)) }
+        → Stands (written_over image (place_of slot) (SHUT ∷ [])) (H.view host.new)) }
     ensures any_moment { (image : List ℕ) → Stands image (H.view host.old)
         → LeavesOnly (H.view host.old) (H.view host.new) (LeavesTorn (place_of slot) 1 image (H.view host.old)) }
     ensures most { OnOk result (WritesAtMost 1 (H.view host.old) (H.view host.new)) }
@@ -52,14 +52,14 @@ pub fn fill_slot<H: Host>(
     host: &mut H,
     slot: u8,
     h: &Header,
-    buffer: &mut [u8; 57],
+    buffer: &mut [u8; SLOT_LEN],
 ) -> Result<(), GateError>
     requires { IsSlot slot }
     ensures filled { OnOk result ((image : List ℕ) → Tells (H.view host.old) image
         → Stands (written_over image (place_of slot + 1) (header_bytes h.now)) (H.view host.new)) }
     ensures any_moment { (image : List ℕ) → Stands image (H.view host.old)
-        → LeavesOnly (H.view host.old) (H.view host.new) (LeavesTorn (place_of slot + 1) 56 image (H.view host.old)) }
-    ensures puts { Puts 56 (H.view host.old) (H.view host.new) }
+        → LeavesOnly (H.view host.old) (H.view host.new) (LeavesTorn (place_of slot + 1) HEADER_LEN image (H.view host.old)) }
+    ensures puts { Puts HEADER_LEN (H.view host.old) (H.view host.new) }
     ensures kind { IfErr result (λ e. e ≡ DiskFault) }
     ensures cause { RoseIf (IsErr result) (H.view host.old).disk_faults (H.view host.new).disk_faults }
 {
@@ -72,7 +72,7 @@ pub fn fill_slot<H: Host>(
 pub fn open_slot<H: Host>(host: &mut H, slot: u8) -> Result<(), GateError>
     requires { IsSlot slot }
     ensures opened { OnOk result ((image : List ℕ) → Tells (H.view host.old) image
-        → Stands (written_over image (place_of slot) (open_gate ∷ [])) (H.view host.new)) }
+        → Stands (written_over image (place_of slot) (OPEN ∷ [])) (H.view host.new)) }
     ensures any_moment { (image : List ℕ) → Stands image (H.view host.old)
         → LeavesOnly (H.view host.old) (H.view host.new) (LeavesTorn (place_of slot) 1 image (H.view host.old)) }
     ensures puts { Puts 1 (H.view host.old) (H.view host.new) }
@@ -88,7 +88,7 @@ pub fn open_slot<H: Host>(host: &mut H, slot: u8) -> Result<(), GateError>
 pub fn change_header<H: Host>(
     host: &mut H,
     h: &Header,
-    buffer: &mut [u8; 57],
+    buffer: &mut [u8; SLOT_LEN],
 ) -> Result<(), GateError>
     requires { IsSlot h.now.slot }
     ensures changed { OnOk result ((image : List ℕ) (older : Header) → MayFollow image older h.now

@@ -3,36 +3,17 @@ ghost use Rattle.std.specs.Prelude.{◌≡◌, ◌≢◌, ◌+◌, ◌<◌, ◌�
 ghost use Rattle.ode_gate.specs.Headers.{next_generation};
 
 use crate::gate::OPEN;
+use crate::places::{
+    AREA_0, AREA_1, AREA_LEN, AREAS_END, FORMAT, GENERATIONS, HEADER_LEN, MAX_PAGES, PAGES,
+    PAGES_AT, REGION_0, REGION_1, SLOT_LEN, TWO_AREAS,
+};
 use ode_host::{take_u32, take_u64};
-
-/// The format that is known.
-pub const FORMAT: u32 = 1;
 
 // What a header begins with.
 const MAGIC: &[u8; 8] = b"ODEBASE1";
 
-// The layouts.
-const TWO_AREAS: u32 = 1;
-
-const PAGES: u32 = 2;
-
-// Where the areas of layout 1 start, and where the second ends.
-const AREA_0: u64 = 4096;
-
-const AREA_1: u64 = 33_558_528;
-
-const AREAS_END: u64 = 67_112_960;
-
-const AREA_LEN: u64 = 33_554_432;
-
-// Where the journal's regions of layout 2 start, and where its pages do.
-const REGION_0: u64 = 4096;
-
-const REGION_1: u64 = 16_781_312;
-
-const PAGES_AT: u64 = 33_558_528;
-
-const MOST_PAGES: u64 = u32::MAX as u64;
+// The fields behind that.
+const FIELDS_LEN: usize = HEADER_LEN - 8;
 
 /// Where the body and the journal lie. All places are offsets in the file, in bytes.
 #[derive(Clone, Copy, Debug, PartialEq, Eq)]
@@ -41,7 +22,7 @@ pub struct Header {
     pub format: u32,
     /// How the file is laid out: 1 is two areas, 2 is pages.
     pub layout: u32,
-    /// From 1 to 3, and 1 again after 3.
+    /// From 1 to `GENERATIONS`, and then 1 again.
     pub generation: u64,
     /// Where the body starts.
     pub body_at: u64,
@@ -70,21 +51,20 @@ fn put(to: &mut [u8], at: usize, bytes: &[u8]) -> usize
 pub fn next_generation(generation: u64) -> u64
     ensures { result ≡ next_generation generation }
 {
-    generation % 3 + 1
+    generation % GENERATIONS + 1
 }
 
 impl Header {
     ghost use Rattle.ode_gate.specs.declared.header.Header.{Header};
-    ghost use Rattle.ode_gate.specs.Gate.{open_gate};
     ghost use Rattle.ode_gate.specs.Headers.{IsHeader, IsOfAreas, IsOfPages, header_bytes};
 
     // The header whose fields stand one after another.
     fn of_fields(bytes: &[u8], slot: u8) -> Option<Self>
         ensures spells { IfSome result (λ h. codes "ODEBASE1" ++ bytes.now ≡ header_bytes h) }
         ensures slot { IfSome result (λ h. h.slot ≡ slot) }
-        ensures none { IfNone result (length bytes.now ≢ 48) }
+        ensures none { IfNone result (length bytes.now ≢ FIELDS_LEN) }
     {
-        if bytes.len() != 48 {
+        if bytes.len() != FIELDS_LEN {
             return None;
         }
         Some(Header {
@@ -117,7 +97,7 @@ impl Header {
     {
         let is_region = self.journal_at == REGION_0 && self.journal_end == REGION_1
             || self.journal_at == REGION_1 && self.journal_end == PAGES_AT;
-        self.layout == PAGES && is_region && self.body_at == PAGES_AT && self.body_len <= MOST_PAGES
+        self.layout == PAGES && is_region && self.body_at == PAGES_AT && self.body_len <= MAX_PAGES
     }
 
     // Whether it keeps the rules of a header.
@@ -126,7 +106,7 @@ impl Header {
     {
         self.format == FORMAT
             && 1 <= self.generation
-            && self.generation <= 3
+            && self.generation <= GENERATIONS
             && (self.is_of_areas() || self.is_of_pages())
     }
 
@@ -144,9 +124,9 @@ impl Header {
         }
     }
 
-    /// Fills all 57 bytes of an open slot with it.
-    pub(crate) fn fill(&self, buffer: &mut [u8; 57])
-        ensures { buffer.new ≡ open_gate ∷ header_bytes self.now }
+    /// Fills an open slot with it.
+    pub(crate) fn fill(&self, buffer: &mut [u8; SLOT_LEN])
+        ensures { buffer.new ≡ OPEN ∷ header_bytes self.now }
     {
         let at = put(buffer, 0, &[OPEN]);
         let at = put(buffer, at, MAGIC);

@@ -10,6 +10,7 @@ ghost use Rattle.ode_gate.specs.Readings.{HasNone, IsBadAt, IsFirstNewer, NoneNe
 
 use crate::error::GateError;
 use crate::header::{Header, next_generation};
+use crate::places::SLOT_LEN;
 use crate::slot::{Slot, place_of, read_slot};
 use ode_host::Host;
 
@@ -54,7 +55,7 @@ fn header_among(first: Slot, second: Slot) -> Result<Header, GateError>
 }
 
 /// Reads the header that counts. The buffer is room to read in.
-pub fn read_header<H: Host>(host: &mut H, buffer: &mut [u8; 57]) -> Result<Header, GateError>
+pub fn read_header<H: Host>(host: &mut H, buffer: &mut [u8; SLOT_LEN]) -> Result<Header, GateError>
     ensures answer { (image : List ℕ) → Tells (H.view host.old) image
         → IsErrOf result GateError.DiskFault ⊎ Says image result }
     ensures only { (image : List ℕ) (answer : Result Header GateError) → Tells (H.view host.old) image

@@ -6,11 +6,9 @@ ghost use Rattle.ode_gate.specs.Slots.{IsSlot, bytes_of, place_of};
 ghost use Rattle.ode_gate.specs.Readings.{ReadsAs};
 
 use crate::gate::OPEN;
-use crate::header::{FORMAT, Header};
+use crate::header::Header;
+use crate::places::{FORMAT, FORMAT_AT, SLOT_LEN, SLOT_STEP};
 use ode_host::{Failed, Host, read_whole, take_u32};
-
-// How far the slots stand apart.
-const SLOT_STEP: u64 = 2048;
 
 /// Where a slot stands, in bytes.
 pub fn place_of(slot: u8) -> u64
@@ -45,7 +43,7 @@ impl Slot {
         if *gate != OPEN {
             return Slot::Shut;
         }
-        if let Some(format) = take_u32(bytes, 9)
+        if let Some(format) = take_u32(bytes, FORMAT_AT)
             && format > FORMAT
         {
             return Slot::Newer(format);
@@ -58,7 +56,11 @@ impl Slot {
 }
 
 /// Reads what stands in the slot of this number.
-pub fn read_slot<H: Host>(host: &mut H, slot: u8, buffer: &mut [u8; 57]) -> Result<Slot, Failed>
+pub fn read_slot<H: Host>(
+    host: &mut H,
+    slot: u8,
+    buffer: &mut [u8; SLOT_LEN],
+) -> Result<Slot, Failed>
     requires { IsSlot slot }
     ensures slot { IfOk result (λ found. (bytes : List ℕ) × ReadsAs slot bytes found
         × ((image : List ℕ) → Tells (H.view host.old) image → bytes ≡ bytes_of slot image)) }

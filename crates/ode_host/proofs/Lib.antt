@@ -1,5 +1,6 @@
 pub mod Bytes
 pub mod Calls
+pub mod Determinacy
 pub mod Filling
 pub mod FirstSync
 pub mod MemViews

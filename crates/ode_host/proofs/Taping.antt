@@ -8,21 +8,21 @@ use Rattle.ode_host.specs.Host.{Step, TornWrite, CutPrint, Nothing, written_over
 use Rattle.ode_host.specs.declared.call.Call.{Call}
 use Rattle.ode_host.specs.declared.call.Call.TheVariants.{Write, Sync, Begin, End}
 use Rattle.ode_host.specs.MemLaws.{IsSound, after_sound, after_all}
-use Rattle.ode_host.specs.Replay.{State, step, after, first, Leaves, LeftAt, IsTape, Passes}
+use Rattle.ode_host.specs.Replay.{HostState, step, after, first, Leaves, LeftAt, IsTape, Passes}
 
-pub after-append : (calls more : List Call) (s : State) → after (calls ++ more) s ≡ after more (after calls s)
+pub after-append : (calls more : List Call) (s : HostState) → after (calls ++ more) s ≡ after more (after calls s)
 after-append [] more s = refl
 after-append (call ∷ calls) more s = after-append calls more (step s call)
 
 -- a pair comes of one that s leaves
-abbrev pub From : Step → State → List ℕ → List ℕ → Type 0
+abbrev pub From : Step → HostState → List ℕ → List ℕ → Type 0
 From st s c o = (d : List ℕ) × (e : List ℕ) × Leaves s d e × st d e c o
 
 -- what a stop leaves after one call more
-Leaves-write : (s : State) (at : ℕ) (bytes : Vec ℕ Global) (c o : List ℕ) → Leaves (step s (Write at bytes)) c o → From (TornWrite at (length bytes.items)) s c o
+Leaves-write : (s : HostState) (at : ℕ) (bytes : Vec ℕ Global) (c o : List ℕ) → Leaves (step s (Write at bytes)) c o → From (TornWrite at (length bytes.items)) s c o
 Leaves-write s at bytes c o left = (left.disk.0, o, record { disk = left.disk.1; printed = left.printed }, (left.disk.2, refl))
 
-Leaves-sync : (s : State) → IsSound s → (c o : List ℕ) → Leaves (step s Sync) c o → From Nothing s c o
+Leaves-sync : (s : HostState) → IsSound s → (c o : List ℕ) → Leaves (step s Sync) c o → From Nothing s c o
 Leaves-sync s sound c o left = (s.disk.image, o, record { disk = sound; printed = left.printed }, (left.disk, refl))
 
 module _ (start : List ℕ) (calls more : List Call) where
@@ -30,19 +30,19 @@ module _ (start : List ℕ) (calls more : List Call) where
   front_same t le = ap (λ (l : List Call). after l (first start)) (take-append-le t calls more le)
 
   left_keeps : (t : ℕ) (c o : List ℕ) → t ≤ length calls → LeftAt start (calls ++ more) t c o → LeftAt start calls t c o
-  left_keeps t c o le left = record { reached = le; leaves = subst (λ (s : State). Leaves s c o) (front_same t le) left.leaves }
+  left_keeps t c o le left = record { reached = le; leaves = subst (λ (s : HostState). Leaves s c o) (front_same t le) left.leaves }
 
   left_stays : (t : ℕ) (c o : List ℕ) → t ≤ length calls → LeftAt start calls t c o → LeftAt start (calls ++ more) t c o
   left_stays t c o le left = record {
     reached = omega (arith, le, length-append calls more);
-    leaves = subst (λ (s : State). Leaves s c o) (sym (front_same t le)) left.leaves;
+    leaves = subst (λ (s : HostState). Leaves s c o) (sym (front_same t le)) left.leaves;
   }
 
-  abbrev s : State
+  abbrev s : HostState
   s = after calls (first start)
 
   left_now : (c o : List ℕ) → Leaves s c o → LeftAt start calls (length calls) c o
-  left_now c o left = record { reached = omega arith; leaves = subst (λ (s : State). Leaves s c o) (sym (after_all start calls)) left }
+  left_now c o left = record { reached = omega arith; leaves = subst (λ (s : HostState). Leaves s c o) (sym (after_all start calls)) left }
 
   passes : (st : Step) → ((k : ℕ) (c o : List ℕ) → 0 < k → k ≤ length more → Leaves (after (take k more) s) c o → From st s c o) → Passes st start calls (calls ++ more)
   passes st each = record {
@@ -55,7 +55,7 @@ module _ (start : List ℕ) (calls more : List Call) where
         let within : k ≤ length more = omega (arith, up_to, length-append calls more) in
         let taken : take t (calls ++ more) ≡ calls ++ take k more = ap (λ (n : ℕ). take n (calls ++ more)) is ∙ take-append-add calls more k in
         let then : after (take t (calls ++ more)) (first start) ≡ after (take k more) s = ap (λ (l : List Call). after l (first start)) taken ∙ after-append calls (take k more) (first start) in
-        let from = each k c o (omega arith) within (subst (λ (s : State). Leaves s c o) then left.leaves) in
+        let from = each k c o (omega arith) within (subst (λ (s : HostState). Leaves s c o) then left.leaves) in
         (from.0, from.1, left_now from.0 from.1 from.2, from.3);
   }
 
@@ -111,18 +111,18 @@ pub tape_write : (start image text from next : List ℕ) (calls new : List Call)
 tape_write start image text from next calls new at bytes is same more written =
     let then = after_push start calls new (Write at bytes) more in
     record {
-      reads = written ∙ ap (λ (l : List ℕ). written_over l at from) is.reads ∙ ap (λ (l : List ℕ). written_over (after calls (first start)).disk.image at l) (sym same) ∙ sym (ap (λ (s : State). s.disk.image) then);
-      prints = is.prints ∙ sym (ap (λ (s : State). s.text) then);
-      rests = ap (λ (s : State). s.printing) then ∙ is.rests;
+      reads = written ∙ ap (λ (l : List ℕ). written_over l at from) is.reads ∙ ap (λ (l : List ℕ). written_over (after calls (first start)).disk.image at l) (sym same) ∙ sym (ap (λ (s : HostState). s.disk.image) then);
+      prints = is.prints ∙ sym (ap (λ (s : HostState). s.text) then);
+      rests = ap (λ (s : HostState). s.printing) then ∙ is.rests;
     }
 
 pub tape_sync : (start image text : List ℕ) (calls new : List Call) → IsTape start image text calls → new ≡ calls ++ Sync ∷ [] → IsTape start image text new
 tape_sync start image text calls new is more =
     let then = after_push start calls new Sync more in
     record {
-      reads = is.reads ∙ sym (ap (λ (s : State). s.disk.image) then);
-      prints = is.prints ∙ sym (ap (λ (s : State). s.text) then);
-      rests = ap (λ (s : State). s.printing) then ∙ is.rests;
+      reads = is.reads ∙ sym (ap (λ (s : HostState). s.disk.image) then);
+      prints = is.prints ∙ sym (ap (λ (s : HostState). s.text) then);
+      rests = ap (λ (s : HostState). s.printing) then ∙ is.rests;
     }
 
 pub tape_print : (start image text next from : List ℕ) (calls new : List Call) (piece : Vec ℕ Global) → IsTape start image text calls
@@ -130,9 +130,9 @@ pub tape_print : (start image text next from : List ℕ) (calls new : List Call)
 tape_print start image text next from calls new piece is same more said =
     let then = after_print start calls new piece more in
     record {
-      reads = is.reads ∙ sym (ap (λ (s : State). s.disk.image) then);
-      prints = said ∙ ap (λ (l : List ℕ). l ++ from) is.prints ∙ ap (λ (l : List ℕ). (after calls (first start)).text ++ l) (sym same) ∙ sym (ap (λ (s : State). s.text) then);
-      rests = ap (λ (s : State). s.printing) then;
+      reads = is.reads ∙ sym (ap (λ (s : HostState). s.disk.image) then);
+      prints = said ∙ ap (λ (l : List ℕ). l ++ from) is.prints ∙ ap (λ (l : List ℕ). (after calls (first start)).text ++ l) (sym same) ∙ sym (ap (λ (s : HostState). s.text) then);
+      rests = ap (λ (s : HostState). s.printing) then;
     }
 
 pub tape_same : (start image text next : List ℕ) (calls new : List Call) → IsTape start image text calls → new ≡ calls → next ≡ image → IsTape start next text new
@@ -142,7 +142,7 @@ tape_same start image text next calls new is same_calls same_image =
 -- after a sync a stop leaves what a read gives
 pub tape_synced : (start image text : List ℕ) (calls new : List Call) → IsTape start image text calls → new ≡ calls ++ Sync ∷ [] → (c o : List ℕ) → LeftAt start new (length new) c o → c ≡ image
 tape_synced start image text calls new is more c o left =
-    let now = subst (λ (s : State). Leaves s c o) (after_all start new ∙ after_push start calls new Sync more) left.leaves in
+    let now = subst (λ (s : HostState). Leaves s c o) (after_all start new ∙ after_push start calls new Sync more) left.leaves in
     now.disk ∙ sym is.reads
 
 pub ok_or_err : {T E A B : Type 0} (r : Result T E) → OnOk r A → OnErr r B → A ⊎ B

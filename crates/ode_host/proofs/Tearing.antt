@@ -9,14 +9,14 @@ use Rattle.ode_host.specs.Disk.{MayHold}
 use Rattle.ode_host.specs.Host.{Torn as IsTorn, written_over}
 use Rattle.ode_host.specs.MemLaws.{after_all}
 use Rattle.ode_host.specs.Pending.{IsLastSync, Tears}
-use Rattle.ode_host.specs.Replay.{State, step, after, first, disk_after, Leaves, LeftAt, IsTape}
+use Rattle.ode_host.specs.Replay.{HostState, step, after, first, disk_after, Leaves, LeftAt, IsTape}
 use Rattle.ode_host.specs.Tears.{torn_over, torn_behind, torn_image, pending_bytes}
 use Rattle.ode_host.specs.Writing.{written-torn, torn_outside}
 use Rattle.ode_host.proofs.Moments.{torn-same}
 use Rattle.ode_host.proofs.Taping.{after-append}
 
 -- the state after one call more
-pub after_next : (calls : List Call) (i : ℕ) (call : Call) (s : State) → i < length calls → get_or calls i End ≡ call → after (take (i + 1) calls) s ≡ step (after (take i calls) s) call
+pub after_next : (calls : List Call) (i : ℕ) (call : Call) (s : HostState) → i < length calls → get_or calls i End ≡ call → after (take (i + 1) calls) s ≡ step (after (take i calls) s) call
 after_next calls i call s within is =
     ap (λ (l : List Call). after l s) (take_more calls i End within ∙ ap (λ (c : Call). take i calls ++ c ∷ []) is)
     ∙ after-append (take i calls) (call ∷ []) s
@@ -63,10 +63,10 @@ torn_behind-zero (Front k) = ap Front (omega arith)
 torn_behind-zero (Fill byte) = refl
 
 -- one call more is torn
-abbrev pub IsTornBy : Torn → State → Torn → List ℕ → Type 0
+abbrev pub IsTornBy : Torn → HostState → Torn → List ℕ → Type 0
 IsTornBy torn s rest held = (held ≡ torn_image torn s.disk.synced s.disk.pending) × (rest ≡ torn_behind torn (pending_bytes s.disk.pending))
 
-pub torn_next : (torn rest next : Torn) (s : State) (call : Call) (old new : List ℕ) → call ≢ Sync → IsTornBy torn s rest old → Tears call rest next old new → IsTornBy torn (step s call) next new
+pub torn_next : (torn rest next : Torn) (s : HostState) (call : Call) (old new : List ℕ) → call ≢ Sync → IsTornBy torn s rest old → Tears call rest next old new → IsTornBy torn (step s call) next new
 torn_next torn rest next s (Write at bytes) old new quiet is tears = (
   tears.0 ∙ ap (λ (l : List ℕ). torn_over rest l (at, bytes.items)) is.0 ∙ ap (λ (t : Torn). torn_over t (torn_image torn s.disk.synced s.disk.pending) (at, bytes.items)) is.1,
   tears.1 ∙ ap (λ (t : Torn). torn_behind t (length bytes.items)) is.1 ∙ torn_behind-torn_behind torn (pending_bytes s.disk.pending) (length bytes.items),
@@ -82,10 +82,10 @@ last_settled start calls zero is = (refl, refl)
 last_settled start calls (suc k) is =
     let here : get_or calls k End ≡ Sync = ap (λ (n : ℕ). get_or calls n End) (let e : k ≡ suc k - 1 = omega arith in e) ∙ is.behind (omega arith) in
     let now = ap (λ (n : ℕ). after (take n calls) (first start)) (let e : suc k ≡ k + 1 = omega arith in e) ∙ after_next calls k Sync (first start) (omega (arith, is.within)) here in
-    (ap (λ (s : State). s.disk.pending) now, ap (λ (s : State). s.disk.synced) now ∙ sym (ap (λ (s : State). s.disk.image) now))
+    (ap (λ (s : HostState). s.disk.pending) now, ap (λ (s : HostState). s.disk.synced) now ∙ sym (ap (λ (s : HostState). s.disk.image) now))
 
 -- the calls up to a place and those behind it
-pub after_split : (calls : List Call) (place : ℕ) (s : State) → after (take (length calls - place) (drop place calls)) (after (take place calls) s) ≡ after calls s
+pub after_split : (calls : List Call) (place : ℕ) (s : HostState) → after (take (length calls - place) (drop place calls)) (after (take place calls) s) ≡ after calls s
 after_split calls place s =
     ap (λ (l : List Call). after l (after (take place calls) s)) (take_all (length calls - place) (drop place calls) (omega (arith, length-drop place calls)))
     ∙ sym (after-append (take place calls) (drop place calls) s) ∙ ap (λ (l : List Call). after l s) (take-append-drop place calls)
@@ -97,4 +97,4 @@ torn_left torn start image text calls is =
     let s = after calls (first start) in
     let held = torn_image torn s.disk.synced s.disk.pending in
     let now : Leaves s held text = record { disk = torn_held torn s.disk.synced s.disk.pending; printed = (0, is.prints ∙ sym (append-nil s.text)) } in
-    record { reached = omega arith; leaves = subst (λ (s : State). Leaves s held text) (sym (after_all start calls)) now }
+    record { reached = omega arith; leaves = subst (λ (s : HostState). Leaves s held text) (sym (after_all start calls)) now }

@@ -21,8 +21,8 @@ abbrev pub text_of : MemHost → List ℕ
 text_of host = host.tape.text.items
 
 -- the number of the next call, from 0
-abbrev pub number_of : MemHost → ℕ
-number_of host = host.numbering.exact.value
+abbrev pub call_number : MemHost → ℕ
+call_number host = host.numbering.exact.value
 
 abbrev pub disk_fails_of : MemHost → List ℕ
 disk_fails_of host = host.plan.disk_fails.items
@@ -52,7 +52,7 @@ mem_view host = record {
 
 -- the next call is the plan's stop
 abbrev pub IsNextStop : MemHost → Type 0
-IsNextStop host = IsStop (stop_of host) (number_of host)
+IsNextStop host = IsStop (stop_of host) (call_number host)
 
 -- the count of calls that found no memory rose
 abbrev pub WasRefused : MemHost → MemHost → Type 0
@@ -60,11 +60,11 @@ WasRefused old new = Rose (refused_of old) (refused_of new)
 
 -- a call fails, where these numbers are planned for its kind: by the plan, or since the count of refusals rose in it
 abbrev pub Fails : List ℕ → MemHost → MemHost → Type 0
-Fails planned old new = IsPlanned planned (stop_of old) (number_of old) ⊎ WasRefused old new
+Fails planned old new = IsPlanned planned (stop_of old) (call_number old) ⊎ WasRefused old new
 
 -- the next call has the next number, by the same plan, and the count of refusals doesn't fall
 pub record GoesOn (old new : MemHost) : Type 0 where
-  pub number : number_of new ≡ number_of old + 1
+  pub number : call_number new ≡ call_number old + 1
   pub refused : refused_of old ≤ refused_of new
   pub disk_fails : disk_fails_of new ≡ disk_fails_of old
   pub print_fails : print_fails_of new ≡ print_fails_of old
@@ -80,7 +80,7 @@ pub record IsFresh (image : List ℕ) (host : MemHost) : Type 0 where
   pub disk : disk_of host ≡ settled image
   pub reads : image_of host ≡ image
   pub text : text_of host ≡ []
-  pub number : number_of host ≡ 0
+  pub number : call_number host ≡ 0
   pub refused : refused_of host ≡ 0
   pub moment : (mem_view host).moment ≡ 0
   pub written : (mem_view host).written ≡ 0

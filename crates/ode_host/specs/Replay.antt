@@ -6,24 +6,24 @@ use Rattle.ode_host.specs.Disk.{Disk, settled, written_on, MayHold}
 use Rattle.ode_host.specs.Host.{Step}
 
 -- the disk, what was printed, and the piece that is being printed
-pub record State : Type 0 where
+pub record HostState : Type 0 where
   pub disk : Disk
   pub text : List ℕ
   pub printing : List ℕ
 
-abbrev pub step : State → Call → State
+abbrev pub step : HostState → Call → HostState
 step s (Write at bytes) = record s { disk = written_on s.disk at bytes.items }
 step s Sync = record s { disk = settled s.disk.image }
 step s (Begin piece) = record s { printing = piece.items }
 step s End = record s { text = s.text ++ s.printing; printing = [] }
 
 -- after these calls, the first of them first
-abbrev pub after : List Call → State → State
+abbrev pub after : List Call → HostState → HostState
 after [] s = s
 after (call ∷ calls) s = after calls (step s call)
 
 -- before any call
-abbrev pub first : List ℕ → State
+abbrev pub first : List ℕ → HostState
 first start = record { disk = settled start; text = []; printing = [] }
 
 -- the disk after these calls
@@ -31,7 +31,7 @@ abbrev pub disk_after : List ℕ → List Call → Disk
 disk_after start calls = (after calls (first start)).disk
 
 -- what a stop may leave in a state
-pub record Leaves (s : State) (image out : List ℕ) : Type 0 where
+pub record Leaves (s : HostState) (image out : List ℕ) : Type 0 where
   pub disk : MayHold s.disk.synced s.disk.pending image
   pub printed : (n : ℕ) × (out ≡ s.text ++ take n s.printing)
 

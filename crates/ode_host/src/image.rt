@@ -2,14 +2,8 @@
 ghost use Rattle.std.specs.Prelude.{◌≡◌, ◌+◌, ◌-◌, ◌≤◌, ◌<◌, ◌^◌, ◌++◌, length, take, drop, replicate, OnOk, OnErr};
 ghost use Rattle.ode_host.specs.Host.{written_over};
 
+use crate::put::put_over;
 use std::alloc::AllocError;
-
-fn put_over(image: &mut [u8], at: usize, from: &[u8])
-    requires { at + length from.now ≤ length image.old }
-    ensures { image.new ≡ take at image.old ++ from.now ++ drop (at + length from.now) image.old }
-{
-    image[at..at + from.len()].copy_from_slice(from);
-}
 
 // Zeros up to an end.
 fn lengthen(image: &mut Vec<u8>, end: usize) -> Result<(), AllocError>

@@ -28,7 +28,7 @@ pub use host::{Failed, Host};
 pub use mem_host::MemHost;
 pub use mem_source::MemSource;
 pub use plan::Plan;
-pub use put::{put_i64, put_u8, put_u16, put_u32, put_u64};
+pub use put::{put_i64, put_over, put_u8, put_u16, put_u32, put_u64};
 pub use source::Source;
 pub use status::Status;
 pub use std_source::StdSource;

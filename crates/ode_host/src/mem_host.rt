@@ -29,7 +29,7 @@ pub struct MemHost {
 
 impl MemHost {
     ghost use Rattle.std.specs.Prelude.{None};
-    ghost use Rattle.ode_host.specs.Mem.{mem_view, disk_of, image_of, text_of, disk_fails_of, print_fails_of, stop_of, number_of, refused_of};
+    ghost use Rattle.ode_host.specs.Mem.{mem_view, disk_of, image_of, text_of, disk_fails_of, print_fails_of, stop_of, call_number, refused_of};
     ghost use Rattle.ode_host.specs.Mem.{IsFresh, IsNextStop, IsUnplanned, Follows};
     ghost use Rattle.ode_host.specs.Tears.{tear_of, torn_image};
 
@@ -95,7 +95,7 @@ impl MemHost {
 
     // Whether the next call fails where it is a disk call: by the plan, or since no refusal more can be counted.
     fn fails_disk(&self) -> bool
-        ensures { IsTrue result ↔ (IsPlanned (disk_fails_of self.now) (stop_of self.now) (number_of self.now) ⊎ (2 ^ 64 - 1 ≤ refused_of self.now)) }
+        ensures { IsTrue result ↔ (IsPlanned (disk_fails_of self.now) (stop_of self.now) (call_number self.now) ⊎ (2 ^ 64 - 1 ≤ refused_of self.now)) }
     {
         self.plan.fails_disk(&self.numbering) || self.refused == u64::MAX
     }
@@ -109,7 +109,7 @@ impl MemHost {
 
     // The same where it is a print.
     fn fails_print(&self) -> bool
-        ensures { IsTrue result ↔ (IsPlanned (print_fails_of self.now) (stop_of self.now) (number_of self.now) ⊎ (2 ^ 64 - 1 ≤ refused_of self.now)) }
+        ensures { IsTrue result ↔ (IsPlanned (print_fails_of self.now) (stop_of self.now) (call_number self.now) ⊎ (2 ^ 64 - 1 ≤ refused_of self.now)) }
     {
         self.plan.fails_print(&self.numbering) || self.refused == u64::MAX
     }

@@ -1,8 +1,16 @@
-//! Numbers written at the end of bytes, the highest byte first.
-ghost use Rattle.std.specs.Prelude.{◌≡◌, ◌++◌, [], ◌∷◌, OnOk, OnErr};
+//! Bytes written over others, and numbers at the end of bytes, the highest byte first.
+ghost use Rattle.std.specs.Prelude.{◌≡◌, ◌+◌, ◌≤◌, ◌++◌, [], ◌∷◌, length, take, drop, OnOk, OnErr};
 ghost use Rattle.std.specs.Int.{w16, w32, w64, to_be_bytes, cast_unsigned};
 
 use std::alloc::AllocError;
+
+/// Writes bytes over others, from a place on.
+pub fn put_over(to: &mut [u8], at: usize, from: &[u8])
+    requires { at + length from.now ≤ length to.old }
+    ensures { to.new ≡ take at to.old ++ from.now ++ drop (at + length from.now) to.old }
+{
+    to[at..at + from.len()].copy_from_slice(from);
+}
 
 /// Appends the number in one byte. Where there is no memory the bytes stay as they were.
 pub fn put_u8(to: &mut Vec<u8>, v: u8) -> Result<(), AllocError>

@@ -2,7 +2,7 @@
 ghost use Rattle.std.specs.Prelude.{◌≡◌, ◌+◌, ◌<◌, ◌^◌, List, ℕ, [], length, OnOk, IfOk};
 ghost use Rattle.ode_host.specs.Host.{written_over};
 ghost use Rattle.ode_host.specs.Pending.{IsLastSync, IsQuietFrom, Tears};
-ghost use Rattle.ode_host.specs.Replay.{State, after, disk_after, step};
+ghost use Rattle.ode_host.specs.Replay.{HostState, after, disk_after, step};
 ghost use Rattle.ode_host.specs.Tears.{torn_behind, torn_image, torn_over};
 
 use crate::call::Call;
@@ -101,7 +101,7 @@ fn tear_call(alloc: Global, held: &mut Vec<u8>, call: &Call, torn: Torn) -> Resu
 
 // Takes a call that a sync follows to what is held.
 fn keep_call(held: &mut Vec<u8>, call: &Call) -> Result<(), AllocError>
-    ensures { OnOk result ((s : State) → s.disk.image ≡ held.old.items → (step s call.now).disk.image ≡ held.new.items) }
+    ensures { OnOk result ((s : HostState) → s.disk.image ≡ held.old.items → (step s call.now).disk.image ≡ held.new.items) }
 {
     match call {
         Call::Write(at, bytes) => overwrite_checked(held, *at, bytes),
@@ -128,7 +128,7 @@ fn torn_after(
     torn: Torn,
 ) -> Result<(), AllocError>
     requires { IsQuietFrom 0 calls.now }
-    ensures { OnOk result ((s : State) → s.disk.pending ≡ [] → s.disk.synced ≡ held.old.items
+    ensures { OnOk result ((s : HostState) → s.disk.pending ≡ [] → s.disk.synced ≡ held.old.items
         → held.new.items ≡ torn_image torn (after calls.now s).disk.synced (after calls.now s).disk.pending) }
 {
     let mut torn = torn;

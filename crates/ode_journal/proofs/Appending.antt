@@ -6,20 +6,21 @@ use Rattle.ode_host.specs.View.{View}
 use Rattle.ode_host.specs.Host.{Stands, LeavesTorn, Puts, written_over}
 use Rattle.ode_host.proofs.Moments.{keeps_joined}
 use Rattle.ode_host.proofs.Bytes.{written-torn, torn_outside}
-use Rattle.ode_gate.specs.Gate.{open_gate}
 use Rattle.ode_gate.proofs.Gates.{torn_behind, wrote_behind, torn_gate, wrote_gate}
+use Rattle.ode_gate.specs.declared.gate.TheConstants.{OPEN}
 use Rattle.ode_journal.specs.declared.journal.Journal.{Journal}
 use Rattle.ode_journal.specs.Appends.{JournalStands, IsBeforeOrAfter, SameOutside, need_of}
 use Rattle.ode_journal.specs.Filling.{IsFrame}
 use Rattle.ode_journal.specs.Frames.{framed, spelled, AreShort, gate_behind, IsJournal}
 use Rattle.ode_journal.proofs.Frames.{spelled-push, gate_behind-push, short-push}
+use Rattle.ode_journal.specs.declared.frame.TheConstants.{LENGTH_LEN}
 
 -- an open gate before the bytes of a frame adds it
-pushed : (front : List ℕ) (frames : List (List ℕ)) (payload rest : List ℕ) → (front ++ spelled frames) ++ open_gate ∷ ((framed payload ++ 0 ∷ []) ++ rest) ≡ (front ++ spelled (frames ++ payload ∷ [])) ++ 0 ∷ rest
+pushed : (front : List ℕ) (frames : List (List ℕ)) (payload rest : List ℕ) → (front ++ spelled frames) ++ OPEN ∷ ((framed payload ++ 0 ∷ []) ++ rest) ≡ (front ++ spelled (frames ++ payload ∷ [])) ++ 0 ∷ rest
 pushed front frames payload rest =
-    ap (λ (l : List ℕ). (front ++ spelled frames) ++ open_gate ∷ l) (append_assoc (framed payload) (0 ∷ []) rest)
-    ∙ sym (append_assoc (front ++ spelled frames) (open_gate ∷ framed payload) (0 ∷ rest))
-    ∙ ap (λ (l : List ℕ). l ++ 0 ∷ rest) (append_assoc front (spelled frames) (open_gate ∷ framed payload) ∙ ap (λ (l : List ℕ). front ++ l) (sym (spelled-push frames payload)))
+    ap (λ (l : List ℕ). (front ++ spelled frames) ++ OPEN ∷ l) (append_assoc (framed payload) (0 ∷ []) rest)
+    ∙ sym (append_assoc (front ++ spelled frames) (OPEN ∷ framed payload) (0 ∷ rest))
+    ∙ ap (λ (l : List ℕ). l ++ 0 ∷ rest) (append_assoc front (spelled frames) (OPEN ∷ framed payload) ∙ ap (λ (l : List ℕ). front ++ l) (sym (spelled-push frames payload)))
 
 -- a file that splits so is a journal behind its front
 module _ (end : ℕ) (front : List ℕ) (frames : List (List ℕ)) (gate : ℕ) (behind file : List ℕ) (split : file ≡ (front ++ spelled frames) ++ gate ∷ behind) where
@@ -40,7 +41,7 @@ module _ (end : ℕ) (front : List ℕ) (frames : List (List ℕ)) (gate : ℕ) 
   pub front_is : take start file ≡ front
   front_is = ap (λ (l : List ℕ). take start l) from_start ∙ take_at front (spelled frames ++ gate ∷ behind) start refl
 
-  pub journal_from : AreShort frames → gate ≢ open_gate → gate_behind start frames < end → IsJournal start end frames file
+  pub journal_from : AreShort frames → gate ≢ OPEN → gate_behind start frames < end → IsJournal start end frames file
   journal_from short shut within = record {
     has = record {
       stand =
@@ -69,14 +70,14 @@ module _ (start end : ℕ) (frames : List (List ℕ)) (file : List ℕ) (is : Is
 
 -- a file that splits behind the front of another
 module _ (start end : ℕ) (front : List ℕ) (is_start : length front ≡ start) (frames : List (List ℕ)) (gate : ℕ) (behind file : List ℕ) (split : file ≡ (front ++ spelled frames) ++ gate ∷ behind) where
-  pub is_journal : AreShort frames → gate ≢ open_gate → gate_behind start frames < end → IsJournal start end frames file
+  pub is_journal : AreShort frames → gate ≢ OPEN → gate_behind start frames < end → IsJournal start end frames file
   is_journal short shut within =
       subst (λ (k : ℕ). IsJournal k end frames file) is_start (journal_from end front frames gate behind file split short shut (omega (arith, within, is_start)))
 
   pub same_front : take start file ≡ front
   same_front = ap (λ (k : ℕ). take k file) (sym is_start) ∙ front_is end front frames gate behind file split
 
-frame_size : (payload frame : List ℕ) → IsFrame payload frame → length frame ≡ length payload + 5
+frame_size : (payload frame : List ℕ) → IsFrame payload frame → length frame ≡ length payload + (LENGTH_LEN + 1)
 frame_size payload frame is = omega (arith, ap length is.bytes_are, length-append (framed payload) (0 ∷ []))
 
 module _ (start : ℕ) (frames : List (List ℕ)) (file : List ℕ) (journal : Journal) (old : View) (is : JournalStands start frames file journal old)
@@ -117,7 +118,7 @@ module _ (start : ℕ) (frames : List (List ℕ)) (file : List ℕ) (journal : J
   within : gate_behind start frames < end
   within = omega (arith, is.place, room)
 
-  size : length frame ≡ length payload + 5
+  size : length frame ≡ length payload + (LENGTH_LEN + 1)
   size = frame_size payload frame is_frame
 
   is_staged : staged ≡ so_far ++ gate ∷ (frame ++ rest)
@@ -126,10 +127,10 @@ module _ (start : ℕ) (frames : List (List ℕ)) (file : List ℕ) (journal : J
   staged_behind : drop end staged ≡ drop end file
   staged_behind = torn_outside (at + 1) (length frame) end file staged room (written-torn (at + 1) frame file)
 
-  is_pushed : so_far ++ open_gate ∷ (frame ++ rest) ≡ (front ++ spelled (frames ++ payload ∷ [])) ++ 0 ∷ rest
-  is_pushed = ap (λ (l : List ℕ). so_far ++ open_gate ∷ (l ++ rest)) is_frame.bytes_are ∙ pushed front frames payload rest
+  is_pushed : so_far ++ OPEN ∷ (frame ++ rest) ≡ (front ++ spelled (frames ++ payload ∷ [])) ++ 0 ∷ rest
+  is_pushed = ap (λ (l : List ℕ). so_far ++ OPEN ∷ (l ++ rest)) is_frame.bytes_are ∙ pushed front frames payload rest
 
-  shut_zero : 0 ≢ open_gate
+  shut_zero : 0 ≢ OPEN
   shut_zero = omega arith
 
   longer_within : gate_behind start (frames ++ payload ∷ []) < end
@@ -158,10 +159,10 @@ module _ (start : ℕ) (frames : List (List ℕ)) (file : List ℕ) (journal : J
       let split_now : c ≡ so_far ++ new ∷ (frame ++ rest) = torn_gate so_far at is_at gate (frame ++ rest) staged is_staged c left.0 in
       record {
         whole = ⊎_elim
-            (λ (opened : new ≡ open_gate).
+            (λ (opened : new ≡ OPEN).
             inr (is_journal start end front is_start (frames ++ payload ∷ []) 0 rest c (split_now ∙ ap (λ (g : ℕ). so_far ++ g ∷ (frame ++ rest)) opened ∙ is_pushed) longer_short shut_zero longer_within))
-            (λ (shut : new ≢ open_gate). inl (is_journal start end front is_start frames new (frame ++ rest) c split_now is.has.has.short shut within))
-            (cases_eq new open_gate);
+            (λ (shut : new ≢ OPEN). inl (is_journal start end front is_start frames new (frame ++ rest) c split_now is.has.has.short shut within))
+            (cases_eq new OPEN);
         outside = record {
           before = same_front start end front is_start frames new (frame ++ rest) c split_now;
           behind = torn_outside at 1 end staged c (omega arith) left.0 ∙ staged_behind;
@@ -170,10 +171,10 @@ module _ (start : ℕ) (frames : List (List ℕ)) (file : List ℕ) (journal : J
       }
 
   abbrev next : List ℕ
-  next = written_over staged at (open_gate ∷ [])
+  next = written_over staged at (OPEN ∷ [])
 
   is_next : next ≡ (front ++ spelled (frames ++ payload ∷ [])) ++ 0 ∷ rest
-  is_next = wrote_gate so_far at is_at gate (frame ++ rest) staged is_staged open_gate ∙ is_pushed
+  is_next = wrote_gate so_far at is_at gate (frame ++ rest) staged is_staged OPEN ∙ is_pushed
 
   -- both
   pub both : (new : View) (now : ℕ) → now ≡ at + length frame → Stands next new
@@ -187,7 +188,7 @@ module _ (start : ℕ) (frames : List (List ℕ)) (file : List ℕ) (journal : J
     },
     record {
       before = same_front start end front is_start (frames ++ payload ∷ []) 0 rest next is_next;
-      behind = torn_outside at 1 end staged next (omega arith) (written-torn at (open_gate ∷ []) staged) ∙ staged_behind;
+      behind = torn_outside at 1 end staged next (omega arith) (written-torn at (OPEN ∷ []) staged) ∙ staged_behind;
     },
   )
 

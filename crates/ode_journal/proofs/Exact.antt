@@ -2,7 +2,7 @@
 use Rattle.std.proofs.Common.{◌≡◌, ◌<◌, inl, inr, ℕ, ◌+◌, ◌^◌, List, length, take, drop, Option, Result, Ok, Err, IfOk, IsErrOf, refl, sym, ◌∙◌, ap, arith}
 use Rattle.std.proofs.lemmas.Nat.{from_be_bytes-to_be_bytes_4}
 use Rattle.std.specs.Int.{w32, to_be_bytes, from_be_bytes}
-use Rattle.ode_gate.specs.Gate.{open_gate}
+use Rattle.ode_gate.specs.declared.gate.TheConstants.{OPEN}
 use Rattle.ode_host.specs.Fields.{number_at}
 use Rattle.ode_journal.specs.declared.journal.Journal.{Journal}
 use Rattle.ode_journal.specs.Frames.{limit, gate_behind, HasGate, IsBad, NextIs, IsJournal, IsBroken}
@@ -10,6 +10,7 @@ use Rattle.ode_journal.proofs.Unique.{next_unique, next_not_bad, journal_unique,
 use Rattle.ode_journal.specs.declared.error.JournalError.{JournalError}
 use Rattle.ode_journal.specs.declared.error.JournalError.TheVariants.{Memory, DiskFault, BadJournal}
 use Rattle.ode_journal.specs.Answers.{Answers}
+use Rattle.ode_journal.specs.declared.frame.TheConstants.{FRAME_HEAD, LENGTH_LEN}
 
 -- Found x: it is so that x is found. Bad p: it is so that the journal is bad at p.
 module _ {T : Type 0} (Found : T → Type 0) (Bad : ℕ → Type 0)
@@ -27,10 +28,10 @@ module _ {T : Type 0} (Found : T → Type 0) (Bad : ℕ → Type 0)
   exact_bad (Err (BadJournal p)) found bad q is = inl (ap (λ (k : ℕ). Err (BadJournal k)) (same p q (bad p refl) is))
 
 -- an open gate whose payload runs past the file's end
-pub payload_bad : (end at n : ℕ) (file : List ℕ) → n < 2 ^ 32 → HasGate at open_gate file → take 4 (drop (at + 1) file) ≡ to_be_bytes w32 n → length file < at + 5 + n → IsBad end at file
+pub payload_bad : (end at n : ℕ) (file : List ℕ) → n < 2 ^ 32 → HasGate at OPEN file → take LENGTH_LEN (drop (at + 1) file) ≡ to_be_bytes w32 n → length file < at + FRAME_HEAD + n → IsBad end at file
 payload_bad end at n file short gate spelled past =
     let is : number_at w32 file (at + 1) ≡ n = ap (λ (l : List ℕ). from_be_bytes w32 l) spelled ∙ from_be_bytes-to_be_bytes_4 n short in
-    let runs : limit end file < at + 5 + number_at w32 file (at + 1) = omega (arith, is, past) in
+    let runs : limit end file < at + FRAME_HEAD + number_at w32 file (at + 1) = omega (arith, is, past) in
     inr (gate, runs)
 
 module _ (end at : ℕ) (file : List ℕ) where

@@ -4,10 +4,11 @@ use Rattle.ode_host.specs.View.{View}
 use Rattle.ode_host.specs.Host.{Stands}
 use Rattle.ode_journal.specs.declared.journal.Journal.{Journal}
 use Rattle.ode_journal.specs.Frames.{IsJournal, gate_behind}
+use Rattle.ode_journal.specs.declared.frame.TheConstants.{FRAME_BYTES, FRAME_HEAD}
 
 -- the bytes that a frame takes, its own gate among them
 abbrev pub need_of : List ℕ → ℕ
-need_of payload = length payload + 6
+need_of payload = length payload + FRAME_BYTES
 
 -- the bytes from the last gate on
 abbrev pub room_of : Journal → ℕ
@@ -15,7 +16,7 @@ room_of journal = journal.end - journal.at
 
 -- one frame more
 abbrev pub longer_by : Journal → List ℕ → Journal
-longer_by journal payload = record { at = journal.at + 5 + length payload; end = journal.end }
+longer_by journal payload = record { at = journal.at + FRAME_HEAD + length payload; end = journal.end }
 
 -- this file stands on the disk, and in it, from `start` on, a journal of these frames
 pub record JournalStands (start : ℕ) (frames : List (List ℕ)) (file : List ℕ) (journal : Journal) (view : View) : Type 0 where

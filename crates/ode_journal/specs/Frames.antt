@@ -1,22 +1,22 @@
 -- What a journal of frames is, in the bytes of a file.
-use Rattle.std.specs.Prelude.{◌≡◌, ◌≢◌, ◌<◌, ◌≤◌, ◌⊎◌, ℕ, ◌+◌, ◌^◌, min, max, List, [], ◌∷◌, ◌++◌, length, drop, Option, Some, None}
+use Rattle.std.specs.Prelude.{◌≡◌, ◌≢◌, ◌<◌, ◌≤◌, ◌⊎◌, ℕ, ◌+◌, ◌^◌, min, max, List, ◌∷◌, ◌++◌, length, drop, Option, Some, None}
 use Rattle.std.specs.Int.{w32, to_be_bytes}
-use Rattle.ode_gate.specs.Gate.{open_gate}
+use Rattle.std.specs.List.{AllByRecursion, flat_map}
+use Rattle.ode_journal.specs.declared.frame.TheConstants.{FRAME_HEAD}
+use Rattle.ode_gate.specs.declared.gate.TheConstants.{OPEN}
 use Rattle.ode_host.specs.Fields.{number_at}
 
--- a length of four bytes, and the payload
+-- its length, and the payload
 abbrev pub framed : List ℕ → List ℕ
 framed payload = to_be_bytes w32 (length payload) ++ payload
 
 -- frames one behind the other, each behind its open gate
 abbrev pub spelled : List (List ℕ) → List ℕ
-spelled [] = []
-spelled (payload ∷ frames) = open_gate ∷ (framed payload ++ spelled frames)
+spelled frames = flat_map (λ payload. OPEN ∷ framed payload) frames
 
--- each payload's length fits its four bytes
+-- each payload's length fits its field
 abbrev pub AreShort : List (List ℕ) → Type 0
-AreShort [] = Unit {0}
-AreShort (payload ∷ frames) = (length payload < 2 ^ 32) × AreShort frames
+AreShort frames = AllByRecursion (λ payload. length payload < 2 ^ 32) frames
 
 -- where the gate behind these frames stands, if the first one's gate stands at `start`
 abbrev pub gate_behind : ℕ → List (List ℕ) → ℕ
@@ -29,14 +29,14 @@ HasGate at gate file = drop at file ≡ gate ∷ drop (at + 1) file
 pub record IsShut (end at : ℕ) (file : List ℕ) : Type 0 where
   pub within : at < end
   pub gate : ℕ
-  pub shut : gate ≢ open_gate
+  pub shut : gate ≢ OPEN
   pub stands : HasGate at gate file
 
 -- an open gate stands at this place, and behind it a whole frame that doesn't run past the end
 pub record IsFramed (end at : ℕ) (payload file : List ℕ) : Type 0 where
-  pub within : at + 5 + length payload ≤ end
+  pub within : at + FRAME_HEAD + length payload ≤ end
   pub short : length payload < 2 ^ 32
-  pub stands : drop at file ≡ (open_gate ∷ framed payload) ++ drop (at + 5 + length payload) file
+  pub stands : drop at file ≡ (OPEN ∷ framed payload) ++ drop (at + FRAME_HEAD + length payload) file
 
 -- where the room for frames ends: at the end that was given, or with the file
 abbrev pub limit : ℕ → List ℕ → ℕ
@@ -44,7 +44,7 @@ limit end file = min end (length file)
 
 -- A gate at this place would stand past the limit, or it is open and its length runs past the limit.
 abbrev pub IsBad : ℕ → ℕ → List ℕ → Type 0
-IsBad end at file = (limit end file ≤ at) ⊎ (HasGate at open_gate file × (limit end file < at + 5 + number_at w32 file (at + 1)))
+IsBad end at file = (limit end file ≤ at) ⊎ (HasGate at OPEN file × (limit end file < at + FRAME_HEAD + number_at w32 file (at + 1)))
 
 -- from `start` on these frames stand whole, and none runs past the end
 pub record HasFrames (start end : ℕ) (frames : List (List ℕ)) (file : List ℕ) : Type 0 where

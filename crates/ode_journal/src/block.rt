@@ -1,6 +1,7 @@
 //! Bytes of a disk that are read ahead.
 ghost use Rattle.std.specs.Prelude.{◌≡◌, ◌+◌, ◌-◌, ◌<◌, ◌≤◌, ◌^◌, List, ℕ, min, length, take, drop, IfOk, IsErr, IsTrue, OnOk};
 ghost use Rattle.std.specs.Bool.{OnTrue};
+ghost use Rattle.ode_journal.specs.declared.block.TheConstants.{BLOCK};
 ghost use Rattle.ode_host.specs.Causes.{RoseIf};
 ghost use Rattle.ode_host.specs.Host.{Looks, Tells};
 
@@ -11,7 +12,7 @@ use std::alloc::{AllocError, Global};
 const BLOCK: usize = 65_536;
 
 // From here on there is no room for a block in the numbers.
-const LAST: u64 = u64::MAX - 65_536;
+const LAST: u64 = u64::MAX - BLOCK as u64;
 
 /// Some bytes of a disk and where they stand, so that many short reads at rising offsets are one.
 #[derive(Drop)]
@@ -19,7 +20,7 @@ pub struct Block {
     pub(crate) bytes: Vec<u8>,
     pub(crate) at: u64,
     pub(crate) filled: usize,
-    ghost long: { length bytes.items ≡ 65536 },
+    ghost long: { length bytes.items ≡ BLOCK },
     ghost within: { filled ≤ length bytes.items },
 }
 
@@ -75,9 +76,9 @@ impl Block {
 
     // Reads the block from an offset on.
     fn refill<H: Host>(&mut self, host: &mut H, at: u64) -> Result<(), Failed>
-        requires { at + 65536 < 2 ^ 64 }
+        requires { at + BLOCK < 2 ^ 64 }
         ensures place { OnOk result (self.new.at ≡ at) }
-        ensures count { OnOk result ((file : List ℕ) → Tells (H.view host.old) file → self.new.filled ≡ min 65536 (length file - at)) }
+        ensures count { OnOk result ((file : List ℕ) → Tells (H.view host.old) file → self.new.filled ≡ min BLOCK (length file - at)) }
         ensures bytes { OnOk result ((file : List ℕ) → Tells (H.view host.old) file → IsOf file self.new) }
         ensures looks { Looks (H.view host.old) (H.view host.new) }
         ensures cause { RoseIf (IsErr result) (H.view host.old).disk_faults (H.view host.new).disk_faults }

@@ -9,6 +9,6 @@ mod reading;
 
 pub use block::Block;
 pub use error::{AppendError, JournalError};
-pub use frame::Frame;
+pub use frame::{FRAME_BYTES, FRAME_HEAD, Frame, LENGTH_LEN};
 pub use journal::Journal;
 pub use reading::{next_frame, scan};

@@ -2,7 +2,6 @@
 ghost use Rattle.std.specs.Prelude.{◌≡◌, ◌+◌, ◌≤◌, ◌<◌, ◌^◌, List, ℕ, length, take, drop, Option, IfOk, IfSome, IsErrOf, OnOk};
 ghost use Rattle.std.specs.Bool.{OnTrue, OnFalse};
 ghost use Rattle.std.specs.Int.{w32, to_be_bytes};
-ghost use Rattle.ode_gate.specs.Gate.{open_gate};
 ghost use Rattle.ode_host.specs.Causes.{RoseIf};
 ghost use Rattle.ode_host.specs.Fields.{number_at};
 ghost use Rattle.ode_host.specs.Host.{Looks, Tells};
@@ -12,6 +11,7 @@ ghost use Rattle.ode_journal.specs.Frames.{gate_behind, limit, HasGate, IsShut, 
 
 use crate::block::Block;
 use crate::error::JournalError;
+use crate::frame::{FRAME_HEAD, LENGTH_LEN};
 use crate::journal::Journal;
 use ode_gate::OPEN;
 use ode_host::Host;
@@ -26,7 +26,7 @@ fn is_open<H: Host>(
     end: u64,
 ) -> Result<bool, JournalError>
     ensures within { IfOk result (λ _. at < end) }
-    ensures opened { IfOk result (λ b. OnTrue b ((file : List ℕ) → TellsAhead (H.view host.old) ahead.old file → HasGate at open_gate file)) }
+    ensures opened { IfOk result (λ b. OnTrue b ((file : List ℕ) → TellsAhead (H.view host.old) ahead.old file → HasGate at OPEN file)) }
     ensures shut { IfOk result (λ b. OnFalse b ((file : List ℕ) → TellsAhead (H.view host.old) ahead.old file → IsShut end at file)) }
     ensures bad { (place : ℕ) → IsErrOf result (JournalError.BadJournal place)
         → (place ≡ at) × ((file : List ℕ) → TellsAhead (H.view host.old) ahead.old file → limit end file ≤ at) }
@@ -43,7 +43,7 @@ fn is_open<H: Host>(
 
 // The number that four bytes spell.
 fn number(bytes: &[u8]) -> u32
-    requires { length bytes.now ≡ 4 }
+    requires { length bytes.now ≡ LENGTH_LEN }
     ensures { to_be_bytes w32 result ≡ bytes.now }
 {
     u32::from_be_bytes([bytes[0], bytes[1], bytes[2], bytes[3]])
@@ -57,22 +57,22 @@ fn read_length<H: Host>(
     end: u64,
 ) -> Result<u32, JournalError>
     requires { at < end }
-    ensures within { IfOk result (λ n. at + 5 + n ≤ end) }
-    ensures spelled { IfOk result (λ n. (file : List ℕ) → TellsAhead (H.view host.old) ahead.old file → take 4 (drop (at + 1) file) ≡ to_be_bytes w32 n) }
+    ensures within { IfOk result (λ n. at + FRAME_HEAD + n ≤ end) }
+    ensures spelled { IfOk result (λ n. (file : List ℕ) → TellsAhead (H.view host.old) ahead.old file → take LENGTH_LEN (drop (at + 1) file) ≡ to_be_bytes w32 n) }
     ensures bad { (place : ℕ) → IsErrOf result (JournalError.BadJournal place)
-        → (place ≡ at) × ((file : List ℕ) → TellsAhead (H.view host.old) ahead.old file → limit end file < at + 5 + number_at w32 file (at + 1)) }
+        → (place ≡ at) × ((file : List ℕ) → TellsAhead (H.view host.old) ahead.old file → limit end file < at + FRAME_HEAD + number_at w32 file (at + 1)) }
     ensures ahead { OnOk result (StaysOf (H.view host.old) ahead.old ahead.new) }
     ensures looks { Looks (H.view host.old) (H.view host.new) }
     ensures cause { RoseIf (IsErrOf result JournalError.DiskFault) (H.view host.old).disk_faults (H.view host.new).disk_faults }
 {
     let bad = JournalError::BadJournal { at };
     let room = end - at - 1;
-    let mut head = [0u8; 4];
-    if room < 4 || !ahead.read_exact(host, at + 1, &mut head)? {
+    let mut head = [0u8; LENGTH_LEN];
+    if room < LENGTH_LEN as u64 || !ahead.read_exact(host, at + 1, &mut head)? {
         return Err(bad);
     }
     let length = number(&head);
-    if room - 4 < length as u64 {
+    if room - (LENGTH_LEN as u64) < length as u64 {
         return Err(bad);
     }
     Ok(length)
@@ -86,17 +86,17 @@ fn read_payload<H: Host>(
     at: u64,
     count: u32,
 ) -> Result<List<u8>, JournalError>
-    requires { at + 5 + count < 2 ^ 64 }
+    requires { at + FRAME_HEAD + count < 2 ^ 64 }
     ensures long { IfOk result (λ payload. length payload ≡ count) }
-    ensures bytes { IfOk result (λ payload. (file : List ℕ) → TellsAhead (H.view host.old) ahead.old file → payload ≡ take count (drop (at + 5) file)) }
+    ensures bytes { IfOk result (λ payload. (file : List ℕ) → TellsAhead (H.view host.old) ahead.old file → payload ≡ take count (drop (at + FRAME_HEAD) file)) }
     ensures bad { (place : ℕ) → IsErrOf result (JournalError.BadJournal place)
-        → (place ≡ at) × ((file : List ℕ) → TellsAhead (H.view host.old) ahead.old file → length file < at + 5 + count) }
+        → (place ≡ at) × ((file : List ℕ) → TellsAhead (H.view host.old) ahead.old file → length file < at + FRAME_HEAD + count) }
     ensures ahead { OnOk result (StaysOf (H.view host.old) ahead.old ahead.new) }
     ensures looks { Looks (H.view host.old) (H.view host.new) }
     ensures cause { RoseIf (IsErrOf result JournalError.DiskFault) (H.view host.old).disk_faults (H.view host.new).disk_faults }
 {
     let mut payload = vec![in alloc; 0; count as usize]?;
-    if !ahead.read_exact(host, at + 5, &mut payload)? {
+    if !ahead.read_exact(host, at + FRAME_HEAD as u64, &mut payload)? {
         return Err(JournalError::BadJournal { at });
     }
     Ok(List::from_vec(payload))
@@ -112,7 +112,7 @@ pub fn next_frame<H: Host>(
     end: u64,
 ) -> Result<Option<List<u8>>, JournalError>
     ensures found { IfOk result (λ next. (file : List ℕ) → TellsAhead (H.view host.old) ahead.old file → NextIs end at next file) }
-    ensures within { IfOk result (λ next. IfSome next (λ payload. at + 5 + length payload ≤ end)) }
+    ensures within { IfOk result (λ next. IfSome next (λ payload. at + FRAME_HEAD + length payload ≤ end)) }
     ensures bad { (place : ℕ) → IsErrOf result (JournalError.BadJournal place)
         → (place ≡ at) × ((file : List ℕ) → TellsAhead (H.view host.old) ahead.old file → IsBad end at file) }
 
@@ -159,7 +159,7 @@ pub fn scan<H: Host>(
         match next_frame(alloc, host, &mut ahead, at, end)? {
             None => return Ok((Journal { at, end }, frames)),
             Some(payload) => {
-                at += 5 + payload.len() as u64;
+                at += FRAME_HEAD as u64 + payload.len() as u64;
                 frames.push(payload)?;
             }
         }

@@ -16,14 +16,15 @@ use Rattle.ode_value.specs.Keys.{key_cmp}
 use Rattle.ode_keep.specs.Growth.{bytes_of, put_bytes, taken_bytes}
 use Rattle.ode_keep.proofs.Keys.{key_total}
 use Rattle.ode_keep.proofs.Applying.{changed_at, changed_rising, taken_out}
+use Rattle.ode_keep.specs.declared.spelling.TheConstants.{KEY_LEN}
 
-put_grows_at : (k : Key) (v : List ℕ) (e : Row) (es rest : Entries) → (r : Ordering) → (r ≡ Less → value_under es k ≡ None) → record_bytes rest + bytes_of (value_under es k) ≡ record_bytes es + (17 + length v)
-    → record_bytes (match_ordering r ((k, v) ∷ e ∷ es) ((e.0, v) ∷ es) (e ∷ rest)) + bytes_of (cond (is_eq r) (Some e.1) (value_under es k)) ≡ record_bytes (e ∷ es) + (17 + length v)
+put_grows_at : (k : Key) (v : List ℕ) (e : Row) (es rest : Entries) → (r : Ordering) → (r ≡ Less → value_under es k ≡ None) → record_bytes rest + bytes_of (value_under es k) ≡ record_bytes es + (KEY_LEN + length v)
+    → record_bytes (match_ordering r ((k, v) ∷ e ∷ es) ((e.0, v) ∷ es) (e ∷ rest)) + bytes_of (cond (is_eq r) (Some e.1) (value_under es k)) ≡ record_bytes (e ∷ es) + (KEY_LEN + length v)
 put_grows_at k v e es rest Less none more = omega (arith, ap bytes_of (none refl))
 put_grows_at k v e es rest Equal none more = omega arith
 put_grows_at k v e es rest Greater none more = omega (arith, more)
 
-pub put_grows : (entries : Entries) (k : Key) (v : List ℕ) → HasRisingKeys entries → record_bytes (insert_entry key_cmp entries k v) + bytes_of (value_under entries k) ≡ record_bytes entries + (17 + length v)
+pub put_grows : (entries : Entries) (k : Key) (v : List ℕ) → HasRisingKeys entries → record_bytes (insert_entry key_cmp entries k v) + bytes_of (value_under entries k) ≡ record_bytes entries + (KEY_LEN + length v)
 unfolding IsStrictlySortedBy
 put_grows [] k v rising = omega arith
 put_grows (e ∷ es) k v rising =

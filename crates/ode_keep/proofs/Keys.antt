@@ -1,7 +1,7 @@
 -- The order of keys is total, and keys that it holds equal are equal.
 use Rattle.std.proofs.Common.{◌≡◌, true, sym}
 use Rattle.std.specs.BTreeMap.{is_at}
-use Rattle.std.specs.Cmp.{IsTotalOrder}
+use Rattle.std.specs.Cmp.{Equal-is, IsTotalOrder}
 use Rattle.std.specs.List.{IsDistinct}
 use Rattle.std.specs.Ordering.{is_eq, eq_by_cmp, nat_cmp, ordering_then}
 use Rattle.std.specs.declared.cmp.Ordering.{Ordering}
@@ -14,7 +14,6 @@ use Rattle.std.proofs.lemmas.Map.Lookups.{exact_unsigned}
 use Rattle.ode_value.specs.declared.key.Key.{Key}
 use Rattle.ode_keep.specs.Entries.{HasRisingKeys}
 use Rattle.ode_value.specs.Keys.{key_cmp}
-use Rattle.ode_keep.proofs.Maps.{equal_from}
 
 pub key_total : IsTotalOrder key_cmp
 key_total = then_total (on_total (λ (k : Key). k.kind) nat_cmp_total) (then_total (on_total (λ (k : Key). k.a) nat_cmp_total) (on_total (λ (k : Key). k.b) nat_cmp_total))
@@ -28,9 +27,9 @@ pub same_key : (q k : Key) → is_at (key_cmp q) k ≡ true → k ≡ q
 same_key q k h =
     let one = then_both (nat_cmp q.kind k.kind) (ordering_then (nat_cmp q.a k.a) (nat_cmp q.b k.b)) h in
     let two = then_both (nat_cmp q.a k.a) (nat_cmp q.b k.b) one.1 in
-    let kind : k.kind ≡ q.kind = sym (exact_unsigned q.kind k.kind (equal_from (nat_cmp q.kind k.kind) one.0)) in
-    let a : k.a ≡ q.a = sym (exact_unsigned q.a k.a (equal_from (nat_cmp q.a k.a) two.0)) in
-    let b : k.b ≡ q.b = sym (exact_unsigned q.b k.b (equal_from (nat_cmp q.b k.b) two.1)) in
+    let kind : k.kind ≡ q.kind = sym (exact_unsigned q.kind k.kind ((Equal-is (nat_cmp q.kind k.kind)).0 one.0)) in
+    let a : k.a ≡ q.a = sym (exact_unsigned q.a k.a ((Equal-is (nat_cmp q.a k.a)).0 two.0)) in
+    let b : k.b ≡ q.b = sym (exact_unsigned q.b k.b ((Equal-is (nat_cmp q.b k.b)).0 two.1)) in
     λ i. record { kind = kind i; a = a i; b = b i }
 
 -- keys that rise differ

@@ -3,3 +3,6 @@ pub mod Growing
 pub mod Keys
 pub mod Least
 pub mod Maps
+pub mod Firsts
+pub mod Lists
+pub mod Lengths

@@ -4,7 +4,7 @@ use Rattle.std.specs.Prelude.{not}
 use Rattle.std.specs.Ordering.{is_eq, eq_by_cmp, match_ordering, ordering_reverse}
 use Rattle.std.specs.declared.cmp.Ordering.{Ordering}
 use Rattle.std.specs.declared.cmp.Ordering.TheVariants.{Less, Equal, Greater}
-use Rattle.std.specs.Cmp.{IsTotalOrder}
+use Rattle.std.specs.Cmp.{Equal-is, IsTotalOrder}
 use Rattle.std.specs.BTreeMap.{is_at, insert_entry}
 use Rattle.std.specs.Map.{lookup, keys_of, remove_entry}
 use Rattle.std.specs.List.{AllByRecursion, IsDistinct, filter}
@@ -30,11 +30,6 @@ swapped true true h x y z = absurd (h refl refl)
 swapped true false h x y z = refl
 swapped false b h x y z = refl
 
-pub equal_from : (r : Ordering) → is_eq r ≡ true → r ≡ Equal
-equal_from Less h = absurd (cc)
-equal_from Equal h = refl
-equal_from Greater h = absurd (cc)
-
 module _ {K : Type 0} {R : K → K → Ordering} (o : IsTotalOrder R) where
   pub back : (x y : K) → is_eq (R x y) ≡ is_eq (R y x)
   back x y = (eq_by_cmp_equiv o).symm x y
@@ -44,8 +39,8 @@ module _ {K : Type 0} {R : K → K → Ordering} (o : IsTotalOrder R) where
 
   apart : (k l q : K) → R k l ≡ Greater → is_eq (R q l) ≡ true → is_eq (R k q) ≡ true → ⊥
   apart k l q e at_l at_k =
-      let here : R q l ≡ Equal = equal_from (R q l) at_l in
-      let there : R k q ≡ Equal = equal_from (R k q) at_k in
+      let here : R q l ≡ Equal = (Equal-is (R q l)).0 at_l in
+      let there : R k q ≡ Equal = (Equal-is (R k q)).0 at_k in
       let same : R k l ≡ R q l = o.congr k q l there in
       absurd (cc)
 

@@ -37,6 +37,6 @@ abbrev pub applied : Changes → Entries → Entries
 applied [] entries = entries
 applied (c ∷ cs) entries = applied cs (changed entries c.0 c.1)
 
--- the bytes of all keys, 17 each, and of all values
+-- the bytes of all keys and values
 abbrev pub record_bytes : Entries → ℕ
 record_bytes entries = total_weight entries

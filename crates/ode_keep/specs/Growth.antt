@@ -1,11 +1,12 @@
 -- By how much changes make records grow.
 use Rattle.std.specs.Prelude.{ℕ, ◌+◌, List, [], ◌∷◌, length, Option, Some, None}
 use Rattle.ode_keep.specs.Entries.{Changes, Entries, value_under}
+use Rattle.ode_keep.specs.declared.spelling.TheConstants.{KEY_LEN}
 
 -- the bytes of a record, if there is one
 abbrev pub bytes_of : Option (List ℕ) → ℕ
 bytes_of None = 0
-bytes_of (Some v) = 17 + length v
+bytes_of (Some v) = KEY_LEN + length v
 
 -- the bytes of the records that changes put
 abbrev pub put_bytes : Changes → ℕ

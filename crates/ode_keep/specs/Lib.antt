@@ -1,3 +1,6 @@
 pub mod Entries
 pub mod Growth
 pub mod Keeping
+pub mod Rising
+pub mod Snapshots
+pub mod Payloads

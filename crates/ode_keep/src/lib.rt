@@ -5,8 +5,15 @@ mod batch;
 mod error;
 mod keep;
 mod limits;
+mod spelling;
 
 pub use batch::Batch;
 pub use error::KeepError;
 pub use keep::Keep;
-pub use limits::{MAX_CHANGES, MAX_RECORD_BYTES, MAX_VALUE};
+pub use limits::{
+    MAX_CHANGE_LEN, MAX_CHANGES, MAX_GROWTH, MAX_PAYLOAD_LEN, MAX_RECORD_BYTES, MAX_VALUE,
+};
+pub use spelling::{
+    COUNT_LEN, FirstChange, FirstRow, KEY_LEN, PUT, REMOVAL, ROW_HEAD, first_row, key_bytes,
+    next_change, next_row, payload_length, put_row, row_head,
+};

@@ -2,15 +2,16 @@
 use Rattle.std.proofs.Common.{◌≡◌, ℕ, List, subst}
 use Rattle.std.specs.List.{AllByRecursion}
 use Rattle.ode_areas.specs.declared.areas.Areas.{Areas}
-use Rattle.ode_areas.specs.Holding.{Holds as AreasHold}
+use Rattle.ode_areas.specs.Holding.{AreasHold}
 use Rattle.ode_areas.specs.Image.{AreasMean, HasMap}
 use Rattle.ode_areas.specs.Laws.{stands_law}
 use Rattle.ode_areas.specs.OneMap.{one_has}
-use Rattle.ode_areas.specs.Rows.{FitsRow}
+use Rattle.ode_keep.specs.Snapshots.{FitsRow}
 use Rattle.ode_areas.proofs.Fitting.{map_fits}
 use Rattle.ode_gate.specs.declared.header.Header.{Header}
 use Rattle.ode_gate.specs.Slots.{Counts}
 use Rattle.ode_gate.proofs.Counting.{one_counts}
+use Rattle.ode_gate.specs.declared.places.TheConstants.{TWO_AREAS}
 use Rattle.ode_host.specs.Host.{Stands}
 use Rattle.ode_host.specs.View.{View}
 use Rattle.ode_keep.specs.Entries.{Entries}
@@ -27,8 +28,8 @@ module _ (image : List ℕ) (w : OneIntWorld) (holds : Holds image w) (h : Heade
   pub held_map : HasMap h image (rows w)
   held_map = subst (λ (k : Header). HasMap k image (rows w)) same holds.records.has
 
-  pub held_layout : h.layout ≡ 1
-  held_layout = subst (λ (k : Header). k.layout ≡ 1) same holds.records.areas.layout
+  pub held_layout : h.layout ≡ TWO_AREAS
+  held_layout = subst (λ (k : Header). k.layout ≡ TWO_AREAS) same holds.records.areas.layout
 
   pub held_rows : (entries : Entries) → HasMap h image entries → entries ≡ rows w
   held_rows entries has = one_has h image entries (rows w) has held_map

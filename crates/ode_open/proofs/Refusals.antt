@@ -13,7 +13,7 @@ use Rattle.ode_gate.specs.Slots.{HasOpenSlot}
 use Rattle.ode_gate.proofs.Counting.{IsReason, says_reason}
 use Rattle.ode_open.specs.declared.error.OpenError.{OpenError}
 use Rattle.ode_open.specs.declared.error.OpenError.TheVariants.{Memory, DiskFault, NoDatabase, Bad}
-use Rattle.ode_open.specs.Answers.{IsOutside, gate_error, start_error}
+use Rattle.ode_open.specs.Answers.{IsFromOutside, gate_error, start_error}
 use Rattle.ode_open.proofs.Slots.{bad_open, newer_open, none_open}
 
 -- why there is no header
@@ -60,7 +60,7 @@ starts_bad (start.BadPage page) starts is = ⊎_elim
     failed)
     starts
 
-pub only_outside : (e : OpenError) → (e ≡ NoDatabase → ⊥) → (e ≡ Bad → ⊥) → IsOutside e
+pub only_outside : (e : OpenError) → (e ≡ NoDatabase → ⊥) → (e ≡ Bad → ⊥) → IsFromOutside e
 only_outside Memory none bad = tt
 only_outside DiskFault none bad = tt
 only_outside NoDatabase none bad = none refl

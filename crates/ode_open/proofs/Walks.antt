@@ -11,8 +11,8 @@ use Rattle.std.specs.declared.cmp.Ordering.TheVariants.{Less, Equal, Greater}
 use Rattle.std.proofs.lemmas.Cmp.{ranked, tied_itself}
 use Rattle.std.proofs.lemmas.Grind.{flat_map-append}
 use Rattle.std.proofs.lemmas.List.{append-nil}
-use Rattle.ode_areas.specs.Pieces.{all_behind, all_push}
-use Rattle.ode_areas.specs.Rows.{FitsKey, FitsRow}
+use Rattle.ode_keep.proofs.Lists.{all_behind, all_push}
+use Rattle.ode_keep.specs.Snapshots.{FitsKey, FitsRow}
 use Rattle.ode_keep.specs.Entries.{Entries, HasRisingKeys, least_from, value_under}
 use Rattle.ode_value.specs.Keys.{key_cmp}
 use Rattle.ode_keep.proofs.Keys.{key_total, same_key}

@@ -35,18 +35,18 @@ keep_error (keep.TooLarge total) = Bad
 keep_error (keep.Damaged page) = Bad
 
 -- there was no memory, or the disk failed
-abbrev pub IsOutside : OpenError → Type 0
-IsOutside Memory = Unit {0}
-IsOutside DiskFault = Unit {0}
-IsOutside NoDatabase = ⊥
-IsOutside Bad = ⊥
+abbrev pub IsFromOutside : OpenError → Type 0
+IsFromOutside Memory = Unit {0}
+IsFromOutside DiskFault = Unit {0}
+IsFromOutside NoDatabase = ⊥
+IsFromOutside Bad = ⊥
 
 -- the records are read as this world, unless the outside fails
 abbrev pub ReadsAs : Result State OpenError → OneIntWorld → Type 0
 ReadsAs (Ok state) w = world_of state ≡ w
-ReadsAs (Err e) w = IsOutside e
+ReadsAs (Err e) w = IsFromOutside e
 
 -- the file is opened as this world, unless the outside fails
 abbrev pub OpensAs : Result Opened OpenError → OneIntWorld → Type 0
 OpensAs (Ok opened) w = world_of opened.state ≡ w
-OpensAs (Err e) w = IsOutside e
+OpensAs (Err e) w = IsFromOutside e

@@ -4,7 +4,7 @@
 mod error;
 mod make;
 mod opening;
-mod snapshot;
+mod walk;
 
 pub use error::OpenError;
 pub use make::{InitError, initialise};

@@ -1,6 +1,5 @@
 //! A file is made.
 ghost use Rattle.std.specs.Prelude.{◌≡◌, ◌++◌, [], ◌∷◌, ◌↔◌, List, ℕ, IfErr, IfOk, IsErr, IsErrOf, IsTrue, OnOk};
-ghost use Rattle.ode_gate.specs.Gate.{open_gate};
 ghost use Rattle.ode_gate.specs.Headers.{header_bytes};
 ghost use Rattle.ode_gate.specs.Slots.{HasOpenSlot};
 ghost use Rattle.ode_gate.specs.declared.error.GateError.TheVariants as gate;
@@ -12,16 +11,17 @@ ghost use Rattle.ode_value.specs.OneIntWorld.{empty_one_int_world};
 ghost use Rattle.ode_open.specs.Holds.{Holds};
 ghost use Rattle.ode_open.specs.Making.{IsInUse, IsInitialised, first_header};
 
-use ode_gate::{GateError, Header, SHUT, fill_slot, open_slot, read_header};
+use ode_gate::{
+    AREA_0, AREA_1, FORMAT, GateError, Header, OPEN, SHUT, SLOT_LEN, SLOT_STEP, TWO_AREAS,
+    fill_slot, open_slot, read_header,
+};
 use ode_host::{Failed, Host};
 
-// The longest file that may be made anew, in bytes.
-const LONGEST: u64 = 8192;
+/// The longest file that may be made anew, in bytes.
+pub const MAX_TAKEN_OVER: u64 = 8_192;
 
-// Where slot 1 stands, and where the first area starts.
-const SLOT_1: u64 = 2048;
-
-const AREA_0: u64 = 4096;
+/// The snapshot of an empty database, in bytes.
+pub const EMPTY_LEN: u64 = 64;
 
 // The snapshot of an empty database, which is the counters alone, and a shut gate behind it.
 const EMPTY: [u8; 65] = [
@@ -32,13 +32,13 @@ const EMPTY: [u8; 65] = [
 
 // The header of a new file.
 const FIRST: Header = Header {
-    format: 1,
-    layout: 1,
+    format: FORMAT,
+    layout: TWO_AREAS,
     generation: 1,
     body_at: AREA_0,
-    body_len: 64,
-    journal_at: AREA_0 + 64,
-    journal_end: 33_558_528,
+    body_len: EMPTY_LEN,
+    journal_at: AREA_0 + EMPTY_LEN,
+    journal_end: AREA_1,
     slot: 0,
 };
 
@@ -47,7 +47,7 @@ const FIRST: Header = Header {
 pub enum InitError {
     /// The disk failed.
     DiskFault,
-    /// The file has more than 8,192 bytes, or a header slot is open.
+    /// The file has more than `MAX_TAKEN_OVER` bytes, or a header slot is open.
     FileExists,
 }
 
@@ -79,7 +79,7 @@ fn has_open_slot<H: Host>(host: &mut H) -> Result<bool, Failed>
     ensures looks { Looks (H.view host.old) (H.view host.new) }
     ensures cause { RoseIf (IsErr result) (H.view host.old).disk_faults (H.view host.new).disk_faults }
 {
-    match read_header(host, &mut [0; 57]) {
+    match read_header(host, &mut [0; SLOT_LEN]) {
         Ok(_) => Ok(true),
         Err(GateError::NoDatabase) => Ok(false),
         Err(GateError::BadHeader { .. }) => Ok(true),
@@ -95,7 +95,7 @@ fn is_in_use<H: Host>(host: &mut H) -> Result<bool, Failed>
     ensures looks { Looks (H.view host.old) (H.view host.new) }
     ensures cause { RoseIf (IsErr result) (H.view host.old).disk_faults (H.view host.new).disk_faults }
 {
-    if host.size()? > LONGEST {
+    if host.size()? > MAX_TAKEN_OVER {
         return Ok(true);
     }
     has_open_slot(host)
@@ -104,21 +104,21 @@ fn is_in_use<H: Host>(host: &mut H) -> Result<bool, Failed>
 // Shuts slot 1, and writes the snapshot of an empty database with a shut gate behind it.
 fn write_body<H: Host>(host: &mut H) -> Result<(), Failed>
     ensures done { OnOk result ((file : List ℕ) → Tells (H.view host.old) file → Tells (H.view host.new)
-        (written_over (written_over file 2048 (0 ∷ [])) 4096 (snapshot (rows empty_one_int_world) ++ 0 ∷ []))) }
+        (written_over (written_over file SLOT_STEP (SHUT ∷ [])) AREA_0 (snapshot (rows empty_one_int_world) ++ SHUT ∷ []))) }
     ensures leaves { DiskCalls (IsErr result) (H.view host.old) (H.view host.new) }
 {
-    host.write_at(SLOT_1, &[SHUT])?;
+    host.write_at(SLOT_STEP, &[SHUT])?;
     host.write_at(AREA_0, &EMPTY)
 }
 
 // Writes the header of a new file, syncs, opens it, and syncs.
 fn write_header<H: Host>(host: &mut H) -> Result<(), GateError>
     ensures done { OnOk result ((file : List ℕ) → Tells (H.view host.old) file → Stands
-        (written_over (written_over file 1 (header_bytes first_header)) 0 (open_gate ∷ [])) (H.view host.new)) }
+        (written_over (written_over file 1 (header_bytes first_header)) 0 (OPEN ∷ [])) (H.view host.new)) }
     ensures kind { IfErr result (λ e. e ≡ gate.DiskFault) }
     ensures leaves { DiskCalls (IsErr result) (H.view host.old) (H.view host.new) }
 {
-    fill_slot(host, 0, &FIRST, &mut [0; 57])?;
+    fill_slot(host, 0, &FIRST, &mut [0; SLOT_LEN])?;
     open_slot(host, 0)
 }
 

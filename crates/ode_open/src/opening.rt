@@ -1,9 +1,9 @@
 //! A file is opened to a world in memory and a keeper.
 ghost use Rattle.std.specs.Prelude.{◌≡◌, ◌⊎◌, ◌≤◌, List, ℕ, IfOk, IsErrOf, IsTrue, OnOk};
 ghost use Rattle.std.specs.List.{AllByRecursion};
-ghost use Rattle.ode_areas.specs.Holding.{Holds as AreasHold, is_live};
+ghost use Rattle.ode_areas.specs.Holding.{AreasHold, is_live};
 ghost use Rattle.ode_areas.specs.Image.{HasMap};
-ghost use Rattle.ode_areas.specs.Rows.{FitsRow};
+ghost use Rattle.ode_keep.specs.Snapshots.{FitsRow};
 ghost use Rattle.ode_first_records.specs.State.{world_of};
 ghost use Rattle.ode_gate.specs.Headers.{IsHeader};
 ghost use Rattle.ode_gate.specs.Slots.{Counts, HasOpenSlot};
@@ -17,19 +17,14 @@ ghost use Rattle.ode_open.specs.Holds.{Holds};
 ghost use Rattle.ode_open.specs.Answers.{OpensAs, ReadsAs};
 
 use crate::error::OpenError;
-use crate::snapshot::snapshot_of;
+use crate::walk::snapshot_of;
 use ode_areas::Areas;
 use ode_first_records::{State, decode};
-use ode_gate::{Header, read_header};
+use ode_gate::{Header, SLOT_LEN, TWO_AREAS, read_header};
 use ode_host::Host;
 use ode_keep::Keep;
+use ode_value::limits::WEIGHT_LIMIT;
 use std::alloc::Global;
-
-// The layout of two areas.
-const TWO_AREAS: u32 = 1;
-
-// The bytes that the records of a world count at most.
-const MAX_WEIGHT: u64 = 8_388_608;
 
 /// What stands in a file: a world, and the keeper of its records.
 #[derive(Drop)]
@@ -45,7 +40,7 @@ fn start_areas<H: Host>(alloc: Global, host: &mut H, header: &Header) -> Result<
         → (entries : Entries) × HasMap header.now file entries × AreasHold keeper (H.view host.new) entries) }
     ensures live { IfOk result (λ keeper. IsTrue (is_live keeper)) }
     ensures bad { IsErrOf result OpenError.Bad → (file : List ℕ) (entries : Entries) → Tells (H.view host.old) file
-        → HasMap header.now file entries → header.now.layout ≡ 1 → record_bytes entries ≤ 8388608 → ⊥ }
+        → HasMap header.now file entries → header.now.layout ≡ TWO_AREAS → record_bytes entries ≤ WEIGHT_LIMIT → ⊥ }
     ensures is_there { IsErrOf result OpenError.NoDatabase → ⊥ }
     ensures looks { Looks (H.view host.old) (H.view host.new) }
     ensures cause { RoseIf (IsErrOf result OpenError.DiskFault) (H.view host.old).disk_faults (H.view host.new).disk_faults }
@@ -54,7 +49,7 @@ fn start_areas<H: Host>(alloc: Global, host: &mut H, header: &Header) -> Result<
         return Err(OpenError::Bad);
     }
     let keeper = Areas::start(alloc, host, header)?;
-    if keeper.bytes() > MAX_WEIGHT {
+    if keeper.bytes() > WEIGHT_LIMIT {
         return Err(OpenError::Bad);
     }
     Ok(keeper)
@@ -104,7 +99,7 @@ pub fn open<H: Host>(alloc: Global, host: &mut H) -> Result<Opened, OpenError>
     ensures looks { Looks (H.view host.old) (H.view host.new) }
     ensures cause { RoseIf (IsErrOf result OpenError.DiskFault) (H.view host.old).disk_faults (H.view host.new).disk_faults }
 {
-    let header = read_header(host, &mut [0; 57])?;
+    let header = read_header(host, &mut [0; SLOT_LEN])?;
     let mut keeper = start_areas(alloc, host, &header)?;
     let state = read_world(alloc, &mut keeper, host)?;
     Ok(Opened { keeper, state })

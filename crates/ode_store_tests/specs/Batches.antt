@@ -4,7 +4,8 @@ use Rattle.std.specs.List.{All}
 use Rattle.std.specs.Map.{values_of}
 use Rattle.std.specs.Option.{IfSome}
 use Rattle.ode_keep.specs.Entries.{Changes}
+use Rattle.ode_keep.specs.declared.limits.TheConstants.{MAX_VALUE}
 
 -- no value is longer than a keeper takes
 abbrev pub AreShort : Changes → Type 0
-AreShort changes = All (λ v. IfSome v (λ bytes. length bytes ≤ 3968)) (values_of changes)
+AreShort changes = All (λ v. IfSome v (λ bytes. length bytes ≤ MAX_VALUE)) (values_of changes)

@@ -1,6 +1,8 @@
 //! The header of a file is read and changed.
 use crate::disk::{TEARS, failing, patch, smooth, stopping};
-use ode_gate::{GateError, Header, change_header, close_slot, fill_slot, open_slot, read_header};
+use ode_gate::{
+    GateError, Header, SLOT_LEN, change_header, close_slot, fill_slot, open_slot, read_header,
+};
 use ode_host::MemHost;
 use std::alloc::{AllocError, Global};
 use std::process::Abort;
@@ -57,7 +59,7 @@ fn two_slots(alloc: Global, bytes: &[(usize, u8)]) -> Result<Vec<u8>, AllocError
 
 // Reads the header in a buffer that is full of other bytes.
 fn read(host: &mut MemHost) -> Result<Header, GateError> {
-    let mut buffer = [0xA5; 57];
+    let mut buffer = [0xA5; SLOT_LEN];
     read_header(host, &mut buffer)
 }
 
@@ -71,7 +73,7 @@ fn change(host: &mut MemHost, h: &Header) -> Result<(), GateError> {
     if h.slot > 1 {
         return Err(GateError::NoDatabase);
     }
-    let mut buffer = [0xA5; 57];
+    let mut buffer = [0xA5; SLOT_LEN];
     change_header(host, h, &mut buffer)
 }
 
@@ -199,7 +201,7 @@ fn write_and_read(host: &mut MemHost, h: &Header) -> Result<Header, GateError> {
     if h.slot > 1 {
         return Err(GateError::NoDatabase);
     }
-    let mut buffer = [0; 57];
+    let mut buffer = [0; SLOT_LEN];
     fill_slot(host, h.slot, h, &mut buffer)?;
     open_slot(host, h.slot)?;
     read_header(host, &mut buffer)

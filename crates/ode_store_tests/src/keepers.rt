@@ -4,9 +4,9 @@ ghost use Rattle.ode_store_tests.specs.Batches.{AreShort};
 
 use crate::disk::{TEARS, failing, smooth, stopping};
 use ode_areas::{Areas, StartError};
-use ode_gate::read_header;
+use ode_gate::{SLOT_LEN, read_header};
 use ode_host::{Host, MemHost};
-use ode_keep::{Batch, Keep, KeepError};
+use ode_keep::{Batch, Keep, KeepError, MAX_CHANGES, MAX_VALUE};
 use ode_value::{Key, List};
 use std::alloc::{AllocError, Global};
 use std::ops::Range;
@@ -35,7 +35,7 @@ fn key(kind: u8, a: u64) -> Key {
 // The keeper of what stands on a disk, after a sync.
 fn start(alloc: Global, host: &mut MemHost) -> Result<Areas, StartError> {
     host.sync()?;
-    let Ok(header) = read_header(host, &mut [0; 57]) else {
+    let Ok(header) = read_header(host, &mut [0; SLOT_LEN]) else {
         return Err(StartError::DiskFault);
     };
     if header.layout != 1 {
@@ -64,7 +64,7 @@ fn removing(alloc: Global, key: Key) -> Result<Batch, AllocError>
 
 // A batch that puts so many values of this size, each of this byte.
 fn putting_many(alloc: Global, count: u64, size: usize, byte: u8) -> Result<Batch, AllocError>
-    requires { size ≤ 3968 }
+    requires { size ≤ MAX_VALUE }
     ensures { IfOk result (λ batch. AreShort batch) }
 {
     let mut batch = Batch::new(alloc);
@@ -112,7 +112,7 @@ fn put_many(
     host: &mut MemHost,
     byte: u8,
 ) -> Result<(), KeepError> {
-    let batch = putting_many(alloc, 1_024, 3_968, byte)?;
+    let batch = putting_many(alloc, MAX_CHANGES as u64, MAX_VALUE, byte)?;
     commit(keeper, host, &batch)
 }
 
@@ -277,7 +277,7 @@ fn fill(
 
 // The slot and the generation of the header that counts, and where its area starts.
 fn counting(host: &mut MemHost) -> Option<(u8, u64, u64)> {
-    match read_header(host, &mut [0; 57]) {
+    match read_header(host, &mut [0; SLOT_LEN]) {
         Ok(header) => Some((header.slot, header.generation, header.body_at)),
         Err(_) => None,
     }

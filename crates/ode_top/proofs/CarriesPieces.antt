@@ -4,6 +4,7 @@ use Rattle.ode_host.specs.Host.{LeavesCut, LeavesOnly}
 use Rattle.ode_host.specs.View.{View}
 use Rattle.ode_host.proofs.Moments.{weaker}
 use Rattle.ode_keep.specs.Entries.{Changes, Entries, applied, record_bytes}
+use Rattle.ode_keep.specs.declared.limits.TheConstants.{MAX_RECORD_BYTES}
 use Rattle.ode_value.specs.OneIntCommands.{Refused, Settles}
 use Rattle.ode_value.specs.OneIntGood.{IsOneIntGood}
 use Rattle.ode_value.specs.OneIntRecords.{rows}
@@ -63,5 +64,5 @@ module _ (line : ℕ) (piece : List ℕ) (old new : OneIntWorld) (before now : V
         run)
 
 -- the records of a good world aren't too large for a keeper
-pub within : (changes : Changes) (old new : OneIntWorld) → IsOneIntGood new → applied changes (rows old) ≡ rows new → record_bytes (applied changes (rows old)) ≤ 16777216
+pub within : (changes : Changes) (old new : OneIntWorld) → IsOneIntGood new → applied changes (rows old) ≡ rows new → record_bytes (applied changes (rows old)) ≤ MAX_RECORD_BYTES
 within changes old new good makes = omega (arith, ap record_bytes makes, good.small)

@@ -7,7 +7,7 @@ ghost use Rattle.ode_top.specs.Serves.{LeavesSettling};
 
 use ode_engine::Settled;
 use ode_host::{Failed, Host};
-use ode_keep::{Keep, KeepError};
+use ode_keep::{Keep, KeepError, MAX_RECORD_BYTES};
 use std::alloc::AllocError;
 
 /// Why a run ends before its script does.
@@ -61,7 +61,7 @@ pub fn settle<H: Host, K: Keep<H>>(
         → LeavesOnly (H.view host.old) (H.view host.new) (LeavesSettling K.means entries settled.now.batch text settled.now.text.items) }
     ensures live { OnOk result (IsTrue (K.live keeper.new)) }
     ensures undamaged { result ≡ Err Halt.Damaged → (entries : Entries) → K.holds keeper.old (H.view host.old) entries
-        → record_bytes (applied settled.now.batch entries) ≤ 16777216 → ⊥ }
+        → record_bytes (applied settled.now.batch entries) ≤ MAX_RECORD_BYTES → ⊥ }
     ensures leaves { HostCalls (result ≡ Err Halt.DiskFault) (result ≡ Err Halt.WriteFault) (H.view host.old) (H.view host.new) }
 {
     keeper.commit(host, &settled.batch)?;

@@ -1,6 +1,6 @@
 //! The call of the whole program.
 ghost use Rattle.std.specs.Prelude.{◌≡◌, ◌≢◌, ◌⊎◌, ◌↔◌, ◌≤◌, ◌++◌, ℕ, List as Items, Some, None, IsTrue};
-ghost use Rattle.ode_areas.specs.Holding.{Holds as AreasHold, is_live};
+ghost use Rattle.ode_areas.specs.Holding.{AreasHold, is_live};
 ghost use Rattle.ode_areas.specs.Image.{AreasMean};
 ghost use Rattle.ode_first_records.specs.State.{world_of};
 ghost use Rattle.ode_host.specs.Causes.{RoseIf};

@@ -2,8 +2,9 @@ use Rattle.std.proofs.Common.{◌≡◌, ◌++◌, ◌∙◌, ℕ, ap, length, s
 use Rattle.std.specs.Int.{w32, to_be_bytes}
 use Rattle.std.specs.List.{AllByRecursion, flat_map}
 use Rattle.ode_keep.specs.Entries.{Changes}
-use Rattle.ode_areas.specs.Payloads.{FitsChange, change_bytes}
-use Rattle.ode_areas.proofs.Encoding.{IsShortChange, short_each, started_frame}
+use Rattle.ode_keep.specs.Payloads.{FitsChange, change_bytes}
+use Rattle.ode_keep.proofs.Lengths.{IsShortChange, short_each}
+use Rattle.ode_areas.proofs.Encoding.{started_frame}
 use Rattle.ode_areas.proofs.encode.frame_of.Goals as goal
 
 pub loop-key-init : goal.loop-key-init

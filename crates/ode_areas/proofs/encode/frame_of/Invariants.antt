@@ -1,7 +1,7 @@
 use Rattle.std.proofs.Common.{◌≡◌, ◌++◌, length}
 use Rattle.std.specs.List.{AllByRecursion, flat_map}
-use Rattle.ode_areas.specs.Payloads.{FitsChange, change_bytes, payload_of}
-use Rattle.ode_areas.proofs.Encoding.{IsShortChange}
+use Rattle.ode_keep.specs.Payloads.{FitsChange, change_bytes, payload_of}
+use Rattle.ode_keep.proofs.Lengths.{IsShortChange}
 use Rattle.ode_areas.proofs.encode.frame_of.Given as goal
 
 abbrev pub invariant-loop-key : goal.invariant-loop-key

@@ -5,7 +5,7 @@ use Rattle.ode_host.proofs.Moments.{looks_joined, looks_none, tells_looks}
 use Rattle.ode_journal.specs.declared.error.JournalError.TheVariants.{BadJournal}
 use Rattle.ode_journal.specs.Frames.{IsFramed, IsShut}
 use Rattle.ode_areas.specs.Image.{IsBadFrom}
-use Rattle.ode_areas.specs.Payloads.{IsPayload}
+use Rattle.ode_keep.specs.Payloads.{IsPayload}
 use Rattle.ode_areas.proofs.Replayed.{none_yet, one_frame, all_frames, bad_frame, bad_payload}
 use Rattle.ode_areas.proofs.frames.replay_frames.Goals as goal
 

@@ -1,7 +1,7 @@
 use Rattle.std.proofs.Common.{◌≡◌, ℕ, List, length, take, drop, sym, ap, ◌∙◌, subst, arith, length-take}
 use Rattle.std.proofs.lemmas.List.{take_at}
 use Rattle.ode_areas.specs.Image.{body_of}
-use Rattle.ode_areas.specs.Rows.{IsSnapshot}
+use Rattle.ode_keep.specs.Snapshots.{IsSnapshot}
 use Rattle.ode_areas.proofs.start.load_body.Goals as goal
 
 -- a whole read of the body gives it

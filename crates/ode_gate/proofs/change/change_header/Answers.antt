@@ -6,6 +6,7 @@ use Rattle.ode_gate.specs.Changes.{LeavesHeader}
 use Rattle.ode_gate.specs.Slots.{place_of}
 use Rattle.ode_gate.proofs.Changing.{changed, closing, filled, fills, opens_slot, ready}
 use Rattle.ode_gate.proofs.change.change_header.Goals as goal
+use Rattle.ode_gate.specs.declared.places.TheConstants.{HEADER_LEN}
 
 pub returns-in_err-close_slot-clause-any_moment : goal.returns-in_err-close_slot-clause-any_moment
 returns-in_err-close_slot-clause-any_moment g c image older follows stands =
@@ -25,7 +26,7 @@ returns-in_err-fill_slot-clause-any_moment g c image older follows stands =
     let now = ready image older h follows is_slot old mid stands (λ shut. c.close_slot.ensures.nothing image stands.tells shut)
     (λ opened. c.in_ok-close_slot.ensures.closed image stands.tells opened) in
     joined old mid new (LeavesHeader image older h old) so_far
-    (weaker mid new (LeavesTorn (place_of h.slot + 1) 56 now.now mid) (LeavesHeader image older h old)
+    (weaker mid new (LeavesTorn (place_of h.slot + 1) HEADER_LEN now.now mid) (LeavesHeader image older h old)
     (fills image older h follows is_slot old mid now c.close_slot.ensures.leaves.text) (c.fill_slot.ensures.any_moment now.now now.stands))
 
 pub returns-clause-any_moment : goal.returns-clause-any_moment
@@ -41,7 +42,7 @@ returns-clause-any_moment g c image older follows stands =
     let now = ready image older h follows is_slot old mid stands (λ shut. c.close_slot.ensures.nothing image stands.tells shut)
     (λ opened. c.in_ok-close_slot.ensures.closed image stands.tells opened) in
     let further = joined old mid full (LeavesHeader image older h old) so_far
-    (weaker mid full (LeavesTorn (place_of h.slot + 1) 56 now.now mid) (LeavesHeader image older h old)
+    (weaker mid full (LeavesTorn (place_of h.slot + 1) HEADER_LEN now.now mid) (LeavesHeader image older h old)
     (fills image older h follows is_slot old mid now c.close_slot.ensures.leaves.text) (c.fill_slot.ensures.any_moment now.now now.stands)) in
     let filled_now = filled image older h follows is_slot mid full now (c.in_ok-fill_slot.ensures.filled now.now now.stands.tells) in
     joined old full new (LeavesHeader image older h old) further

@@ -1,7 +1,7 @@
 use Rattle.std.proofs.Common.{◌≡◌, ◌∙◌, take, get_or, sym, subst, arith}
 use Rattle.std.proofs.lemmas.List.{get_or_default}
 use Rattle.ode_host.specs.declared.call.Call.TheVariants.{End}
-use Rattle.ode_host.specs.Replay.{State, after}
+use Rattle.ode_host.specs.Replay.{HostState, after}
 use Rattle.ode_host.proofs.Tearing.{IsTornBy, after_next, torn_next}
 use Rattle.ode_host.proofs.stop.torn_after.Goals as goal
 
@@ -14,4 +14,4 @@ loop-call-preserved c s none synced =
     let then = after_next calls i call s (omega arith) here in
     let next = torn_next c.args.torn c.loop-call.torn c.in_ok-torn.torn (after (take i calls) s) call c.loop-call.held.items c.tear_call.new.held.items
     (λ is_sync. c.requires i (omega arith) (omega arith) (here ∙ is_sync)) (c.loop-call.invariant s none synced) c.in_ok-torn.ensures in
-    subst (λ (s : State). IsTornBy c.args.torn s c.in_ok-torn.torn c.tear_call.new.held.items) (sym then) next
+    subst (λ (s : HostState). IsTornBy c.args.torn s c.in_ok-torn.torn c.tear_call.new.held.items) (sym then) next

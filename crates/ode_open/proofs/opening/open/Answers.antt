@@ -1,6 +1,6 @@
 use Rattle.std.proofs.Common.{◌≡◌, inl, inr, ⊎_elim, ap, subst, Err}
 use Rattle.std.proofs.lemmas.Result.{err_from_is_err_and}
-use Rattle.ode_areas.specs.Holding.{Holds as AreasHold}
+use Rattle.ode_areas.specs.Holding.{AreasHold}
 use Rattle.ode_first_records.specs.State.{world_of}
 use Rattle.ode_gate.proofs.Counting.{open_from_counts}
 use Rattle.ode_host.proofs.Moments.{looks_joined, stands_looks, tells_looks}
@@ -8,7 +8,7 @@ use Rattle.ode_keep.specs.Entries.{Entries}
 use Rattle.ode_value.specs.OneIntRecords.{rows}
 use Rattle.ode_open.specs.declared.error.OpenError.{OpenError}
 use Rattle.ode_open.specs.declared.error.OpenError.TheVariants.{Bad, DiskFault, NoDatabase}
-use Rattle.ode_open.specs.Answers.{IsOutside, gate_error}
+use Rattle.ode_open.specs.Answers.{IsFromOutside, gate_error}
 use Rattle.ode_open.proofs.Held.{fit_rows, held_layout, held_map, held_rows, held_sound}
 use Rattle.ode_open.proofs.Refusals.{none_reason, only_outside, open_reason, reason_of, shut_reason}
 use Rattle.ode_open.proofs.opening.open.Goals as goal
@@ -93,7 +93,7 @@ returns-in_err-state-clause-bad g c is image w stands holds =
     let header = c.in_ok-header.header in
     let counts = c.in_ok-header.ensures.found image stands.tells in
     let held = c.in_ok-keeper.ensures.holds image (stands_looks image _ _ c.read_header.ensures.looks stands) counts in
-    subst (λ (e : OpenError). IsOutside e) bad
+    subst (λ (e : OpenError). IsFromOutside e) bad
     (c.in_err-state.ensures.found held.0 w held.2 (fit_rows header image held.0 held.1) holds.good (held_rows image w holds header counts held.0 held.1))
 
 -- the world is read

@@ -1,4 +1,4 @@
-use Rattle.ode_areas.specs.Holding.{Holds as AreasHold}
+use Rattle.ode_areas.specs.Holding.{AreasHold}
 use Rattle.ode_areas.specs.Laws.{stands_law}
 use Rattle.ode_first_records.specs.State.{world_of}
 use Rattle.ode_value.specs.OneIntRecords.{rows}

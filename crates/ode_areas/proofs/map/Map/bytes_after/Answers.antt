@@ -1,9 +1,11 @@
-use Rattle.std.proofs.Common.{◌≡◌, ◌≤◌, ◌*◌, ap, length, subst, sym, arith}
+use Rattle.std.proofs.Common.{◌≡◌, ◌≤◌, ◌+◌, ◌*◌, ap, length, subst, sym, arith}
 use Rattle.std.specs.List.{AllByRecursion}
 use Rattle.ode_keep.specs.Entries.{Changes}
 use Rattle.ode_keep.specs.Growth.{bytes_of, put_bytes, taken_bytes}
 use Rattle.ode_keep.proofs.Growing.{applied_grows}
-use Rattle.ode_areas.proofs.Encoding.{IsShortChange, short_each}
+use Rattle.ode_keep.proofs.Lengths.{IsShortChange, short_each}
+use Rattle.ode_keep.specs.declared.limits.TheConstants.{MAX_VALUE}
+use Rattle.ode_keep.specs.declared.spelling.TheConstants.{KEY_LEN}
 use Rattle.ode_areas.proofs.Splitting.{grown_at_most, put_short, taken_within, value_within}
 use Rattle.ode_areas.proofs.map.Map.bytes_after.Goals as goal
 
@@ -19,7 +21,7 @@ loop-key-init c =
 pub overflow_add-put : goal.overflow_add-put
 overflow_add-put c =
     let first = ap (λ (l : Changes). put_bytes l) c.in-Some.ensures.steps in
-    let whole : put_bytes c.args.batch.now ≤ 3985 * length c.args.batch.now = put_short c.args.batch.now (short_each c.args.batch.now c.requires.short) in
+    let whole : put_bytes c.args.batch.now ≤ (KEY_LEN + MAX_VALUE) * length c.args.batch.now = put_short c.args.batch.now (short_each c.args.batch.now c.requires.short) in
     omega (arith, first, whole, c.loop-key.invariant.put, c.counted-put.ensures, c.requires.few, ap bytes_of c.as_ref.ensures.value)
 
 pub counted-taken-requires : goal.counted-taken-requires

@@ -1,7 +1,7 @@
 use Rattle.std.proofs.Common.{◌≡◌, ◌+◌}
 use Rattle.std.specs.List.{AllByRecursion}
 use Rattle.ode_keep.specs.Growth.{put_bytes, taken_bytes}
-use Rattle.ode_areas.proofs.Encoding.{IsShortChange}
+use Rattle.ode_keep.proofs.Lengths.{IsShortChange}
 use Rattle.ode_areas.proofs.map.Map.bytes_after.Given as goal
 
 abbrev pub invariant-loop-key : goal.invariant-loop-key

@@ -2,6 +2,7 @@ use Rattle.std.proofs.Common.{◌≡◌, ℕ, ◌++◌, List, length, take, refl
 use Rattle.std.proofs.lemmas.List.{take_all}
 use Rattle.ode_gate.specs.Headers.{header_bytes}
 use Rattle.ode_gate.proofs.header.Header.fill.Goals as goal
+use Rattle.ode_gate.specs.declared.places.TheConstants.{SLOT_LEN}
 
 grown : (n m : ℕ) (before now front bytes spelled : List ℕ) → take n before ≡ front → take m now ≡ take n before ++ bytes → bytes ≡ spelled → take m now ≡ front ++ spelled
 grown n m before now front bytes spelled first second is = second ∙ ap (λ (l : List ℕ). l ++ bytes) first ∙ ap (λ (l : List ℕ). front ++ l) is
@@ -9,8 +10,8 @@ grown n m before now front bytes spelled first second is = second ∙ ap (λ (l 
 pub returns : goal.returns
 unfolding header_bytes
 returns c =
-    let whole : c.put.result ≡ 57 = omega arith in
-    let long : length c.put.new.to ≡ 57 = omega arith in
+    let whole : c.put.result ≡ SLOT_LEN = omega arith in
+    let long : length c.put.new.to ≡ SLOT_LEN = omega arith in
     let e = grown _ _ _ _ _ _ _
     (grown _ _ _ _ _ _ _
     (grown _ _ _ _ _ _ _

@@ -1,6 +1,6 @@
 use Rattle.std.proofs.Common.{◌∷◌, [], ◌++◌, ⊎_elim, ap, sym, subst}
 use Rattle.ode_host.specs.Host.{CutPrint}
-use Rattle.ode_host.specs.Replay.{State, IsTape, Passes}
+use Rattle.ode_host.specs.Replay.{HostState, IsTape, Passes}
 use Rattle.ode_host.proofs.Taping.{after_print, tape_print, passes_print, passes_to, ok_or_err}
 use Rattle.ode_host.specs.declared.call.Call.TheVariants.{Begin, End}
 use Rattle.ode_host.proofs.tape.Tape.print.Goals as goal
@@ -24,4 +24,4 @@ returns-clause-time c =
     passes_to _ _ _ _ _ noted.2 (subst (λ l. Passes (CutPrint l) tape.start.items tape.calls.items (tape.calls.items ++ Begin noted.0 ∷ End ∷ [])) noted.1 (passes_print tape.start.items tape.calls.items noted.0))
 
 pub returns-clause-disk : goal.returns-clause-disk
-returns-clause-disk c = ap (λ (s : State). s.disk) (after_print _ _ _ _ c.in_ok-note_print.ensures.ok.2)
+returns-clause-disk c = ap (λ (s : HostState). s.disk) (after_print _ _ _ _ c.in_ok-note_print.ensures.ok.2)

@@ -1,6 +1,6 @@
 use Rattle.std.proofs.Common.{◌∙◌, ⊎_elim, ap, sym, subst}
 use Rattle.ode_host.specs.Disk.{settled}
-use Rattle.ode_host.specs.Replay.{State, IsTape}
+use Rattle.ode_host.specs.Replay.{HostState, IsTape}
 use Rattle.ode_host.proofs.Taping.{after_push, tape_sync, tape_synced, passes_sync, passes_to, ok_or_err}
 use Rattle.ode_host.proofs.tape.Tape.sync.Goals as goal
 
@@ -21,4 +21,4 @@ pub returns-clause-durable : goal.returns-clause-durable
 returns-clause-durable c = tape_synced _ _ _ _ _ c.args.self.now.kept c.in_ok-note_sync.ensures.ok
 
 pub returns-clause-disk : goal.returns-clause-disk
-returns-clause-disk c = ap (λ (s : State). s.disk) (after_push _ _ _ _ c.in_ok-note_sync.ensures.ok) ∙ ap settled (sym c.args.self.now.kept.reads)
+returns-clause-disk c = ap (λ (s : HostState). s.disk) (after_push _ _ _ _ c.in_ok-note_sync.ensures.ok) ∙ ap settled (sym c.args.self.now.kept.reads)

@@ -1,7 +1,7 @@
 use Rattle.std.proofs.Common.{◌∷◌, [], ◌++◌, ◌∙◌, List, ℕ, length, ⊎_elim, ap, subst}
 use Rattle.ode_host.specs.Disk.{written_on}
 use Rattle.ode_host.specs.Host.{TornWrite}
-use Rattle.ode_host.specs.Replay.{State, Passes, disk_after}
+use Rattle.ode_host.specs.Replay.{HostState, Passes, disk_after}
 use Rattle.ode_host.proofs.Taping.{after_push, tape_write, tape_same, passes_write, passes_to, ok_or_err}
 use Rattle.ode_host.specs.declared.call.Call.TheVariants.{Write}
 use Rattle.ode_host.proofs.tape.Tape.write.Goals as goal
@@ -27,4 +27,4 @@ pub returns-clause-disk : goal.returns-clause-disk
 returns-clause-disk c =
     let noted = c.in_ok-note_write.ensures.ok in
     let tape = c.args.self.now in
-    ap (λ (s : State). s.disk) (after_push _ _ _ _ noted.2) ∙ ap (λ (l : List ℕ). written_on (disk_after tape.start.items tape.calls.items) c.args.at l) noted.1
+    ap (λ (s : HostState). s.disk) (after_push _ _ _ _ noted.2) ∙ ap (λ (l : List ℕ). written_on (disk_after tape.start.items tape.calls.items) c.args.at l) noted.1
