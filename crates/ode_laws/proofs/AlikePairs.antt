@@ -1,29 +1,28 @@
 -- Two worlds, over numbers and over lists, that stay alike over each change.
-use Rattle.std.proofs.Common.{◌≡◌, ℕ, ◌+◌, ◌<◌, ◌≤◌, Bool, true, false, cond, List, [], ◌∷◌, ◌++◌, map, length, ◌==◌, Option, Some, None, refl, sym, ap, ◌∙◌, subst, arith}
-use Rattle.std.specs.Prelude.{◌&&◌}
-use Rattle.std.specs.List.{AllByRecursion, AllZip, find, filter}
-use Rattle.std.specs.Option.{option_map, option_map_or, option_and_then}
+use Rattle.std.proofs.Common.{◌≡◌, ℕ, ◌+◌, ◌<◌, ◌≤◌, Bool, true, false, cond, List, [], ◌∷◌, ◌++◌, map, ◌==◌, Option, Some, None, refl, sym, ap, ◌∙◌, subst, arith}
+use Rattle.std.specs.List.{AllByRecursion, AllZip, find}
+use Rattle.std.specs.Option.{option_map, option_map_or}
 use Rattle.std.proofs.lemmas.Bool.{eq-eqb}
 use Rattle.std.proofs.lemmas.List.{map-append}
 use Rattle.ode_value.specs.declared.event.Point.{Point}
 use Rattle.ode_value.specs.declared.value.Value.{Value}
-use Rattle.ode_value.specs.Classes.{Trigger, trigger_at, watch_of}
+use Rattle.ode_value.specs.Classes.{Trigger, watch_of}
 use Rattle.ode_value.specs.Denoting.{object_numbered}
 use Rattle.ode_value.specs.Firings.{watch_by, watch_at, Place, grown_past, fired_in}
 use Rattle.ode_value.specs.GoodWorlds.{RiseFrom}
 use Rattle.ode_value.specs.Making.{drawn, object_with, with_activation, with_past}
-use Rattle.ode_value.specs.Objects.{Activation, Histories, Starts, IsWithin, new_starts}
-use Rattle.ode_value.specs.Pasts.{Past, Kept, Watch, lists, numbers, table_of, StandsFor}
-use Rattle.ode_value.specs.Tables.{Table, Means}
+use Rattle.ode_value.specs.Objects.{Activation, Histories, Starts, new_starts}
+use Rattle.ode_value.specs.Pasts.{Kept, Watch, lists, numbers}
+use Rattle.ode_value.specs.Tables.{Table}
 use Rattle.ode_value.specs.Worlds.{Declared, Object, Bones, World, with_object, kept_at, with_kept}
 use Rattle.ode_value.proofs.PastLaws.{begin_stands}
-use Rattle.ode_codec.specs.Standing.{IsTableOf, HasTables}
+use Rattle.ode_codec.specs.Standing.{HasTables}
 use Rattle.ode_laws.specs.Alike.{StaysActive, StaysIn}
 use Rattle.ode_laws.specs.Numbered.{HasNumbers, AreNumbered}
 use Rattle.ode_laws.proofs.AlikeRows.{fired_alike, number_of, Sees, Stays, Object3, Pasts3, Places, past_grown, watch_means}
 use Rattle.ode_laws.proofs.Each.{all-append, all-then, all-map}
 use Rattle.ode_laws.proofs.Numbers.{IsPlaced, rise_more}
-use Rattle.ode_laws.proofs.Rows.{Rows, id_of, Found, rows_at, numbered_find, rows_left, rows_more, rows_altered, rows_with, rows_kept, rows_then, find-with, find-append, find-map, kept-append, kept-with, kept-map, numbered-append, numbered_id}
+use Rattle.ode_laws.proofs.Rows.{Rows, id_of, Found, rows_at, numbered_find, rows_left, rows_more, rows_altered, rows_with, rows_kept, find-with, find-append, find-map, kept-append, kept-with, kept-map, numbered-append}
 
 -- ---- changes of an object that keep its number, and its activations but for which are on
 

@@ -1,23 +1,21 @@
 -- Numbers that stand for views, as rows, and what points do to them.
-use Rattle.std.proofs.Common.{◌≡◌, ℕ, ◌+◌, ◌<◌, ◌≤◌, Bool, true, false, cond, List, [], ◌∷◌, ◌++◌, map, length, ◌==◌, Option, Some, None, refl, sym, ap, ◌∙◌, subst, arith}
+use Rattle.std.proofs.Common.{◌≡◌, ℕ, ◌≤◌, Bool, true, false, List, [], ◌∷◌, map, length, ◌==◌, Option, Some, None, refl, sym, ap, ◌∙◌, subst, arith}
 use Rattle.std.specs.Prelude.{◌&&◌}
 use Rattle.std.specs.List.{AllByRecursion, AllZip, find, filter, flat_map}
 use Rattle.std.specs.Option.{option_map, option_map_or, option_and_then}
-use Rattle.std.proofs.lemmas.Bool.{eqb-true, eq-eqb}
+use Rattle.std.proofs.lemmas.Bool.{eqb-true}
 use Rattle.std.proofs.lemmas.List.{length-append}
 use Rattle.ode_value.specs.declared.event.Point.{Point}
 use Rattle.ode_value.specs.declared.value.Value.{Value}
 use Rattle.ode_value.specs.Classes.{Trigger, triggers_of, trigger_at, watch_of}
-use Rattle.ode_value.specs.Denoting.{object_numbered}
-use Rattle.ode_value.specs.Firings.{is_of, watch_by, watch_at, firing_of, changed_row, changed_rows, Place, both_lists, whole_list, grown_past, is_firing, fired_by, fired_in}
+use Rattle.ode_value.specs.Firings.{is_of, watch_by, watch_at, firing_of, changed_row, Place, both_lists, whole_list, grown_past, is_firing, fired_by, fired_in}
 use Rattle.ode_value.specs.GoodWorlds.{RiseFrom, IsStart, IsPast}
-use Rattle.ode_value.specs.Objects.{Activation, Histories, Starts, IsWithin, new_starts, grown, grown_whole}
-use Rattle.ode_value.specs.Pasts.{Past, Kept, Watch, lists, numbers, table_of, StandsFor}
+use Rattle.ode_value.specs.Objects.{Activation, Histories, Starts, IsWithin, grown, grown_whole}
+use Rattle.ode_value.specs.Pasts.{Kept, Watch, lists, numbers, table_of, StandsFor}
 use Rattle.ode_value.specs.Tables.{Table, Means}
-use Rattle.ode_value.specs.Transactions.{Firing}
-use Rattle.ode_value.specs.Worlds.{Declared, Object, World, kept_at}
-use Rattle.ode_value.proofs.PastLaws.{begin_stands, step_stands, whole_stands, step_fires, whole_fires}
-use Rattle.ode_codec.specs.Standing.{IsTableOf, HasTables, StandsBy, IsStateOf, AreStates, ArePasts}
+use Rattle.ode_value.specs.Worlds.{Declared, Object, kept_at}
+use Rattle.ode_value.proofs.PastLaws.{step_stands, whole_stands, step_fires, whole_fires}
+use Rattle.ode_codec.specs.Standing.{IsTableOf, HasTables, StandsBy, AreStates, ArePasts}
 use Rattle.ode_laws.proofs.Numbers.{IsPlaced, all-at, triggers_placed}
 use Rattle.ode_laws.proofs.Each.{all-of, all-then, all-passing, filter_same, flat_same}
 use Rattle.ode_laws.proofs.Rows.{Rows, id_of, Found, rows_at, rows_move, find_rising, kept-map}

@@ -1,33 +1,31 @@
 -- Transactions over numbers and over lists settle alike.
-use Rattle.std.proofs.Common.{◌≡◌, ℕ, zero, suc, ◌+◌, ◌<◌, ◌≤◌, Bool, true, false, cond, List, [], ◌∷◌, ◌++◌, map, length, ◌==◌, Option, Some, None, refl, sym, ap, ◌∙◌, subst, arith}
+use Rattle.std.proofs.Common.{◌≡◌, ℕ, zero, suc, ◌+◌, ◌<◌, ◌≤◌, Bool, true, false, cond, List, [], ◌∷◌, ◌++◌, map, length, ◌==◌, Some, refl, sym, ap, ◌∙◌, subst, arith}
 use Rattle.std.specs.Prelude.{nat_lt}
 use Rattle.std.specs.List.{AllByRecursion, AllZip, find, filter, filter_map, enumerate_from}
 use Rattle.std.proofs.lemmas.Bool.{eq-eqb}
 use Rattle.ode_value.specs.declared.event.Kind.{Kind}
 use Rattle.ode_value.specs.declared.event.Kind.TheVariants.{TCommit, TAbort}
-use Rattle.ode_value.specs.declared.event.Point.{Point}
 use Rattle.ode_value.specs.declared.reason.Reason.{Reason}
 use Rattle.ode_value.specs.declared.statement.Stmt.{Stmt}
 use Rattle.ode_value.specs.declared.value.Value.{Value}
 use Rattle.ode_value.specs.Acts.{Outcome, Done, Aborted, Act, Deed, go_on, ◌>>◌, with_line}
 use Rattle.ode_value.specs.Completing.{completes}
-use Rattle.ode_value.specs.Denoting.{object_numbered}
 use Rattle.ode_value.specs.Draining.{runs_entry, entry_settled, front, drain}
 use Rattle.ode_value.specs.Executing.{first_actions, commands}
-use Rattle.ode_value.specs.Firings.{Place, both_lists, whole_list, grown_past}
+use Rattle.ode_value.specs.Firings.{Place, both_lists, whole_list}
 use Rattle.ode_value.specs.GoodWorlds.{RiseFrom, IsStart, IsPast}
-use Rattle.ode_value.specs.Keeping.{kept_bones, kept_row, kept_world, with_last, rewound_row, rewound_world}
+use Rattle.ode_value.specs.Keeping.{kept_bones, kept_row, with_last}
 use Rattle.ode_value.specs.Language.{ListWorld, ListTx}
 use Rattle.ode_value.specs.Limits.{number_limit}
 use Rattle.ode_value.specs.Objects.{Activation, Histories, Starts}
-use Rattle.ode_value.specs.Pasts.{Past, Kept, lists, numbers}
+use Rattle.ode_value.specs.Pasts.{Kept, lists, numbers}
 use Rattle.ode_value.specs.Posting.{with_entry, entry_of, waiting, posts, touches, runs}
 use Rattle.ode_value.specs.Settling.{Settled, is_independent, entry_in, clock_after, settled_bones, settled_world, ends_with, posted, settled, commit, abort, settle, committed, aborted, transaction}
 use Rattle.ode_value.specs.Tables.{Table}
 use Rattle.ode_value.specs.Texts.{committed_line, aborted_line}
-use Rattle.ode_value.specs.Transactions.{Tx, Origin, Queue, Firing, Collected, generation_of, begun}
-use Rattle.ode_value.specs.Worlds.{Declared, Object, Bones, Entry, Position, kept_at, with_kept}
-use Rattle.ode_codec.specs.Standing.{HasTables, ArePasts, StandsAs}
+use Rattle.ode_value.specs.Transactions.{Origin, Queue, Firing, Collected, generation_of, begun}
+use Rattle.ode_value.specs.Worlds.{Declared, Object, Bones, Entry, kept_at}
+use Rattle.ode_codec.specs.Standing.{HasTables, ArePasts}
 use Rattle.ode_laws.specs.Alike.{NumberWorld, NumberTx, IsAlike, StaysActive, StaysIn, RunsAs, EndsAs, RunAlike, SettledAs}
 use Rattle.ode_laws.specs.Numbered.{HasNumbers, AreNumbered}
 use Rattle.ode_laws.proofs.Sides.{EndsBy, Same, told, Sides}
@@ -37,7 +35,7 @@ use Rattle.ode_laws.proofs.SideCompleting.{completes_alike, entry_alike, first_r
 use Rattle.ode_laws.proofs.SidePosting.{posts_alike, touches_alike}
 use Rattle.ode_laws.proofs.SideSettling.{Settlings, posted_related}
 use Rattle.ode_laws.proofs.AlikeRows.{number_of, Places, both_places, whole_places, rows_of_pasts, pasts_of_rows}
-use Rattle.ode_laws.proofs.AlikePairs.{IsGentle, altered_bones, Pair}
+use Rattle.ode_laws.proofs.AlikePairs.{Pair}
 use Rattle.ode_laws.proofs.AlikeWork.{Held, point_held, StaysAll, Work, work}
 use Rattle.ode_laws.proofs.KeptRows.{kept_pair, rewound_pair}
 use Rattle.ode_laws.proofs.Numbers.{apart}
@@ -98,13 +96,13 @@ itself_stays w n past =
 
 -- ---- to the relation of the work, and back
 
-pair_of : (tables : ℕ → ℕ → Table) (classes : List Declared) (v : NumberWorld) (w : ListWorld) → w.bones.classes ≡ classes → IsAlike tables v w → Pair tables classes w.bones v.pasts w.pasts
+pub pair_of : (tables : ℕ → ℕ → Table) (classes : List Declared) (v : NumberWorld) (w : ListWorld) → w.bones.classes ≡ classes → IsAlike tables v w → Pair tables classes w.bones v.pasts w.pasts
 pair_of tables classes v w is alike = record {
   rows = rows_of_pasts tables classes w.bones.objects v.pasts w.pasts (subst (λ cs. ArePasts tables cs w.bones.objects v.pasts w.pasts) is alike.stands.pasts) alike.stands.within;
   numbered = alike.numbered;
 }
 
-alike_of : (tables : ℕ → ℕ → Table) (classes : List Declared) → AllByRecursion (HasTables tables) classes → (v : NumberWorld) (w : ListWorld) → v.bones ≡ w.bones → w.bones.classes ≡ classes → Pair tables classes w.bones v.pasts w.pasts → IsAlike tables v w
+pub alike_of : (tables : ℕ → ℕ → Table) (classes : List Declared) → AllByRecursion (HasTables tables) classes → (v : NumberWorld) (w : ListWorld) → v.bones ≡ w.bones → w.bones.classes ≡ classes → Pair tables classes w.bones v.pasts w.pasts → IsAlike tables v w
 alike_of tables classes mean v w bones is pair =
     let parts : ArePasts tables classes w.bones.objects v.pasts w.pasts × AllZip IsPast w.bones.objects w.pasts = pasts_of_rows tables classes w.bones.objects v.pasts w.pasts pair.rows in
     record {
@@ -117,6 +115,99 @@ alike_of tables classes mean v w bones is pair =
       numbered = pair.numbered;
     }
 
+module _ (tables : ℕ → ℕ → Table) (cs : List Declared) (mean : AllByRecursion (HasTables tables) cs) (rising : RiseFrom 0 (map (λ (d : Declared). d.class.number) cs)) (v0 : NumberWorld) (w0 : ListWorld) where
+  -- ---- settling
+
+  abbrev pub Still : ListWorld → Type 0
+  Still w = Unit {0}
+
+  abbrev Last : NumberTx → ListTx → Type 0
+  Last y x = Held tables cs mean rising v0 w0 Still y x
+
+  last_again : (y : NumberTx) (x : ListTx) → Last y x → (v : NumberTx) (w : ListTx) → v.first ≡ y.first → w.first ≡ x.first → v.now ≡ y.now → w.now ≡ x.now → Same cs v w → Last v w
+  last_again y x h v w fy fx ny nx same = record {
+    same = same;
+    pair = subst (λ n. Pair tables cs n.bones v.now.pasts n.pasts) (sym nx) (subst (λ n. Pair tables cs x.now.bones n.pasts x.now.pasts) (sym ny) h.pair);
+    first_y = fy ∙ h.first_y;
+    first_x = fx ∙ h.first_x;
+    hold = tt;
+  }
+
+  collect_same : (y : NumberTx) (x : ListTx) (f : Firing) → Same cs y x → Same cs (with_entry true f y) (with_entry true f x)
+  collect_same y x f s =
+      told cs y x s (with_entry true f y) (with_entry true f x) refl refl refl refl s.origin s.touched s.deferred
+      (ap (λ e. e ++ record { entry = entry_of (generation_of y.origin + 1) f; independent = true } ∷ []) s.collected
+      ∙ ap (λ g. x.collected ++ record { entry = entry_of (generation_of g + 1) f; independent = true } ∷ []) s.origin)
+      (ap (λ g. g + 1) s.gathered) s.text s.run s.keys
+
+  abbrev settling : (k : Place (Unit {0}) ℕ) (l : Place Histories Starts) → Places tables cs mean k l → Settlings (Unit {0}) ℕ Histories Starts
+  settling k l places = record {
+    past = numbers tables;
+    other = lists;
+    classes = cs;
+    place = k;
+    other_place = l;
+    Related = Last;
+    same = λ y x h. h.same;
+    line = λ y x line h. last_again y x h (with_line line y) (with_line line x) refl refl refl refl (told cs y x h.same (with_line line y) (with_line line x) refl refl refl refl h.same.origin h.same.touched h.same.deferred h.same.collected h.same.gathered (ap (λ t. t ++ line) h.same.text) h.same.run h.same.keys);
+    collect = λ y x f h room. last_again y x h (with_entry true f y) (with_entry true f x) refl refl refl refl (collect_same y x f h.same);
+    point = λ y x id kind h.
+        point_held tables cs mean rising v0 w0 Still (λ w id f g u. tt) k l places (λ w p ds o u. tt) y x id kind [] h;
+  }
+
+  -- bones of two settled transactions
+  bones_settled : (y : NumberTx) (x : ListTx) → Same cs y x → (b : Bones) → settled_bones y b ≡ settled_bones x b
+  bones_settled y x s b =
+      let made : Bones → Origin → List Collected → Bones = λ f o c. record b {
+        transaction = f.transaction + 1;
+        queue = waiting o f.queue ++ enumerate_from f.next_entry (map entry_in c);
+        next_entry = f.next_entry + length c;
+        clock = clock_after o f.clock;
+      } in
+      ap (λ f. made f y.origin y.collected) s.first ∙ ap (λ o. made x.first.bones o y.collected) s.origin ∙ ap (λ c. made x.first.bones x.origin c) s.collected
+
+  ends_alike : (line : List ℕ) (y : NumberTx) (x : ListTx) → Last y x → SettledAs tables (ends_with line y) (ends_with line x)
+  ends_alike line y x h = record {
+    world = alike_of tables cs mean (settled_world y) (settled_world x)
+        (bones_settled y x h.same (kept_bones y.now.bones) ∙ ap (λ b. settled_bones x (kept_bones b)) h.same.bones) h.same.classes
+        (subst (λ b. Pair tables cs (settled_bones x (kept_bones x.now.bones)) (filter_map (kept_row (kept_bones b)) y.now.pasts) (filter_map (kept_row (kept_bones x.now.bones)) x.now.pasts)) (sym h.same.bones)
+        (settled_pair (kept_pair tables cs x.now.bones y.now.pasts x.now.pasts h.pair)));
+    text = ap (λ t. t ++ line) h.same.text;
+  }
+    where
+      settled_pair : {ks : List (ℕ × Kept (Unit {0}) ℕ)} {ls : List (ℕ × Kept Histories Starts)} → Pair tables cs (kept_bones x.now.bones) ks ls → Pair tables cs (settled_bones x (kept_bones x.now.bones)) ks ls
+      settled_pair p = record { rows = p.rows; numbered = record { classes = p.numbered.classes; rising = p.numbered.rising; objects = p.numbered.objects } }
+
+  settled_alike : (k : Place (Unit {0}) ℕ) (l : Place Histories Starts) → Places tables cs mean k l → (kind : Kind) (line : List ℕ) (y : NumberTx) (x : ListTx) → Last y x
+      → SettledAs tables (settled (numbers tables) k kind line y) (settled lists l kind line x)
+  settled_alike k l places kind line y x h =
+      ends_alike line (posted (numbers tables) k kind y) (posted lists l kind x) (posted_related (settling k l places) kind y x h)
+
+  pub commits_by : (Hold : ListWorld → Type 0) (y : NumberTx) (x : ListTx) → Held tables cs mean rising v0 w0 Hold y x → SettledAs tables (commit (numbers tables) y) (commit lists x)
+  commits_by Hold y x h =
+      subst (λ n. SettledAs tables (settled (numbers tables) (both_lists (numbers tables)) TCommit (committed_line n) (committed (numbers tables) y)) (commit lists x)) (sym (ap (λ (b : Bones). b.transaction) h.same.first))
+      (settled_alike (both_lists (numbers tables)) (both_lists lists) (both_places tables cs mean) TCommit (committed_line x.first.bones.transaction) (committed (numbers tables) y) (committed lists x) (record {
+        same = record {
+          bones = ap kept_bones h.same.bones;
+          classes = h.same.classes;
+          first = h.same.first;
+          origin = h.same.origin;
+          touched = h.same.touched;
+          deferred = h.same.deferred;
+          collected = h.same.collected;
+          gathered = h.same.gathered;
+          text = h.same.text;
+          run = h.same.run;
+          keys = h.same.keys;
+        };
+        pair =
+            subst (λ b. Pair tables cs (kept_bones x.now.bones) (filter_map (kept_row (kept_bones b)) y.now.pasts) (filter_map (kept_row (kept_bones x.now.bones)) x.now.pasts)) (sym h.same.bones)
+            (kept_pair tables cs x.now.bones y.now.pasts x.now.pasts h.pair);
+        first_y = h.first_y;
+        first_x = h.first_x;
+        hold = tt;
+      }))
+
 module _ (tables : ℕ → ℕ → Table) (v0 : NumberWorld) (w0 : ListWorld) (alike : IsAlike tables v0 w0) where
   abbrev cs : List Declared
   cs = w0.bones.classes
@@ -124,7 +215,7 @@ module _ (tables : ℕ → ℕ → Table) (v0 : NumberWorld) (w0 : ListWorld) (a
   abbrev TheWork : NumberTx → ListTx → Type 0
   TheWork y x = Work tables cs alike.stands.mean alike.numbered.classes v0 w0 y x
 
-  abbrev the_work : Sides (Unit {0}) ℕ Histories Starts
+  abbrev pub the_work : Sides (Unit {0}) ℕ Histories Starts
   the_work = work tables cs alike.stands.mean alike.numbered.classes v0 w0
 
   -- a transaction that runs as another
@@ -175,133 +266,49 @@ module _ (tables : ℕ → ℕ → Table) (v0 : NumberWorld) (w0 : ListWorld) (a
   ends_of (Done r y) (Aborted t x) h = absurd h
   ends_of (Aborted r y) (Done t x) h = absurd h
 
-  -- ---- settling
-
-  abbrev Still : ListWorld → Type 0
-  Still w = Unit {0}
-
-  abbrev Last : NumberTx → ListTx → Type 0
-  Last y x = Held tables cs alike.stands.mean alike.numbered.classes v0 w0 Still y x
-
-  last_again : (y : NumberTx) (x : ListTx) → Last y x → (v : NumberTx) (w : ListTx) → v.first ≡ y.first → w.first ≡ x.first → v.now ≡ y.now → w.now ≡ x.now → Same cs v w → Last v w
-  last_again y x h v w fy fx ny nx same = record {
-    same = same;
-    pair = subst (λ n. Pair tables cs n.bones v.now.pasts n.pasts) (sym nx) (subst (λ n. Pair tables cs x.now.bones n.pasts x.now.pasts) (sym ny) h.pair);
-    first_y = fy ∙ h.first_y;
-    first_x = fx ∙ h.first_x;
-    hold = tt;
-  }
-
-  collect_same : (y : NumberTx) (x : ListTx) (f : Firing) → Same cs y x → Same cs (with_entry true f y) (with_entry true f x)
-  collect_same y x f s =
-      told cs y x s (with_entry true f y) (with_entry true f x) refl refl refl refl s.origin s.touched s.deferred
-      (ap (λ e. e ++ record { entry = entry_of (generation_of y.origin + 1) f; independent = true } ∷ []) s.collected
-      ∙ ap (λ g. x.collected ++ record { entry = entry_of (generation_of g + 1) f; independent = true } ∷ []) s.origin)
-      (ap (λ g. g + 1) s.gathered) s.text s.run s.keys
-
-  abbrev settling : (k : Place (Unit {0}) ℕ) (l : Place Histories Starts) → Places tables cs alike.stands.mean k l → Settlings (Unit {0}) ℕ Histories Starts
-  settling k l places = record {
-    past = numbers tables;
-    other = lists;
-    classes = cs;
-    place = k;
-    other_place = l;
-    Related = Last;
-    same = λ y x h. h.same;
-    line = λ y x line h. last_again y x h (with_line line y) (with_line line x) refl refl refl refl (told cs y x h.same (with_line line y) (with_line line x) refl refl refl refl h.same.origin h.same.touched h.same.deferred h.same.collected h.same.gathered (ap (λ t. t ++ line) h.same.text) h.same.run h.same.keys);
-    collect = λ y x f h room. last_again y x h (with_entry true f y) (with_entry true f x) refl refl refl refl (collect_same y x f h.same);
-    point = λ y x id kind h.
-        point_held tables cs alike.stands.mean alike.numbered.classes v0 w0 Still (λ w id f g u. tt) k l places (λ w p ds o u. tt) y x id kind [] h;
-  }
-
-  -- bones of two settled transactions
-  bones_settled : (y : NumberTx) (x : ListTx) → Same cs y x → (b : Bones) → settled_bones y b ≡ settled_bones x b
-  bones_settled y x s b =
-      let made : Bones → Origin → List Collected → Bones = λ f o c. record b {
-        transaction = f.transaction + 1;
-        queue = waiting o f.queue ++ enumerate_from f.next_entry (map entry_in c);
-        next_entry = f.next_entry + length c;
-        clock = clock_after o f.clock;
-      } in
-      ap (λ f. made f y.origin y.collected) s.first ∙ ap (λ o. made x.first.bones o y.collected) s.origin ∙ ap (λ c. made x.first.bones x.origin c) s.collected
-
-  ends_alike : (line : List ℕ) (y : NumberTx) (x : ListTx) → Last y x → SettledAs tables (ends_with line y) (ends_with line x)
-  ends_alike line y x h = record {
-    world = alike_of tables cs alike.stands.mean (settled_world y) (settled_world x)
-        (bones_settled y x h.same (kept_bones y.now.bones) ∙ ap (λ b. settled_bones x (kept_bones b)) h.same.bones) h.same.classes
-        (subst (λ b. Pair tables cs (settled_bones x (kept_bones x.now.bones)) (filter_map (kept_row (kept_bones b)) y.now.pasts) (filter_map (kept_row (kept_bones x.now.bones)) x.now.pasts)) (sym h.same.bones)
-        (settled_pair (kept_pair tables cs x.now.bones y.now.pasts x.now.pasts h.pair)));
-    text = ap (λ t. t ++ line) h.same.text;
-  }
-    where
-      settled_pair : {ks : List (ℕ × Kept (Unit {0}) ℕ)} {ls : List (ℕ × Kept Histories Starts)} → Pair tables cs (kept_bones x.now.bones) ks ls → Pair tables cs (settled_bones x (kept_bones x.now.bones)) ks ls
-      settled_pair p = record { rows = p.rows; numbered = record { classes = p.numbered.classes; rising = p.numbered.rising; objects = p.numbered.objects } }
-
-  settled_alike : (k : Place (Unit {0}) ℕ) (l : Place Histories Starts) → Places tables cs alike.stands.mean k l → (kind : Kind) (line : List ℕ) (y : NumberTx) (x : ListTx) → Last y x
-      → SettledAs tables (settled (numbers tables) k kind line y) (settled lists l kind line x)
-  settled_alike k l places kind line y x h =
-      ends_alike line (posted (numbers tables) k kind y) (posted lists l kind x) (posted_related (settling k l places) kind y x h)
-
-  pub commits_alike : (y : NumberTx) (x : ListTx) → TheWork y x → SettledAs tables (commit (numbers tables) y) (commit lists x)
-  commits_alike y x h =
-      subst (λ n. SettledAs tables (settled (numbers tables) (both_lists (numbers tables)) TCommit (committed_line n) (committed (numbers tables) y)) (commit lists x)) (sym (ap (λ (b : Bones). b.transaction) h.same.first))
-      (settled_alike (both_lists (numbers tables)) (both_lists lists) (both_places tables cs alike.stands.mean) TCommit (committed_line x.first.bones.transaction) (committed (numbers tables) y) (committed lists x) (record {
-        same = record {
-          bones = ap kept_bones h.same.bones;
-          classes = h.same.classes;
-          first = h.same.first;
-          origin = h.same.origin;
-          touched = h.same.touched;
-          deferred = h.same.deferred;
-          collected = h.same.collected;
-          gathered = h.same.gathered;
-          text = h.same.text;
-          run = h.same.run;
-          keys = h.same.keys;
-        };
-        pair =
-            subst (λ b. Pair tables cs (kept_bones x.now.bones) (filter_map (kept_row (kept_bones b)) y.now.pasts) (filter_map (kept_row (kept_bones x.now.bones)) x.now.pasts)) (sym h.same.bones)
-            (kept_pair tables cs x.now.bones y.now.pasts x.now.pasts h.pair);
-        first_y = h.first_y;
-        first_x = h.first_x;
-        hold = tt;
-      }))
-
   abbrev back_bones : Bones → Bones → Bones
   back_bones first now = record first { next = now.next; objects = map (with_last now) first.objects }
 
-  pub aborts_alike : (reason : Reason) (y : NumberTx) (x : ListTx) → TheWork y x → SettledAs tables (abort (numbers tables) reason y) (abort lists reason x)
-  aborts_alike reason y x h =
-      subst (λ n. SettledAs tables (settled (numbers tables) (whole_list (numbers tables)) TAbort (aborted_line n reason) (aborted (numbers tables) y)) (abort lists reason x)) (sym (ap (λ (b : Bones). b.transaction) h.same.first))
-      (settled_alike (whole_list (numbers tables)) (whole_list lists) (whole_places tables cs alike.stands.mean) TAbort (aborted_line x.first.bones.transaction reason) (aborted (numbers tables) y) (aborted lists x) (record {
+  -- an abort, whatever the classes now are
+  pub aborts_by : (reason : Reason) (ds : List Declared) (y : NumberTx) (x : ListTx) → Same ds y x → Pair tables cs x.now.bones y.now.pasts x.now.pasts → y.first ≡ v0 → x.first ≡ w0
+      → AllZip (StaysIn x.now) w0.bones.objects w0.pasts → w0.bones.next ≤ x.now.bones.next → SettledAs tables (abort (numbers tables) reason y) (abort lists reason x)
+  aborts_by reason ds y x same pair first_y first_x all next =
+      subst (λ n. SettledAs tables (settled (numbers tables) (whole_list (numbers tables)) TAbort (aborted_line n reason) (aborted (numbers tables) y)) (abort lists reason x)) (sym (ap (λ (b : Bones). b.transaction) same.first))
+      (settled_alike tables cs alike.stands.mean alike.numbered.classes v0 w0 (whole_list (numbers tables)) (whole_list lists) (whole_places tables cs alike.stands.mean) TAbort (aborted_line x.first.bones.transaction reason) (aborted (numbers tables) y) (aborted lists x) (record {
         same = record {
-          bones = ap (λ f. back_bones f y.now.bones) h.same.first ∙ ap (λ n. back_bones x.first.bones n) h.same.bones;
+          bones = ap (λ f. back_bones f y.now.bones) same.first ∙ ap (λ n. back_bones x.first.bones n) same.bones;
           classes = first_classes;
-          first = h.same.first;
-          origin = h.same.origin;
-          touched = h.same.touched;
-          deferred = h.same.deferred;
-          collected = ap (filter is_independent) h.same.collected;
-          gathered = h.same.gathered;
-          text = h.same.text;
-          run = h.same.run;
-          keys = h.same.keys;
+          first = same.first;
+          origin = same.origin;
+          touched = same.touched;
+          deferred = same.deferred;
+          collected = ap (filter is_independent) same.collected;
+          gathered = same.gathered;
+          text = same.text;
+          run = same.run;
+          keys = same.keys;
         };
         pair =
-            rewound_pair tables cs alike.stands.mean y.first y.now x.first x.now h.same.first first_classes first_pair h.pair
-            (subst (λ (w : ListWorld). AllZip (StaysIn x.now) w.bones.objects w.pasts) (sym h.first_x) h.hold.all) (subst (λ (w : ListWorld). w.bones.next ≤ x.now.bones.next) (sym h.first_x) h.hold.next);
-        first_y = h.first_y;
-        first_x = h.first_x;
+            rewound_pair tables cs alike.stands.mean y.first y.now x.first x.now same.first first_classes first_pair pair
+            (subst (λ (w : ListWorld). AllZip (StaysIn x.now) w.bones.objects w.pasts) (sym first_x) all) (subst (λ (w : ListWorld). w.bones.next ≤ x.now.bones.next) (sym first_x) next);
+        first_y = first_y;
+        first_x = first_x;
         hold = tt;
       }))
     where
       first_classes : x.first.bones.classes ≡ cs
-      first_classes = ap (λ (w : ListWorld). w.bones.classes) h.first_x
+      first_classes = ap (λ (w : ListWorld). w.bones.classes) first_x
 
       first_pair : Pair tables cs x.first.bones y.first.pasts x.first.pasts
       first_pair =
-          subst (λ (v : NumberWorld). Pair tables cs x.first.bones v.pasts x.first.pasts) (sym h.first_y)
-          (subst (λ (w : ListWorld). Pair tables cs w.bones v0.pasts w.pasts) (sym h.first_x) (pair_of tables cs v0 w0 refl alike))
+          subst (λ (v : NumberWorld). Pair tables cs x.first.bones v.pasts x.first.pasts) (sym first_y)
+          (subst (λ (w : ListWorld). Pair tables cs w.bones v0.pasts w.pasts) (sym first_x) (pair_of tables cs v0 w0 refl alike))
+
+  pub aborts_alike : (reason : Reason) (y : NumberTx) (x : ListTx) → TheWork y x → SettledAs tables (abort (numbers tables) reason y) (abort lists reason x)
+  aborts_alike reason y x h = aborts_by reason cs y x h.same h.pair h.first_y h.first_x h.hold.all h.hold.next
+
+  pub commits_alike : (y : NumberTx) (x : ListTx) → TheWork y x → SettledAs tables (commit (numbers tables) y) (commit lists x)
+  commits_alike y x h = commits_by tables cs alike.stands.mean alike.numbered.classes v0 w0 (StaysAll tables cs alike.stands.mean alike.numbered.classes v0 w0) y x h
 
   pub settles_alike : (p : Outcome (Unit {0}) ℕ (Unit {0})) (q : Outcome Histories Starts (Unit {0})) → EndsBy TheWork TheWork p q → SettledAs tables (settle (numbers tables) p) (settle lists q)
   settles_alike (Done r y) (Done t x) h = commits_alike y x h.1

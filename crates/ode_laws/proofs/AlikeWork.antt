@@ -1,13 +1,11 @@
 -- A transaction's work over numbers and over lists.
-use Rattle.std.proofs.Common.{◌≡◌, ℕ, ◌+◌, ◌<◌, ◌≤◌, Bool, true, false, cond, List, [], ◌∷◌, ◌++◌, map, length, ◌==◌, Option, Some, None, refl, sym, ap, ◌∙◌, subst, arith}
-use Rattle.std.specs.Prelude.{nat_lt, nat_le}
+use Rattle.std.proofs.Common.{◌≡◌, ℕ, ◌+◌, ◌≤◌, Bool, true, false, cond, List, [], ◌∷◌, ◌++◌, map, ◌==◌, Option, Some, None, refl, sym, ap, ◌∙◌, subst, arith}
 use Rattle.std.specs.List.{AllByRecursion, AllZip, fold}
 use Rattle.std.specs.Option.{option_map_or}
 use Rattle.ode_value.specs.declared.event.Kind.{Kind}
 use Rattle.ode_value.specs.declared.event.Point.{Point}
-use Rattle.ode_value.specs.declared.key.Key.{Key}
 use Rattle.ode_value.specs.declared.value.Value.{Value}
-use Rattle.ode_value.specs.Acts.{Outcome, Done, Aborted, Act, Deed, go_on, ◌>>=◌, ◌>>◌, gives, reads, turns, found, with_line, with_statement}
+use Rattle.ode_value.specs.Acts.{Act, go_on, ◌>>=◌, ◌>>◌, gives, reads, turns, found, with_line, with_statement}
 use Rattle.ode_value.specs.Changes.{with_key, alters_object, holding}
 use Rattle.ode_value.specs.Classes.{Trigger}
 use Rattle.ode_value.specs.Denoting.{object_at, object_numbered}
@@ -16,10 +14,10 @@ use Rattle.ode_value.specs.GoodWorlds.{RiseFrom}
 use Rattle.ode_value.specs.Language.{ListWorld, ListTx}
 use Rattle.ode_value.specs.Making.{drawn, derived_from, switched_off, object_with, with_activation, with_past, with_new, with_active}
 use Rattle.ode_value.specs.Objects.{Activation, Histories, Starts, new_starts}
-use Rattle.ode_value.specs.Pasts.{Past, Kept, Watch, lists, numbers}
+use Rattle.ode_value.specs.Pasts.{Past, Kept, lists, numbers}
 use Rattle.ode_value.specs.Posting.{with_deferred, with_entry, entry_of}
 use Rattle.ode_value.specs.Tables.{Table}
-use Rattle.ode_value.specs.Transactions.{Tx, Firing, Collected, generation_of, touching}
+use Rattle.ode_value.specs.Transactions.{Firing, generation_of, touching}
 use Rattle.ode_value.specs.Versions.{Version}
 use Rattle.ode_value.specs.Worlds.{Declared, Object, Bones, with_object, kept_at, with_kept}
 use Rattle.ode_codec.specs.Standing.{HasTables}

@@ -1,28 +1,25 @@
 -- What each small change of one machine's transaction keeps, its acts keep.
-use Rattle.std.proofs.Common.{◌≡◌, ℕ, zero, suc, ◌+◌, Bool, true, false, cond, List, [], ◌∷◌, ◌++◌, length, Option, Some, None, Result, Ok, refl, sym, ap, ◌∙◌, subst}
+use Rattle.std.proofs.Common.{◌≡◌, ℕ, suc, ◌+◌, Bool, true, List, length, Option, Some, None, Ok, refl, sym, ap, subst}
 use Rattle.std.specs.Prelude.{nat_lt, nat_le}
-use Rattle.std.specs.List.{AllByRecursion}
 use Rattle.ode_value.specs.declared.event.Kind.{Kind}
 use Rattle.ode_value.specs.declared.event.Point.{Point}
 use Rattle.ode_value.specs.declared.key.Key.{Key}
-use Rattle.ode_value.specs.declared.reason.Reason.{Reason}
-use Rattle.ode_value.specs.declared.statement.Stmt.{Stmt}
 use Rattle.ode_value.specs.declared.value.Ref.{Ref}
 use Rattle.ode_value.specs.declared.value.Value.{Value}
-use Rattle.ode_value.specs.Acts.{Outcome, Done, Aborted, Act, Deed, go_on, ◌>>=◌, ◌>>◌, gives, reads, turns, found, with_line, with_statement}
+use Rattle.ode_value.specs.Acts.{Outcome, Done, Aborted, Act, go_on, ◌>>=◌, ◌>>◌, gives, reads, turns, found, with_line, with_statement}
 use Rattle.ode_value.specs.Changes.{key_count, holding, has_number, alters_object}
 use Rattle.ode_value.specs.Classes.{Trigger, triggers_of}
 use Rattle.ode_value.specs.Denoting.{object_at, denoted}
-use Rattle.ode_value.specs.Firings.{new_point, object_after, Place, both_lists, with_point, fired, arises}
+use Rattle.ode_value.specs.Firings.{new_point, object_after, both_lists, with_point, fired, arises}
 use Rattle.ode_value.specs.Limits.{budget_limit, output_limit, change_limit, cascade_limit, version_limit}
 use Rattle.ode_value.specs.Making.{derived_from, with_new, with_active}
 use Rattle.ode_value.specs.Pasts.{Past}
 use Rattle.ode_value.specs.Posting.{has_room, with_deferred, with_entry}
 use Rattle.ode_value.specs.Transactions.{Tx, Firing, touching}
 use Rattle.ode_value.specs.Versions.{Version}
-use Rattle.ode_value.specs.Worlds.{Declared, Object, Bones, World}
+use Rattle.ode_value.specs.Worlds.{Declared, Object}
 use Rattle.ode_laws.proofs.Each.{all-of}
-use Rattle.ode_laws.proofs.Sides.{EndsBy, Same, Sides, altered, turned, set_in, dropped_from, removed, off_in}
+use Rattle.ode_laws.proofs.Sides.{EndsBy, Sides, altered, turned, set_in, dropped_from, removed, off_in}
 
 -- What holds, with how many objects may still be touched in the statement that runs, and what keeps it.
 pub record Keeps {O A : Type 0} (past : Past O A) (Holds : ℕ → Tx O A → Type 0) : Type 0 where

@@ -1,5 +1,5 @@
 -- Statements and completion keep a transaction within its limits, and go on from where they began; completion has enough rounds.
-use Rattle.std.proofs.Common.{◌≡◌, ◌⊎◌, inl, inr, ℕ, zero, suc, ◌+◌, ◌-◌, ◌<◌, ◌≤◌, Bool, true, false, cond, List, [], ◌∷◌, ◌++◌, length, Option, Some, None, refl, sym, ap, ◌∙◌, subst, arith}
+use Rattle.std.proofs.Common.{◌≡◌, ◌⊎◌, inl, inr, ℕ, zero, suc, ◌+◌, ◌-◌, ◌<◌, ◌≤◌, Bool, true, false, List, [], ◌∷◌, ◌++◌, length, Option, Some, None, refl, sym, ap, ◌∙◌, subst, arith}
 use Rattle.std.specs.Prelude.{nat_lt, nat_le, slice_get, slice_index_or, ◌&&◌}
 use Rattle.std.specs.List.{fold, Contains}
 use Rattle.std.specs.Ordering.{match_ordering}
@@ -9,18 +9,18 @@ use Rattle.std.proofs.lemmas.Bool.{leb-true, ltb-true}
 use Rattle.std.proofs.lemmas.List.{length-append, append_assoc, append-nil}
 use Rattle.ode_value.specs.declared.key.Key.{Key}
 use Rattle.ode_value.specs.declared.statement.Stmt.{Stmt}
-use Rattle.ode_value.specs.Acts.{Outcome, Done, Aborted, Act, Deed, go_on, nothing, with_line, with_statement}
+use Rattle.ode_value.specs.Acts.{Outcome, Done, Aborted, Deed, go_on, with_statement}
 use Rattle.ode_value.specs.Changes.{with_key, key_count, holding}
 use Rattle.ode_value.specs.Completing.{rounds, posts_tcomplete, round, goes_round, completes}
 use Rattle.ode_value.specs.Executing.{first_actions, commands}
 use Rattle.ode_value.specs.Keys.{key_cmp}
 use Rattle.ode_value.specs.Limits.{budget_limit, output_limit, change_limit, cascade_limit, generation_limit, queue_limit, number_limit}
 use Rattle.ode_value.specs.Pasts.{Past}
-use Rattle.ode_value.specs.Posting.{waiting, has_room, with_deferred, with_entry, runs}
+use Rattle.ode_value.specs.Posting.{waiting, has_room, with_deferred, runs}
 use Rattle.ode_value.specs.Transactions.{Tx, Origin, Script, Queue, Clock, Firing, generation_of, begun, touching}
 use Rattle.ode_value.specs.Worlds.{World}
 use Rattle.ode_laws.specs.Bounds.{IsBounded, GoesOn, StaysBounded}
-use Rattle.ode_laws.proofs.Alone.{Keeps, Alone, alone, Ended, ended}
+use Rattle.ode_laws.proofs.Alone.{Keeps, Alone, alone, Ended}
 use Rattle.ode_laws.proofs.Sides.{EndsBy}
 use Rattle.ode_laws.proofs.SideStatements.{commands_alike}
 use Rattle.ode_laws.proofs.SideCompleting.{tcomplete_alike, first_runs_alike, completes_alike}

@@ -1,6 +1,5 @@
 -- The numbers of a good world tell its parts apart.
-use Rattle.std.proofs.Common.{◌≡◌, ℕ, ◌+◌, ◌<◌, ◌≤◌, List, [], ◌∷◌, ◌++◌, map, length, refl, sym, ap, ◌∙◌, subst, arith}
-use Rattle.std.specs.List.{AllByRecursion}
+use Rattle.std.proofs.Common.{◌≡◌, ℕ, ◌+◌, ◌<◌, ◌≤◌, List, [], ◌∷◌, ◌++◌, map, length, arith}
 use Rattle.std.proofs.lemmas.List.{length-append}
 use Rattle.ode_value.specs.GoodWorlds.{RiseFrom, AreClasses, IsActivation, IsObject, IsGood}
 use Rattle.ode_value.specs.Language.{Language, ListWorld}

@@ -1,19 +1,19 @@
 -- What a commit and an abort keep of rows.
-use Rattle.std.proofs.Common.{◌≡◌, ◌≢◌, ◌⊎◌, inl, inr, ℕ, ◌+◌, ◌<◌, ◌≤◌, Bool, true, false, cond, List, [], ◌∷◌, ◌++◌, map, length, ◌==◌, Option, Some, None, refl, sym, ap, ◌∙◌, subst, arith}
+use Rattle.std.proofs.Common.{◌≡◌, ◌≢◌, ◌⊎◌, inl, inr, ℕ, ◌+◌, ◌<◌, ◌≤◌, Bool, true, false, cond, List, [], ◌∷◌, map, ◌==◌, Option, Some, None, refl, sym, ap, ◌∙◌, subst, arith}
 use Rattle.std.specs.Prelude.{◌||◌}
 use Rattle.std.specs.List.{AllByRecursion, AllZip, find, filter, filter_map, list_any, cons_option}
 use Rattle.std.specs.Option.{option_map, option_map_or, option_and_then, unwrap_or}
-use Rattle.std.proofs.lemmas.Bool.{eqb-true, eq-eqb}
+use Rattle.std.proofs.lemmas.Bool.{eq-eqb}
 use Rattle.std.proofs.lemmas.Bool.Decides.{eqb_tells}
 use Rattle.ode_value.specs.Denoting.{object_numbered, object_at, if_live}
 use Rattle.ode_value.specs.Firings.{watch_by, watch_at, changed_row}
 use Rattle.ode_value.specs.GoodWorlds.{RiseFrom}
-use Rattle.ode_value.specs.Keeping.{is_active, is_there, has_activation, kept_object, kept_bones, with_last, kept_past, kept_row, back, rewound_past, rewound_by, rewound_row}
+use Rattle.ode_value.specs.Keeping.{is_active, is_there, has_activation, kept_object, kept_bones, with_last, kept_past, kept_row, back, rewound_past, rewound_row}
 use Rattle.ode_value.specs.Language.{ListWorld}
 use Rattle.ode_value.specs.Objects.{Activation, Histories, Starts, IsWithin, rewound}
-use Rattle.ode_value.specs.Pasts.{Past, Kept, Watch, lists, numbers, table_of, StandsFor}
-use Rattle.ode_value.specs.Tables.{Table, Means}
-use Rattle.ode_value.specs.Worlds.{Declared, Object, Bones, World, kept_at}
+use Rattle.ode_value.specs.Pasts.{Kept, Watch, lists, numbers, StandsFor}
+use Rattle.ode_value.specs.Tables.{Table}
+use Rattle.ode_value.specs.Worlds.{Declared, Object, Bones, kept_at}
 use Rattle.ode_value.proofs.PastLaws.{back_stands}
 use Rattle.ode_codec.specs.Standing.{HasTables}
 use Rattle.ode_laws.specs.Alike.{NumberWorld, StaysActive, StaysIn}

@@ -1,27 +1,24 @@
 -- The last points of a transaction keep its keys within their limit, and its text behind what it printed.
-use Rattle.std.proofs.Common.{◌≡◌, ℕ, ◌+◌, ◌<◌, ◌≤◌, Bool, true, List, [], ◌∷◌, ◌++◌, length, Option, Some, None, refl, sym, ap, ◌∙◌, subst, arith}
+use Rattle.std.proofs.Common.{◌≡◌, ℕ, ◌<◌, ◌≤◌, true, List, [], ◌++◌, Option, Some, None, refl, sym, ap, ◌∙◌, subst, arith}
 use Rattle.std.proofs.lemmas.List.{append_assoc, append-nil}
-use Rattle.std.specs.List.{filter}
 use Rattle.ode_value.specs.declared.event.Kind.{Kind}
 use Rattle.ode_value.specs.declared.event.Kind.TheVariants.{TCommit, TAbort}
-use Rattle.ode_value.specs.declared.event.Point.{Point}
 use Rattle.ode_value.specs.declared.reason.Reason.{Reason}
-use Rattle.ode_value.specs.declared.value.Value.{Value}
-use Rattle.ode_value.specs.Acts.{Outcome, Done, Aborted, Act, go_on, ◌>>=◌, ◌>>◌, gives, reads, turns, found, with_line}
+use Rattle.ode_value.specs.Acts.{Act, go_on, ◌>>=◌, ◌>>◌, gives, reads, turns, found, with_line}
 use Rattle.ode_value.specs.Changes.{key_count, alters_object}
 use Rattle.ode_value.specs.Denoting.{object_at}
 use Rattle.ode_value.specs.Firings.{new_point, object_after, Place, both_lists, whole_list, with_point, fired, arises}
 use Rattle.ode_value.specs.Limits.{change_limit}
 use Rattle.ode_value.specs.Pasts.{Past}
-use Rattle.ode_value.specs.Posting.{has_room, with_entry}
-use Rattle.ode_value.specs.Settling.{ends_with, posted, settled, commit, abort, settle, committed, aborted}
+use Rattle.ode_value.specs.Posting.{with_entry}
+use Rattle.ode_value.specs.Settling.{ends_with, posted, commit, abort, committed, aborted}
 use Rattle.ode_value.specs.Texts.{committed_line, aborted_line}
 use Rattle.ode_value.specs.Transactions.{Tx, Firing}
 use Rattle.ode_value.specs.Worlds.{Declared, Object}
-use Rattle.ode_laws.specs.Bounds.{IsBounded, GoesOn, StaysBounded, Prints}
-use Rattle.ode_laws.proofs.Sides.{EndsBy, Same, altered, turned}
+use Rattle.ode_laws.specs.Bounds.{Prints}
+use Rattle.ode_laws.proofs.Sides.{EndsBy}
 use Rattle.ode_laws.proofs.SideSettling.{Settlings, posted_related}
-use Rattle.ode_laws.proofs.BoundLaws.{room_for_key, completion_bounded}
+use Rattle.ode_laws.proofs.BoundLaws.{room_for_key}
 
 module _ {O A : Type 0} (past : Past O A) (place : Place O A) (cs : List Declared) (old : Tx O A) where
   pub record IsLast (x : Tx O A) : Type 0 where

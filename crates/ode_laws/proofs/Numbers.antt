@@ -10,10 +10,8 @@ use Rattle.ode_value.specs.declared.class.Class.{Class}
 use Rattle.ode_value.specs.declared.member.TriggerDecl.{TriggerDecl}
 use Rattle.ode_value.specs.Classes.{Trigger, upward, line_of, family, trigger_of, own_triggers, triggers_of, trigger_at}
 use Rattle.ode_value.specs.GoodWorlds.{RiseFrom}
-use Rattle.ode_value.specs.Objects.{Activation}
-use Rattle.ode_value.specs.Worlds.{Declared, Object, Bones, class_numbered, with_object}
-use Rattle.ode_laws.specs.Numbered.{HasNumbers, AreNumbered}
-use Rattle.ode_laws.proofs.Each.{all-append, all-then, all-map, all-of}
+use Rattle.ode_value.specs.Worlds.{Declared, class_numbered}
+use Rattle.ode_laws.proofs.Each.{all-append, all-then}
 
 -- ---- numbers that rise
 

@@ -15,7 +15,7 @@ use Rattle.ode_value.specs.Acts.{Outcome, Done, Aborted, Act, Deed, go_on, ◌>>
 use Rattle.ode_value.specs.Changes.{with_key, key_count, holding, changes, object, class_of, is_live, lives, version}
 use Rattle.ode_value.specs.Constraints.{judges, tests, tests_hard, tests_version, tests_soft}
 use Rattle.ode_value.specs.Classes.{constraints_of}
-use Rattle.ode_value.specs.Denoting.{object_at, denoted, denotes}
+use Rattle.ode_value.specs.Denoting.{object_at, denoted}
 use Rattle.ode_value.specs.Evaluation.{Frame, evaluate, reason_of}
 use Rattle.ode_value.specs.Expressions.{is_true, ref_in, evaluates, holds, evaluates_all, evaluates_sets, stands, reference, receiver}
 use Rattle.ode_value.specs.Limits.{budget_limit, output_limit, change_limit, value_limit}
@@ -23,7 +23,7 @@ use Rattle.ode_value.specs.Masks.{plain}
 use Rattle.ode_value.specs.Transactions.{Tx}
 use Rattle.ode_value.specs.Versions.{Version}
 use Rattle.ode_value.specs.Worlds.{Object, Bones}
-use Rattle.ode_laws.proofs.Sides.{EndsBy, Same, Sides}
+use Rattle.ode_laws.proofs.Sides.{EndsBy, Sides}
 
 -- a test of which the outcome is known
 abbrev tested : {O A : Type 0} → Bool → Reason → Tx O A → Outcome O A (Unit {0})

@@ -1,13 +1,12 @@
 -- Two machines side by side: completion, and the work of entries.
-use Rattle.std.proofs.Common.{◌≡◌, ℕ, zero, suc, ◌+◌, Bool, List, [], ◌∷◌, length, Option, Some, None, refl, sym, ap, ◌∙◌, subst}
+use Rattle.std.proofs.Common.{◌≡◌, ℕ, zero, suc, ◌+◌, [], length, Option, Some, None, ap, ◌∙◌}
 use Rattle.std.specs.Prelude.{◌-◌, nat_le, is_some, slice_get}
 use Rattle.ode_value.specs.declared.event.Kind.TheVariants.{TComplete}
 use Rattle.ode_value.specs.declared.reason.Reason.TheVariants.{Space}
-use Rattle.ode_value.specs.Acts.{Outcome, Act, Deed, ◌>>=◌, ◌>>◌, nothing, needs, reads, when, each, finds}
+use Rattle.ode_value.specs.Acts.{Deed, nothing, when, each}
 use Rattle.ode_value.specs.Changes.{is_live}
 use Rattle.ode_value.specs.Classes.{trigger_at}
 use Rattle.ode_value.specs.Completing.{rounds, tests_object, tests_touched, tests_all, weighs, posts_tcomplete, round, goes_round, completes}
-use Rattle.ode_value.specs.Constraints.{tests_soft}
 use Rattle.ode_value.specs.Denoting.{object_at}
 use Rattle.ode_value.specs.Draining.{firing_in, runs_entry}
 use Rattle.ode_value.specs.Executing.{first_actions}
@@ -17,8 +16,8 @@ use Rattle.ode_value.specs.Posting.{posts, touches, runs}
 use Rattle.ode_value.specs.Transactions.{Tx, Firing}
 use Rattle.ode_value.specs.Weights.{weight}
 use Rattle.ode_value.specs.Worlds.{Object, Entry}
-use Rattle.ode_laws.proofs.Sides.{EndsBy, Same, Sides}
-use Rattle.ode_laws.proofs.SideActs.{Ends, Alike, then_alike, next_alike, less_alike, done_alike, reads_alike, sees_alike, finds_alike, needs_alike, cond_alike, when_alike, every_alike, soft_alike}
+use Rattle.ode_laws.proofs.Sides.{Sides}
+use Rattle.ode_laws.proofs.SideActs.{Alike, next_alike, less_alike, done_alike, reads_alike, sees_alike, finds_alike, needs_alike, cond_alike, when_alike, every_alike, soft_alike}
 use Rattle.ode_laws.proofs.SidePosting.{posts_alike, touches_alike, runs_alike}
 use Rattle.ode_laws.proofs.SideStatements.{first_alike}
 

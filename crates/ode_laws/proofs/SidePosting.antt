@@ -1,6 +1,6 @@
 -- Two machines side by side: changes of objects, points, touches and firings.
-use Rattle.std.proofs.Common.{◌≡◌, ℕ, suc, ◌+◌, Bool, true, false, cond, not, List, [], ◌∷◌, ◌++◌, length, Option, Some, None, Result, Ok, Err, refl, sym, ap, ◌∙◌, subst}
-use Rattle.std.specs.Prelude.{nat_lt, nat_le, ◌&&◌, ◌==◌, is_some, slice_set}
+use Rattle.std.proofs.Common.{◌≡◌, ℕ, suc, ◌+◌, Bool, true, false, cond, not, List, [], ◌∷◌, ◌++◌, length, Option, Some, None, refl, ap, ◌∙◌}
+use Rattle.std.specs.Prelude.{nat_lt, nat_le, ◌&&◌, ◌==◌, slice_set}
 use Rattle.std.specs.List.{list_any}
 use Rattle.ode_value.specs.declared.event.Kind.{Kind}
 use Rattle.ode_value.specs.declared.event.Kind.TheVariants.{TBegin}
@@ -11,8 +11,8 @@ use Rattle.ode_value.specs.declared.reason.Reason.TheVariants as reason
 use Rattle.ode_value.specs.declared.statement.Stmt.{Stmt}
 use Rattle.ode_value.specs.declared.value.Ref.{Ref}
 use Rattle.ode_value.specs.declared.value.Value.{Value}
-use Rattle.ode_value.specs.Acts.{Outcome, Done, Aborted, Act, Deed, go_on, ◌>>=◌, ◌>>◌, gives, nothing, aborts, needs, does, when, each, reads, sees, turns, prints}
-use Rattle.ode_value.specs.Changes.{key_count, holding, activation_keys, has_number, draws_none, changes, object, version, lives, alters_object, version_keys}
+use Rattle.ode_value.specs.Acts.{Outcome, Done, Aborted, Act, Deed, ◌>>=◌, ◌>>◌, gives, nothing, needs, does, when, each, reads, sees, turns, prints}
+use Rattle.ode_value.specs.Changes.{holding, activation_keys, has_number, draws_none, changes, object, lives, alters_object, version_keys}
 use Rattle.ode_value.specs.Classes.{Trigger, lists_kind}
 use Rattle.ode_value.specs.Denoting.{object_at, denoted}
 use Rattle.ode_value.specs.Evaluation.{Frame}
@@ -20,7 +20,7 @@ use Rattle.ode_value.specs.Firings.{arises, both_lists}
 use Rattle.ode_value.specs.Keys.{object_key, version_key, activation_key}
 use Rattle.ode_value.specs.Lengths.{values_length, version_size}
 use Rattle.ode_value.specs.Limits.{cascade_limit, change_limit, generation_limit, queue_limit, number_limit, args_limit, version_limit}
-use Rattle.ode_value.specs.Making.{with_new, with_active, derived_from, next_version, without_version, sets_field, derives, drops, removes, switches_off, makes, switches_on}
+use Rattle.ode_value.specs.Making.{with_new, with_active, derived_from, next_version, sets_field, derives, drops, removes, switches_off, makes, switches_on}
 use Rattle.ode_value.specs.Objects.{Activation}
 use Rattle.ode_value.specs.Pasts.{Past}
 use Rattle.ode_value.specs.Posting.{Body, frame_of, fired_text, dropped_text, waiting, enters, runs, with_deferred, defers, has_room, with_entry, collects, by_mode, treats, is_listed, is_touched, joins, posts_listed, posts, touches_first, touches}
@@ -29,7 +29,7 @@ use Rattle.ode_value.specs.Transactions.{Tx, Firing, Origin, generation_of, touc
 use Rattle.ode_value.specs.Versions.{Version}
 use Rattle.ode_value.specs.Worlds.{Declared, Object, Bones}
 use Rattle.ode_laws.proofs.Sides.{EndsBy, Same, Sides, altered, turned, set_in, dropped_from, removed, off_in}
-use Rattle.ode_laws.proofs.SideActs.{Ends, Alike, lower, go_alike, then_alike, next_alike, less_alike, done_alike, aborts_alike, reads_alike, sees_alike, finds_ends, computes_ends, needs_ends, needs_alike, cond_alike, when_alike, every_alike, prints_alike, changes_ends, changes_alike, object_alike, version_alike, lives_alike}
+use Rattle.ode_laws.proofs.SideActs.{Ends, Alike, lower, then_alike, next_alike, less_alike, done_alike, aborts_alike, reads_alike, sees_alike, finds_ends, computes_ends, needs_ends, cond_alike, when_alike, every_alike, prints_alike, changes_ends, changes_alike, object_alike, lives_alike}
 
 abbrev room_in : Origin → ℕ → ℕ → Bones → ℕ → Bool
 room_in origin keys gathered first collected =

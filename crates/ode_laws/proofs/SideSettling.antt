@@ -1,10 +1,10 @@
 -- Two machines side by side: the last points of a transaction, and its settling.
-use Rattle.std.proofs.Common.{◌≡◌, ℕ, Bool, true, false, cond, List, [], ◌∷◌, ◌++◌, Option, Some, None, refl, sym, ap, ◌∙◌, subst}
+use Rattle.std.proofs.Common.{◌≡◌, ℕ, Bool, true, false, cond, List, [], ◌∷◌, Option, Some, None, refl, sym, ap, ◌∙◌, subst}
 use Rattle.std.specs.Prelude.{is_some}
 use Rattle.std.specs.Option.{option_map_or}
 use Rattle.ode_value.specs.declared.event.Kind.{Kind}
-use Rattle.ode_value.specs.Acts.{Outcome, Done, Aborted, Act, Deed, go_on, ◌>>=◌, ◌>>◌, nothing, does, when, each, reads, sees, found, with_line, reached}
-use Rattle.ode_value.specs.Changes.{object, is_live}
+use Rattle.ode_value.specs.Acts.{Outcome, Done, Aborted, Act, Deed, go_on, does, when, each, sees, found, with_line, reached}
+use Rattle.ode_value.specs.Changes.{is_live}
 use Rattle.ode_value.specs.Classes.{lists_kind}
 use Rattle.ode_value.specs.Denoting.{object_at}
 use Rattle.ode_value.specs.Firings.{Place, arises}

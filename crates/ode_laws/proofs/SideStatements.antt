@@ -1,44 +1,41 @@
 -- Two machines side by side: calls, statements and levels of bodies.
-use Rattle.std.proofs.Common.{◌≡◌, ℕ, zero, suc, Bool, true, false, cond, List, [], ◌∷◌, map, Option, Some, None, refl, sym, ap, ◌∙◌, subst}
+use Rattle.std.proofs.Common.{◌≡◌, ℕ, zero, suc, List, [], ◌∷◌, map, Option, Some, None, sym, ap, ◌∙◌, subst}
 use Rattle.std.specs.Prelude.{is_some, pos}
-use Rattle.std.specs.List.{AllByRecursion, find, filter}
+use Rattle.std.specs.List.{find}
 use Rattle.std.specs.Option.{unwrap_or}
 use Rattle.std.specs.Str.{bytes_eq}
 use Rattle.ode_value.specs.declared.binding.Var.{Var}
 use Rattle.ode_value.specs.declared.binding.Var.TheVariants as var
 use Rattle.ode_value.specs.declared.class.Class.{Class}
 use Rattle.ode_value.specs.declared.event.Kind.TheVariants.{Create, Delete, Before, After}
-use Rattle.ode_value.specs.declared.member.Method.{Method}
 use Rattle.ode_value.specs.declared.reason.Reason.TheVariants.{Depth, Asked}
 use Rattle.ode_value.specs.declared.statement.Call.{Call}
 use Rattle.ode_value.specs.declared.statement.Expr.{Expr}
 use Rattle.ode_value.specs.declared.statement.Rhs.{Rhs}
 use Rattle.ode_value.specs.declared.statement.Rhs.TheVariants as rhs
-use Rattle.ode_value.specs.declared.statement.Stmt.{Stmt, fold-Stmt, fold-roll-Stmt, roll-Stmt, map-Stmt, ind-Stmt}
+use Rattle.ode_value.specs.declared.statement.Stmt.{Stmt, fold-roll-Stmt, roll-Stmt, map-Stmt, ind-Stmt}
 use Rattle.ode_value.specs.declared.statement.Stmt.TheOpen as stmt
 use Rattle.ode_value.specs.declared.value.Ref.{Ref}
 use Rattle.ode_value.specs.declared.value.Value.{Value}
 use Rattle.ode_value.specs.declared.value.Value.TheVariants as value
-use Rattle.ode_value.specs.Acts.{Outcome, Done, Aborted, Act, Deed, go_on, ◌>>=◌, ◌>>◌, gives, nothing, aborts, finds, when, each, sees, prints, counts}
+use Rattle.ode_value.specs.Acts.{Deed, ◌>>=◌, ◌>>◌, gives, nothing, finds, when, each, sees, prints, counts}
 use Rattle.ode_value.specs.Changes.{object, class_of, lives}
 use Rattle.ode_value.specs.Classes.{Trigger, triggers_of, initial_triggers, trigger_named, method_named, default_of, null}
 use Rattle.ode_value.specs.Constraints.{tests_hard}
-use Rattle.ode_value.specs.Denoting.{object_at, denotes}
+use Rattle.ode_value.specs.Denoting.{denotes}
 use Rattle.ode_value.specs.Evaluation.{Frame, no_frame, with_local}
-use Rattle.ode_value.specs.Executing.{Flow, Goes, Gives, returned, Doing, actions_of, goes, follows, in_turn, sets, right, doing, counted_doing, execute, executes, level, deeper, outermost, first_actions, commands}
+use Rattle.ode_value.specs.Executing.{Flow, Goes, Gives, returned, Doing, actions_of, goes, follows, in_turn, sets, right, counted_doing, execute, executes, deeper, outermost, first_actions, commands}
 use Rattle.ode_value.specs.Expressions.{evaluates, evaluates_all, evaluates_sets, holds, stands, reference, receiver, text_in}
 use Rattle.ode_value.specs.Limits.{depth_limit}
-use Rattle.ode_value.specs.Making.{makes, derives, drops, removes, switches_on, switches_off, sets_field}
+use Rattle.ode_value.specs.Making.{makes, derives, switches_on, sets_field}
 use Rattle.ode_value.specs.Objects.{Activation}
-use Rattle.ode_value.specs.Pasts.{Past}
 use Rattle.ode_value.specs.Posting.{Body, posts, touches}
 use Rattle.ode_value.specs.Statements.{Inner, first_value, is_on, generic, calls_after, calls_behind, calls_inside, calls_deeper, calls, activates_initial, makes_named, creates, copies, deletes, drops_version, switches_on_named, activates, switches_off_found, switches_off_numbered, deactivates}
 use Rattle.ode_value.specs.Texts.{value_line, said_line}
-use Rattle.ode_value.specs.Transactions.{Tx}
-use Rattle.ode_value.specs.Worlds.{Declared, Object, Bones, class_named}
+use Rattle.ode_value.specs.Worlds.{Declared, Object, class_named}
 use Rattle.ode_laws.proofs.Each.{all-filter, all-find}
-use Rattle.ode_laws.proofs.Sides.{EndsBy, Same, Sides}
-use Rattle.ode_laws.proofs.SideActs.{Ends, Alike, lower, go_alike, then_alike, next_alike, less_alike, done_alike, aborts_alike, reads_alike, sees_alike, finds_alike, finds_ends, computes_ends, cond_alike, when_alike, each_alike, every_alike, prints_alike, counts_alike, object_alike, class_alike, version_alike, lives_alike, evaluates_alike, holds_alike, all_alike, sets_alike, stands_alike, reference_alike, receiver_alike, hard_alike}
+use Rattle.ode_laws.proofs.Sides.{Sides}
+use Rattle.ode_laws.proofs.SideActs.{Ends, Alike, then_alike, next_alike, less_alike, done_alike, aborts_alike, sees_alike, finds_alike, finds_ends, cond_alike, when_alike, each_alike, prints_alike, counts_alike, object_alike, class_alike, lives_alike, evaluates_alike, holds_alike, all_alike, sets_alike, stands_alike, reference_alike, receiver_alike, hard_alike}
 use Rattle.ode_laws.proofs.SidePosting.{field_alike, derives_alike, drops_alike, removes_alike, switches_off_alike, makes_alike, switches_on_alike, Levels, posts_alike, touches_alike}
 
 module _ {O A P B : Type 0} (s : Sides O A P B) where

@@ -1,14 +1,12 @@
 -- Two machines side by side, and a relation between their transactions that each small change keeps.
-use Rattle.std.proofs.Common.{◌≡◌, ℕ, suc, ◌+◌, Bool, true, false, List, ◌++◌, length, map, Option, Some, Result, Ok, ap, sym, ◌∙◌}
+use Rattle.std.proofs.Common.{◌≡◌, ℕ, suc, ◌+◌, Bool, true, false, List, length, map, Some, Ok, ap, sym, ◌∙◌}
 use Rattle.std.specs.Prelude.{nat_lt, nat_le, slice_set}
 use Rattle.std.specs.List.{AllByRecursion}
-use Rattle.ode_value.specs.declared.arithmetic.Fault.{Fault}
 use Rattle.ode_value.specs.declared.event.Kind.{Kind}
 use Rattle.ode_value.specs.declared.key.Key.{Key}
-use Rattle.ode_value.specs.declared.reason.Reason.{Reason}
 use Rattle.ode_value.specs.declared.value.Ref.{Ref}
 use Rattle.ode_value.specs.declared.value.Value.{Value}
-use Rattle.ode_value.specs.Acts.{Outcome, Done, Aborted, Act, Deed, with_line, with_statement}
+use Rattle.ode_value.specs.Acts.{Outcome, Done, Aborted, with_line, with_statement}
 use Rattle.ode_value.specs.Changes.{key_count, holding, has_number}
 use Rattle.ode_value.specs.Classes.{Trigger, triggers_of}
 use Rattle.ode_value.specs.Denoting.{object_at, denoted}
@@ -17,9 +15,9 @@ use Rattle.ode_value.specs.Limits.{budget_limit, output_limit, change_limit, cas
 use Rattle.ode_value.specs.Making.{with_fields, without_version, derived_from, switched_off, with_new, with_active}
 use Rattle.ode_value.specs.Pasts.{Past}
 use Rattle.ode_value.specs.Posting.{has_room, with_deferred, with_entry}
-use Rattle.ode_value.specs.Transactions.{Tx, Origin, Firing, Collected, touching, with_bones}
+use Rattle.ode_value.specs.Transactions.{Tx, Firing, touching, with_bones}
 use Rattle.ode_value.specs.Versions.{Version}
-use Rattle.ode_value.specs.Worlds.{Declared, Object, Bones, World, with_object}
+use Rattle.ode_value.specs.Worlds.{Declared, Object, World, with_object}
 
 -- both outcomes are done with one answer, or aborted with one reason, and the transactions reached are related
 abbrev pub EndsBy : {O A P B X : Type 0} → (done failed : Tx O A → Tx P B → Type 0) → Outcome O A X → Outcome P B X → Type 0

@@ -1,5 +1,5 @@
 -- When a transaction over state numbers runs as one over lists of points.
-use Rattle.std.specs.Prelude.{◌≡◌, ◌≤◌, ℕ, ◌==◌, Option, Some}
+use Rattle.std.specs.Prelude.{◌≡◌, ◌≤◌, ℕ, ◌==◌, Some}
 use Rattle.std.specs.List.{AllZip, find}
 use Rattle.ode_value.specs.Acts.{Outcome, Done, Aborted, Act}
 use Rattle.ode_value.specs.Denoting.{object_numbered}
