@@ -13,7 +13,7 @@ use Rattle.ode_value.specs.declared.key.Key.{Key}
 use Rattle.ode_heap.specs.Looking.{entry_key_from, is_entry_from}
 use Rattle.ode_heap.specs.Queue.{count_from, is_queued_from, queued_in}
 
-abbrev counted : ℕ → List Key → ℕ
+abbrev pub counted : ℕ → List Key → ℕ
 counted n ks = count_by (is_queued_from n) ks
 
 abbrev pub with_one : Bool → ℕ → ℕ
@@ -23,7 +23,7 @@ plus_one : (b : Bool) (n : ℕ) → cond b 1 0 + n ≡ with_one b n
 plus_one true n = refl
 plus_one false n = omega arith
 
-one_more : (n : ℕ) (k : Key) (ks : List Key) → counted n (k ∷ ks) ≡ with_one (is_queued_from n k) (counted n ks)
+pub one_more : (n : ℕ) (k : Key) (ks : List Key) → counted n (k ∷ ks) ≡ with_one (is_queued_from n k) (counted n ks)
 one_more n k ks = sum_by-cons (λ l. cond (is_queued_from n l) 1 0) k ks ∙ plus_one (is_queued_from n k) (counted n ks)
 
 -- a key that isn't of the queue from here on isn't counted

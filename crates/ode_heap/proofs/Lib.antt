@@ -2,3 +2,10 @@ mod Blocks
 mod Walks
 mod Fronts
 mod Counting
+mod OneKind
+mod Sections
+mod Reading
+mod Numbered
+mod Stored
+mod StoredVersions
+mod StoredQueue

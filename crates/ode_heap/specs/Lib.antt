@@ -5,3 +5,4 @@ pub mod Objects
 pub mod Activations
 pub mod Queue
 pub mod Staging
+pub mod Answering

@@ -7,6 +7,7 @@ mod error;
 mod fields;
 mod fitting;
 mod heap;
+mod laws;
 mod looking;
 mod object;
 mod queue;
@@ -14,4 +15,5 @@ mod staging;
 
 pub use error::HeapError;
 pub use heap::Heap;
+pub use laws::stored_databases_answer;
 pub use object::ObjectHead;
