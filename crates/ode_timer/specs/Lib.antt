@@ -1,2 +1,3 @@
 pub mod Dates
 pub mod Due
+pub mod Counts

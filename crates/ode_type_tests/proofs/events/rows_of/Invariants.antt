@@ -1,0 +1,8 @@
+use Rattle.ode_timer.specs.Due.{AllRecur}
+use Rattle.ode_type_tests.proofs.events.rows_of.Given as goal
+
+abbrev pub invariant-loop-row : goal.invariant-loop-row
+invariant-loop-row l =
+    (goal.iterator-loop-row).can_next l.row-iterator
+    × (goal.iterator-loop-row).is_finite l.row-iterator
+    × AllRecur l.rows
