@@ -294,12 +294,12 @@ module _ (tables : ℕ → ℕ → Table) (classes : List Declared) (mean : AllB
     touch = λ n y x id h. again y x h (touching id y) (touching id x) refl refl refl refl (told classes y x h.same (touching id y) (touching id x) refl refl refl refl h.same.origin (ap (λ ids. ids ++ id ∷ []) h.same.touched) h.same.deferred h.same.collected h.same.gathered h.same.text h.same.run h.same.keys);
     defer = λ n y x f h more. again y x h (with_deferred f y) (with_deferred f x) refl refl refl refl (told classes y x h.same (with_deferred f y) (with_deferred f x) refl refl refl refl h.same.origin h.same.touched (ap (λ fs. fs ++ f ∷ []) h.same.deferred) h.same.collected h.same.gathered h.same.text h.same.run h.same.keys);
     collect = λ n y x independent f h room. again y x h (with_entry independent f y) (with_entry independent f x) refl refl refl refl (collect_same y x independent f h.same);
-    set = λ n y x r v place value h is. altered_work r.object (set_in v place value) (set_gentle v place value) y x h;
-    derive = λ n y x r v o h is there more. altered_work o.id (derived_from v) (derived_gentle v) y x h;
+    set = λ n y x r v place value h is small. altered_work r.object (set_in v place value) (set_gentle v place value) y x h;
+    derive = λ n y x r v o h is there more small. altered_work o.id (derived_from v) (derived_gentle v) y x h;
     drop = λ n y x r v o h is there more. altered_work o.id (dropped_from v) (dropped_gentle v) y x h;
     remove = λ n y x id h. altered_work id removed removed_gentle y x h;
     off = λ n y x id number h. altered_work id (off_in number) (off_gentle number) y x h;
-    new = λ n y x class fields h left. new_work class fields y x h;
-    active = λ n y x id t args h left known. active_work id t args known y x h;
+    new = λ n y x class fields h left small. new_work class fields y x h;
+    active = λ n y x id t args h left short known. active_work id t args known y x h;
     point = λ n y x id kind args h. point_held StaysAll gentle_all (both_lists (numbers tables)) (both_lists lists) (both_places tables classes mean) point_all y x id kind args h;
   }

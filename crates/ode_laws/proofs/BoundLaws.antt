@@ -127,13 +127,13 @@ module _ {O A : Type 0} (past : Past O A) (old : Tx O A) where
       touched = b.touched;
       more = b.more;
     };
-    set = λ n x r v place value b is. record { bounded = record { run = b.bounded.run; text = b.bounded.text; keys = b.bounded.keys; deferred = b.bounded.deferred }; on = record { first = b.on.first; more = b.on.more; text = b.on.text; keys = b.on.keys; gathered = b.on.gathered }; touched = b.touched; more = b.more };
-    derive = λ n x r v o b is there more. record { bounded = record { run = b.bounded.run; text = b.bounded.text; keys = b.bounded.keys; deferred = b.bounded.deferred }; on = record { first = b.on.first; more = b.on.more; text = b.on.text; keys = b.on.keys; gathered = b.on.gathered }; touched = b.touched; more = b.more };
+    set = λ n x r v place value b is small. record { bounded = record { run = b.bounded.run; text = b.bounded.text; keys = b.bounded.keys; deferred = b.bounded.deferred }; on = record { first = b.on.first; more = b.on.more; text = b.on.text; keys = b.on.keys; gathered = b.on.gathered }; touched = b.touched; more = b.more };
+    derive = λ n x r v o b is there more small. record { bounded = record { run = b.bounded.run; text = b.bounded.text; keys = b.bounded.keys; deferred = b.bounded.deferred }; on = record { first = b.on.first; more = b.on.more; text = b.on.text; keys = b.on.keys; gathered = b.on.gathered }; touched = b.touched; more = b.more };
     drop = λ n x r v o b is there more. record { bounded = record { run = b.bounded.run; text = b.bounded.text; keys = b.bounded.keys; deferred = b.bounded.deferred }; on = record { first = b.on.first; more = b.on.more; text = b.on.text; keys = b.on.keys; gathered = b.on.gathered }; touched = b.touched; more = b.more };
     remove = λ n x id b. record { bounded = record { run = b.bounded.run; text = b.bounded.text; keys = b.bounded.keys; deferred = b.bounded.deferred }; on = record { first = b.on.first; more = b.on.more; text = b.on.text; keys = b.on.keys; gathered = b.on.gathered }; touched = b.touched; more = b.more };
     off = λ n x id number b. record { bounded = record { run = b.bounded.run; text = b.bounded.text; keys = b.bounded.keys; deferred = b.bounded.deferred }; on = record { first = b.on.first; more = b.on.more; text = b.on.text; keys = b.on.keys; gathered = b.on.gathered }; touched = b.touched; more = b.more };
-    new = λ n x class fields b left. record { bounded = record { run = b.bounded.run; text = b.bounded.text; keys = b.bounded.keys; deferred = b.bounded.deferred }; on = record { first = b.on.first; more = b.on.more; text = b.on.text; keys = b.on.keys; gathered = b.on.gathered }; touched = b.touched; more = b.more };
-    active = λ n x id t args b left. record { bounded = record { run = b.bounded.run; text = b.bounded.text; keys = b.bounded.keys; deferred = b.bounded.deferred }; on = record { first = b.on.first; more = b.on.more; text = b.on.text; keys = b.on.keys; gathered = b.on.gathered }; touched = b.touched; more = b.more };
+    new = λ n x class fields b left small. record { bounded = record { run = b.bounded.run; text = b.bounded.text; keys = b.bounded.keys; deferred = b.bounded.deferred }; on = record { first = b.on.first; more = b.on.more; text = b.on.text; keys = b.on.keys; gathered = b.on.gathered }; touched = b.touched; more = b.more };
+    active = λ n x id t args b left short. record { bounded = record { run = b.bounded.run; text = b.bounded.text; keys = b.bounded.keys; deferred = b.bounded.deferred }; on = record { first = b.on.first; more = b.on.more; text = b.on.text; keys = b.on.keys; gathered = b.on.gathered }; touched = b.touched; more = b.more };
     point = λ n x id p o firings b there. record { bounded = record { run = b.bounded.run; text = b.bounded.text; keys = b.bounded.keys; deferred = b.bounded.deferred }; on = record { first = b.on.first; more = b.on.more; text = b.on.text; keys = b.on.keys; gathered = b.on.gathered }; touched = b.touched; more = b.more };
   }
 

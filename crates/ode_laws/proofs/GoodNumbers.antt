@@ -1,10 +1,11 @@
 -- The numbers of a good world tell its parts apart.
 use Rattle.std.proofs.Common.{◌≡◌, ℕ, ◌+◌, ◌<◌, ◌≤◌, List, [], ◌∷◌, ◌++◌, map, length, arith}
 use Rattle.std.proofs.lemmas.List.{length-append}
-use Rattle.ode_value.specs.GoodWorlds.{RiseFrom, AreClasses, IsActivation, IsObject, IsGood}
+use Rattle.ode_value.specs.GoodWorlds.{RiseFrom, AreClasses, IsActivation, IsObject, IsEntry, IsGood}
 use Rattle.ode_value.specs.Language.{Language, ListWorld}
 use Rattle.ode_value.specs.Objects.{Activation}
 use Rattle.ode_value.specs.Worlds.{Declared, Object, Bones}
+use Rattle.ode_laws.specs.Counted.{HasLast, IsQueued, AreCounted}
 use Rattle.ode_laws.specs.Numbered.{HasNumbers, AreNumbered}
 use Rattle.ode_laws.proofs.Each.{all-then}
 
@@ -26,4 +27,14 @@ good_numbered l w good = record {
   classes = classes_rise l [] w.bones.classes 0 (omega arith) good.bones.classes;
   rising = good.bones.rising;
   objects = all-then (IsObject w.bones) (HasNumbers w.bones.next) (object_numbers w.bones) w.bones.objects good.bones.objects;
+}
+
+pub good_counted : (l : Language) (w : ListWorld) → IsGood l w → AreCounted w.bones
+good_counted l w good = record {
+  next = good.bones.next;
+  next_entry = good.bones.next_entry;
+  few = good.bones.few;
+  rising = good.bones.rising_queue;
+  queue = all-then (IsEntry w.bones) (IsQueued w.bones.next_entry) (λ q is. (is.number, is.generation)) w.bones.queue good.bones.queue;
+  lasts = all-then (IsObject w.bones) HasLast (λ o is. is.last) w.bones.objects good.bones.objects;
 }

@@ -16,7 +16,7 @@ use Rattle.ode_value.specs.Texts.{committed_line, aborted_line}
 use Rattle.ode_value.specs.Transactions.{Tx, Firing}
 use Rattle.ode_value.specs.Worlds.{Declared, Object}
 use Rattle.ode_laws.specs.Bounds.{Prints}
-use Rattle.ode_laws.proofs.Sides.{EndsBy}
+use Rattle.ode_laws.proofs.Sides.{EndsBy, same_self}
 use Rattle.ode_laws.proofs.SideSettling.{Settlings, posted_related}
 use Rattle.ode_laws.proofs.BoundLaws.{room_for_key}
 
@@ -47,19 +47,7 @@ module _ {O A : Type 0} (past : Past O A) (place : Place O A) (cs : List Declare
     place = place;
     other_place = place;
     Related = Alone;
-    same = λ y x r. record {
-      bones = ap (λ (z : Tx O A). z.now.bones) r.0;
-      classes = r.1;
-      first = ap (λ (z : Tx O A). z.first.bones) r.0;
-      origin = ap (λ (z : Tx O A). z.origin) r.0;
-      touched = ap (λ (z : Tx O A). z.touched) r.0;
-      deferred = ap (λ (z : Tx O A). z.deferred) r.0;
-      collected = ap (λ (z : Tx O A). z.collected) r.0;
-      gathered = ap (λ (z : Tx O A). z.gathered) r.0;
-      text = ap (λ (z : Tx O A). z.text) r.0;
-      run = ap (λ (z : Tx O A). z.run) r.0;
-      keys = ap (λ (z : Tx O A). z.keys) r.0;
-    };
+    same = λ y x r. same_self cs y x r.0 r.1;
     line = λ y x line r. (ap (with_line line) r.0, r.1, record { keys = r.2.keys; more = r.2.more ++ line; text = ap (λ t. t ++ line) r.2.text ∙ append_assoc old.text r.2.more line });
     collect = λ y x f r room. (ap (with_entry true f) r.0, r.1, record { keys = let here : key_count x < change_limit = room_for_key x room in omega arith; more = r.2.more; text = r.2.text });
     point = λ y x id kind r.

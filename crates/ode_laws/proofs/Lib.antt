@@ -1,9 +1,11 @@
 pub mod AlikePairs
 pub mod AlikeRows
 pub mod AlikeSettling
+pub mod AlikeTables
 pub mod AlikeWork
 pub mod Alone
 pub mod BoundLaws
+pub mod CountLaws
 pub mod Each
 pub mod GoodNumbers
 pub mod KeptRows
@@ -16,3 +18,5 @@ pub mod SidePosting
 pub mod SideSettling
 pub mod SideStatements
 pub mod Sides
+pub mod SizeLaws
+pub mod WeightLaws

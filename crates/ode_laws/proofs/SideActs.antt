@@ -178,18 +178,22 @@ module _ {O A P B : Type 0} (s : Sides O A P B) where
   fits_limit true b e = e
   fits_limit false b e = absurd (cc)
 
+  fits_size : (a b : Bool) → (a && b) ≡ true → a ≡ true
+  fits_size true b e = refl
+  fits_size false b e = absurd (cc)
+
   abbrev fits : {O A : Type 0} → ℕ → List Key → Tx O A → Bool
   fits size keys x = nat_le size value_limit && nat_le (key_count (holding keys x)) change_limit
 
   -- a change is asked for, and what comes behind it knows that it found its number
   pub changes_ends : {Y : Type 0} (n k : ℕ) (keys : List Key) (size : ℕ) (draws : Bones → Bool) (next : Act O A Y) (other : Act P B Y) (y : Tx O A) (x : Tx P B) → s.Related n y x
-      → (draws x.now.bones ≡ true → s.Related n (holding keys y) (holding keys x) → Ends k (next (holding keys y)) (other (holding keys x)))
+      → (draws x.now.bones ≡ true → nat_le size value_limit ≡ true → s.Related n (holding keys y) (holding keys x) → Ends k (next (holding keys y)) (other (holding keys x)))
       → Ends k ((changes keys size draws >> next) y) ((changes keys size draws >> other) x)
   changes_ends n k keys size draws next other y x r rest =
       tests_by n k (fits size keys y) (fits size keys x) (ap (λ c. nat_le size value_limit && nat_le c change_limit) (count_same n y x keys r)) reason.Size
       (needs reason.Space (λ z. draws z.now.bones) >> does (holding keys)) (needs reason.Space (λ z. draws z.now.bones) >> does (holding keys)) next other y x r (λ small.
       tests_by n k (draws y.now.bones) (draws x.now.bones) (ap draws (bones_same n y x r)) reason.Space (does (holding keys)) (does (holding keys)) next other y x r (λ drawn.
-      rest drawn (s.keys n y x keys r (fits_limit (nat_le size value_limit) (nat_le (key_count (holding keys x)) change_limit) small))))
+      rest drawn (fits_size (nat_le size value_limit) (nat_le (key_count (holding keys x)) change_limit) small) (s.keys n y x keys r (fits_limit (nat_le size value_limit) (nat_le (key_count (holding keys x)) change_limit) small))))
 
   pub changes_alike : (n : ℕ) (keys : List Key) (size : ℕ) (draws : Bones → Bool) → Alike n n (changes keys size draws) (changes keys size draws)
   changes_alike n keys size draws y x r =

@@ -56,8 +56,8 @@ module _ {O A P B : Type 0} (s : Sides O A P B) where
   pub field_alike : (n : ℕ) (r : Ref) (place : ℕ) (value : Value) → Alike s n n (sets_field r place value) (sets_field r place value)
   field_alike n r place value y x h =
       computes_ends s n n (λ b. denoted b r) (set_to) (set_to) y x h (λ v is.
-      changes_ends s n n (version_key r.object v.number ∷ []) (version_size (slice_set v.fields place value)) draws_none (put v) (put v) y x h (λ drawn held.
-      (refl, s.set n (holding (version_key r.object v.number ∷ []) y) (holding (version_key r.object v.number ∷ []) x) r v place value held is)))
+      changes_ends s n n (version_key r.object v.number ∷ []) (version_size (slice_set v.fields place value)) draws_none (put v) (put v) y x h (λ drawn small held.
+      (refl, s.set n (holding (version_key r.object v.number ∷ []) y) (holding (version_key r.object v.number ∷ []) x) r v place value held is small)))
     where
       put : {O A : Type 0} → Version → Deed O A
       put v = alters_object r.object (set_in v place value)
@@ -69,11 +69,11 @@ module _ {O A P B : Type 0} (s : Sides O A P B) where
   derives_alike n r y x h =
       computes_ends s n n (λ b. denoted b r) derived derived y x h (λ v is.
       finds_ends s n n (λ b. object_at b r.object) (copied v) (copied v) y x h (λ o there.
-      changes_ends s n n (keys_of o) (version_size v.fields) (λ b. nat_lt o.last version_limit) (put v o) (put v o) y x h (λ drawn held.
+      changes_ends s n n (keys_of o) (version_size v.fields) (λ b. nat_lt o.last version_limit) (put v o) (put v o) y x h (λ drawn small held.
       next_alike s n n n (prints (version_line (next_version o))) (prints (version_line (next_version o))) (prints_alike s n (version_line (next_version o)))
       (gives (next_version o)) (gives (next_version o)) (done_alike s n (next_version o))
       (altered o.id (derived_from v) (holding (keys_of o) y)) (altered o.id (derived_from v) (holding (keys_of o) x))
-      (s.derive n (holding (keys_of o) y) (holding (keys_of o) x) r v o held is there drawn))))
+      (s.derive n (holding (keys_of o) y) (holding (keys_of o) x) r v o held is there drawn small))))
     where
       keys_of : Object → List Key
       keys_of o = object_key o.id ∷ version_key o.id (o.last + 1) ∷ []
@@ -92,7 +92,7 @@ module _ {O A P B : Type 0} (s : Sides O A P B) where
       computes_ends s n n (λ b. denoted b r) dropped dropped y x h (λ v is.
       finds_ends s n n (λ b. object_at b r.object) (cut v) (cut v) y x h (λ o there.
       needs_ends s n n (reason.LastVersion o.id) (λ z. nat_lt 1 (length o.versions)) (λ z. nat_lt 1 (length o.versions)) (changed v o) (changed v o) y x h refl (λ more.
-      changes_ends s n n (version_key o.id v.number ∷ []) 0 draws_none (put v o) (put v o) y x h (λ drawn held.
+      changes_ends s n n (version_key o.id v.number ∷ []) 0 draws_none (put v o) (put v o) y x h (λ drawn small held.
       (refl, s.drop n (holding (version_key o.id v.number ∷ []) y) (holding (version_key o.id v.number ∷ []) x) r v o held is there more)))))
     where
       put : {O A : Type 0} → Version → Object → Deed O A
@@ -110,7 +110,7 @@ module _ {O A P B : Type 0} (s : Sides O A P B) where
   pub removes_alike : (n id : ℕ) → Alike s n n (removes id) (removes id)
   removes_alike n id y x h =
       finds_ends s n n (λ b. object_at b id) gone gone y x h (λ o there.
-      changes_ends s n n (keys_of o) 0 draws_none (alters_object id removed) (alters_object id removed) y x h (λ drawn held.
+      changes_ends s n n (keys_of o) 0 draws_none (alters_object id removed) (alters_object id removed) y x h (λ drawn small held.
       (refl, s.remove n (holding (keys_of o) y) (holding (keys_of o) x) id held)))
     where
       keys_of : Object → List Key
@@ -121,17 +121,17 @@ module _ {O A P B : Type 0} (s : Sides O A P B) where
 
   pub switches_off_alike : (n id : ℕ) (a : Activation) → Alike s n n (switches_off id a) (switches_off id a)
   switches_off_alike n id a y x h =
-      changes_ends s n n (activation_key id a.number ∷ []) 0 draws_none (alters_object id (off_in a.number)) (alters_object id (off_in a.number)) y x h (λ drawn held.
+      changes_ends s n n (activation_key id a.number ∷ []) 0 draws_none (alters_object id (off_in a.number)) (alters_object id (off_in a.number)) y x h (λ drawn small held.
       (refl, s.off n (holding (activation_key id a.number ∷ []) y) (holding (activation_key id a.number ∷ []) x) id a.number held))
 
   pub makes_alike : (n class : ℕ) (fields : List Value) → Alike s (suc n) n (makes s.past class fields) (makes s.other class fields)
   makes_alike n class fields =
       sees_alike s (suc n) n (λ b. b.next) (making s.past) (making s.other) (λ id y x h.
-      changes_ends s (suc n) n (keys_of id) (version_size fields) has_number (put s.past id) (put s.other id) y x h (λ drawn held.
+      changes_ends s (suc n) n (keys_of id) (version_size fields) has_number (put s.past id) (put s.other id) y x h (λ drawn small held.
       next_alike s n n n (prints (new_line id)) (prints (new_line id)) (prints_alike s n (new_line id)) (gives id) (gives id) (done_alike s n id)
       (touching id (turned (with_new s.past class fields) (holding (keys_of id) y))) (touching id (turned (with_new s.other class fields) (holding (keys_of id) x)))
       (s.touch n (turned (with_new s.past class fields) (holding (keys_of id) y)) (turned (with_new s.other class fields) (holding (keys_of id) x)) id
-      (s.new (suc n) (holding (keys_of id) y) (holding (keys_of id) x) class fields held drawn))))
+      (s.new (suc n) (holding (keys_of id) y) (holding (keys_of id) x) class fields held drawn small))))
     where
       keys_of : ℕ → List Key
       keys_of id = object_key id ∷ version_key id 1 ∷ []
@@ -147,10 +147,10 @@ module _ {O A P B : Type 0} (s : Sides O A P B) where
   switches_on_alike n id t args known =
       sees_alike s n n (λ b. b.next) (switching s.past) (switching s.other) (λ number y x h.
       needs_ends s n n reason.Size (λ z. nat_le (values_length args) args_limit) (λ z. nat_le (values_length args) args_limit) (changed s.past number) (changed s.other number) y x h refl (λ short.
-      changes_ends s n n (activation_key id number ∷ []) 0 has_number (put s.past number) (put s.other number) y x h (λ drawn held.
+      changes_ends s n n (activation_key id number ∷ []) 0 has_number (put s.past number) (put s.other number) y x h (λ drawn small held.
       next_alike s n n n (prints (active_line number)) (prints (active_line number)) (prints_alike s n (active_line number)) (gives number) (gives number) (done_alike s n number)
       (turned (with_active s.past id t args) (holding (activation_key id number ∷ []) y)) (turned (with_active s.other id t args) (holding (activation_key id number ∷ []) x))
-      (s.active n (holding (activation_key id number ∷ []) y) (holding (activation_key id number ∷ []) x) id t args held drawn known))))
+      (s.active n (holding (activation_key id number ∷ []) y) (holding (activation_key id number ∷ []) x) id t args held drawn short known))))
     where
       put : {O A : Type 0} → Past O A → ℕ → Act O A ℕ
       put past number = turns (with_active past id t args) >> (prints (active_line number) >> gives number)

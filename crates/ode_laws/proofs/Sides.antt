@@ -11,7 +11,8 @@ use Rattle.ode_value.specs.Changes.{key_count, holding, has_number}
 use Rattle.ode_value.specs.Classes.{Trigger, triggers_of}
 use Rattle.ode_value.specs.Denoting.{object_at, denoted}
 use Rattle.ode_value.specs.Firings.{arises, both_lists}
-use Rattle.ode_value.specs.Limits.{budget_limit, output_limit, change_limit, cascade_limit, version_limit}
+use Rattle.ode_value.specs.Lengths.{values_length, version_size}
+use Rattle.ode_value.specs.Limits.{budget_limit, output_limit, change_limit, cascade_limit, version_limit, value_limit, args_limit}
 use Rattle.ode_value.specs.Making.{with_fields, without_version, derived_from, switched_off, with_new, with_active}
 use Rattle.ode_value.specs.Pasts.{Past}
 use Rattle.ode_value.specs.Posting.{has_room, with_deferred, with_entry}
@@ -57,6 +58,22 @@ told cs y x s v w vn wn vf wf origin touched deferred collected gathered text ru
   keys = keys;
 }
 
+-- a transaction has all in common with itself
+pub same_self : {O A : Type 0} (cs : List Declared) (y x : Tx O A) → y ≡ x → x.now.bones.classes ≡ cs → Same cs y x
+same_self cs y x is classes = record {
+  bones = ap (λ z. z.now.bones) is;
+  classes = classes;
+  first = ap (λ z. z.first.bones) is;
+  origin = ap (λ z. z.origin) is;
+  touched = ap (λ z. z.touched) is;
+  deferred = ap (λ z. z.deferred) is;
+  collected = ap (λ z. z.collected) is;
+  gathered = ap (λ z. z.gathered) is;
+  text = ap (λ z. z.text) is;
+  run = ap (λ z. z.run) is;
+  keys = ap (λ z. z.keys) is;
+}
+
 -- a transaction with a change of an object
 abbrev pub altered : {O A : Type 0} → ℕ → (Object → Object) → Tx O A → Tx O A
 altered id change = with_bones (λ b. record b { objects = with_object id change b.objects })
@@ -94,17 +111,17 @@ pub record Sides (O A P B : Type 0) : Type 1 where
   pub touch : (n : ℕ) (y : Tx O A) (x : Tx P B) (id : ℕ) → Related (suc n) y x → Related n (touching id y) (touching id x)
   pub defer : (n : ℕ) (y : Tx O A) (x : Tx P B) (f : Firing) → Related n y x → nat_lt (length x.deferred) cascade_limit ≡ true → Related n (with_deferred f y) (with_deferred f x)
   pub collect : (n : ℕ) (y : Tx O A) (x : Tx P B) (independent : Bool) (f : Firing) → Related n y x → has_room x ≡ true → Related n (with_entry independent f y) (with_entry independent f x)
-  pub set : (n : ℕ) (y : Tx O A) (x : Tx P B) (r : Ref) (v : Version) (place : ℕ) (value : Value) → Related n y x → denoted x.now.bones r ≡ Ok v
+  pub set : (n : ℕ) (y : Tx O A) (x : Tx P B) (r : Ref) (v : Version) (place : ℕ) (value : Value) → Related n y x → denoted x.now.bones r ≡ Ok v → nat_le (version_size (slice_set v.fields place value)) value_limit ≡ true
       → Related n (altered r.object (set_in v place value) y) (altered r.object (set_in v place value) x)
-  pub derive : (n : ℕ) (y : Tx O A) (x : Tx P B) (r : Ref) (v : Version) (o : Object) → Related n y x → denoted x.now.bones r ≡ Ok v → object_at x.now.bones r.object ≡ Some o → nat_lt o.last version_limit ≡ true
+  pub derive : (n : ℕ) (y : Tx O A) (x : Tx P B) (r : Ref) (v : Version) (o : Object) → Related n y x → denoted x.now.bones r ≡ Ok v → object_at x.now.bones r.object ≡ Some o → nat_lt o.last version_limit ≡ true → nat_le (version_size v.fields) value_limit ≡ true
       → Related n (altered o.id (derived_from v) y) (altered o.id (derived_from v) x)
   pub drop : (n : ℕ) (y : Tx O A) (x : Tx P B) (r : Ref) (v : Version) (o : Object) → Related n y x → denoted x.now.bones r ≡ Ok v → object_at x.now.bones r.object ≡ Some o → nat_lt 1 (length o.versions) ≡ true
       → Related n (altered o.id (dropped_from v) y) (altered o.id (dropped_from v) x)
   pub remove : (n : ℕ) (y : Tx O A) (x : Tx P B) (id : ℕ) → Related n y x → Related n (altered id removed y) (altered id removed x)
   pub off : (n : ℕ) (y : Tx O A) (x : Tx P B) (id number : ℕ) → Related n y x → Related n (altered id (off_in number) y) (altered id (off_in number) x)
-  pub new : (n : ℕ) (y : Tx O A) (x : Tx P B) (class : ℕ) (fields : List Value) → Related n y x → has_number x.now.bones ≡ true
+  pub new : (n : ℕ) (y : Tx O A) (x : Tx P B) (class : ℕ) (fields : List Value) → Related n y x → has_number x.now.bones ≡ true → nat_le (version_size fields) value_limit ≡ true
       → Related n (turned (with_new past class fields) y) (turned (with_new other class fields) x)
-  pub active : (n : ℕ) (y : Tx O A) (x : Tx P B) (id : ℕ) (t : Trigger) (args : List Value) → Related n y x → has_number x.now.bones ≡ true → Known t
+  pub active : (n : ℕ) (y : Tx O A) (x : Tx P B) (id : ℕ) (t : Trigger) (args : List Value) → Related n y x → has_number x.now.bones ≡ true → nat_le (values_length args) args_limit ≡ true → Known t
       → Related n (turned (with_active past id t args) y) (turned (with_active other id t args) x)
   pub point : (n : ℕ) (y : Tx O A) (x : Tx P B) (id : ℕ) (kind : Kind) (args : List Value) → Related n y x
       → EndsBy (Related n) (Related n) (arises past (both_lists past) id kind args y) (arises other (both_lists other) id kind args x)

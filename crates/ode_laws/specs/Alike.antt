@@ -1,7 +1,8 @@
 -- When a transaction over state numbers runs as one over lists of points.
 use Rattle.std.specs.Prelude.{◌≡◌, ◌≤◌, ℕ, ◌==◌, Some}
-use Rattle.std.specs.List.{AllZip, find}
+use Rattle.std.specs.List.{AllByRecursion, AllZip, find}
 use Rattle.ode_value.specs.Acts.{Outcome, Done, Aborted, Act}
+use Rattle.ode_value.specs.Classes.{Trigger, own_triggers}
 use Rattle.ode_value.specs.Denoting.{object_numbered}
 use Rattle.ode_value.specs.Language.{ListWorld, ListTx}
 use Rattle.ode_value.specs.Objects.{Activation, Histories, Starts}
@@ -9,7 +10,7 @@ use Rattle.ode_value.specs.Pasts.{Kept}
 use Rattle.ode_value.specs.Settling.{Settled}
 use Rattle.ode_value.specs.Tables.{Table}
 use Rattle.ode_value.specs.Transactions.{Tx}
-use Rattle.ode_value.specs.Worlds.{Object, World, kept_at}
+use Rattle.ode_value.specs.Worlds.{Declared, Object, World, kept_at}
 use Rattle.ode_codec.specs.Standing.{StandsAs}
 use Rattle.ode_laws.specs.Numbered.{AreNumbered}
 
@@ -72,3 +73,7 @@ RunAlike tables a b = (y : NumberTx) (x : ListTx) → RunsAs tables y x → Ends
 pub record SettledAs (tables : ℕ → ℕ → Table) (s : Settled (Unit {0}) ℕ) (t : Settled Histories Starts) : Type 0 where
   pub world : IsAlike tables s.0 t.0
   pub text : s.1 ≡ t.1
+
+-- other tables are the same for the triggers that a class declares
+abbrev pub AgreesOn : (tables other : ℕ → ℕ → Table) → Declared → Type 0
+AgreesOn tables other d = AllByRecursion (λ (t : Trigger). other t.class t.place ≡ tables t.class t.place) (own_triggers d.class)

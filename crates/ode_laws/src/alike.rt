@@ -1,7 +1,7 @@
 //! Over state numbers the machine runs as over lists of points, where the table of each declared trigger means its event. Each law is
 //! carried by the contract of a function that does nothing.
 ghost use Rattle.std.specs.Prelude.{ℕ, List as Items};
-ghost use Rattle.std.specs.List.{AllZip};
+ghost use Rattle.std.specs.List.{AllByRecursion, AllZip};
 ghost use Rattle.ode_value.specs.declared.event.Kind.{Kind};
 ghost use Rattle.ode_value.specs.declared.reason.Reason.{Reason};
 ghost use Rattle.ode_value.specs.declared.statement.Stmt.{Stmt};
@@ -19,7 +19,7 @@ ghost use Rattle.ode_value.specs.Settling.{abort, commit, transaction};
 ghost use Rattle.ode_value.specs.Tables.{Table};
 ghost use Rattle.ode_value.specs.Transactions.{Firing, Origin, begun};
 ghost use Rattle.ode_value.specs.Worlds.{Entry};
-ghost use Rattle.ode_laws.specs.Alike.{IsAlike, NumberTx, NumberWorld, RunAlike, RunsAs, SettledAs};
+ghost use Rattle.ode_laws.specs.Alike.{AgreesOn, IsAlike, NumberTx, NumberWorld, RunAlike, RunsAs, SettledAs};
 ghost use Rattle.ode_laws.specs.Numbered.{AreNumbered};
 
 /// The numbers of a good world's classes, objects and activations tell these apart.
@@ -51,4 +51,11 @@ pub fn transactions_settle_alike()
     ensures entry { (tables : ℕ → ℕ → Table) (v : NumberWorld) (w : ListWorld) → IsAlike tables v w → (q : ℕ × Entry) → SettledAs tables (entry_settled (numbers tables) v q) (entry_settled lists w q) }
     ensures drain { (tables : ℕ → ℕ → Table) (most : ℕ) (v : NumberWorld) (w : ListWorld) → IsAlike tables v w →
         AllZip (SettledAs tables) (drain (numbers tables) most v) (drain lists most w) }
+{}
+
+/// By other tables, which are the same for all declared triggers, worlds stay alike: so a class that is to be declared may bring its
+/// own.
+pub fn tables_may_grow()
+    ensures { (tables other : ℕ → ℕ → Table) (v : NumberWorld) (w : ListWorld) → IsAlike tables v w →
+        AllByRecursion (AgreesOn tables other) w.bones.classes → IsAlike other v w }
 {}
