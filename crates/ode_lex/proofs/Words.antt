@@ -6,6 +6,7 @@ use Rattle.std.proofs.lemmas.Bool.{false≢true}
 use Rattle.std.proofs.lemmas.Bool.Decides.{nat_tests}
 use Rattle.std.proofs.lemmas.List.Sums.{take_while-cons}
 use Rattle.std.proofs.lemmas.List.Folds.{length-prefix_len}
+use Rattle.ode_value.specs.Limits.{name_limit}
 use Rattle.ode_value.specs.Text.{is_name_byte, IsName}
 use Rattle.ode_lex.specs.Marks.{mark_at}
 use Rattle.ode_lex.specs.Numerals.{numeral_at}
@@ -77,7 +78,7 @@ first_is_name_byte b e = grind (arith, nat_tests)
 none_before_end : (n m : ℕ) → n ≡ m → cond (ltb n m) (Some n) None ≡ None
 none_before_end n m e = grind (arith, nat_tests)
 
-run_is_name : (b : ℕ) (rest : List ℕ) → begins_word b ≡ true → 1 + prefix_len is_name_byte rest ≤ 64 → IsName (b ∷ take_while is_name_byte rest)
+run_is_name : (b : ℕ) (rest : List ℕ) → begins_word b ≡ true → 1 + prefix_len is_name_byte rest ≤ name_limit → IsName (b ∷ take_while is_name_byte rest)
 run_is_name b rest first short =
     let size = length-prefix_len is_name_byte rest in
     record {
@@ -99,7 +100,7 @@ length_of (Some found) = found.1
 
 word_row : (b : ℕ) (rest : List ℕ) (n : ℕ) → begins_word b ≡ true → word_at rest ≡ Some (Word, n) → IsName (take n (b ∷ rest))
 unfolding word_at length_of
-word_row b rest n first e = cases (leb (1 + prefix_len is_name_byte rest) 64) refl e
+word_row b rest n first e = cases (leb (1 + prefix_len is_name_byte rest) name_limit) refl e
   where
     cases : (short : Bool) → leb (1 + prefix_len is_name_byte rest) 64 ≡ short → cond {A = Option (TokenKind × ℕ)} short (Some (Word, 1 + prefix_len is_name_byte rest)) None ≡ Some (Word, n) → IsName (take n (b ∷ rest))
     cases true short e =

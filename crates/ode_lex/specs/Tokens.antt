@@ -2,6 +2,8 @@
 use Rattle.std.specs.Prelude.{◌≡◌, ◌<◌, ◌≤◌, length, ℕ, zero, suc, ◌+◌, ◌-◌, ◌^◌, ◌==◌, ◌||◌, nat_eq, nat_le, not, Bool, false, if◌then◌else◌, List, [], ◌∷◌, drop, take, codes, pos, Option, None, Some, option_map, option_and_then}
 use Rattle.std.specs.Char.{is_ascii_alphabetic, is_ascii_digit}
 use Rattle.std.specs.List.{prefix_len, starts_with}
+use Rattle.std.specs.Str.{byte}
+use Rattle.ode_value.specs.Limits.{name_limit}
 use Rattle.ode_value.specs.Text.{is_name_byte, IsName}
 use Rattle.ode_lex.specs.Marks.{mark_at}
 use Rattle.ode_lex.specs.Numerals.{numeral_at}
@@ -19,9 +21,9 @@ abbrev pub word_follows : List ℕ → Bool
 word_follows [] = false
 word_follows (b ∷ rest) = begins_word b
 
--- a word of at most 64 bytes, behind its first byte: letters, digits and `_`
+-- a word behind its first byte, letters, digits and `_`, where it isn't longer than a name
 unfoldable pub word_at : List ℕ → Option (TokenKind × ℕ)
-word_at rest = let n = 1 + prefix_len is_name_byte rest in if nat_le n 64 then Some (kinds.Word, n) else None
+word_at rest = let n = 1 + prefix_len is_name_byte rest in if nat_le n name_limit then Some (kinds.Word, n) else None
 
 -- a number up to 2^63 - 1, directly before no letter and no `_`
 unfoldable pub number_at : List ℕ → Option (TokenKind × ℕ)
@@ -61,7 +63,7 @@ token_at (b ∷ rest) =
 
 -- space, tab, CR or LF
 abbrev pub is_blank : ℕ → Bool
-is_blank b = (b == 32 || b == 9) || (b == 13 || b == 10)
+is_blank b = (b == byte " ") || (b == byte "\t") || (b == byte "\r") || (b == byte "\n")
 
 -- how many bytes in front separate tokens: those of a comment up to its LF, or blanks
 unfoldable pub gap_at : List ℕ → ℕ

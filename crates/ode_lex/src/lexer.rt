@@ -71,8 +71,8 @@ fn blank_length(bytes: &[u8]) -> usize
     bytes.iter().take_while(|b| is_blank(**b)).count()
 }
 
-// Space, tab, CR and LF.
-fn is_blank(byte: u8) -> bool
+/// Whether a byte separates tokens: a space, a tab, CR or LF.
+pub fn is_blank(byte: u8) -> bool
     ensures { result ≡ is_blank byte }
 {
     matches!(byte, b' ' | b'\t' | b'\r' | b'\n')

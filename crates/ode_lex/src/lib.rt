@@ -8,5 +8,5 @@ mod rows;
 mod text;
 mod token;
 
-pub use lexer::tokens;
+pub use lexer::{is_blank, tokens};
 pub use token::{LexError, Mark, Token, TokenKind, slice_of};

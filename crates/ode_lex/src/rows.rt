@@ -9,6 +9,7 @@ use crate::number::numeral_at;
 use crate::text::text_length;
 use crate::token::TokenKind;
 use ode_value::Ref;
+use ode_value::limits::NAME_LIMIT;
 
 /// The token in front, and its length.
 #[tactic(auto, unfolding(crate::specs::Tokens::token_at))]
@@ -62,7 +63,7 @@ fn word_at(rest: &[u8]) -> Option<(TokenKind, usize)>
     ensures within { IfSome result (λ found. (0 < found.1) × (found.1 ≤ 1 + length rest.now)) }
 {
     let length = 1 + word_length(rest);
-    if length <= 64 {
+    if length <= NAME_LIMIT {
         Some((TokenKind::Word, length))
     } else {
         None

@@ -11,7 +11,8 @@ use Rattle.ode_script.specs.declared.reader.Piece.TheVariants as P
 use Rattle.ode_script.specs.declared.reader.ScriptError.{ScriptError}
 use Rattle.ode_script.specs.declared.reader.ScriptError.TheVariants as E
 use Rattle.ode_script.specs.Cutting.{Pieces, Then, Ended, End, LongStatement, LongScript, cut, is_full, pieces_from, last_piece}
-use Rattle.ode_script.specs.Pieces.{has_code, begun, with_byte, depth_after, ends, is_blank, is_empty, is_leading, line_after}
+use Rattle.ode_lex.specs.Tokens.{is_blank}
+use Rattle.ode_script.specs.Pieces.{has_code, begun, with_byte, depth_after, ends, is_empty, is_leading, line_after}
 use Rattle.ode_script.specs.Left.{Bars, HasLeft, Stops, EndsBy, TakesPiece, IsWithin, last_of}
 use Rattle.ode_script.proofs.Chunks.{none_left}
 

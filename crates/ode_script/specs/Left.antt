@@ -6,7 +6,8 @@ use Rattle.ode_script.specs.declared.reader.ScriptError.TheVariants as E
 use Rattle.ode_script.specs.declared.reader.Piece.{Piece}
 use Rattle.ode_script.specs.declared.reader.Piece.TheVariants as P
 use Rattle.ode_script.specs.Cutting.{Pieces, Then, Ended, End, LongStatement, LongScript, pieces_from}
-use Rattle.ode_script.specs.Pieces.{is_blank, line_after}
+use Rattle.ode_lex.specs.Tokens.{is_blank}
+use Rattle.ode_script.specs.Pieces.{line_after}
 
 -- the reader may be asked for a piece
 abbrev pub is_live : Reader → Bool

@@ -1,12 +1,10 @@
 -- A piece of a script, byte by byte: where each byte stands, which one ends the piece, and whether it has code.
 use Rattle.std.specs.Prelude.{ℕ, ◌+◌, ◌-◌, List, [], ◌∷◌, ◌++◌, Bool, true, false, ◌==◌, ◌||◌, ◌&&◌, if◌then◌else◌}
 use Rattle.std.specs.Str.{byte}
+use Rattle.ode_lex.specs.Tokens.{is_blank}
 use Rattle.ode_script.specs.declared.reader.Place.{Place}
 use Rattle.ode_script.specs.declared.reader.Place.TheVariants.{Outside, Slash, Comment, Text, Escape}
 use Rattle.ode_script.specs.declared.reader.Part.{Part}
-
-abbrev pub is_blank : ℕ → Bool
-is_blank b = (b == byte " ") || (b == byte "\t") || (b == byte "\r") || (b == byte "\n")
 
 -- the line behind the byte b
 abbrev pub line_after : (line b : ℕ) → ℕ

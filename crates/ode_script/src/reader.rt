@@ -1,11 +1,12 @@
 //! Statements from a source.
 ghost use Rattle.std.specs.Prelude.{◌≡◌, ◌≤◌, ◌<◌, ◌+◌, ◌-◌, ◌^◌, ℕ, IsTrue, false, is_ok, length, OnOk, IfOk, IsErr, IfErr, IsSome, [], Some};
 ghost use Rattle.ode_script.specs.Cutting.{is_full, last_piece, pieces};
-ghost use Rattle.ode_script.specs.Pieces.{is_blank, is_outside, place_after, depth_after, begun, with_byte, ends, has_code};
+ghost use Rattle.ode_script.specs.Pieces.{is_outside, place_after, depth_after, begun, with_byte, ends, has_code};
 ghost use Rattle.ode_host.specs.Causes.{RoseIf};
 ghost use Rattle.ode_value.specs.Limits.{script_limit, statement_limit};
 
 use ode_host::Source;
+use ode_lex::is_blank;
 use ode_value::List;
 use ode_value::limits::{SCRIPT_LIMIT, STATEMENT_LIMIT};
 use std::alloc::{AllocError, Global};
@@ -49,12 +50,6 @@ impl Place {
             (Place::Text | Place::Escape, _) => Place::Text,
         }
     }
-}
-
-fn is_blank(b: u8) -> bool
-    ensures { result ≡ is_blank b }
-{
-    matches!(b, b' ' | b'\t' | b'\r' | b'\n')
 }
 
 // Whether a rest has more than blanks and comments.
