@@ -1,5 +1,6 @@
 //! How many trees of states expressions have.
-ghost use Rattle.std.specs.Prelude.{◌≡◌, ◌<◌, IfOk, length, true};
+ghost use Rattle.std.specs.Prelude.{◌≡◌, ◌<◌, ◌≤◌, IfOk, length, true};
+ghost use Rattle.ode_value.specs.Limits.{choose_limit};
 ghost use Rattle.ode_value.specs.Marks.{leaves};
 ghost use Rattle.ode_value.specs.Numbers.{has_numbers};
 
@@ -12,7 +13,7 @@ use std::test::Fail;
 #[tactic(auto, using(ode_value::proofs::LeafLaws::forms))]
 fn relative(alloc: Global, n: u32) -> Result<EventExpr, AllocError>
     requires some { 0 < n }
-    requires small { n < 65536 }
+    requires small { n ≤ choose_limit }
     ensures leaves { IfOk result (λ e. length (leaves e) ≡ 1) }
     ensures numbers { IfOk result (λ e. has_numbers e ≡ true) }
 {
@@ -25,7 +26,7 @@ fn relative(alloc: Global, n: u32) -> Result<EventExpr, AllocError>
 // How many trees it has over its two symbols.
 fn count(alloc: Global, n: u32) -> Result<Option<u32>, AllocError>
     requires some { 0 < n }
-    requires small { n < 65536 }
+    requires small { n ≤ choose_limit }
 {
     let e = relative(alloc, n)?;
     let marks = [

@@ -1,6 +1,7 @@
 -- What the grammar sees of a token of a text.
-use Rattle.std.specs.Prelude.{ℕ, ◌-◌, ◌^◌, ◌==◌, ◌||◌, ℤ, pos, negsuc, nat_lt, nat_le, cond, codes, List, [], ◌∷◌, take, drop, length, Option, None, Some}
+use Rattle.std.specs.Prelude.{ℕ, ◌-◌, ◌^◌, ◌==◌, ◌||◌, ℤ, pos, negsuc, nat_le, cond, codes, List, [], ◌∷◌, take, drop, length, Option, None, Some}
 use Rattle.std.specs.Str.{bytes_eq}
+use Rattle.ode_value.specs.Limits.{choose_limit}
 use Rattle.ode_timer.specs.Dates.{instant_of}
 use Rattle.ode_lex.specs.declared.token.Mark.{Mark}
 use Rattle.ode_lex.specs.declared.token.Mark.TheVariants as mark
@@ -42,7 +43,7 @@ mark_terminal mark.Arrow = terminal.Arrow
 -- a number by its range
 abbrev pub number_terminal : ℤ → Terminal
 number_terminal (pos n) =
-    cond (n == 0 || nat_le (2 ^ 32) n) terminal.Number (cond (nat_lt n 65536) terminal.Count terminal.Seconds)
+    cond (n == 0 || nat_le (2 ^ 32) n) terminal.Number (cond (nat_le n choose_limit) terminal.Count terminal.Seconds)
 number_terminal (negsuc n) = terminal.Number
 
 -- `this` stands in no statement of a script, and a reference in no class

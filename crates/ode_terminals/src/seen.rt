@@ -7,6 +7,7 @@ use crate::words::word_terminal;
 use ode_grammar::Terminal;
 use ode_lex::{Mark, Token, TokenKind, slice_of};
 use ode_timer::instant;
+use ode_value::limits::CHOOSE_LIMIT;
 use std::alloc::{AllocError, Global};
 
 /// Where a text stands: in a class, among a script's own statements, or where nothing is known of it.
@@ -51,10 +52,12 @@ fn mark_terminal(mark: Mark) -> Terminal
 fn number_terminal(number: i64) -> Terminal
     ensures { result ≡ number_terminal number }
 {
-    match number {
-        1..=65_535 => Terminal::Count,
-        65_536..=4_294_967_295 => Terminal::Seconds,
-        _ => Terminal::Number,
+    if number < 1 || number > i64::from(u32::MAX) {
+        Terminal::Number
+    } else if number <= i64::from(CHOOSE_LIMIT) {
+        Terminal::Count
+    } else {
+        Terminal::Seconds
     }
 }
 

@@ -1,11 +1,11 @@
 -- The list of trees that steps of its trees in turn fill is the list that rounds of steps fill.
-use Rattle.std.proofs.Common.{◌≡◌, ℕ, zero, suc, ◌+◌, ◌-◌, ◌<◌, ◌≤◌, ◌⊎◌, Bool, true, false, cond, List, [], ◌∷◌, ◌++◌, length, map, take, drop, get_or, refl, ap, sym, ◌∙◌, subst, arith, length-append, append_assoc, add-one, Some, None, Option, inl, inr, OnOk, Ok, Err, Result}
+use Rattle.std.proofs.Common.{◌≡◌, ℕ, zero, suc, ◌+◌, ◌-◌, ◌<◌, ◌≤◌, ◌⊎◌, Bool, true, false, cond, List, [], ◌∷◌, ◌++◌, length, map, take, drop, get_or, refl, ap, sym, ◌∙◌, subst, arith, Some, None, inl, inr, OnOk, Ok, Err, Result}
 use Rattle.std.specs.Prelude.{◌||◌, fold, flat_map, nat_le}
 use Rattle.std.specs.List.{list_any, slice_get}
 use Rattle.std.proofs.lemmas.Bool.{cases_lt, or_left, or_right}
 use Rattle.std.proofs.lemmas.Bool.Decides.{nat_tests}
 use Rattle.std.proofs.lemmas.Grind.{flat_map-append}
-use Rattle.std.proofs.lemmas.List.{append-nil, map-append, take_all, take_more, take-append-le, take-append-drop, length-take-le}
+use Rattle.std.proofs.lemmas.List.{append-nil, map-append, take_all, take_more, take-append-le, take-append-drop}
 use Rattle.std.proofs.lemmas.List.Folds.{list_any-append}
 use Rattle.std.proofs.lemmas.List.Sums.{fold-append}
 use Rattle.std.proofs.lemmas.Option.{slice_get_read}
@@ -19,8 +19,8 @@ use Rattle.ode_value.specs.TreeOrder.{same_tree}
 use Rattle.ode_value.specs.Trees.{first_tree, next_tree}
 use Rattle.ode_trees.specs.declared.growth.Reached.{Reached}
 use Rattle.ode_trees.specs.Found.{Leads, made_from, IsMade, steps_by, IsReached, IsAnswer}
-use Rattle.ode_trees.specs.ListMachines.{each_step, grow_listed, grown_listed, listed_count}
-use Rattle.ode_trees.proofs.CountLaws.{Begins, begins-with_tree, begins-more, begins-fold, begins-longer, grown-next, grown-first, longer, last-round, beyond, leb-within, each-marks, count-marks}
+use Rattle.ode_trees.specs.ListMachines.{each_step, grown_listed, listed_count}
+use Rattle.ode_trees.proofs.CountLaws.{Begins, begins-more, begins-fold, begins-longer, grown-next, grown-first, longer, last-round, beyond, leb-within, each-marks, count-marks}
 use Rattle.ode_trees.proofs.EqualTrees.{same_tree-itself, same_tree-equal}
 
 -- ---- trees that are there

@@ -2,6 +2,7 @@
 ghost use Rattle.std.specs.Prelude.{◌≡◌, ◌+◌, ◌<◌, ◌≤◌, ◌^◌, [], IfOk, OnOk, length, map, min, true};
 ghost use Rattle.std.specs.List.{list_any};
 ghost use Rattle.ode_trees.specs.ListMachines.{leaf_count, next_listed, pairs_after};
+ghost use Rattle.ode_value.specs.Limits.{choose_limit};
 ghost use Rattle.ode_value.specs.Marks.{Mark, leaves, spelled};
 ghost use Rattle.ode_value.specs.Numbers.{has_numbers};
 ghost use Rattle.ode_value.specs.TreeOrder.{all_joined, joined, pair_cmp, tree_cmp};
@@ -188,7 +189,7 @@ fn place_after(c: u32) -> u8
 }
 
 fn count_after(n: u32, answers: bool, c: u32) -> u32
-    requires { n < 65536 }
+    requires { n ≤ choose_limit }
     ensures { result ≡ next_count n answers c }
 {
     if answers && c <= n {

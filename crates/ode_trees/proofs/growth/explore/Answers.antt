@@ -1,8 +1,7 @@
 use Rattle.std.proofs.Common.{◌<◌, ◌≤◌, ◌≡◌, [], ◌∷◌, ◌+◌, arith, length, get_or, take, sym, ap, ◌∙◌, subst, inl, inr}
-use Rattle.std.specs.Prelude.{Some, flat_map, fold}
+use Rattle.std.specs.Prelude.{Some, flat_map}
 use Rattle.std.specs.List.{slice_get}
 use Rattle.ode_value.specs.Limits.{state_limit}
-use Rattle.ode_value.specs.TreeCount.{with_tree}
 use Rattle.ode_value.specs.Trees.{first_tree}
 use Rattle.ode_trees.specs.Found.{IsMade, Leads}
 use Rattle.ode_trees.specs.ListMachines.{each_step}

@@ -1,4 +1,4 @@
-use Rattle.std.proofs.Common.{arith, ap, sym, ◌∙◌, length, subst, ◌<◌, ◌≤◌}
+use Rattle.std.proofs.Common.{arith, length}
 use Rattle.ode_trees.proofs.FoundLaws.{found-few, found-many}
 use Rattle.ode_trees.proofs.growth.reach.Goals as goal
 
