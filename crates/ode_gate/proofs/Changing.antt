@@ -5,7 +5,7 @@ use Rattle.ode_host.specs.View.{View}
 use Rattle.ode_host.specs.Host.{LeavesOnly, LeavesTorn, Looks, Stands, Torn, written_over}
 use Rattle.ode_host.proofs.Moments.{joined, looks_on, stands_looks, started, torn-same, weaker}
 use Rattle.ode_gate.specs.declared.header.Header.{Header}
-use Rattle.ode_gate.specs.Changes.{IsChanged, LeavesHeader, MayFollow}
+use Rattle.ode_gate.specs.Changes.{IsChanged, LeavesHeader, MayReplace}
 use Rattle.ode_gate.specs.Headers.{header_bytes, next_generation}
 use Rattle.ode_gate.specs.Slots.{Counts, HoldsHeader, IsOpen, IsShut, IsSlot, bytes_of, open_body, other_slot, place_of}
 use Rattle.ode_gate.proofs.Slotted.{Around, around_of, opens, own, same_behind, same_beside, shut_any, torn_body_around, torn_gate_around, wrote_body_around, wrote_gate_around}
@@ -20,7 +20,7 @@ shut_or_open (gate ∷ body) = ⊎_elim
     (λ (opened : (gate ≡ OPEN) × (open_body (gate ∷ body) ≡ Some body)). inr (ap is_some opened.1))
     (opens gate body)
 
-module _ (image : List ℕ) (older h : Header) (follows : MayFollow image older h) (is_slot : IsSlot h.slot) where
+module _ (image : List ℕ) (older h : Header) (follows : MayReplace image older h) (is_slot : IsSlot h.slot) where
   pub front : List ℕ
   front = take (place_of h.slot) image
 

@@ -7,7 +7,7 @@ use Rattle.ode_gate.specs.Headers.{IsHeader, next_generation}
 use Rattle.ode_gate.specs.Slots.{Counts}
 
 -- in this image one header counts, and another may be written beside it
-pub record MayFollow (image : List ℕ) (older h : Header) : Type 0 where
+pub record MayReplace (image : List ℕ) (older h : Header) : Type 0 where
   pub long : SLOTS_END ≤ length image
   pub counts : Counts image older
   pub rules : IsHeader h

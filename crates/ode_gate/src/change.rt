@@ -6,7 +6,7 @@ ghost use Rattle.ode_gate.specs.declared.error.GateError.TheVariants.{DiskFault}
 ghost use Rattle.ode_gate.specs.declared.header.Header.{Header};
 ghost use Rattle.ode_gate.specs.Headers.{header_bytes};
 ghost use Rattle.ode_gate.specs.Slots.{IsOpen, IsShut, IsSlot, bytes_of, place_of};
-ghost use Rattle.ode_gate.specs.Changes.{IsChanged, LeavesHeader, MayFollow, WritesAtMost, header_change_length};
+ghost use Rattle.ode_gate.specs.Changes.{IsChanged, LeavesHeader, MayReplace, WritesAtMost, header_change_length};
 
 use crate::error::GateError;
 use crate::gate::{OPEN, SHUT};
@@ -91,10 +91,10 @@ pub fn change_header<H: Host>(
     buffer: &mut [u8; SLOT_LEN],
 ) -> Result<(), GateError>
     requires { IsSlot h.now.slot }
-    ensures changed { OnOk result ((image : List ℕ) (older : Header) → MayFollow image older h.now
+    ensures changed { OnOk result ((image : List ℕ) (older : Header) → MayReplace image older h.now
         → Stands image (H.view host.old)
         → (next : List ℕ) × Stands next (H.view host.new) × IsChanged image h.now next) }
-    ensures any_moment { (image : List ℕ) (older : Header) → MayFollow image older h.now
+    ensures any_moment { (image : List ℕ) (older : Header) → MayReplace image older h.now
         → Stands image (H.view host.old)
         → LeavesOnly (H.view host.old) (H.view host.new) (LeavesHeader image older h.now (H.view host.old)) }
     ensures most { OnOk result (WritesAtMost header_change_length (H.view host.old) (H.view host.new)) }

@@ -46,9 +46,9 @@ one_more start end frames payload file has next =
     }
 
 -- frames that were read, and then a gate that is shut
-pub journal_at : (start end at : ℕ) (frames : List (List ℕ)) (file : List ℕ) → HasFrames start end frames file → at ≡ gate_behind start frames
+pub frames_and_gate : (start end at : ℕ) (frames : List (List ℕ)) (file : List ℕ) → HasFrames start end frames file → at ≡ gate_behind start frames
     → IsShut end at file → IsJournal start end frames file
-journal_at start end at frames file has here shut = record {
+frames_and_gate start end at frames file has here shut = record {
   has = has;
   shut = subst (λ (k : ℕ). IsShut end k file) here shut;
 }

@@ -4,7 +4,7 @@ use Rattle.ode_host.proofs.Moments.{looks_joined, tells_looks}
 use Rattle.ode_journal.specs.declared.error.JournalError.TheVariants.{BadJournal}
 use Rattle.ode_journal.specs.declared.journal.Journal.{Journal}
 use Rattle.ode_journal.specs.Frames.{IsShut, IsFramed}
-use Rattle.ode_journal.proofs.Frames.{one_more, gate_behind-push, journal_at, broken_at}
+use Rattle.ode_journal.proofs.Frames.{one_more, gate_behind-push, frames_and_gate, broken_at}
 use Rattle.ode_journal.proofs.Exact.{exact_scan, exact_broken}
 use Rattle.ode_journal.proofs.reading.scan.Goals as goal
 
@@ -45,7 +45,7 @@ pub returns-in-None-clause-found : goal.returns-in-None-clause-found
 returns-in-None-clause-found g c file tells =
     let so_far = c.frames.invariant in
     let here : IsShut c.args.end c.frames.at file = (rw c.in-None.is at c.in_ok-next_frame.ensures.found) file (record { tells = tells_looks file _ _ so_far.looks tells; ahead = so_far.ahead file tells }) in
-    journal_at c.args.start c.args.end c.frames.at c.frames.frames file (so_far.so_far file tells) so_far.place here
+    frames_and_gate c.args.start c.args.end c.frames.at c.frames.frames file (so_far.so_far file tells) so_far.place here
 
 pub returns-in-None-clause-whole : goal.returns-in-None-clause-whole
 returns-in-None-clause-whole g c file frames tells is =
