@@ -1,11 +1,11 @@
 -- The three writes that may come before a commit's end, and what a stop leaves in each.
-use Rattle.std.proofs.Common.{◌≡◌, ◌≢◌, ◌≤◌, ◌⊎◌, inl, inr, ⊎_elim, ℕ, ◌+◌, ◌-◌, List, [], ◌∷◌, ◌++◌, length, take, drop, replicate, refl, sym, ◌∙◌, ap, subst, arith, append_assoc, length-append, length-take}
-use Rattle.std.proofs.lemmas.List.{take_at, drop_at, drop-drop, length-replicate, take-take}
+use Rattle.std.proofs.Common.{◌≡◌, ◌≢◌, ◌≤◌, ◌⊎◌, inl, inr, ⊎_elim, ℕ, ◌+◌, ◌-◌, List, [], ◌∷◌, ◌++◌, length, take, drop, refl, sym, ◌∙◌, ap, subst, arith, append_assoc, length-append}
+use Rattle.std.proofs.lemmas.List.{take_at, drop_at, drop-drop}
 use Rattle.ode_host.specs.View.{View}
 use Rattle.ode_host.specs.Host.{LeavesTorn, Stands, Torn, written_over}
 use Rattle.ode_host.proofs.Bytes.{length-written_over, same_part, written-torn, wrote_here}
 use Rattle.ode_gate.specs.declared.header.Header.{Header}
-use Rattle.ode_gate.specs.Changes.{IsChanged, IsSameBehind, LeavesHeader, MayFollow}
+use Rattle.ode_gate.specs.Changes.{IsChanged, IsSameBehind, LeavesHeader, MayReplace}
 use Rattle.ode_gate.specs.declared.gate.TheConstants.{OPEN}
 use Rattle.ode_gate.specs.Headers.{IsOfAreas}
 use Rattle.ode_gate.specs.Slots.{Counts}
@@ -22,7 +22,7 @@ use Rattle.ode_keep.specs.Payloads.{IsPayload}
 use Rattle.ode_keep.specs.Snapshots.{IsSnapshot}
 use Rattle.ode_areas.specs.Steps.{LeavesMap, MovesOver, StandUnder, empty_under}
 use Rattle.ode_areas.proofs.Fitting.{map_fits, payloads_more, replayed_more}
-use Rattle.ode_areas.proofs.Windows.{has_window, has_window-frames, journal_at, still_counts, still_has, wide}
+use Rattle.ode_areas.proofs.Windows.{has_window, has_window-frames, journal_spelled, still_counts, still_has, wide}
 
 area_of : (h : Header) → IsOfAreas h → (h.body_at ≡ AREA_0) ⊎ (h.body_at ≡ AREA_1)
 area_of h areas = ⊎_elim (λ first. inl first.0) (λ second. inr second.0) areas.area
@@ -88,7 +88,7 @@ module _ (older h : Header) (place : Journal) (entries : Entries) (bytes : List 
     body = entries;
     snapshot = record { spelled = staged_body; fits = map_fits older file entries stand.has };
     frames = [];
-    journal = journal_at h.journal_at h.journal_end [] 0 rest staged staged_gate tt shut_zero (omega (arith, moves.follows.areas.room));
+    journal = journal_spelled h.journal_at h.journal_end [] 0 rest staged staged_gate tt shut_zero (omega (arith, moves.follows.areas.room));
     batches = [];
     payloads = tt;
     map = refl;
@@ -97,8 +97,8 @@ module _ (older h : Header) (place : Journal) (entries : Entries) (bytes : List 
   long : SLOTS_END ≤ length staged
   long = omega (arith, length-written_over h.body_at bytes file, size, area_of h moves.follows.areas)
 
-  pub may_follow : MayFollow staged older h
-  may_follow = record {
+  pub may_replace : MayReplace staged older h
+  may_replace = record {
     long = long;
     counts = staged_counts;
     rules = moves.follows.rules;

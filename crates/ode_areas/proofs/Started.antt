@@ -19,7 +19,7 @@ use Rattle.ode_areas.specs.OneMap.{never_both, one_has, one_place}
 use Rattle.ode_areas.specs.Replaying.{IsReplayed}
 use Rattle.ode_keep.specs.Snapshots.{IsSnapshot}
 use Rattle.ode_keep.specs.declared.limits.TheConstants.{MAX_RECORD_BYTES}
-use Rattle.ode_areas.specs.Starting.{Refuses, Starts, start_error}
+use Rattle.ode_areas.specs.Starting.{Refuses, Starts, journal_error}
 
 pub of_areas : (h : Header) → IsHeader h → h.layout ≡ 1 → IsOfAreas h
 of_areas h rules one = ⊎_elim (λ (is : IsOfAreas h). is) (λ (is : IsOfPages h). absurd (omega (arith, is.layout, one))) rules.layout
@@ -58,12 +58,12 @@ holds_map keeper file body entries view areas stands counts snapshot after has w
       within = subst (λ (l : Entries). record_bytes l ≤ MAX_RECORD_BYTES) (sym same) within;
     })
 
-pub only_bad : (e : JournalError) (at : ℕ) → start_error e ≡ BadJournal at → e ≡ journal.BadJournal at
+pub only_bad : (e : JournalError) (at : ℕ) → journal_error e ≡ BadJournal at → e ≡ journal.BadJournal at
 only_bad journal.Memory at same = absurd (cc (same))
 only_bad journal.DiskFault at same = absurd (cc (same))
 only_bad (journal.BadJournal place) at same = cc (same)
 
-pub no_page : (e : JournalError) (page : ℕ) → start_error e ≡ BadPage page → ⊥
+pub no_page : (e : JournalError) (page : ℕ) → journal_error e ≡ BadPage page → ⊥
 no_page journal.Memory page same = cc (same)
 no_page journal.DiskFault page same = cc (same)
 no_page (journal.BadJournal place) page same = cc (same)

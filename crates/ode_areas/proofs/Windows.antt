@@ -16,9 +16,9 @@ use Rattle.ode_areas.specs.Image.{HasMap}
 use Rattle.ode_keep.specs.Snapshots.{IsSnapshot}
 
 -- frames and a shut gate from a place on are a journal
-pub journal_at : (start end : ℕ) (frames : List (List ℕ)) (gate : ℕ) (behind c : List ℕ) → drop start c ≡ spelled frames ++ gate ∷ behind
+pub journal_spelled : (start end : ℕ) (frames : List (List ℕ)) (gate : ℕ) (behind c : List ℕ) → drop start c ≡ spelled frames ++ gate ∷ behind
     → AreShort frames → gate ≢ OPEN → gate_behind start frames < end → IsJournal start end frames c
-journal_at start end frames gate behind c stand short shut within =
+journal_spelled start end frames gate behind c stand short shut within =
     let long : length (take start c) ≡ start =
     omega (arith, length-take start c, ap length stand, length-drop start c, length-append (spelled frames) (gate ∷ behind)) in
     let split : c ≡ (take start c ++ spelled frames) ++ gate ∷ behind =
@@ -46,7 +46,7 @@ module _ (start end : ℕ) (frames : List (List ℕ)) (file c : List ℕ) (is : 
       let stand : drop start c ≡ spelled frames ++ gate ∷ drop size (drop start c) =
       sym (take-append-drop size (drop start c)) ∙ ap (λ (l : List ℕ). l ++ drop size (drop start c)) front
       ∙ append_assoc (spelled frames) (gate ∷ []) (drop size (drop start c)) in
-      journal_at start end frames gate (drop size (drop start c)) c stand is.has.short is.shut.shut is.shut.within
+      journal_spelled start end frames gate (drop size (drop start c)) c stand is.has.short is.shut.shut is.shut.within
 
 -- where the last gate of some records stands, and how far they reach
 abbrev pub reach : (h : Header) (file : List ℕ) (entries : Entries) → HasMap h file entries → ℕ

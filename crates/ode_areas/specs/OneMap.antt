@@ -10,7 +10,6 @@ use Rattle.ode_gate.specs.Headers.{IsOfAreas}
 use Rattle.ode_gate.proofs.Counting.{one_counts}
 use Rattle.ode_journal.specs.Frames.{HasGate, IsBad, IsJournal, IsShut, gate_behind}
 use Rattle.ode_journal.proofs.Unique.{NoneHas, bad_stops, framed_unique, frames_unique, journal_unique, shut_not_bad, shut_stops}
-use Rattle.ode_journal.specs.declared.frame.TheConstants.{FRAME_HEAD}
 use Rattle.ode_keep.specs.Entries.{Changes, Entries, HasRisingKeys, applied}
 use Rattle.ode_value.specs.Keys.{key_cmp}
 use Rattle.ode_keep.proofs.Applying.{applied_rising}

@@ -6,10 +6,10 @@ use Rattle.ode_areas.specs.declared.error.StartError.{StartError}
 use Rattle.ode_areas.specs.declared.error.StartError.TheVariants.{Memory, DiskFault, BadJournal}
 
 -- an error of the journal is the same one of the start
-abbrev pub start_error : JournalError → StartError
-start_error journal.Memory = Memory
-start_error journal.DiskFault = DiskFault
-start_error (journal.BadJournal at) = BadJournal at
+abbrev pub journal_error : JournalError → StartError
+journal_error journal.Memory = Memory
+journal_error journal.DiskFault = DiskFault
+journal_error (journal.BadJournal at) = BadJournal at
 
 -- there was no memory, or the disk failed
 abbrev pub HasOutsideFailed : {T : Type 0} → Result T StartError → Type 0

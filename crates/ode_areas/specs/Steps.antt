@@ -1,5 +1,5 @@
 -- What the writes of a commit need and leave.
-use Rattle.std.specs.Prelude.{◌≡◌, ◌≢◌, ◌≤◌, ◌+◌, ℕ, List, [], ◌∷◌, ◌++◌, length, Option, Some, None}
+use Rattle.std.specs.Prelude.{◌≡◌, ◌≢◌, ◌+◌, ℕ, List, [], ◌∷◌, ◌++◌, length, Option, Some, None}
 use Rattle.ode_gate.specs.declared.header.Header.{Header}
 use Rattle.ode_gate.specs.Changes.{header_change_length}
 use Rattle.ode_gate.specs.Headers.{IsHeader, IsOfAreas, next_generation}

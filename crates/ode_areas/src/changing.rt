@@ -1,16 +1,15 @@
 //! A batch is made in the records in memory, or not at all.
 ghost use Rattle.std.specs.Prelude.{◌≡◌, ◌+◌, ◌≤◌, ◌<◌, ◌^◌, ◌-◌, ◌++◌, [], ◌∷◌, length, min, reverse, None, IsSome, OnErr, OnOk};
 ghost use Rattle.std.specs.BTreeMap.{insert_entry};
-ghost use Rattle.std.specs.List.{All};
-ghost use Rattle.std.specs.Map.{values_of};
 ghost use Rattle.std.specs.Option.{IfSome, option_copied};
+ghost use Rattle.ode_keep.specs.ShortValues.{HasShortValues};
 ghost use Rattle.ode_keep.specs.Entries.{Entries, HasRisingKeys, applied, changed, record_bytes, value_under};
 ghost use Rattle.ode_value.specs.Keys.{key_cmp};
 ghost use Rattle.ode_keep.specs.Growth.{bytes_of};
 ghost use Rattle.ode_areas.specs.Puts.{LeadBack, NeedNoRoom, puts, removals};
 
 use crate::map::Map;
-use ode_keep::{Batch, KEY_LEN, MAX_CHANGES, MAX_GROWTH, MAX_VALUE};
+use ode_keep::{Batch, KEY_LEN, MAX_CHANGES, MAX_GROWTH};
 use ode_value::{Key, List};
 use std::alloc::{AllocError, Global};
 use std::collections::BTreeMap;
@@ -120,7 +119,7 @@ impl Map {
     /// How many bytes the records count after a batch, or the greatest number where that is less.
     pub(crate) fn bytes_after(&self, batch: &Batch) -> u64
         requires few { length batch.now ≤ MAX_CHANGES }
-        requires short { All (λ value. IfSome value (λ bytes. length bytes ≤ MAX_VALUE)) (values_of batch.now) }
+        requires short { HasShortValues batch.now }
         ensures exact { result ≡ min (record_bytes (applied batch.now self.now)) (2 ^ 64 - 1) }
         ensures grows { record_bytes (applied batch.now self.now) ≤ record_bytes self.now + MAX_GROWTH }
     {

@@ -1,9 +1,9 @@
 //! A batch is spelled as a frame. All memory is taken beforehand.
 ghost use Rattle.std.specs.Prelude.{◌≡◌, ◌≤◌, length, IfOk};
 ghost use Rattle.std.specs.List.{All};
-ghost use Rattle.std.specs.Map.{values_of};
 ghost use Rattle.std.specs.Option.{IfSome};
 ghost use Rattle.ode_journal.specs.Filling.{filled_by};
+ghost use Rattle.ode_keep.specs.ShortValues.{HasShortValues};
 ghost use Rattle.ode_keep.specs.Payloads.{FitsChange, IsPayload, spelled_change};
 
 use ode_journal::Frame;
@@ -34,7 +34,7 @@ fn push_change(frame: &mut Frame, key: Key, value: &Option<List<u8>>)
 /// A full frame of the payload that a batch makes.
 pub(crate) fn frame_of(alloc: Global, batch: &Batch) -> Result<Frame, AllocError>
     requires few { length batch.now ≤ MAX_CHANGES }
-    requires short { All (λ value. IfSome value (λ bytes. length bytes ≤ MAX_VALUE)) (values_of batch.now) }
+    requires short { HasShortValues batch.now }
     ensures payload { IfOk result (λ frame. IsPayload batch.now frame.payload) }
     ensures full { IfOk result (λ frame. frame.spare ≡ 0) }
 {

@@ -44,9 +44,9 @@ impl From<Failed> for StartError {
 }
 
 impl From<JournalError> for StartError {
-    ghost use Rattle.ode_areas.specs.Starting.{start_error};
+    ghost use Rattle.ode_areas.specs.Starting.{journal_error};
 
-    ghost from_gives = { λ e s. s ≡ start_error e };
+    ghost from_gives = { λ e s. s ≡ journal_error e };
 
     fn from(e: JournalError) -> Self {
         match e {

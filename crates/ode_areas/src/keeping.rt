@@ -1,8 +1,6 @@
 //! The keeper of two areas keeps records: their changes are written before they are answered.
 ghost use Rattle.std.specs.Prelude.{◌≡◌, ◌+◌, ◌≤◌, ◌<◌, length, IfOk, IsErrOf, IsTrue, OnErr, OnOk};
-ghost use Rattle.std.specs.List.{All};
-ghost use Rattle.std.specs.Map.{values_of};
-ghost use Rattle.std.specs.Option.{IfSome};
+ghost use Rattle.ode_keep.specs.ShortValues.{HasShortValues};
 ghost use Rattle.ode_keep.specs.Entries.{applied, record_bytes};
 ghost use Rattle.ode_keep.specs.Keeping.{OnDamaged, OnDiskFault, OnTooLarge};
 
@@ -12,7 +10,7 @@ use crate::plan::{Checkpoint, checkpoint_for};
 use crate::steps::write_changes;
 use ode_host::Host;
 use ode_journal::Frame;
-use ode_keep::{Batch, Keep, KeepError, MAX_CHANGES, MAX_RECORD_BYTES, MAX_VALUE, payload_length};
+use ode_keep::{Batch, Keep, KeepError, MAX_CHANGES, MAX_RECORD_BYTES, payload_length};
 use ode_value::{Key, List};
 
 /// What a commit writes: a frame, and before it a checkpoint where one is due.
@@ -28,7 +26,7 @@ impl Areas {
     // Makes the changes of a batch in memory, and what is to be written. At an error nothing changed.
     fn prepare(&mut self, batch: &Batch) -> Result<Ready, KeepError>
         requires few { length batch.now ≤ MAX_CHANGES }
-        requires short { All (λ value. IfSome value (λ bytes. length bytes ≤ MAX_VALUE)) (values_of batch.now) }
+        requires short { HasShortValues batch.now }
         ensures ready { IfOk result (λ r. IsReady batch.now self.old.header self.old.journal self.old.map r) }
         ensures changed { OnOk result (self.new ≡ record self.old { map = applied batch.now self.old.map }) }
         ensures within { OnOk result (record_bytes (applied batch.now self.old.map) ≤ MAX_RECORD_BYTES) }
@@ -94,7 +92,7 @@ impl<H: Host> Keep<H> for Areas {
     fn commit(&mut self, host: &mut H, batch: &Batch) -> Result<(), KeepError>
         requires live { IsTrue (is_live self.old) }
         requires few { length batch.now ≤ MAX_CHANGES }
-        requires short { All (λ value. IfSome value (λ bytes. length bytes ≤ MAX_VALUE)) (values_of batch.now) }
+        requires short { HasShortValues batch.now }
         ensures done { OnOk result ((entries : Entries) → AreasHold self.old (H.view host.old) entries
             → AreasHold self.new (H.view host.new) (applied batch.now entries)) }
         ensures fits { OnOk result ((entries : Entries) → AreasHold self.old (H.view host.old) entries

@@ -1,10 +1,8 @@
 //! The heap over a keeper.
 ghost use Rattle.std.specs.Prelude.{◌≡◌, ◌<◌, ◌≤◌, length, IsErrOf, IsTrue, OnOk};
-ghost use Rattle.std.specs.List.{All};
-ghost use Rattle.std.specs.Map.{values_of};
-ghost use Rattle.std.specs.Option.{IfSome};
 ghost use Rattle.ode_host.specs.Causes.{RoseIf};
 ghost use Rattle.ode_host.specs.Host.{DiskCalls, LeavesOnly, Looks};
+ghost use Rattle.ode_keep.specs.ShortValues.{HasShortValues};
 ghost use Rattle.ode_keep.specs.Entries.{Entries, applied, record_bytes};
 ghost use Rattle.ode_keep.specs.Keeping.{LeavesOldOrNew};
 ghost use Rattle.ode_heap.specs.Activations.{activations_in};
@@ -23,7 +21,7 @@ use crate::queue::{count_entries, read_entry_from};
 use crate::staging::first_key;
 use ode_codec::{Activation, Counters, Entry};
 use ode_host::Host;
-use ode_keep::{Batch, Keep, MAX_CHANGES, MAX_RECORD_BYTES, MAX_VALUE};
+use ode_keep::{Batch, Keep, MAX_CHANGES, MAX_RECORD_BYTES};
 use ode_types::Classes;
 use ode_value::{Class, List, Value};
 use std::alloc::Global;
@@ -203,7 +201,7 @@ impl<K> Heap<K> {
         K: Keep<H>,
         requires live { IsTrue (K.live self.old) }
         requires few { length batch.now ≤ MAX_CHANGES }
-        requires short { All (λ value. IfSome value (λ bytes. length bytes ≤ MAX_VALUE)) (values_of batch.now) }
+        requires short { HasShortValues batch.now }
         ensures done { OnOk result ((entries : Entries) → K.holds self.old (H.view host.old) entries
             → K.holds self.new (H.view host.new) (applied batch.now entries)) }
         ensures fits { OnOk result ((entries : Entries) → K.holds self.old (H.view host.old) entries

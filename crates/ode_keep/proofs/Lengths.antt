@@ -1,11 +1,11 @@
 -- How long records and changes are.
 use Rattle.std.proofs.Common.{◌≤◌, suc, ◌+◌, ◌*◌, List, ℕ, [], ◌∷◌, length, Option, None, ◌≡◌, refl, arith, length-append}
-use Rattle.std.specs.List.{All, AllByRecursion}
-use Rattle.std.specs.Map.{values_of}
+use Rattle.std.specs.List.{AllByRecursion}
 use Rattle.std.specs.Option.{IfSome}
 use Rattle.ode_value.specs.declared.key.Key.{Key}
 use Rattle.ode_value.specs.Records.{key_bytes, row_bytes, snapshot}
 use Rattle.ode_keep.specs.Entries.{Changes, Entries, record_bytes}
+use Rattle.ode_keep.specs.ShortValues.{HasShortValues}
 use Rattle.ode_keep.specs.declared.limits.TheConstants.{MAX_VALUE}
 use Rattle.ode_keep.specs.declared.spelling.TheConstants.{KEY_LEN}
 
@@ -13,7 +13,7 @@ use Rattle.ode_keep.specs.declared.spelling.TheConstants.{KEY_LEN}
 abbrev pub IsShortChange : Key × Option (List ℕ) → Type 0
 IsShortChange c = IfSome c.1 (λ v. length v ≤ MAX_VALUE)
 
-pub short_each : (cs : Changes) → All (λ (value : Option (List ℕ)). IfSome value (λ v. length v ≤ MAX_VALUE)) (values_of cs) → AllByRecursion IsShortChange cs
+pub short_each : (cs : Changes) → HasShortValues cs → AllByRecursion IsShortChange cs
 short_each [] all = tt
 short_each (c ∷ cs) all = (all 0 None (omega arith), short_each cs (λ k d within. all (suc k) d (omega arith)))
 

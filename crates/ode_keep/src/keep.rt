@@ -1,12 +1,11 @@
 //! The trait of keepers.
 ghost use Rattle.std.specs.Prelude.{◌≡◌, ◌<◌, ◌≤◌, ℕ, List, Bool, IfOk, IsErrOf, IsTrue, OnOk, length, true};
-ghost use Rattle.std.specs.List.{All};
-ghost use Rattle.std.specs.Map.{values_of};
 ghost use Rattle.std.specs.Option.{IfSome};
 ghost use Rattle.std.specs.Ordering.{is_le};
 ghost use Rattle.ode_host.specs.Causes.{RoseIf};
 ghost use Rattle.ode_host.specs.Host.{DiskCalls, LeavesOnly, Looks, Stands};
 ghost use Rattle.ode_host.specs.View.{View};
+ghost use Rattle.ode_keep.specs.ShortValues.{HasShortValues};
 ghost use Rattle.ode_keep.specs.Entries.{Entries, HasRisingKeys, applied, least_from};
 ghost use Rattle.ode_value.specs.Keys.{key_cmp};
 ghost use Rattle.ode_keep.specs.Entries.{record_bytes, value_under};
@@ -15,7 +14,7 @@ ghost use Rattle.ode_keep.specs.Keeping.{UnlessFault, is_usable};
 
 use crate::batch::Batch;
 use crate::error::KeepError;
-use crate::limits::{MAX_CHANGES, MAX_RECORD_BYTES, MAX_VALUE};
+use crate::limits::{MAX_CHANGES, MAX_RECORD_BYTES};
 use ode_host::Host;
 use ode_value::{Key, List};
 
@@ -65,7 +64,7 @@ pub trait Keep<H: Host> {
     fn commit(&mut self, host: &mut H, batch: &Batch) -> Result<(), KeepError>
         requires live { IsTrue (live self.old) }
         requires few { length batch.now ≤ MAX_CHANGES }
-        requires short { All (λ value. IfSome value (λ bytes. length bytes ≤ MAX_VALUE)) (values_of batch.now) }
+        requires short { HasShortValues batch.now }
         ensures done { OnOk result ((entries : Entries) → holds self.old (H.view host.old) entries
             → holds self.new (H.view host.new) (applied batch.now entries)) }
         ensures fits { OnOk result ((entries : Entries) → holds self.old (H.view host.old) entries

@@ -1,12 +1,11 @@
 //! The bytes of a key, of a record and of a batch's changes: they are written here, and read again.
 ghost use Rattle.std.specs.Prelude.{◌≡◌, ◌+◌, ◌<◌, ◌≤◌, ◌^◌, ◌++◌, ◌↔◌, List, Option, ℕ, length, take, IfSome, IsTrue, OnOk};
 ghost use Rattle.std.specs.Int.{w16, to_be_bytes};
-ghost use Rattle.std.specs.List.{All};
-ghost use Rattle.std.specs.Map.{values_of};
 ghost use Rattle.std.specs.Option.{IfNone, option_map};
 ghost use Rattle.ode_value.specs.declared.key.Key.{Key};
 ghost use Rattle.ode_value.specs.Keys.{key_cmp};
 ghost use Rattle.ode_value.specs.Records.{Row, key_bytes, row_bytes};
+ghost use Rattle.ode_keep.specs.ShortValues.{HasShortValues};
 ghost use Rattle.ode_keep.specs.Payloads.{FitsChange, change_bytes, payload_of, spelled_change};
 ghost use Rattle.ode_keep.specs.Rising.{MayFollow};
 ghost use Rattle.ode_keep.specs.Snapshots.{FitsKey, FitsRow};
@@ -81,7 +80,7 @@ fn change_length(value: &Option<List<u8>>) -> u32
 /// The length of the payload that a batch makes, in bytes.
 pub fn payload_length(batch: &Batch) -> u32
     requires few { length batch.now ≤ MAX_CHANGES }
-    requires short { All (λ value. IfSome value (λ bytes. length bytes ≤ MAX_VALUE)) (values_of batch.now) }
+    requires short { HasShortValues batch.now }
     ensures exact { result ≡ length (payload_of batch.now) }
     ensures small { result ≤ MAX_PAYLOAD_LEN }
 {

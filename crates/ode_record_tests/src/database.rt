@@ -1,6 +1,6 @@
 //! A heap over a keeper of two areas, on a disk in memory.
 ghost use Rattle.std.specs.Prelude.{IfOk};
-ghost use Rattle.ode_record_tests.specs.Batches.{AreShort};
+ghost use Rattle.ode_keep.specs.ShortValues.{HasShortValues};
 
 use ode_areas::{Areas, StartError};
 use ode_codec::{Activation, Counters, Entry};
@@ -59,7 +59,7 @@ fn start(alloc: Global, host: &mut MemHost) -> Result<Areas, StartError> {
 
 // The changes that put these records.
 fn putting(alloc: Global, rows: &[Stored]) -> Result<Batch, AllocError>
-    ensures { IfOk result (λ batch. AreShort batch) }
+    ensures { IfOk result (λ batch. HasShortValues batch) }
 {
     let mut batch = Batch::new(alloc);
     for row in rows {

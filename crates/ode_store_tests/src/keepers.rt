@@ -1,6 +1,6 @@
 //! The keeper of two areas.
 ghost use Rattle.std.specs.Prelude.{◌≤◌, IfOk};
-ghost use Rattle.ode_store_tests.specs.Batches.{AreShort};
+ghost use Rattle.ode_keep.specs.ShortValues.{HasShortValues};
 
 use crate::disk::{TEARS, failing, smooth, stopping};
 use ode_areas::{Areas, StartError};
@@ -46,7 +46,7 @@ fn start(alloc: Global, host: &mut MemHost) -> Result<Areas, StartError> {
 
 // A batch that puts one byte under a key.
 fn putting(alloc: Global, key: Key, byte: u8) -> Result<Batch, AllocError>
-    ensures { IfOk result (λ batch. AreShort batch) }
+    ensures { IfOk result (λ batch. HasShortValues batch) }
 {
     let mut batch = Batch::new(alloc);
     batch.put(key, List::from_slice(alloc, &[byte])?)?;
@@ -55,7 +55,7 @@ fn putting(alloc: Global, key: Key, byte: u8) -> Result<Batch, AllocError>
 
 // A batch that removes what stands under a key.
 fn removing(alloc: Global, key: Key) -> Result<Batch, AllocError>
-    ensures { IfOk result (λ batch. AreShort batch) }
+    ensures { IfOk result (λ batch. HasShortValues batch) }
 {
     let mut batch = Batch::new(alloc);
     batch.remove(key)?;
@@ -65,7 +65,7 @@ fn removing(alloc: Global, key: Key) -> Result<Batch, AllocError>
 // A batch that puts so many values of this size, each of this byte.
 fn putting_many(alloc: Global, count: u64, size: usize, byte: u8) -> Result<Batch, AllocError>
     requires { size ≤ MAX_VALUE }
-    ensures { IfOk result (λ batch. AreShort batch) }
+    ensures { IfOk result (λ batch. HasShortValues batch) }
 {
     let mut batch = Batch::new(alloc);
     for a in 0..count {
@@ -77,7 +77,7 @@ fn putting_many(alloc: Global, count: u64, size: usize, byte: u8) -> Result<Batc
 
 // Commits a batch, where the keeper may be used and the batch has few enough changes.
 fn commit(keeper: &mut Areas, host: &mut MemHost, batch: &Batch) -> Result<(), KeepError>
-    requires { AreShort batch.now }
+    requires { HasShortValues batch.now }
 {
     if !Keep::<MemHost>::live(keeper) || batch.len() > 1_024 {
         return Err(KeepError::DiskFault);

@@ -3,7 +3,7 @@ use Rattle.ode_host.specs.Host.{LeavesOnly, LeavesTorn, Stands, written_over}
 use Rattle.ode_host.proofs.Moments.{joined, weaker}
 use Rattle.ode_gate.specs.Changes.{LeavesHeader}
 use Rattle.ode_areas.specs.Steps.{LeavesMap}
-use Rattle.ode_areas.proofs.Moving.{header_leaves, may_follow, moved_over, snapshot_leaves}
+use Rattle.ode_areas.proofs.Moving.{header_leaves, may_replace, moved_over, snapshot_leaves}
 use Rattle.ode_areas.proofs.steps.move_over.Goals as goal
 
 pub returns-in_err-write_synced-clause-any_moment : goal.returns-in_err-write_synced-clause-any_moment
@@ -32,7 +32,7 @@ returns-in-Ok-clause-any_moment g c older place entries stand moves =
     joined old mid new (LeavesMap entries old) first
     (weaker mid new (LeavesHeader (written_over stand.file h.body_at bytes) older h mid) (LeavesMap entries old)
     (header_leaves older h place entries bytes old stand moves mid c.write_synced.ensures.puts.text)
-    (c.change_header.ensures.any_moment (written_over stand.file h.body_at bytes) older (may_follow older h place entries bytes old stand moves) staged))
+    (c.change_header.ensures.any_moment (written_over stand.file h.body_at bytes) older (may_replace older h place entries bytes old stand moves) staged))
 
 pub returns-in-Err-clause-any_moment : goal.returns-in-Err-clause-any_moment
 returns-in-Err-clause-any_moment g c older place entries stand moves =
@@ -49,7 +49,7 @@ returns-in-Err-clause-any_moment g c older place entries stand moves =
     joined old mid new (LeavesMap entries old) first
     (weaker mid new (LeavesHeader (written_over stand.file h.body_at bytes) older h mid) (LeavesMap entries old)
     (header_leaves older h place entries bytes old stand moves mid c.write_synced.ensures.puts.text)
-    (c.change_header.ensures.any_moment (written_over stand.file h.body_at bytes) older (may_follow older h place entries bytes old stand moves) staged))
+    (c.change_header.ensures.any_moment (written_over stand.file h.body_at bytes) older (may_replace older h place entries bytes old stand moves) staged))
 
 pub returns-in-Ok-clause-moved : goal.returns-in-Ok-clause-moved
 returns-in-Ok-clause-moved g c older place entries stand moves =
@@ -60,5 +60,5 @@ returns-in-Ok-clause-moved g c older place entries stand moves =
     let new = g.H.Host.view c.change_header.new.host in
     let staged = subst (λ (l : List ℕ). Stands (written_over stand.file h.body_at l) mid) c.deref.ensures.value
     (c.in_ok-write_synced.ensures.stands stand.file stand.journal.stands.tells) in
-    let done = c.in-Ok.ensures.changed (written_over stand.file h.body_at bytes) older (may_follow older h place entries bytes old stand moves) staged in
+    let done = c.in-Ok.ensures.changed (written_over stand.file h.body_at bytes) older (may_replace older h place entries bytes old stand moves) staged in
     moved_over older h place entries bytes old stand moves new done.0 done.1 done.2

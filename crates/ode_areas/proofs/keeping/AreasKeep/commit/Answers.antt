@@ -2,7 +2,7 @@ use Rattle.std.proofs.Common.{◌≤◌, ◌+◌, ℕ, List, Option, arith, subs
 use Rattle.ode_host.specs.Host.{Puts}
 use Rattle.ode_journal.specs.Appends.{need_of, room_of}
 use Rattle.ode_areas.specs.declared.plan.Checkpoint.{Checkpoint}
-use Rattle.ode_areas.specs.Steps.{bytes_before, checkpoint_length}
+use Rattle.ode_areas.specs.Steps.{bytes_before}
 use Rattle.ode_areas.proofs.Committing.{before_now, holds_of, map_now, moves_now, none_due, stand_now, within_now}
 use Rattle.ode_areas.proofs.keeping.AreasKeep.commit.Goals as goal
 

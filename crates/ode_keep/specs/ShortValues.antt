@@ -1,4 +1,4 @@
--- Batches that a keeper takes.
+-- Changes whose values a keeper takes.
 use Rattle.std.specs.Prelude.{◌≤◌, length}
 use Rattle.std.specs.List.{All}
 use Rattle.std.specs.Map.{values_of}
@@ -7,5 +7,5 @@ use Rattle.ode_keep.specs.Entries.{Changes}
 use Rattle.ode_keep.specs.declared.limits.TheConstants.{MAX_VALUE}
 
 -- no value is longer than a keeper takes
-abbrev pub AreShort : Changes → Type 0
-AreShort changes = All (λ v. IfSome v (λ bytes. length bytes ≤ MAX_VALUE)) (values_of changes)
+abbrev pub HasShortValues : Changes → Type 0
+HasShortValues changes = All (λ value. IfSome value (λ bytes. length bytes ≤ MAX_VALUE)) (values_of changes)
