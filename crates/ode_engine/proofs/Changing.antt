@@ -1,8 +1,5 @@
 -- A transaction's batch makes the records of the world before it those of the world after it.
-use Rattle.std.proofs.Common.{◌≡◌, ◌≤◌, ◌+◌, ℕ, zero, suc, List, [], ◌∷◌, ◌++◌, length, Result, Ok, Err, IfOk, OnOk, refl, sym, ◌∙◌, ap, subst, arith}
-use Rattle.std.specs.List.{All}
-use Rattle.std.specs.Map.{values_of}
-use Rattle.std.specs.Option.{IfSome}
+use Rattle.std.proofs.Common.{◌≡◌, ◌≤◌, ◌+◌, zero, suc, [], ◌∷◌, ◌++◌, length, Result, Ok, Err, IfOk, OnOk, refl, sym, ◌∙◌, ap, subst, arith}
 use Rattle.std.specs.declared.alloc.AllocError.{AllocError}
 use Rattle.ode_value.specs.OneIntGood.{IsOneIntGood}
 use Rattle.ode_value.specs.Records.{Row, version_row}
@@ -10,6 +7,8 @@ use Rattle.ode_value.specs.OneIntRecords.{counters_row, head_row, text_row, obje
 use Rattle.ode_value.specs.OneIntWorld.{OneIntWorld}
 use Rattle.ode_value.specs.Worlds.{Declared}
 use Rattle.ode_keep.specs.Entries.{Changes, applied}
+use Rattle.ode_keep.specs.declared.limits.TheConstants.{MAX_VALUE}
+use Rattle.ode_keep.specs.ShortValues.{HasShortValues}
 use Rattle.ode_first_records.specs.declared.state.ObjectRow.{ObjectRow}
 use Rattle.ode_first_records.specs.declared.state.State.{State}
 use Rattle.ode_first_records.specs.State.{object_of, world_of}
@@ -22,20 +21,20 @@ use Rattle.ode_engine.proofs.Steps.{counters_change, class_changes, object_chang
 
 -- a row whose value a keeper takes
 abbrev IsShort : Row → Type 0
-IsShort r = length r.1 ≤ 3968
+IsShort r = length r.1 ≤ MAX_VALUE
 
 -- one record, and three
 one_small : (r : Row) → IsShort r → IsSmall (putting (r ∷ []))
 one_small r s = record { few = omega arith; short = each }
   where
-    each : All (λ v. IfSome v (λ (bytes : List ℕ). length bytes ≤ 3968)) (values_of (putting (r ∷ [])))
+    each : HasShortValues (putting (r ∷ []))
     each zero d below = s
     each (suc k) d below = absurd (omega arith)
 
 three_small : (a b c : Row) → IsShort a → IsShort b → IsShort c → IsSmall (putting (a ∷ b ∷ c ∷ []))
 three_small a b c s t u = record { few = omega arith; short = each }
   where
-    each : All (λ v. IfSome v (λ (bytes : List ℕ). length bytes ≤ 3968)) (values_of (putting (a ∷ b ∷ c ∷ [])))
+    each : HasShortValues (putting (a ∷ b ∷ c ∷ []))
     each zero d below = s
     each (suc zero) d below = t
     each (suc (suc zero)) d below = u
@@ -64,7 +63,7 @@ counters_keep (Ok i) w u s batch has none is classes objects =
 -- a class more
 pub class_keeps : (r : Result Item AllocError) (w u : OneIntWorld) (s : State) (c : Declared) (batch : Changes) → IfOk r (λ i. HasBatch i (with_counters batch (world_of s))) → batch ≡ putting (head_row c ∷ text_row c ∷ [])
     → OnOk r (world_of s ≡ counted u) → u.classes ≡ w.classes ++ c ∷ [] → u.objects ≡ w.objects → c.class.number ≡ length w.classes + 1
-    → length (head_row c).1 ≤ 3968 → length (text_row c).1 ≤ 3968 → IfOk r (λ i. Keeps i w (world_of s))
+    → length (head_row c).1 ≤ MAX_VALUE → length (text_row c).1 ≤ MAX_VALUE → IfOk r (λ i. Keeps i w (world_of s))
 class_keeps (Err e) w u s c batch has are is classes objects new head text = tt
 class_keeps (Ok i) w u s c batch has are is classes objects new head text =
     keeps_by i w (world_of s) (putting (counters_row (world_of s) ∷ head_row c ∷ text_row c ∷ [])) (with_counters batch (world_of s)) has

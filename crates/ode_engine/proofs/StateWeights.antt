@@ -6,6 +6,7 @@ use Rattle.ode_value.specs.PrintedClasses.{decl_text}
 use Rattle.ode_value.specs.Records.{Row, byte, total_weight, row_weight}
 use Rattle.ode_value.specs.OneIntRecords.{weight, head_row, text_row, object_row, version_rows}
 use Rattle.ode_value.proofs.PrintLaws.{int_decl_length}
+use Rattle.ode_keep.specs.declared.limits.TheConstants.{MAX_VALUE}
 use Rattle.ode_first_records.specs.declared.state.ClassRow.{ClassRow}
 use Rattle.ode_first_records.specs.declared.state.ObjectRow.{ObjectRow}
 use Rattle.ode_first_records.specs.declared.state.State.{State}
@@ -29,10 +30,10 @@ text_weight : (c : ClassRow) → row_weight (text_row (class_of c)) ≡ 33 + len
 text_weight c = omega (arith, int_decl_length c.name c.field)
 
 -- values that a keeper takes
-pub head_short : (c : ClassRow) → class_weight c.name c.field ≤ 253 → length (head_row (class_of c)).1 ≤ 3968
+pub head_short : (c : ClassRow) → class_weight c.name c.field ≤ 253 → length (head_row (class_of c)).1 ≤ MAX_VALUE
 head_short c light = omega (arith, head_weight c, light)
 
-pub text_short : (c : ClassRow) → class_weight c.name c.field ≤ 253 → length (text_row (class_of c)).1 ≤ 3968
+pub text_short : (c : ClassRow) → class_weight c.name c.field ≤ 253 → length (text_row (class_of c)).1 ≤ MAX_VALUE
 text_short c light = omega (arith, text_weight c, light)
 
 classes_weigh : (cs : List ClassRow) → total_weight (map head_row (map class_of cs)) + total_weight (map text_row (map class_of cs)) ≡ classes_weight cs

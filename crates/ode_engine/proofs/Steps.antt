@@ -11,7 +11,7 @@ use Rattle.std.specs.BTreeMap.{insert_entry}
 use Rattle.ode_value.specs.declared.key.Key.{Key}
 use Rattle.ode_value.specs.OneIntGood.{AreBuiltClasses, AreBuiltObjects, IsOneIntGood}
 use Rattle.ode_value.specs.Records.{Row, version_row}
-use Rattle.ode_value.specs.Keys.{key}
+use Rattle.ode_value.specs.Keys.{class_head_key, class_piece_key, key, object_key, version_key}
 use Rattle.ode_value.specs.OneIntRecords.{rows, counters_row, head_row, text_row, object_row, version_rows}
 use Rattle.ode_value.specs.OneIntWorld.{OneIntWorld, OneIntObject}
 use Rattle.ode_value.specs.Worlds.{Declared}
@@ -27,11 +27,11 @@ above kind n m b c same lower =
     ap (λ (o : Ordering). ordering_then o (ordering_then (nat_cmp n m) (nat_cmp b c))) same
     ∙ ap (λ (o : Ordering). ordering_then o (nat_cmp b c)) (sym (nat_cmp_is n m Greater lower))
 
-heads_under : (n m : ℕ) (cs : List Declared) → AreBuiltClasses m cs → m + length cs ≤ n → Under (key 2 n 0) (map head_row cs)
+heads_under : (n m : ℕ) (cs : List Declared) → AreBuiltClasses m cs → m + length cs ≤ n → Under (class_head_key n) (map head_row cs)
 heads_under n m [] are up_to = tt
 heads_under n m (c ∷ cs) are up_to = (above 2 n c.class.number 0 0 refl (omega (arith, are.0, up_to)), heads_under n (m + 1) cs are.4 (omega (arith, up_to)))
 
-texts_under : (n m : ℕ) (cs : List Declared) → AreBuiltClasses m cs → m + length cs ≤ n → Under (key 3 n 0) (map text_row cs)
+texts_under : (n m : ℕ) (cs : List Declared) → AreBuiltClasses m cs → m + length cs ≤ n → Under (class_piece_key n 0) (map text_row cs)
 texts_under n m [] are up_to = tt
 texts_under n m (c ∷ cs) are up_to = (above 3 n c.class.number 0 0 refl (omega (arith, are.0, up_to)), texts_under n (m + 1) cs are.4 (omega (arith, up_to)))
 
@@ -39,19 +39,19 @@ up_to_next : (classes : List Declared) (low next : ℕ) (os : List OneIntObject)
 up_to_next classes low next [] are = are
 up_to_next classes low next (o ∷ os) are = omega (arith, are.0, up_to_next classes (o.id + 1) next os are.3)
 
-objects_under : (classes : List Declared) (low next : ℕ) (os : List OneIntObject) → AreBuiltObjects classes low next os → Under (key 6 next 0) (map object_row os)
+objects_under : (classes : List Declared) (low next : ℕ) (os : List OneIntObject) → AreBuiltObjects classes low next os → Under (object_key next) (map object_row os)
 objects_under classes low next [] are = tt
 objects_under classes low next (o ∷ os) are =
     (above 6 next o.id 0 0 refl (omega (arith, up_to_next classes (o.id + 1) next os are.3)), objects_under classes (o.id + 1) next os are.3)
 
-own_under : (next id : ℕ) (vs : List Version) → id < next → Under (key 7 next 1) (map (version_row id) vs)
+own_under : (next id : ℕ) (vs : List Version) → id < next → Under (version_key next 1) (map (version_row id) vs)
 own_under next id [] lower = tt
 own_under next id (v ∷ vs) lower = (above 7 next id 1 v.number refl lower, own_under next id vs lower)
 
-versions_under : (classes : List Declared) (low next : ℕ) (os : List OneIntObject) → AreBuiltObjects classes low next os → Under (key 7 next 1) (flat_map version_rows os)
+versions_under : (classes : List Declared) (low next : ℕ) (os : List OneIntObject) → AreBuiltObjects classes low next os → Under (version_key next 1) (flat_map version_rows os)
 versions_under classes low next [] are = tt
 versions_under classes low next (o ∷ os) are =
-    under_append (key 7 next 1) (version_rows o) (flat_map version_rows os)
+    under_append (version_key next 1) (version_rows o) (flat_map version_rows os)
     (own_under next o.id o.versions (omega (arith, up_to_next classes (o.id + 1) next os are.3)))
     (versions_under classes (o.id + 1) next os are.3)
 

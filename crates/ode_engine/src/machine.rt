@@ -24,6 +24,7 @@ use crate::forms::{Assignment, Path, assignments, declared_field, shown_path};
 use ode_first_records::{ClassRow, ObjectRow, State};
 use ode_keep::Batch;
 use ode_script::{put_aborted, put_class, put_committed, put_new, put_value};
+use ode_value::limits::{NUMBER_LIMIT, WEIGHT_LIMIT};
 use ode_value::{CheckError, ClassDecl, Expr, Name, Reason, Refusal, Rhs, Statement, Stmt, Value};
 use std::alloc::{AllocError, Global};
 
@@ -40,10 +41,6 @@ pub struct Settled {
     pub batch: Batch,
     pub text: Vec<u8>,
 }
-
-const NUMBER_LIMIT: u64 = 1 << 62;
-
-const WEIGHT_LIMIT: u64 = 8_388_608;
 
 const OBJECT_WEIGHT: u64 = 57;
 

@@ -2,6 +2,7 @@
 use Rattle.std.proofs.Common.{◌≡◌, ℕ, ◌==◌, List, [], ◌∷◌, ◌++◌, map, true, false, refl, ap, ◌∙◌, append_assoc}
 use Rattle.std.specs.List.{flat_map, list_all, list_any}
 use Rattle.std.proofs.lemmas.List.Folds.{list_any-append}
+use Rattle.ode_value.specs.Keys.{class_head_kind, class_piece_kind, object_kind}
 use Rattle.ode_value.specs.Records.{Row}
 use Rattle.ode_value.specs.OneIntRecords.{rows, counters_row, head_row, text_row, object_row, version_rows}
 use Rattle.ode_first_records.specs.declared.state.ObjectRow.{ObjectRow}
@@ -61,17 +62,17 @@ pub first_of : (s : State) (first : Row) (rest : List Row) → first ∷ rest �
 first_of s first rest e = cc
 
 pub divides : (s : State) (first : Row) (rest heads behind texts behind2 objects versions : List Row) → first ∷ rest ≡ rows (world_of s)
-    → Splits 2 rest heads behind → Splits 3 behind texts behind2 → Splits 6 behind2 objects versions → Divides s first heads texts objects versions
+    → Splits class_head_kind rest heads behind → Splits class_piece_kind behind texts behind2 → Splits object_kind behind2 objects versions → Divides s first heads texts objects versions
 divides s first rest heads behind texts behind2 objects versions e two three six =
     let hs = map head_of s.classes in
     let ts = map text_of s.classes in
     let os = map whole_of s.objects in
     let vs = map version_of s.objects in
     let whole = first_is first (counters_row (world_of s)) rest (hs ++ (ts ++ (os ++ vs))) (e ∙ rows_of_state s) in
-    let no_two = none_of_both 2 ts (os ++ vs) (none_of_kind 2 text_of (λ c. refl) s.classes) (none_of_both 2 os vs (none_of_kind 2 whole_of (λ o. refl) s.objects) (none_of_kind 2 version_of (λ o. refl) s.objects)) in
-    let no_three = none_of_both 3 os vs (none_of_kind 3 whole_of (λ o. refl) s.objects) (none_of_kind 3 version_of (λ o. refl) s.objects) in
-    let no_six = none_of_kind 6 version_of (λ o. refl) s.objects in
-    let h = two hs (ts ++ (os ++ vs)) (all_of_kind 2 head_of (λ c. refl) s.classes) no_two whole.1 in
-    let t = three ts (os ++ vs) (all_of_kind 3 text_of (λ c. refl) s.classes) no_three h.1 in
-    let o = six os vs (all_of_kind 6 whole_of (λ o. refl) s.objects) no_six t.1 in
+    let no_two = none_of_both class_head_kind ts (os ++ vs) (none_of_kind class_head_kind text_of (λ c. refl) s.classes) (none_of_both class_head_kind os vs (none_of_kind class_head_kind whole_of (λ o. refl) s.objects) (none_of_kind class_head_kind version_of (λ o. refl) s.objects)) in
+    let no_three = none_of_both class_piece_kind os vs (none_of_kind class_piece_kind whole_of (λ o. refl) s.objects) (none_of_kind class_piece_kind version_of (λ o. refl) s.objects) in
+    let no_six = none_of_kind object_kind version_of (λ o. refl) s.objects in
+    let h = two hs (ts ++ (os ++ vs)) (all_of_kind class_head_kind head_of (λ c. refl) s.classes) no_two whole.1 in
+    let t = three ts (os ++ vs) (all_of_kind class_piece_kind text_of (λ c. refl) s.classes) no_three h.1 in
+    let o = six os vs (all_of_kind object_kind whole_of (λ o. refl) s.objects) no_six t.1 in
     record { counters = whole.0; heads = h.0; texts = t.0; objects = o.0; versions = o.1 }

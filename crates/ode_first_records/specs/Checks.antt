@@ -1,10 +1,10 @@
 -- What is tested of one class, of one object and of the counters.
-use Rattle.std.specs.Prelude.{◌≡◌, ◌<◌, ◌≤◌, ◌+◌, ◌^◌, ℕ, List, true, false, FitsSigned}
+use Rattle.std.specs.Prelude.{◌≡◌, ◌<◌, ◌≤◌, ◌^◌, ℕ, List, true, false, FitsSigned}
 use Rattle.std.specs.Int.{w64}
 use Rattle.std.specs.List.{list_any}
 use Rattle.std.specs.Str.{bytes_eq}
 use Rattle.ode_value.specs.OneIntGood.{IsCounter}
-use Rattle.ode_value.specs.Limits.{number_limit}
+use Rattle.ode_value.specs.Limits.{number_limit, transaction_limit}
 use Rattle.ode_value.specs.Words.{is_free}
 use Rattle.ode_first_records.specs.declared.state.ClassRow.{ClassRow}
 use Rattle.ode_first_records.specs.declared.state.ObjectRow.{ObjectRow}
@@ -28,5 +28,5 @@ pub record Rises (low next classes : ℕ) (o : ObjectRow) : Type 0 where
 
 pub record HasCounters (s : State) : Type 0 where
   pub next : IsCounter number_limit s.next
-  pub transaction : IsCounter (number_limit + 65536) s.transaction
+  pub transaction : IsCounter transaction_limit s.transaction
   pub next_entry : IsCounter number_limit s.next_entry

@@ -18,7 +18,7 @@ use crate::encoding::encode;
 use crate::records::{Record, split_records};
 use crate::state::{ClassRow, ObjectRow, State};
 use ode_host::{take_i64, take_u32, take_u64};
-use ode_value::{List, Name, OdeText, TextError};
+use ode_value::{Key, List, Name, OdeText, TextError};
 use std::alloc::{AllocError, Global};
 
 // What stands between a front and a back of these lengths.
@@ -188,9 +188,9 @@ fn state_of(alloc: Global, records: &[Record]) -> Result<Option<State>, AllocErr
     let Some((next, transaction, next_entry)) = next_numbers(counters.value) else {
         return Ok(None);
     };
-    let (heads, rest) = split_kind(rest, 2);
-    let (texts, rest) = split_kind(rest, 3);
-    let (objects, versions) = split_kind(rest, 6);
+    let (heads, rest) = split_kind(rest, Key::CLASS_HEAD);
+    let (texts, rest) = split_kind(rest, Key::CLASS_PIECE);
+    let (objects, versions) = split_kind(rest, Key::OBJECT);
     let Some(classes) = class_rows(alloc, heads, texts)? else {
         return Ok(None);
     };

@@ -8,6 +8,7 @@ ghost use Rattle.ode_value.specs.Records.{key_bytes, row_bytes, snapshot, spelle
 ghost use Rattle.ode_value.specs.OneIntRecords.{weight};
 ghost use Rattle.ode_first_records.specs.State.{class_of, object_of, world_of};
 
+use crate::keys::{counters_key, first_version_key, head_key, object_key, text_key};
 use crate::state::{ClassRow, ObjectRow, State};
 use ode_host::{put_i64, put_u8, put_u16, put_u32, put_u64};
 use ode_keep::row_head;
@@ -47,12 +48,7 @@ fn put_text_value(out: &mut Vec<u8>, class: &ClassRow) -> Result<(), AllocError>
 fn put_text(out: &mut Vec<u8>, class: &ClassRow) -> Result<(), AllocError>
     ensures { OnOk result (out.new.items ≡ out.old.items ++ row_bytes (text_row (class_of class.now))) }
 {
-    let key = Key {
-        kind: 3,
-        a: u64::from(class.number),
-        b: 0,
-    };
-    put_start(out, key, text_length(class))?;
+    put_start(out, text_key(class), text_length(class))?;
     put_text_value(out, class)
 }
 
@@ -70,12 +66,11 @@ fn put_head_value(out: &mut Vec<u8>, class: &ClassRow) -> Result<(), AllocError>
 fn put_head(out: &mut Vec<u8>, class: &ClassRow) -> Result<(), AllocError>
     ensures { OnOk result (out.new.items ≡ out.old.items ++ row_bytes (head_row (class_of class.now))) }
 {
-    let key = Key {
-        kind: 2,
-        a: u64::from(class.number),
-        b: 0,
-    };
-    put_start(out, key, class.name.as_bytes().len() as u16 + 11)?;
+    put_start(
+        out,
+        head_key(class),
+        class.name.as_bytes().len() as u16 + 11,
+    )?;
     put_head_value(out, class)
 }
 
@@ -90,12 +85,7 @@ fn put_object_value(out: &mut Vec<u8>, object: &ObjectRow) -> Result<(), AllocEr
 fn put_object(out: &mut Vec<u8>, object: &ObjectRow) -> Result<(), AllocError>
     ensures { OnOk result (out.new.items ≡ out.old.items ++ row_bytes (object_row (object_of object.now))) }
 {
-    let key = Key {
-        kind: 6,
-        a: object.id,
-        b: 0,
-    };
-    put_start(out, key, 8)?;
+    put_start(out, object_key(object), 8)?;
     put_object_value(out, object)
 }
 
@@ -113,12 +103,7 @@ fn put_version_value(out: &mut Vec<u8>, held: i64) -> Result<(), AllocError>
 fn put_version(out: &mut Vec<u8>, object: &ObjectRow) -> Result<(), AllocError>
     ensures { OnOk result (out.new.items ≡ out.old.items ++ snapshot (version_rows (object_of object.now))) }
 {
-    let key = Key {
-        kind: 7,
-        a: object.id,
-        b: 1,
-    };
-    put_start(out, key, 15)?;
+    put_start(out, first_version_key(object), 15)?;
     put_version_value(out, object.held)
 }
 
@@ -171,12 +156,7 @@ fn put_counters_value(out: &mut Vec<u8>, state: &State) -> Result<(), AllocError
 fn put_counters(out: &mut Vec<u8>, state: &State) -> Result<(), AllocError>
     ensures { OnOk result (out.new.items ≡ out.old.items ++ row_bytes (counters_row (world_of state.now))) }
 {
-    let key = Key {
-        kind: 1,
-        a: 0,
-        b: 0,
-    };
-    put_start(out, key, 45)?;
+    put_start(out, counters_key(), 45)?;
     put_counters_value(out, state)
 }
 
