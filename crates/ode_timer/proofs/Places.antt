@@ -1,6 +1,6 @@
 -- What is due, second by second and place by place.
 use Rattle.std.proofs.Common.{◌≡◌, ◌≤◌, ◌<◌, ℕ, zero, suc, ◌+◌, ◌-◌, min, ℤ, pos, List, [], ◌∷◌, ◌++◌, length, Bool, true, false, cond, refl, sym, ap, ◌∙◌, arith, append-nil, append_assoc, length-append}
-use Rattle.std.specs.Prelude.{◌+ℤ◌, ◌≤ℤ◌, ◌<ℤ◌, map, ◌&&◌, ◌||◌, int_le, int_lt}
+use Rattle.std.specs.Prelude.{◌+ℤ◌, ◌≤ℤ◌, ◌<ℤ◌, map, ◌&&◌, int_le, int_lt}
 use Rattle.std.specs.Int.{int_gap}
 use Rattle.std.specs.List.{enumerate_from, filter, flat_map, range_with_len, sum_by}
 use Rattle.std.proofs.lemmas.Int.{ints}
@@ -10,8 +10,8 @@ use Rattle.std.proofs.lemmas.List.Sums.{sum_by-cons}
 use Rattle.ode_value.specs.declared.event.Kind.{Kind}
 use Rattle.ode_value.specs.Worlds.{Position}
 use Rattle.ode_timer.specs.declared.clock.TimeRow.{TimeRow}
-use Rattle.ode_timer.specs.Counts.{AreIdle, all_times, kind_times, row_times, times_behind}
-use Rattle.ode_timer.specs.Due.{due, due_at, due_in, is_above, is_due, position_at, seconds}
+use Rattle.ode_timer.specs.Counts.{AreIdle, all_times, kind_times, row_times}
+use Rattle.ode_timer.specs.Due.{due, due_at, due_in, is_above, is_due, position_at}
 
 -- what is due of an object's kinds from a place on
 abbrev pub due_from : ℤ → ℕ → ℕ → List Kind → List Position

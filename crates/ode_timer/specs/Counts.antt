@@ -1,5 +1,5 @@
 -- How many clock events are due, counted by kinds and not by seconds.
-use Rattle.std.specs.Prelude.{◌≡◌, ◌<◌, ◌<ℤ◌, ◌≤ℤ◌, ℕ, zero, suc, ◌+◌, ℤ, pos, ◌+ℤ◌, List, [], Bool, false, cond, ◌&&◌, Option, Some, None}
+use Rattle.std.specs.Prelude.{◌≡◌, ◌<◌, ◌<ℤ◌, ◌≤ℤ◌, ℕ, zero, suc, ◌+◌, ℤ, pos, ◌+ℤ◌, List, [], false, cond, ◌&&◌, Option, Some, None}
 use Rattle.std.specs.Int.{int_gap}
 use Rattle.std.specs.List.{enumerate_from, sum_by}
 use Rattle.ode_value.specs.declared.event.Kind.{Kind}

@@ -1,5 +1,5 @@
 -- Which clock events are due.
-use Rattle.std.specs.Prelude.{◌≤◌, ℕ, ◌+◌, ◌-◌, ℤ, pos, ◌+ℤ◌, int_le, int_lt, ◌^◌, nat_lt, List, [], length, map, All, Bool, false, cond, ◌&&◌, ◌||◌, ◌==◌}
+use Rattle.std.specs.Prelude.{◌≤◌, ℕ, ◌+◌, ◌-◌, ℤ, pos, ◌+ℤ◌, int_le, int_lt, ◌^◌, nat_lt, List, length, map, All, Bool, false, cond, ◌&&◌, ◌||◌, ◌==◌}
 use Rattle.std.specs.Int.{int_gap, int_rem_euclid}
 use Rattle.std.specs.List.{filter, flat_map, enumerate_from, range_with_len}
 use Rattle.std.specs.Ordering.{int_eq}

@@ -1,9 +1,9 @@
 //! The clock events that are due.
-ghost use Rattle.std.specs.Prelude.{◌≡◌, ◌≤◌, ◌<◌, ◌+◌, ◌*◌, ◌/◌, ◌-◌, ◌^◌, ◌++◌, ℕ, pos, ◌+ℤ◌, ◌≤ℤ◌, ℤ, All, [], length, min, Ok, Err, IfOk, IfErr, IfSome, OnOk};
+ghost use Rattle.std.specs.Prelude.{◌≡◌, ◌≤◌, ◌<◌, ◌+◌, ◌*◌, ◌-◌, ◌^◌, ◌++◌, ℕ, pos, ◌+ℤ◌, ◌≤ℤ◌, ℤ, All, length, min, IfOk, IfErr, IfSome, OnOk};
 ghost use Rattle.std.specs.Int.{int_gap};
 ghost use Rattle.std.specs.List.{filter};
 ghost use Rattle.ode_value.specs.Limits.{due_limit};
-ghost use Rattle.ode_timer.specs.Counts.{AreIdle, IsBetween, IsIdleKind, IsIdleRow, all_times, idle_for, kind_times, row_times, times_behind};
+ghost use Rattle.ode_timer.specs.Counts.{AreIdle, IsBetween, IsIdleKind, IsIdleRow, idle_for, kind_times, row_times, times_behind};
 ghost use Rattle.ode_timer.specs.Due.{AllRecur, HasPlaces, Recurs, due, due_at, due_in, is_above, is_due, position_at};
 
 use crate::clock::{Clock, DueError, TimeRow};

@@ -1,6 +1,5 @@
 //! The clock's position, and the clock events that lie ahead of it.
-ghost use Rattle.std.specs.Prelude.{◌≡◌, ◌≤◌, ◌<◌, ◌^◌, ◌-◌, length, min, IfOk, IfErr};
-ghost use Rattle.ode_timer.specs.Due.{AllRecur, due};
+ghost use Rattle.std.specs.Prelude.{◌≡◌};
 
 use ode_value::{Kind, List};
 use std::alloc::{AllocError, Global};

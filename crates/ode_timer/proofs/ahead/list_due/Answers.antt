@@ -2,7 +2,7 @@ use Rattle.std.proofs.Common.{rules, ◌≡◌, ◌++◌, List, ap, sym, ◌∙�
 use Rattle.std.specs.Int.{int_gap}
 use Rattle.std.specs.List.{filter}
 use Rattle.std.specs.Prelude.{◌≤ℤ◌, ◌<ℤ◌}
-use Rattle.std.proofs.lemmas.Int.{ints, to_z-of_z}
+use Rattle.std.proofs.lemmas.Int.{ints}
 use Rattle.ode_value.specs.Worlds.{Position}
 use Rattle.ode_timer.specs.Due.{due, due_at, is_above}
 use Rattle.ode_timer.proofs.Places.{due_before, due_behind, due_split, list_end, list_step}

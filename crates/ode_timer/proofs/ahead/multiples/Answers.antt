@@ -1,5 +1,4 @@
 use Rattle.std.proofs.Common.{arith}
-use Rattle.std.specs.Int.{int_gap}
 use Rattle.std.proofs.lemmas.Int.{ints}
 use Rattle.ode_timer.proofs.Divisors.{by_marks}
 use Rattle.ode_timer.proofs.ahead.multiples.Goals as goal
