@@ -1,7 +1,7 @@
 #!/usr/bin/env python3
 """Looks whether the documents still say what is there: checks/documents.py
 
-Each name in docs/GLOSSARY.md and docs/MACHINE.md stands in its file, each clause in docs/PROVED.md in its crate, each crate
+Each name in docs/GLOSSARY.md and docs/MACHINE.md stands in its file, each clause or claim in docs/PROVED.md in its crate, each crate
 of crates.txt in docs/ARCHITECTURE.md, and the README has at most 1,000 words. Prints what doesn't; the status is then 1.
 """
 
@@ -87,9 +87,11 @@ def proved():
         named = re.match(r"## .*: (ode\w*)$|\*\*(ode\w*)\*\*", line)
         crate = (named[1] or named[2]) if named else crate
         text = read(*glob.glob(f"{TOP}/crates/{crate}/src/**/*.rt", recursive=True)) if crate else ""
+        claims = f"{TOP}/crates/{crate}/specs/Claims.antt"
+        fields = read(claims) if os.path.isfile(claims) else ""
         for clauses in re.findall(r"\[([^\]]*`[^\]]*)\]", line):
             for name in quoted(clauses):
-                if not re.search(rf"ensures\*? {name} \{{", text):
+                if not re.search(rf"ensures\*? {name} \{{", text) and not re.search(rf"pub {name} :", fields):
                     faults.append(f"docs/PROVED.md:{number}: {crate} has no clause {name}")
 
 

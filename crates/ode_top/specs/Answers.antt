@@ -53,11 +53,14 @@ pub record IsRefused (file text : List ℕ) (view : View) : Type 0 where
   pub tells : Tells view file
   pub printed : view.text ≡ Some (text ++ line (codes "file exists"))
 
+abbrev pub HoldsNone : List ℕ → Type 0
+HoldsNone image = (w : OneIntWorld) → ¬ Holds image w
+
 -- what is said of a file that holds no world
 abbrev pub SaysWhy : List ℕ → List ℕ → Type 0
 SaysWhy image said =
     ((¬ HasOpenSlot image) × (said ≡ line (codes "no database")))
-    ⊎ (HasOpenSlot image × ((w : OneIntWorld) → ¬ Holds image w) × (said ≡ line (codes "bad file")))
+    ⊎ (HasOpenSlot image × HoldsNone image × (said ≡ line (codes "bad file")))
 
 -- The file holds no world, stayed as it was, and it was said.
 pub record IsBadFile (image text : List ℕ) (view : View) : Type 0 where

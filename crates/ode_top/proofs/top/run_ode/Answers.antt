@@ -8,35 +8,8 @@ use Rattle.ode_host.proofs.Calls.{rose_none}
 use Rattle.ode_top.proofs.Leaving.{line_idle, line_leaves}
 use Rattle.ode_top.proofs.top.run_ode.Goals as goal
 
-pub returns-in-Init-clause-exists : goal.returns-in-Init-clause-exists
-returns-in-Init-clause-exists g c is asks file text tells said = c.init.ensures.exists is file text tells said
-
-pub returns-in-Init-clause-in_use : goal.returns-in-Init-clause-in_use
-returns-in-Init-clause-in_use g c file asks tells in_use = c.init.ensures.in_use file tells in_use
-
-pub returns-in-Run-clause-run : goal.returns-in-Run-clause-run
-returns-in-Run-clause-run g c bytes image text w asks left tells said holds ending = c.run.ensures.ran bytes image text w left tells said holds ending
-
-pub returns-in-Run-clause-cut : goal.returns-in-Run-clause-cut
-returns-in-Run-clause-cut g c bytes image text w asks left tells said holds cut = c.run.ensures.cut bytes image text w left tells said holds cut
-
-pub returns-in-Run-clause-stops : goal.returns-in-Run-clause-stops
-returns-in-Run-clause-stops g c bytes image text w asks left tells said holds = c.run.ensures.stops bytes image text w left tells said holds
-
-pub returns-in-Run-clause-bad_file : goal.returns-in-Run-clause-bad_file
-returns-in-Run-clause-bad_file g c is asks image text tells said = c.run.ensures.bad_file is image text tells said
-
 pub returns-in-None-clause-said : goal.returns-in-None-clause-said
 returns-in-None-clause-said g c is text said = c.end_with.ensures.printed (λ (cut : c.end_with.result ≡ status.WriteFault). cc) text said
-
-pub returns-in-Run-clause-no_world : goal.returns-in-Run-clause-no_world
-returns-in-Run-clause-no_world g c image asks tells none = c.run.ensures.no_world image tells none
-
-pub returns-in-Init-clause-spared : goal.returns-in-Init-clause-spared
-returns-in-Init-clause-spared g c file asks tells in_use = c.init.ensures.idle file tells in_use
-
-pub returns-in-Run-clause-idle : goal.returns-in-Run-clause-idle
-returns-in-Run-clause-idle g c image asks tells none = c.run.ensures.idle image tells none
 
 pub returns-in-None-clause-unused : goal.returns-in-None-clause-unused
 returns-in-None-clause-unused g c none = line_idle status.Usage c.end_with.result _ _ _ c.end_with.ensures.status c.end_with.ensures.prints c.end_with.ensures.cause (λ loud. loud)

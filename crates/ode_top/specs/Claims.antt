@@ -1,0 +1,58 @@
+-- What a call of the program claims, each field a claim: of a run where the file holds a world, of one where it holds none, and
+-- of `init`. The views are the host's at the start and at the end, and so is what is left of the script.
+use Rattle.std.specs.Prelude.{◌≡◌, ◌≢◌, ℕ, List, Option, Some}
+use Rattle.ode_areas.specs.Image.{AreasMean}
+use Rattle.ode_host.specs.FirstSync.{SyncedRun}
+use Rattle.ode_host.specs.Host.{Tells}
+use Rattle.ode_host.specs.View.{View}
+use Rattle.ode_host.specs.declared.status.Status.{Status}
+use Rattle.ode_host.specs.declared.status.Status.TheVariants.{Ok, BadFile, DiskFault, WriteFault}
+use Rattle.ode_open.specs.Holds.{Holds}
+use Rattle.ode_open.specs.Making.{IsInUse}
+use Rattle.ode_value.specs.OneIntWorld.{OneIntWorld}
+use Rattle.ode_top.specs.Answers.{HoldsNone, IsBadFile, IsBadFileCut, IsIdle, IsInitCut, IsInitStatus, IsMachineRun, IsMade, IsNoRun, IsRefused, IsSilent}
+use Rattle.ode_top.specs.Halts.{IsRunStatus}
+use Rattle.ode_top.specs.Serves.{CutShort, IsAfterSome, IsCut, IsEnding}
+use Rattle.ode_top.specs.Trace.{run_items}
+
+-- At the start the script is this one, the disk tells this file, which holds this world, and this was printed.
+pub record Finds (script image text : List ℕ) (w : OneIntWorld) (before : Option (List ℕ)) (old : View) : Type 0 where
+  pub given : before ≡ Some script
+  pub tells : Tells old image
+  pub holds : Holds image w
+  pub said : old.text ≡ Some text
+
+-- A run where the file holds a world.
+pub record RunsWorld (before after : Option (List ℕ)) (old new : View) (result : Status) : Type 0 where
+  -- It is the machine's, whatever the script and the chunks that it comes in.
+  pub run : (script image text : List ℕ) (w : OneIntWorld) → Finds script image text w before old → IsEnding result
+      → IsMachineRun script w text after new result
+  -- Where the disk, the output or the script fails or memory is short, the file holds the world after some of the settled
+  -- transactions, and what is printed is a front of what these print, or a refusal's line behind them.
+  pub cut : (script image text : List ℕ) (w : OneIntWorld) → Finds script image text w before old → IsCut result
+      → CutShort (run_items w script) w text new
+  -- So does a stop at any moment from the first sync on, at which the file is as it was at the start. Before it, a stop
+  -- leaves what it might have left at the start. The sync lies within the run, unless the disk failed.
+  pub stops : (script image text : List ℕ) (w : OneIntWorld) → Finds script image text w before old
+      → SyncedRun old new image (result ≡ DiskFault) (IsAfterSome AreasMean (run_items w script) w text)
+  -- It ends as the machine does, by a fault, or for want of memory.
+  pub answers : (image : List ℕ) (w : OneIntWorld) → Tells old image → Holds image w → IsRunStatus result
+
+-- A run where the file holds no world.
+pub record RunsNone (before after : Option (List ℕ)) (old new : View) (result : Status) : Type 0 where
+  pub bad_file : result ≡ BadFile → (image text : List ℕ) → Tells old image → old.text ≡ Some text → IsBadFile image text new
+  pub no_world : (image : List ℕ) → Tells old image → HoldsNone image → IsNoRun result
+  -- Nothing is written, nothing of the script is taken, and nothing is printed but the line.
+  pub idle : (image : List ℕ) → Tells old image → HoldsNone image → IsIdle result old new × (after ≡ before)
+  pub bad_file_cut : result ≡ WriteFault → (image text : List ℕ) → Tells old image → old.text ≡ Some text → HoldsNone image
+      → IsBadFileCut image text new
+
+-- An `init`. A file in use stays as it was, whatever the status.
+pub record Initialises (old new : View) (result : Status) : Type 0 where
+  pub made : result ≡ Ok → (file text : List ℕ) → Tells old file → old.text ≡ Some text → IsMade file text new
+  pub exists : result ≡ BadFile → (file text : List ℕ) → Tells old file → old.text ≡ Some text → IsRefused file text new
+  pub in_use : (file : List ℕ) → Tells old file → IsInUse file → result ≢ Ok
+  pub init : IsInitStatus result
+  pub init_cut : result ≡ WriteFault → (file text : List ℕ) → Tells old file → old.text ≡ Some text → IsInitCut file text new
+  pub spared : (file : List ℕ) → Tells old file → IsInUse file → IsIdle result old new
+  pub silent : IsSilent result → new.text ≡ old.text
