@@ -4,7 +4,6 @@ use Rattle.std.specs.List.{AllByRecursion}
 use Rattle.ode_keep.proofs.Firsts.{same_row_first}
 use Rattle.ode_host.proofs.Determinacy.{one_list}
 use Rattle.ode_keep.specs.Snapshots.{FitsRow}
-use Rattle.ode_first_records.specs.State.{world_of}
 use Rattle.ode_first_records.proofs.GoodStates.{are_rows, state_of_good}
 use Rattle.ode_keep.specs.Entries.{Entries}
 use Rattle.ode_value.specs.OneIntGood.{IsOneIntGood}
