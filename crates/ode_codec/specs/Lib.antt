@@ -5,4 +5,3 @@ pub mod Rules
 pub mod Reading
 pub mod StoredRows
 pub mod Standing
-pub mod Alike

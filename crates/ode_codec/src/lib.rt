@@ -14,7 +14,4 @@ pub use decoding::decode;
 pub use encoding::encode;
 pub use laws::one_spelling;
 pub use record::{Activation, Counters, Entry, Record};
-pub use stored::{
-    fresh_databases_are_counters, held_worlds_are_good, numbers_and_lists_have_the_same_bones,
-    stored_lengths_are_counts,
-};
+pub use stored::{fresh_databases_are_counters, held_worlds_are_good, stored_lengths_are_counts};

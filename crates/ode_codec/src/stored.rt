@@ -3,14 +3,11 @@
 ghost use Rattle.std.specs.Prelude.{◌≡◌, [], ◌∷◌, ℕ, List as Items};
 ghost use Rattle.ode_value.specs.Lengths.{activation_length, entry_length};
 ghost use Rattle.ode_value.specs.Objects.{Activation};
-ghost use Rattle.ode_value.specs.Acts.{Done};
 ghost use Rattle.ode_value.specs.GoodWorlds.{IsGood};
-ghost use Rattle.ode_value.specs.Language.{Language, ListTx, ListWorld};
+ghost use Rattle.ode_value.specs.Language.{Language, ListWorld};
 ghost use Rattle.ode_value.specs.Records.{Row, row_weight};
 ghost use Rattle.ode_value.specs.Tables.{Table};
-ghost use Rattle.ode_value.specs.Transactions.{Tx};
 ghost use Rattle.ode_value.specs.Worlds.{Entry, empty_bones, empty_world};
-ghost use Rattle.ode_codec.specs.Alike.{OutcomeStandsAs, TxStandsAs};
 ghost use Rattle.ode_codec.specs.Standing.{HoldsWorld};
 ghost use Rattle.ode_codec.specs.StoredRows.{activation_row, counters_row, entry_row, rows};
 
@@ -24,13 +21,6 @@ pub fn fresh_databases_are_counters()
 /// Records hold good worlds alone.
 pub fn held_worlds_are_good()
     ensures { (l : Language) (records : Items Row) (w : ListWorld) → HoldsWorld l records w → IsGood l w }
-{}
-
-/// A transaction over state numbers that stands for one over lists of points has the same bones, and acts that stand for one another
-/// have the same answer.
-pub fn numbers_and_lists_have_the_same_bones()
-    ensures bones { (tables : ℕ → ℕ → Table) (y : Tx (Unit {0}) ℕ) (x : ListTx) → TxStandsAs tables y x → y.now.bones ≡ x.now.bones }
-    ensures answers { (tables : ℕ → ℕ → Table) (r s : ℕ) (y : Tx (Unit {0}) ℕ) (x : ListTx) → OutcomeStandsAs tables (Done r y) (Done s x) → r ≡ s }
 {}
 
 /// The lengths of activations and entries that are counted are those of their bytes.
