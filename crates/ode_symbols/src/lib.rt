@@ -4,7 +4,6 @@
 mod alphabet;
 mod error;
 mod holding;
-mod operators;
 mod plain;
 mod rows;
 

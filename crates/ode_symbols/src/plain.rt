@@ -5,7 +5,7 @@ ghost use Rattle.ode_symbols.specs.Reading.{result_of, side_of, value_of};
 ghost use Rattle.ode_value.specs.Masks.{is_true, plain, value_at};
 ghost use Rattle.ode_value.specs.Operators.{binary_value, unary_value};
 
-use crate::operators::{binary, unary};
+use ode_expr::{binary, unary};
 use ode_value::{BinOp, Expr, Fault, UnOp, Value};
 
 // A value that stands in an expression or a slot, or one that was computed.
