@@ -1,0 +1,10 @@
+pub mod AlikeClasses
+pub mod AlikeClocks
+pub mod FollowLaws
+pub mod FollowRuns
+pub mod FollowSettling
+pub mod GoodOrders
+pub mod JoinLaws
+pub mod OrderlyLaws
+pub mod StableLaws
+pub mod Ticks
