@@ -9,3 +9,6 @@ mod Numbered
 mod Stored
 mod StoredVersions
 mod StoredQueue
+mod Sorts
+mod Passing
+mod Own

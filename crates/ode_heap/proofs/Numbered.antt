@@ -1,21 +1,19 @@
 -- What stands under the numbers of objects, versions and activations.
-use Rattle.std.proofs.Common.{◌≡◌, ℕ, ◌+◌, ◌<◌, ◌≤◌, ◌^◌, List, [], ◌∷◌, ◌++◌, map, Bool, true, false, cond, Option, Some, None, refl, sym, ap, subst, ◌∙◌, append_assoc, arith}
-use Rattle.std.specs.Prelude.{nat_le, nat_lt, ◌==◌, ◌&&◌}
+use Rattle.std.proofs.Common.{◌≡◌, ℕ, ◌+◌, ◌<◌, ◌≤◌, List, [], ◌∷◌, ◌++◌, map, Bool, true, false, cond, Option, Some, None, refl, ap, subst, ◌∙◌, arith}
+use Rattle.std.specs.Prelude.{◌==◌}
 use Rattle.std.specs.BTreeMap.{is_at}
-use Rattle.std.specs.List.{AllByRecursion, find, flat_map}
-use Rattle.std.specs.Option.{IfSome, option_and_then, option_map, option_map_or, unwrap_or}
-use Rattle.std.specs.Ordering.{is_eq, nat_cmp, ordering_then}
+use Rattle.std.specs.List.{AllByRecursion, flat_map}
+use Rattle.std.specs.Option.{option_map_or}
 use Rattle.std.proofs.lemmas.Bool.Decides.{nat_tests}
-use Rattle.std.proofs.lemmas.List.{append-nil}
 use Rattle.ode_keep.specs.Entries.{Entries, value_under}
 use Rattle.ode_value.specs.Denoting.{object_numbered}
 use Rattle.ode_value.specs.GoodWorlds.{RiseFrom}
-use Rattle.ode_value.specs.Keys.{key, key_cmp}
+use Rattle.ode_value.specs.Keys.{key_cmp}
 use Rattle.ode_value.specs.Records.{Row}
 use Rattle.ode_value.specs.Worlds.{Object}
 use Rattle.ode_value.specs.declared.key.Key.{Key}
 use Rattle.ode_heap.specs.Answers.{Found, ◌>>=◌}
-use Rattle.ode_heap.specs.Answers.{There, Broken}
+use Rattle.ode_heap.specs.Answers.{There}
 use Rattle.ode_heap.specs.Walking.{collected, is_from}
 
 abbrev pub id_of : Object → ℕ

@@ -1,10 +1,9 @@
 -- What is read of one kind of records is read of the records of that kind alone.
-use Rattle.std.proofs.Common.{◌≡◌, ℕ, ◌^◌, List, [], ◌∷◌, ◌++◌, map, Bool, true, false, cond, Option, Some, None, refl, sym, ap, ◌∙◌, arith}
-use Rattle.std.specs.Prelude.{nat_le, nat_lt, ◌==◌, ◌&&◌}
+use Rattle.std.proofs.Common.{◌≡◌, ℕ, List, [], ◌∷◌, ◌++◌, map, Bool, true, false, cond, Option, Some, refl, sym, ap, ◌∙◌, arith}
+use Rattle.std.specs.Prelude.{◌==◌, ◌&&◌}
 use Rattle.std.specs.BTreeMap.{is_at}
 use Rattle.std.specs.List.{AllByRecursion, filter, find, flat_map}
 use Rattle.std.specs.Map.{keys_of}
-use Rattle.std.specs.Ordering.{is_eq, nat_cmp, ordering_then}
 use Rattle.std.proofs.lemmas.Bool.Decides.{nat_tests}
 use Rattle.std.proofs.lemmas.List.{append-nil}
 use Rattle.std.proofs.lemmas.List.Elements.{filter-append}
@@ -12,9 +11,9 @@ use Rattle.ode_keep.specs.Entries.{Entries, value_under}
 use Rattle.ode_value.specs.Keys.{key_cmp}
 use Rattle.ode_value.specs.Records.{Row}
 use Rattle.ode_value.specs.declared.key.Key.{Key}
-use Rattle.ode_heap.specs.Answers.{Found, ◌>>=◌}
-use Rattle.ode_heap.specs.Answers.{There, Broken}
+use Rattle.ode_heap.specs.Answers.{Found}
 use Rattle.ode_heap.specs.Walking.{collected, is_from}
+use Rattle.ode_heap.proofs.Passing.{collected_of_those, value_of_those}
 
 abbrev pub is_of_kind : ℕ → Row → Bool
 is_of_kind kind e = e.0.kind == kind
@@ -24,31 +23,18 @@ rows_of kind es = filter (is_of_kind kind) es
 
 -- ---- what is read
 
-apart : (k q : Key) → (q.kind == k.kind) ≡ false → is_at (key_cmp k) q ≡ false
-apart k q other = grind (arith, nat_tests)
-
-value_step : (e : Row) (es : Entries) (k : Key) → value_under es k ≡ value_under (rows_of k.kind es) k
-    → (b : Bool) → (e.0.kind == k.kind) ≡ b → value_under (e ∷ es) k ≡ value_under (cond b (e ∷ rows_of k.kind es) (rows_of k.kind es)) k
-value_step e es k more true is = ap (λ (o : Option (List ℕ)). cond (is_at (key_cmp k) e.0) (Some e.1) o) more
-value_step e es k more false is = ap (λ b. cond b (Some e.1) (value_under es k)) (apart k e.0 is) ∙ more
+same_kind : (k q : Key) → is_at (key_cmp k) q ≡ true → (q.kind == k.kind) ≡ true
+same_kind k q here = grind (arith, nat_tests)
 
 pub value_of_kind : (es : Entries) (k : Key) → value_under es k ≡ value_under (rows_of k.kind es) k
-value_of_kind [] k = refl
-value_of_kind (e ∷ es) k = value_step e es k (value_of_kind es k) (e.0.kind == k.kind) refl
+value_of_kind es k = sym (value_of_those (λ q. q.kind == k.kind) k (same_kind k) es)
 
-module _ (X : Type 0) (take : Key → List ℕ → Found X) (kind a n : ℕ) where
-  abbrev turn : Row → Found (List X) → Found (List X)
-  turn e more = take e.0 e.1 >>= λ x. more >>= λ xs. There (x ∷ xs)
-
-  collected_step : (e : Row) (es : Entries) → collected (is_from kind a n) take es ≡ collected (is_from kind a n) take (rows_of kind es)
-      → (b : Bool) → (e.0.kind == kind) ≡ b → collected (is_from kind a n) take (e ∷ es) ≡ collected (is_from kind a n) take (cond b (e ∷ rows_of kind es) (rows_of kind es))
-  collected_step e es more true is = ap (λ (f : Found (List X)). cond (is_from kind a n e.0) (turn e f) f) more
-  collected_step e es more false is =
-      ap (λ b. cond (b && (e.0.a == a && (nat_le n e.0.b && nat_lt e.0.b (2 ^ 64)))) (turn e (collected (is_from kind a n) take es)) (collected (is_from kind a n) take es)) is ∙ more
-
-  pub collected_of_kind : (es : Entries) → collected (is_from kind a n) take es ≡ collected (is_from kind a n) take (rows_of kind es)
-  collected_of_kind [] = refl
-  collected_of_kind (e ∷ es) = collected_step e es (collected_of_kind es) (e.0.kind == kind) refl
+pub collected_of_kind : (X : Type 0) (take : Key → List ℕ → Found X) (kind a n : ℕ) (es : Entries)
+    → collected (is_from kind a n) take es ≡ collected (is_from kind a n) take (rows_of kind es)
+collected_of_kind X take kind a n es = sym (collected_of_those (λ q. q.kind == kind) X (is_from kind a n) take inside es)
+  where
+    inside : (q : Key) → is_from kind a n q ≡ true → (q.kind == kind) ≡ true
+    inside q here = grind (arith, nat_tests)
 
 module _ (kind : ℕ) (rest : Key → Bool) where
   abbrev both : Key → Bool

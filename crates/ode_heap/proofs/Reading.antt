@@ -1,5 +1,5 @@
 -- A record that stands under its key is read there.
-use Rattle.std.proofs.Common.{◌≡◌, ℕ, List, [], ◌∷◌, Option, Some, None, refl, ap, ◌∙◌, append_assoc}
+use Rattle.std.proofs.Common.{◌≡◌, ℕ, List, Option, Some, None, refl, ap, ◌∙◌, append_assoc}
 use Rattle.ode_codec.specs.Reading.{record_under}
 use Rattle.ode_codec.specs.Rules.{IsRecord}
 use Rattle.ode_codec.specs.Spelling.{key_of, value_of}
@@ -8,14 +8,13 @@ use Rattle.ode_codec.specs.declared.record.Record.TheVariants as of
 use Rattle.ode_keep.specs.Entries.{Entries, value_under}
 use Rattle.ode_value.specs.Keys.{counters_key}
 use Rattle.ode_value.specs.Worlds.{Bones, Position}
-use Rattle.ode_value.specs.Records.{clock_bytes}
 use Rattle.ode_value.specs.declared.key.Key.{Key}
 use Rattle.ode_codec.specs.StoredRows.{Stored, counters_row, rows}
 use Rattle.ode_heap.specs.Answers.{Found, ◌>>=◌}
-use Rattle.ode_heap.specs.Answers.{There, Broken}
+use Rattle.ode_heap.specs.Answers.{There}
 use Rattle.ode_heap.specs.Answering.{counters_of}
 use Rattle.ode_heap.specs.Looking.{are_counters, counters_in, decoded, looked_at, looked_up, read_as}
-use Rattle.ode_heap.proofs.OneKind.{rows_of, value_of_kind}
+use Rattle.ode_heap.proofs.OneKind.{value_of_kind}
 use Rattle.ode_heap.proofs.Sections.{counters_alone}
 
 -- each record is read from its spelling

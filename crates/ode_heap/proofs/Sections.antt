@@ -1,6 +1,6 @@
 -- Of the records of a stored database: those of each kind.
 use Rattle.std.proofs.Common.{◌≡◌, ℕ, List, [], ◌∷◌, ◌++◌, map, refl, ap, ◌∙◌, append_assoc}
-use Rattle.std.specs.List.{AllByRecursion, flat_map}
+use Rattle.std.specs.List.{flat_map}
 use Rattle.ode_codec.specs.StoredRows.{Stored, activation_rows, counters_row, entry_row, head_row, object_row, places_of, rows, table_heads, table_pieces, table_rows, text_rows, version_rows}
 use Rattle.ode_value.specs.Records.{Row}
 use Rattle.ode_value.specs.Worlds.{Bones, Declared, Entry, Object}

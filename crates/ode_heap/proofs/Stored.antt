@@ -1,34 +1,31 @@
 -- What a heap gives of the objects of a stored database.
-use Rattle.std.proofs.Common.{◌≡◌, ℕ, ◌+◌, ◌<◌, ◌≤◌, ◌^◌, List, [], ◌∷◌, ◌++◌, map, Bool, true, false, cond, Option, Some, None, refl, sym, ap, subst, ◌∙◌, append_assoc, arith}
-use Rattle.std.specs.Prelude.{nat_le, nat_lt, ◌==◌, ◌&&◌}
+use Rattle.std.proofs.Common.{◌≡◌, ℕ, ◌<◌, ◌^◌, List, [], ◌∷◌, map, Bool, true, false, cond, Option, Some, None, refl, sym, ap, subst, ◌∙◌, append_assoc, arith}
+use Rattle.std.specs.Prelude.{◌==◌}
 use Rattle.std.specs.BTreeMap.{is_at}
-use Rattle.std.specs.List.{AllByRecursion, find, flat_map}
-use Rattle.std.specs.Option.{IfSome, option_and_then, option_map, option_map_or, unwrap_or}
-use Rattle.std.specs.Ordering.{is_eq, nat_cmp, ordering_then}
+use Rattle.std.specs.List.{AllByRecursion}
+use Rattle.std.specs.Option.{IfSome, option_map, option_map_or, unwrap_or}
 use Rattle.std.proofs.lemmas.Bool.Decides.{nat_tests}
-use Rattle.ode_codec.specs.Rules.{IsRecord, HasRanges}
+use Rattle.ode_codec.specs.Rules.{HasRanges}
 use Rattle.ode_codec.specs.Spelling.{key_of, value_of}
-use Rattle.ode_codec.specs.StoredRows.{Stored, object_row, rows, version_rows}
+use Rattle.ode_codec.specs.StoredRows.{Stored, object_row, rows}
 use Rattle.ode_codec.specs.declared.record.Record.{Record}
 use Rattle.ode_codec.specs.declared.record.Record.TheVariants as of
 use Rattle.ode_keep.specs.Entries.{Entries, value_under}
 use Rattle.ode_value.specs.Denoting.{object_numbered}
-use Rattle.ode_value.specs.Keys.{key, key_cmp, object_key, version_key, version_kind}
-use Rattle.ode_value.specs.Records.{Row, version_row}
+use Rattle.ode_value.specs.Keys.{key_cmp, object_key, version_key, version_kind}
+use Rattle.ode_value.specs.Records.{version_row}
 use Rattle.ode_value.specs.Versions.{Version}
 use Rattle.ode_value.specs.Worlds.{Object}
-use Rattle.ode_value.specs.declared.key.Key.{Key}
 use Rattle.ode_versions.specs.Versions.{listed}
 use Rattle.ode_versions.specs.declared.list.Version as short
 use Rattle.ode_heap.specs.Answers.{Found, ◌>>=◌}
-use Rattle.ode_heap.specs.Answers.{There, Broken}
+use Rattle.ode_heap.specs.Answers.{There}
 use Rattle.ode_heap.specs.Answering.{IsReadable, IsReadableObject, IsReadableVersion, head_of_object, object_of}
 use Rattle.ode_heap.specs.Looking.{as_version, decoded, looked_up, parent_of}
 use Rattle.ode_heap.specs.Objects.{head_of, object_in, versions_in, with_versions}
 use Rattle.ode_heap.specs.Walking.{block, collected, is_from, taken}
-use Rattle.ode_heap.specs.declared.object.ObjectHead.{ObjectHead}
-use Rattle.ode_heap.proofs.Numbered.{id_of, numbered_all, numbered_is, one_object}
-use Rattle.ode_heap.proofs.OneKind.{collected_of_kind, rows_of, value_of_kind}
+use Rattle.ode_heap.proofs.Numbered.{numbered_all, numbered_is, one_object}
+use Rattle.ode_heap.proofs.OneKind.{collected_of_kind, value_of_kind}
 use Rattle.ode_heap.proofs.Reading.{Again, looked, not_looked, reads}
 use Rattle.ode_heap.proofs.Sections.{objects_alone, versions_alone}
 

@@ -1,27 +1,25 @@
 -- What a heap gives of the next object and of the entries of a stored database.
-use Rattle.std.proofs.Common.{◌≡◌, ℕ, ◌+◌, ◌-◌, ◌<◌, ◌≤◌, ◌^◌, min, length, suc, List, [], ◌∷◌, ◌++◌, map, Bool, true, false, cond, Option, Some, None, refl, sym, ap, subst, ◌∙◌, append_assoc, arith}
-use Rattle.std.specs.Prelude.{nat_le, nat_lt, ◌==◌, ◌&&◌}
+use Rattle.std.proofs.Common.{◌≡◌, ℕ, ◌+◌, ◌-◌, ◌<◌, ◌^◌, min, length, suc, List, [], ◌∷◌, map, Bool, true, false, cond, Option, Some, None, refl, sym, ap, subst, ◌∙◌, append_assoc, arith}
+use Rattle.std.specs.Prelude.{nat_le, ◌==◌}
 use Rattle.std.specs.BTreeMap.{is_at}
 use Rattle.std.specs.List.{AllByRecursion, find}
 use Rattle.std.specs.Map.{keys_of}
 use Rattle.std.specs.Option.{option_map}
-use Rattle.std.specs.Ordering.{is_eq, nat_cmp, ordering_then}
 use Rattle.std.proofs.lemmas.Bool.Decides.{nat_tests}
-use Rattle.ode_codec.specs.Rules.{IsRecord, HasRanges}
+use Rattle.ode_codec.specs.Rules.{HasRanges}
 use Rattle.ode_codec.specs.Spelling.{key_of, value_of}
 use Rattle.ode_codec.specs.StoredRows.{Stored, entry_row, object_row, rows}
-use Rattle.ode_codec.specs.declared.record.Entry as stored
 use Rattle.ode_codec.specs.declared.record.Record.{Record}
 use Rattle.ode_codec.specs.declared.record.Record.TheVariants as of
 use Rattle.ode_keep.specs.Entries.{Entries, value_under}
-use Rattle.ode_value.specs.Keys.{entry_key, entry_kind, key, key_cmp, object_key, object_kind}
+use Rattle.ode_value.specs.Keys.{entry_key, entry_kind, key_cmp, object_key, object_kind}
 use Rattle.ode_value.specs.Records.{Row}
 use Rattle.ode_value.specs.Worlds.{Entry, Object}
 use Rattle.ode_value.specs.declared.key.Key.{Key}
 use Rattle.ode_heap.specs.Answers.{Found, ◌>>=◌}
-use Rattle.ode_heap.specs.Answers.{There, Broken}
+use Rattle.ode_heap.specs.Answers.{There}
 use Rattle.ode_heap.specs.Answering.{IsReadable, IsReadableEntry, entry_of, next_entry, next_object}
-use Rattle.ode_heap.specs.Looking.{as_entry, decoded, entry_at, entry_from, entry_key_from, is_entry_from, is_object_from, looked_up, object_from}
+use Rattle.ode_heap.specs.Looking.{as_entry, decoded, entry_at, entry_from, entry_key_from, is_entry_from, is_object_from, object_from}
 use Rattle.ode_heap.specs.Queue.{count_from, is_queued_from, queued_in}
 use Rattle.ode_heap.proofs.Counting.{counted, one_more, with_one}
 use Rattle.ode_heap.proofs.Numbered.{id_of}

@@ -1,12 +1,11 @@
 -- What a heap gives of the versions and the activations of a stored database.
 use Rattle.std.proofs.Common.{◌≡◌, ℕ, ◌+◌, ◌<◌, ◌≤◌, ◌^◌, List, [], ◌∷◌, ◌++◌, map, Bool, true, false, cond, Option, Some, None, refl, sym, ap, subst, ◌∙◌, append_assoc, arith}
-use Rattle.std.specs.Prelude.{nat_le, nat_lt, ◌==◌, ◌&&◌}
+use Rattle.std.specs.Prelude.{◌==◌}
 use Rattle.std.specs.BTreeMap.{is_at}
-use Rattle.std.specs.List.{AllByRecursion, find, flat_map}
-use Rattle.std.specs.Option.{IfSome, option_and_then, option_map, option_map_or, unwrap_or}
-use Rattle.std.specs.Ordering.{is_eq, nat_cmp, ordering_then}
+use Rattle.std.specs.List.{AllByRecursion, flat_map}
+use Rattle.std.specs.Option.{IfSome, option_and_then, option_map, unwrap_or}
 use Rattle.std.proofs.lemmas.Bool.Decides.{nat_tests}
-use Rattle.ode_codec.specs.Rules.{IsRecord, HasRanges}
+use Rattle.ode_codec.specs.Rules.{HasRanges}
 use Rattle.ode_codec.specs.Spelling.{key_of, value_of}
 use Rattle.ode_codec.specs.StoredRows.{Stored, activation_row, rows, state_of, version_rows}
 use Rattle.ode_codec.specs.declared.record.Activation as stored
@@ -15,14 +14,12 @@ use Rattle.ode_codec.specs.declared.record.Record.TheVariants as of
 use Rattle.ode_keep.specs.Entries.{Entries, value_under}
 use Rattle.ode_value.specs.Denoting.{object_numbered}
 use Rattle.ode_value.specs.GoodWorlds.{RiseFrom}
-use Rattle.ode_value.specs.Keys.{activation_key, activation_kind, key, key_cmp, version_key}
+use Rattle.ode_value.specs.Keys.{activation_key, activation_kind, key_cmp, version_key}
 use Rattle.ode_value.specs.Objects.{Activation}
 use Rattle.ode_value.specs.Records.{Row, version_row}
 use Rattle.ode_value.specs.Versions.{Version, version_numbered}
 use Rattle.ode_value.specs.Worlds.{Object, World}
 use Rattle.ode_value.specs.declared.class.Class.{Class}
-use Rattle.ode_value.specs.declared.key.Key.{Key}
-use Rattle.ode_value.specs.declared.value.Value.{Value}
 use Rattle.ode_heap.specs.Activations.{activations_in, as_activation}
 use Rattle.ode_heap.specs.Answers.{Found, ◌>>=◌}
 use Rattle.ode_heap.specs.Answers.{There, Broken}
@@ -30,7 +27,7 @@ use Rattle.ode_heap.specs.Answering.{IsReadable, IsReadableActivation, IsReadabl
 use Rattle.ode_heap.specs.Looking.{decoded, fields_of, fit_fields, looked_up, version_in}
 use Rattle.ode_heap.specs.Walking.{block, collected, is_from, taken}
 use Rattle.ode_heap.proofs.Numbered.{id_of, numbered_all, numbered_is, one_object, or_else, value_append}
-use Rattle.ode_heap.proofs.OneKind.{collected_of_kind, rows_of, value_of_kind}
+use Rattle.ode_heap.proofs.OneKind.{collected_of_kind, value_of_kind}
 use Rattle.ode_heap.proofs.Reading.{Again, looked, not_looked, reads}
 use Rattle.ode_heap.proofs.Sections.{activations_alone, versions_alone}
 use Rattle.ode_heap.proofs.Stored.{version_keyed, version_spelled}

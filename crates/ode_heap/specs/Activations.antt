@@ -1,6 +1,6 @@
 -- The activations of an object.
-use Rattle.std.specs.Prelude.{ℕ, List, [], ◌∷◌, Bool, true, false, cond, ◌&&◌, Option, Some, None}
-use Rattle.std.specs.List.{slice_get}
+use Rattle.std.specs.Prelude.{ℕ, List, [], ◌∷◌, Bool, true, false, cond, ◌==◌, ◌&&◌, Option, Some, None}
+use Rattle.std.specs.List.{filter, slice_get}
 use Rattle.ode_codec.specs.declared.record.Activation.{Activation}
 use Rattle.ode_codec.specs.declared.record.Record.{Record}
 use Rattle.ode_codec.specs.declared.record.Record.TheVariants as of
@@ -42,3 +42,10 @@ as_activation classes k _ = Broken k
 -- in the order of their numbers
 abbrev pub activations_in : Entries → ℕ → List Class → Found (List Activation)
 activations_in entries id classes = block (as_activation classes) activation_kind id 0 entries
+
+-- the records of an object's activations
+abbrev pub is_activation_of : ℕ → Key → Bool
+is_activation_of id k = k.a == id && k.kind == activation_kind
+
+abbrev pub own_activations : Entries → ℕ → Entries
+own_activations entries id = filter (λ e. is_activation_of id e.0) entries

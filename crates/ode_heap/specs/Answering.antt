@@ -1,5 +1,5 @@
 -- What a stored database gives: a world with state numbers, whose records are kept.
-use Rattle.std.specs.Prelude.{◌≡◌, ◌<◌, ◌≤◌, ◌^◌, ℕ, ℤ, List, [], ◌∷◌, map, length, true, pos, nat_le, Option, Some, None}
+use Rattle.std.specs.Prelude.{◌≡◌, ◌<◌, ◌^◌, ℕ, List, [], map, length, true, pos, nat_le, Option}
 use Rattle.std.specs.List.{AllByRecursion, find}
 use Rattle.std.specs.Option.{IfSome, is_some, option_and_then, option_map, option_map_or, unwrap_or}
 use Rattle.ode_codec.specs.Rules.{IsRecord}

@@ -40,3 +40,8 @@ error_at k keep.Memory = Memory
 error_at k keep.DiskFault = DiskFault
 error_at k (keep.TooLarge total) = TooLarge total
 error_at k (keep.Damaged page) = Damaged k
+
+-- what holds of the key that is named where something is damaged
+abbrev pub OnDamaged : {A : Type 0} → Result A HeapError → (Key → Type 0) → Type 0
+OnDamaged (Err (Damaged k)) P = P k
+OnDamaged _ P = Unit {0}

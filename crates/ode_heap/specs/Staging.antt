@@ -1,7 +1,7 @@
 -- What the answers to a batch leave.
 use Rattle.std.specs.Prelude.{ℕ, [], ◌∷◌, Result, Err}
 use Rattle.ode_heap.specs.declared.error.HeapError.{HeapError}
-use Rattle.ode_heap.specs.declared.error.HeapError.TheVariants.{Memory, TooLarge, Damaged}
+use Rattle.ode_heap.specs.declared.error.HeapError.TheVariants.{Memory, TooLarge}
 use Rattle.ode_keep.specs.Entries.{Changes}
 use Rattle.ode_value.specs.Keys.{counters_key}
 use Rattle.ode_value.specs.declared.key.Key.{Key}
@@ -21,8 +21,3 @@ OnRefusal _ P = Unit {0}
 abbrev pub OnTooLarge : {A : Type 0} → Result A HeapError → (ℕ → Type 0) → Type 0
 OnTooLarge (Err (TooLarge total)) P = P total
 OnTooLarge _ P = Unit {0}
-
--- what holds where the file isn't what was written, of the key that is named
-abbrev pub OnDamaged : {A : Type 0} → Result A HeapError → (Key → Type 0) → Type 0
-OnDamaged (Err (Damaged k)) P = P k
-OnDamaged _ P = Unit {0}

@@ -4,7 +4,8 @@ ghost use Rattle.ode_host.specs.Causes.{RoseIf};
 ghost use Rattle.ode_host.specs.Host.{Looks};
 ghost use Rattle.ode_keep.specs.Entries.{Entries};
 ghost use Rattle.ode_heap.specs.Activations.{activations_in, as_activation, fit_params, fits};
-ghost use Rattle.ode_heap.specs.Answers.{Answers, UnlessFault, is_usable};
+ghost use Rattle.ode_heap.specs.Answers.{Answers, OnDamaged, UnlessFault, is_usable};
+ghost use Rattle.ode_value.specs.Keys.{activation_kind};
 
 use crate::error::HeapError;
 use crate::fitting::has_sort;
@@ -50,6 +51,7 @@ fn activation_of(classes: &Classes, key: Key, found: Record) -> Result<Activatio
     ensures value { Answers result (as_activation classes.now key found) }
     ensures usable { is_usable result ≡ true }
     ensures calm { IsErrOf result HeapError.DiskFault → ⊥ }
+    ensures at { OnDamaged result (λ k. k ≡ key) }
 {
     match found {
         Record::Activation(activation) => {
@@ -78,6 +80,7 @@ pub(crate) fn read_activations<H: Host, K: Keep<H>>(
     ensures looks { Looks (H.view host.old) (H.view host.new) }
     ensures usable { K.live keeper.new ≡ is_usable result }
     ensures cause { RoseIf (IsErrOf result HeapError.DiskFault) (H.view host.old).disk_faults (H.view host.new).disk_faults }
+    ensures at { OnDamaged result (λ k. (k.kind ≡ activation_kind) × (k.a ≡ id)) }
 {
     let mut activations = List::new(alloc);
     let mut from: u64 = 0;

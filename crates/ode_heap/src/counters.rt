@@ -3,8 +3,9 @@ ghost use Rattle.std.specs.Prelude.{◌≡◌, IsErrOf, IsTrue};
 ghost use Rattle.ode_host.specs.Causes.{RoseIf};
 ghost use Rattle.ode_host.specs.Host.{Looks};
 ghost use Rattle.ode_keep.specs.Entries.{Entries};
-ghost use Rattle.ode_heap.specs.Answers.{Answers, UnlessFault, is_usable};
+ghost use Rattle.ode_heap.specs.Answers.{Answers, OnDamaged, UnlessFault, is_usable};
 ghost use Rattle.ode_heap.specs.Looking.{counters_in};
+ghost use Rattle.ode_value.specs.Keys.{counters_key};
 
 use crate::error::HeapError;
 use crate::looking::look_up;
@@ -28,6 +29,7 @@ pub(crate) fn read_counters<H: Host, K: Keep<H>>(
     ensures looks { Looks (H.view host.old) (H.view host.new) }
     ensures usable { K.live keeper.new ≡ is_usable result }
     ensures cause { RoseIf (IsErrOf result HeapError.DiskFault) (H.view host.old).disk_faults (H.view host.new).disk_faults }
+    ensures at { OnDamaged result (λ k. k ≡ counters_key) }
 {
     let key = Key {
         kind: Key::COUNTERS,

@@ -3,8 +3,9 @@ ghost use Rattle.std.specs.Prelude.{◌≡◌, true, IsErrOf, IsTrue};
 ghost use Rattle.ode_host.specs.Causes.{RoseIf};
 ghost use Rattle.ode_host.specs.Host.{Looks};
 ghost use Rattle.ode_keep.specs.Entries.{Entries};
-ghost use Rattle.ode_heap.specs.Answers.{Answers, UnlessFault, is_usable};
+ghost use Rattle.ode_heap.specs.Answers.{Answers, OnDamaged, UnlessFault, is_usable};
 ghost use Rattle.ode_heap.specs.Looking.{fields_of, version_in};
+ghost use Rattle.ode_value.specs.Keys.{version_key};
 
 use crate::error::HeapError;
 use crate::fitting::fit_fields;
@@ -24,6 +25,7 @@ fn fields_of(
     ensures value { Answers result (fields_of key fields.now found) }
     ensures usable { is_usable result ≡ true }
     ensures calm { IsErrOf result HeapError.DiskFault → ⊥ }
+    ensures at { OnDamaged result (λ k. k ≡ key) }
 {
     match found {
         None => Ok(None),
@@ -55,6 +57,7 @@ pub(crate) fn read_version<H: Host, K: Keep<H>>(
     ensures looks { Looks (H.view host.old) (H.view host.new) }
     ensures usable { K.live keeper.new ≡ is_usable result }
     ensures cause { RoseIf (IsErrOf result HeapError.DiskFault) (H.view host.old).disk_faults (H.view host.new).disk_faults }
+    ensures at { OnDamaged result (λ k. k ≡ version_key id number) }
 {
     let key = Key {
         kind: Key::VERSION,

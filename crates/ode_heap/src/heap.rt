@@ -6,11 +6,12 @@ ghost use Rattle.ode_keep.specs.ShortValues.{HasShortValues};
 ghost use Rattle.ode_keep.specs.Entries.{Entries, applied, record_bytes};
 ghost use Rattle.ode_keep.specs.Keeping.{LeavesOldOrNew};
 ghost use Rattle.ode_heap.specs.Activations.{activations_in};
-ghost use Rattle.ode_heap.specs.Answers.{Answers, There, UnlessFault, is_usable};
+ghost use Rattle.ode_heap.specs.Answers.{Answers, OnDamaged, There, UnlessFault, is_usable};
 ghost use Rattle.ode_heap.specs.Looking.{counters_in, entry_from, object_from, version_in};
-ghost use Rattle.ode_heap.specs.Objects.{object_in};
+ghost use Rattle.ode_heap.specs.Objects.{IsOfObject, object_in};
 ghost use Rattle.ode_heap.specs.Queue.{queued_in};
-ghost use Rattle.ode_heap.specs.Staging.{OnDamaged, OnRefusal, OnTooLarge, first_key};
+ghost use Rattle.ode_heap.specs.Staging.{OnRefusal, OnTooLarge, first_key};
+ghost use Rattle.ode_value.specs.Keys.{activation_kind, counters_key, entry_kind, object_key, version_key};
 
 use crate::activations::read_activations;
 use crate::counters::read_counters;
@@ -77,6 +78,7 @@ impl<K> Heap<K> {
         ensures looks { Looks (H.view host.old) (H.view host.new) }
         ensures usable { K.live self.new ≡ is_usable result }
         ensures cause { RoseIf (IsErrOf result HeapError.DiskFault) (H.view host.old).disk_faults (H.view host.new).disk_faults }
+        ensures at { OnDamaged result (λ k. k ≡ counters_key) }
     {
         read_counters(alloc, &mut self.keeper, host)
     }
@@ -97,6 +99,7 @@ impl<K> Heap<K> {
         ensures looks { Looks (H.view host.old) (H.view host.new) }
         ensures usable { K.live self.new ≡ is_usable result }
         ensures cause { RoseIf (IsErrOf result HeapError.DiskFault) (H.view host.old).disk_faults (H.view host.new).disk_faults }
+        ensures at { OnDamaged result (λ k. IsOfObject id k) }
     {
         read_object(alloc, &mut self.keeper, host, id)
     }
@@ -119,6 +122,7 @@ impl<K> Heap<K> {
         ensures looks { Looks (H.view host.old) (H.view host.new) }
         ensures usable { K.live self.new ≡ is_usable result }
         ensures cause { RoseIf (IsErrOf result HeapError.DiskFault) (H.view host.old).disk_faults (H.view host.new).disk_faults }
+        ensures at { OnDamaged result (λ k. k ≡ version_key id number) }
     {
         read_version(alloc, &mut self.keeper, host, id, number, class)
     }
@@ -140,6 +144,7 @@ impl<K> Heap<K> {
         ensures looks { Looks (H.view host.old) (H.view host.new) }
         ensures usable { K.live self.new ≡ is_usable result }
         ensures cause { RoseIf (IsErrOf result HeapError.DiskFault) (H.view host.old).disk_faults (H.view host.new).disk_faults }
+        ensures at { OnDamaged result (λ k. (k.kind ≡ activation_kind) × (k.a ≡ id)) }
     {
         read_activations(alloc, &mut self.keeper, host, id, classes)
     }
@@ -155,6 +160,7 @@ impl<K> Heap<K> {
         ensures looks { Looks (H.view host.old) (H.view host.new) }
         ensures usable { K.live self.new ≡ is_usable result }
         ensures cause { RoseIf (IsErrOf result HeapError.DiskFault) (H.view host.old).disk_faults (H.view host.new).disk_faults }
+        ensures at { OnDamaged result (λ k. k ≡ object_key id) }
     {
         read_object_from(&mut self.keeper, host, id)
     }
@@ -175,6 +181,7 @@ impl<K> Heap<K> {
         ensures looks { Looks (H.view host.old) (H.view host.new) }
         ensures usable { K.live self.new ≡ is_usable result }
         ensures cause { RoseIf (IsErrOf result HeapError.DiskFault) (H.view host.old).disk_faults (H.view host.new).disk_faults }
+        ensures at { OnDamaged result (λ k. (k.kind ≡ entry_kind) × (number ≤ k.a)) }
     {
         read_entry_from(alloc, &mut self.keeper, host, number)
     }
@@ -190,6 +197,7 @@ impl<K> Heap<K> {
         ensures looks { Looks (H.view host.old) (H.view host.new) }
         ensures usable { K.live self.new ≡ is_usable result }
         ensures cause { RoseIf (IsErrOf result HeapError.DiskFault) (H.view host.old).disk_faults (H.view host.new).disk_faults }
+        ensures at { OnDamaged result (λ k. k.kind ≡ entry_kind) }
     {
         count_entries(&mut self.keeper, host)
     }

@@ -15,5 +15,8 @@ mod staging;
 
 pub use error::HeapError;
 pub use heap::Heap;
-pub use laws::stored_databases_answer;
+pub use laws::{
+    objects_are_read_from_their_own_records, stored_databases_answer,
+    values_that_fit_have_their_sorts,
+};
 pub use object::ObjectHead;

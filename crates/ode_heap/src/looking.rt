@@ -6,7 +6,7 @@ ghost use Rattle.ode_value.specs.Keys.{key_cmp};
 ghost use Rattle.ode_host.specs.Causes.{RoseIf};
 ghost use Rattle.ode_host.specs.Host.{Looks};
 ghost use Rattle.ode_keep.specs.Entries.{Entries};
-ghost use Rattle.ode_heap.specs.Answers.{Answers, UnlessFault, is_usable};
+ghost use Rattle.ode_heap.specs.Answers.{Answers, OnDamaged, UnlessFault, is_usable};
 ghost use Rattle.ode_heap.specs.Looking.{decoded, least_at, looked_up};
 
 use crate::error::{HeapError, at_key};
@@ -22,6 +22,7 @@ fn decode_at(alloc: Global, key: Key, bytes: &List<u8>) -> Result<Record, HeapEr
     ensures value { Answers result (decoded key bytes.now) }
     ensures usable { is_usable result ≡ true }
     ensures calm { IsErrOf result HeapError.DiskFault → ⊥ }
+    ensures at { OnDamaged result (λ k. k ≡ key) }
 {
     match decode(alloc, key, bytes.as_slice())? {
         Some(found) => Ok(found),
@@ -44,6 +45,7 @@ pub(crate) fn look_up<H: Host, K: Keep<H>>(
     ensures looks { Looks (H.view host.old) (H.view host.new) }
     ensures usable { K.live keeper.new ≡ is_usable result }
     ensures cause { RoseIf (IsErrOf result HeapError.DiskFault) (H.view host.old).disk_faults (H.view host.new).disk_faults }
+    ensures at { OnDamaged result (λ k. k ≡ key) }
 {
     match keeper.get(host, key) {
         Err(error) => Err(at_key(error, key)),
@@ -69,6 +71,7 @@ pub(crate) fn least_key<H: Host, K: Keep<H>>(
     ensures looks { Looks (H.view host.old) (H.view host.new) }
     ensures usable { K.live keeper.new ≡ is_usable result }
     ensures cause { RoseIf (IsErrOf result HeapError.DiskFault) (H.view host.old).disk_faults (H.view host.new).disk_faults }
+    ensures at { OnDamaged result (λ k. k ≡ key) }
 {
     match keeper.keys_from(host, key) {
         Ok(least) => Ok(least),

@@ -4,11 +4,11 @@ ghost use Rattle.std.specs.Option.{IfSome};
 ghost use Rattle.ode_host.specs.Causes.{RoseIf};
 ghost use Rattle.ode_host.specs.Host.{Looks};
 ghost use Rattle.ode_keep.specs.Entries.{Entries};
-ghost use Rattle.ode_heap.specs.Answers.{Answers, There, UnlessFault, is_usable};
+ghost use Rattle.ode_heap.specs.Answers.{Answers, OnDamaged, There, UnlessFault, is_usable};
 ghost use Rattle.ode_heap.specs.Looking.{as_version, object_from, object_number};
-ghost use Rattle.ode_heap.specs.Objects.{object_in, versions_in};
+ghost use Rattle.ode_heap.specs.Objects.{IsOfObject, object_in, versions_in};
 ghost use Rattle.ode_heap.specs.Walking.{is_from, next_in};
-ghost use Rattle.ode_value.specs.Keys.{key, version_kind};
+ghost use Rattle.ode_value.specs.Keys.{key, object_key, version_kind};
 
 use crate::error::HeapError;
 use crate::looking::{least_key, look_up};
@@ -49,6 +49,8 @@ pub(crate) fn next_record<H: Host, K: Keep<H>>(
     ensures usable { K.live keeper.new ≡ is_usable result }
     ensures cause { RoseIf (IsErrOf result HeapError.DiskFault) (H.view host.old).disk_faults (H.view host.new).disk_faults }
     ensures above { IfOk result (λ found. IfSome found (λ f. start.b ≤ f.0.b)) }
+    ensures beside { IfOk result (λ found. IfSome found (λ f. (f.0.kind ≡ start.kind) × (f.0.a ≡ start.a))) }
+    ensures at { OnDamaged result (λ k. (k.kind ≡ start.kind) × (k.a ≡ start.a)) }
 {
     let Some(key) = least_key(keeper, host, start)? else {
         return Ok(None);
@@ -67,6 +69,7 @@ fn version_of(key: Key, found: &Record) -> Result<Version, HeapError>
     ensures value { Answers result (as_version key found.now) }
     ensures usable { is_usable result ≡ true }
     ensures calm { IsErrOf result HeapError.DiskFault → ⊥ }
+    ensures at { OnDamaged result (λ k. k ≡ key) }
 {
     match found {
         Record::Version { number, parent, .. } => Ok(Version {
@@ -91,6 +94,7 @@ fn read_versions<H: Host, K: Keep<H>>(
     ensures looks { Looks (H.view host.old) (H.view host.new) }
     ensures usable { K.live keeper.new ≡ is_usable result }
     ensures cause { RoseIf (IsErrOf result HeapError.DiskFault) (H.view host.old).disk_faults (H.view host.new).disk_faults }
+    ensures at { OnDamaged result (λ k. (k.kind ≡ version_kind) × (k.a ≡ id)) }
 {
     let mut versions = List::new(alloc);
     let mut from: u64 = 0;
@@ -126,6 +130,7 @@ pub(crate) fn read_object<H: Host, K: Keep<H>>(
     ensures looks { Looks (H.view host.old) (H.view host.new) }
     ensures usable { K.live keeper.new ≡ is_usable result }
     ensures cause { RoseIf (IsErrOf result HeapError.DiskFault) (H.view host.old).disk_faults (H.view host.new).disk_faults }
+    ensures at { OnDamaged result (λ k. IsOfObject id k) }
 {
     let key = Key {
         kind: Key::OBJECT,
@@ -158,6 +163,7 @@ pub(crate) fn read_object_from<H: Host, K: Keep<H>>(
     ensures looks { Looks (H.view host.old) (H.view host.new) }
     ensures usable { K.live keeper.new ≡ is_usable result }
     ensures cause { RoseIf (IsErrOf result HeapError.DiskFault) (H.view host.old).disk_faults (H.view host.new).disk_faults }
+    ensures at { OnDamaged result (λ k. k ≡ object_key id) }
 {
     let start = Key {
         kind: Key::OBJECT,

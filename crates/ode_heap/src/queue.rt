@@ -4,9 +4,10 @@ ghost use Rattle.std.specs.Option.{IfSome};
 ghost use Rattle.ode_host.specs.Causes.{RoseIf};
 ghost use Rattle.ode_host.specs.Host.{Looks};
 ghost use Rattle.ode_keep.specs.Entries.{Entries};
-ghost use Rattle.ode_heap.specs.Answers.{Answers, There, UnlessFault, is_usable};
+ghost use Rattle.ode_heap.specs.Answers.{Answers, OnDamaged, There, UnlessFault, is_usable};
 ghost use Rattle.ode_heap.specs.Looking.{as_entry, entry_from, entry_key_from, of_entry};
 ghost use Rattle.ode_heap.specs.Queue.{queued_in};
+ghost use Rattle.ode_value.specs.Keys.{entry_key, entry_kind};
 
 use crate::error::HeapError;
 use crate::looking::{least_key, look_up};
@@ -46,6 +47,8 @@ fn next_entry_key<H: Host, K: Keep<H>>(
     ensures looks { Looks (H.view host.old) (H.view host.new) }
     ensures usable { K.live keeper.new ≡ is_usable result }
     ensures cause { RoseIf (IsErrOf result HeapError.DiskFault) (H.view host.old).disk_faults (H.view host.new).disk_faults }
+    ensures kind { IfOk result (λ found. IfSome found (λ key. key.kind ≡ entry_kind)) }
+    ensures at { OnDamaged result (λ k. k ≡ entry_key number) }
 {
     let start = Key {
         kind: Key::ENTRY,
@@ -63,6 +66,7 @@ fn entry_of(key: Key, found: Option<Record>) -> Result<Option<(u64, Entry)>, Hea
     ensures value { Answers result (as_entry key found) }
     ensures usable { is_usable result ≡ true }
     ensures calm { IsErrOf result HeapError.DiskFault → ⊥ }
+    ensures at { OnDamaged result (λ k. k ≡ key) }
 {
     match found {
         Some(Record::Entry { number, entry }) => Ok(Some((number, entry))),
@@ -85,6 +89,7 @@ pub(crate) fn read_entry_from<H: Host, K: Keep<H>>(
     ensures looks { Looks (H.view host.old) (H.view host.new) }
     ensures usable { K.live keeper.new ≡ is_usable result }
     ensures cause { RoseIf (IsErrOf result HeapError.DiskFault) (H.view host.old).disk_faults (H.view host.new).disk_faults }
+    ensures at { OnDamaged result (λ k. (k.kind ≡ entry_kind) × (number ≤ k.a)) }
 {
     match next_entry_key(keeper, host, number)? {
         None => Ok(None),
@@ -118,6 +123,7 @@ pub(crate) fn count_entries<H: Host, K: Keep<H>>(
     ensures looks { Looks (H.view host.old) (H.view host.new) }
     ensures usable { K.live keeper.new ≡ is_usable result }
     ensures cause { RoseIf (IsErrOf result HeapError.DiskFault) (H.view host.old).disk_faults (H.view host.new).disk_faults }
+    ensures at { OnDamaged result (λ k. k.kind ≡ entry_kind) }
 {
     let mut count: u32 = 0;
     let mut from: u64 = 0;
