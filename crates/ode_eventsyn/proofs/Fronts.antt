@@ -14,6 +14,7 @@ use Rattle.ode_grammar.specs.Reading.{reached, made_at_end}
 use Rattle.ode_grammar.proofs.Follows.{Well, nothing_then, start_well}
 use Rattle.ode_grammar.proofs.Places.{map_same}
 use Rattle.ode_grammar.proofs.Runs.{append_nil, derived_reaches, derived_stops, reached_runs, run_derives, run_reached, stop_derives}
+use Rattle.ode_heights.specs.declared.height.TheConstants.{HEIGHT_LIMIT}
 use Rattle.ode_heights.specs.Depths.{IsTextWithin, IsTooDeepAt}
 use Rattle.ode_terminals.specs.declared.seen.Place.{Place}
 use Rattle.ode_syntax.specs.declared.trees.Trees.{Trees}
@@ -46,7 +47,7 @@ text_makes s place text tokens d =
     (subst (λ ks. Derives plain (items_of s) tt ks tt) (sym (seen_spelled place text tokens)) d)
 
 pub are_tree : (s : Start) (place : Place) (text : List ℕ) (tokens : List Token) (made : Trees)
-    → IsText s (seen place text tokens) → (IsText s (seen place text tokens) → IsTextWithin 64 s (seen place text tokens))
+    → IsText s (seen place text tokens) → (IsText s (seen place text tokens) → IsTextWithin HEIGHT_LIMIT s (seen place text tokens))
     → ((out : Trees) → Makes s (map (spelled place text) tokens) out → made ≡ out) → AreTree s place text tokens made
 are_tree s place text tokens made is_text within read =
     let m = text_makes s place text tokens is_text in
@@ -67,7 +68,7 @@ length_seen place text (t ∷ ts) = ap suc (length_seen place text ts)
 
 pub is_longest : (s : Start) (place : Place) (text : List ℕ) (tokens : List Token) (found : Extent) (made : Trees)
     → IsExtent s (seen place text tokens) found → found.is_text ≡ true
-    → (IsText s (take found.end (seen place text tokens)) → IsTextWithin 64 s (take found.end (seen place text tokens)))
+    → (IsText s (take found.end (seen place text tokens)) → IsTextWithin HEIGHT_LIMIT s (take found.end (seen place text tokens)))
     → ((out : Trees) → Makes s (map (spelled place text) (take found.end tokens)) out → made ≡ out)
     → IsLongest s place text tokens found.end made
 is_longest s place text tokens found made x e within read =
@@ -75,7 +76,7 @@ is_longest s place text tokens found made x e within read =
     record {
       inside = subst (λ n. found.end ≤ n) (length_seen place text tokens) x.within;
       is_tree = are_tree s place text (take found.end tokens) made (subst (IsText s) f (x.text e))
-          (subst (λ ks. IsText s ks → IsTextWithin 64 s ks) f within) read;
+          (subst (λ ks. IsText s ks → IsTextWithin HEIGHT_LIMIT s ks) f within) read;
       behind = λ l. x.behind (subst (λ n. found.end < n) (sym (length_seen place text tokens)) l);
     }
 
@@ -83,7 +84,7 @@ pub is_wrong : (s : Start) (ts : List Terminal) (found : Extent) → IsExtent s 
 is_wrong s ts found x e = subst (IsExtent s ts) (same_extent found false e) x
 
 pub is_high : (s : Start) (ts : List Terminal) (found : Extent) (at : ℕ) → IsExtent s ts found → found.is_text ≡ true
-    → IsTooDeepAt 64 s (take found.end ts) at → IsHighAt s ts at
+    → IsTooDeepAt HEIGHT_LIMIT s (take found.end ts) at → IsHighAt s ts at
 is_high s ts found at x e h = record { end = found.end; longest = subst (IsExtent s ts) (same_extent found true e) x; high = h }
 
 -- ---- all tokens

@@ -4,6 +4,7 @@ use Rattle.ode_lex.specs.declared.token.Token.{Token}
 use Rattle.ode_grammar.specs.declared.terminal.Terminal.{Terminal}
 use Rattle.ode_grammar.specs.declared.reader.Start.{Start}
 use Rattle.ode_grammar.specs.Texts.{IsText, Begins, IsExtent}
+use Rattle.ode_heights.specs.declared.height.TheConstants.{HEIGHT_LIMIT}
 use Rattle.ode_heights.specs.Depths.{IsTextWithin, IsTooDeepAt}
 use Rattle.ode_terminals.specs.declared.seen.Place.{Place}
 use Rattle.ode_terminals.specs.Seen.{terminal_of}
@@ -28,7 +29,7 @@ byte_of text tokens i = start_of text (slice_get tokens i)
 -- the tokens are a text of this sort within the limit, and these are its trees
 pub record AreTree (start : Start) (place : Place) (text : List ℕ) (tokens : List Token) (made : Trees) : Type 0 where
   pub makes : Makes start (map (spelled place text) tokens) made
-  pub within : IsTextWithin 64 start (seen place text tokens)
+  pub within : IsTextWithin HEIGHT_LIMIT start (seen place text tokens)
 
 -- ---- the longest text in front
 
@@ -46,7 +47,7 @@ IsWrongAt start tokens i = IsExtent start tokens (record { end = i; is_text = fa
 pub record IsHighAt (start : Start) (tokens : List Terminal) (i : ℕ) : Type 0 where
   pub end : ℕ
   pub longest : IsExtent start tokens (record { end = end; is_text = true })
-  pub high : IsTooDeepAt 64 start (take end tokens) i
+  pub high : IsTooDeepAt HEIGHT_LIMIT start (take end tokens) i
 
 -- why there is no tree in front
 abbrev pub IsWhy : Start → Place → List ℕ → List Token → SyntaxError → Type 0
@@ -67,7 +68,7 @@ pub record IsWrongWhole (start : Start) (tokens : List Terminal) (i : ℕ) : Typ
 -- the tokens are a text, and too high from this token on
 pub record IsHighWhole (start : Start) (tokens : List Terminal) (i : ℕ) : Type 0 where
   pub is_text : IsText start tokens
-  pub high : IsTooDeepAt 64 start tokens i
+  pub high : IsTooDeepAt HEIGHT_LIMIT start tokens i
 
 -- why the tokens have no tree
 abbrev pub IsWhyWhole : Start → Place → List ℕ → List Token → SyntaxError → Type 0

@@ -13,7 +13,7 @@ pub enum SyntaxError {
     NoToken { at: u32 },
     /// Where the first token begins with which no text goes on, or the length of a text that ends too early.
     At { at: u32 },
-    /// Where the first token of a right text begins with which no text goes on that is at most 64 high.
+    /// Where the first token of a right text begins with which no text within the limit of heights goes on.
     TooDeep { at: u32 },
 }
 

@@ -13,7 +13,7 @@ use Rattle.ode_grammar.specs.Reading.{by_row, next, made_of_skipped, made_after,
 use Rattle.ode_grammar.proofs.Runs.{and_then_some}
 
 -- one token more
-run_one : {T M : Type 0} (g : Meaning T M) (items : List Item) (m : M) (ts : List T) (t : T) (mid more : List Item) (made : M)
+pub run_one : {T M : Type 0} (g : Meaning T M) (items : List Item) (m : M) (ts : List T) (t : T) (mid more : List Item) (made : M)
     → run g items m ts ≡ Some (mid, made) → next mid (g.seen t) ≡ Some more → run g items m (ts ++ t ∷ []) ≡ Some (more, made_after g mid made t)
 run_one {M = M} g items m [] t mid more made h n =
     let e : items ≡ mid = ap (λ (x : List Item × M). x.0) (same_Some (items, m) (mid, made) h) in

@@ -1,3 +1,4 @@
+pub mod Stacks
 pub mod Terminals
 pub mod Expressions
 pub mod Events

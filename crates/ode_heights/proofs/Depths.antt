@@ -17,6 +17,7 @@ use Rattle.ode_grammar.proofs.Follows.{start_well}
 use Rattle.ode_grammar.proofs.Places.{map_same, reached_next, begins_reached}
 use Rattle.ode_grammar.proofs.Runs.{run_derives, run_reached, derived_reaches, stop_derives, derived_stops, append_nil}
 use Rattle.ode_grammar.proofs.Steps.{part_skipped}
+use Rattle.ode_heights.specs.declared.height.TheConstants.{HEIGHT_LIMIT}
 use Rattle.ode_heights.specs.declared.height.Heights.{Heights}
 use Rattle.ode_heights.specs.Heights.{heights, highest, none, raised, risen}
 use Rattle.ode_heights.specs.Lowest.{lowest}
@@ -37,7 +38,7 @@ pub reads_reached : (s : Start) (ts : List Terminal) (items : List Item) (m : He
 reads_reached s ts items m h = ap (reached (items_of s)) (sym (map_same ts)) ∙ run_reached heights (items_of s) none ts items m h
 
 -- at the beginning
-start_within : (s : Start) → highest (lowest (items_of s) none) ≤ 64
+start_within : (s : Start) → highest (lowest (items_of s) none) ≤ HEIGHT_LIMIT
 unfolding items_of raised
 start_within start.Expr = lit≤ tt
 start_within start.Event = lit≤ tt
@@ -46,14 +47,14 @@ start_within start.Statement = lit≤ tt
 
 pub record Starts (s : Start) (items : List Item) (m : Heights) : Type 0 where
   pub reads : ReadsTo s [] items m
-  pub within : highest (lowest items m) ≤ 64
+  pub within : highest (lowest items m) ≤ HEIGHT_LIMIT
 
 pub starts_reading : (s : Start) (items : List Item) (m : Heights) → items ≡ items_of s → m ≡ none → Starts s items m
 starts_reading s items m e f =
     let r : Starts s (items_of s) none = record { reads = refl; within = start_within s } in
     subst (λ is. Starts s is m) (sym e) (subst (λ k. Starts s (items_of s) k) (sym f) r)
 
-pub within_begins : (s : Start) (ts : List Terminal) (items : List Item) (m : Heights) → ReadsTo s ts items m → highest (lowest items m) ≤ 64 → BeginsWithin 64 s ts
+pub within_begins : (s : Start) (ts : List Terminal) (items : List Item) (m : Heights) → ReadsTo s ts items m → highest (lowest items m) ≤ HEIGHT_LIMIT → BeginsWithin HEIGHT_LIMIT s ts
 within_begins s ts items m h l = record {
   more = shortest items;
   is_text = record {
@@ -63,7 +64,7 @@ within_begins s ts items m h l = record {
   };
 }
 
-pub deep_ends : (s : Start) (ts : List Terminal) (items : List Item) (m : Heights) → ReadsTo s ts items m → 64 < highest (lowest items m) → BeginsWithin 64 s ts → ⊥
+pub deep_ends : (s : Start) (ts : List Terminal) (items : List Item) (m : Heights) → ReadsTo s ts items m → HEIGHT_LIMIT < highest (lowest items m) → BeginsWithin HEIGHT_LIMIT s ts → ⊥
 deep_ends s ts items m h l b =
     let t = b.is_text in
     let r = derived_reaches heights (items_of s) none ts b.more t.made t.is_text (start_well s) in
@@ -73,8 +74,8 @@ deep_ends s ts items m h l b =
     omega arith
 
 pub too_deep_here : (s : Start) (tokens : List Terminal) (i : ℕ) (items more : List Item) (m made : Heights) → i < length tokens
-    → ReadsTo s (take i tokens) items m → highest (lowest items m) ≤ 64
-    → ReadsTo s (take (i + 1) tokens) more made → 64 < highest (lowest more made) → IsTooDeepAt 64 s tokens i
+    → ReadsTo s (take i tokens) items m → highest (lowest items m) ≤ HEIGHT_LIMIT
+    → ReadsTo s (take (i + 1) tokens) more made → HEIGHT_LIMIT < highest (lowest more made) → IsTooDeepAt HEIGHT_LIMIT s tokens i
 too_deep_here s tokens i items more m made l h w g d = record {
   inside = l;
   before = within_begins s (take i tokens) items m h w;
@@ -96,8 +97,8 @@ after_highest (item.Part p ∷ items) m t = go (after p t) (skipped p) refl (λ 
     go None (Some a) e f = subst (λ (h : Heights). highest (made_after heights items (risen a m) t) ≤ highest (lowest items h)) (sym (skip_low p a m e)) (f a)
     go None None e f = lowest_highest (item.Part p ∷ items) m
 
-pub step_within : (items : List Item) (m made : Heights) (t : Terminal) → made ≡ made_after heights items m t → highest (lowest items m) ≤ 64 → highest made ≤ 64
-step_within items m made t e l = subst (λ (k : Heights). highest k ≤ 64) (sym e) (le_trans (after_highest items m t) l)
+pub step_within : (items : List Item) (m made : Heights) (t : Terminal) → made ≡ made_after heights items m t → highest (lowest items m) ≤ HEIGHT_LIMIT → highest made ≤ HEIGHT_LIMIT
+step_within items m made t e l = subst (λ (k : Heights). highest k ≤ HEIGHT_LIMIT) (sym e) (le_trans (after_highest items m t) l)
 
 -- ---- a step of the loop within a token
 
@@ -136,15 +137,15 @@ text_stops s tokens items t h =
     let g = ap (reached (items_of s)) (sym (map_same tokens)) ∙ run_reached plain (items_of s) tt tokens r.more r.made r.runs in
     ap may_stop (same_Some items r.more (sym h ∙ g)) ∙ derived_stops r.rest
 
-pub text_within : (s : Start) (tokens : List Terminal) (items : List Item) (m : Heights) → ReadsTo s tokens items m → highest (lowest items m) ≤ 64
-    → IsText s tokens → IsTextWithin 64 s tokens
+pub text_within : (s : Start) (tokens : List Terminal) (items : List Item) (m : Heights) → ReadsTo s tokens items m → highest (lowest items m) ≤ HEIGHT_LIMIT
+    → IsText s tokens → IsTextWithin HEIGHT_LIMIT s tokens
 text_within s tokens items m h l t =
     let e = text_stops s tokens items t (reads_reached s tokens items m h) in
     record {
       made = made_at_end heights items m;
       is_text = subst (λ ts. Derives heights (items_of s) none ts (made_at_end heights items m)) (append_nil tokens)
           (run_derives heights (items_of s) none tokens items m [] (made_at_end heights items m) h (stop_derives heights items m e));
-      within = subst (λ (g : Heights). highest g ≤ 64) (sym (end_heights items m e)) l;
+      within = subst (λ (g : Heights). highest g ≤ HEIGHT_LIMIT) (sym (end_heights items m e)) l;
     }
 
 -- a text's token is never refused

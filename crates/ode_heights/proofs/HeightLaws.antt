@@ -1,10 +1,11 @@
 -- Heights: an action keeps their order, and lowers none.
 use Rattle.std.proofs.Common.{◌≡◌, ◌≤◌, ℕ, ◌+◌, max, Bool, true, false, if◌then◌else◌, List, [], ◌∷◌, zero, suc, refl, sym, subst, le_refl, le_trans, arith}
+use Rattle.ode_grammar.specs.Stacks.{top, rest}
 use Rattle.ode_heights.specs.declared.effect.Effect.{Effect}
 use Rattle.ode_heights.specs.declared.effect.Effect.TheVariants as effect
 use Rattle.ode_heights.specs.declared.height.Height.{Height}
 use Rattle.ode_heights.specs.declared.height.Heights.{Heights}
-use Rattle.ode_heights.specs.Heights.{top, rest, leaf, in_pair, above, high, joined, greatest, greatest_own, highest, raised, tops}
+use Rattle.ode_heights.specs.Heights.{leaf, in_pair, above, high, joined, greatest, greatest_own, highest, raised, tops}
 
 -- the greatest is on top or among the others
 pub greatest_own-under : (hs : List Height) → greatest_own hs ≤ max (high hs) (greatest_own (rest hs))

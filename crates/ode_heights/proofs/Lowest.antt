@@ -12,11 +12,13 @@ use Rattle.ode_grammar.specs.declared.item.Item.TheVariants as item
 use Rattle.ode_grammar.specs.Grammar.{after, skipped}
 use Rattle.ode_grammar.specs.Texts.{Derives, Done, Next, Make, Rule, Skip}
 use Rattle.ode_grammar.proofs.Follows.{IfRow}
+use Rattle.ode_grammar.specs.Stacks.{top, rest}
 use Rattle.ode_heights.specs.declared.effect.Effect.{Effect}
+use Rattle.ode_heights.specs.declared.height.TheConstants.{HEIGHT_LIMIT}
 use Rattle.ode_heights.specs.declared.height.Height.{Height}
 use Rattle.ode_heights.specs.declared.height.Heights.{Heights}
 use Rattle.ode_heights.specs.Effects.{effect_of}
-use Rattle.ode_heights.specs.Heights.{top, rest, leaf, above, high, joined, heights, highest, raised, risen, tops}
+use Rattle.ode_heights.specs.Heights.{leaf, above, high, joined, heights, highest, raised, risen, tops}
 use Rattle.ode_heights.specs.Lowest.{least_effects, raised_all, low_of, lowest}
 use Rattle.ode_heights.proofs.HeightLaws.{along_cons, along_raised, Below, below_refl, above_top, Shapes, Numbers, shapes_same, numbers_same, Low, raised_highest, raised_tops, tops_highest, low_refl, low_trans, raised_low}
 
@@ -372,7 +374,7 @@ lowest_highest (item.Part p ∷ items) h = le_trans (raised_all_highest (least_e
 
 -- ---- the loops that work the least height out
 
-pub high_goes_on : (items : List Item) (h g : Heights) → lowest items h ≡ g → 64 < highest h → 64 < highest g
+pub high_goes_on : (items : List Item) (h g : Heights) → lowest items h ≡ g → HEIGHT_LIMIT < highest h → HEIGHT_LIMIT < highest g
 high_goes_on items h g e l = let a = lowest_highest items h in let d : highest (lowest items h) ≡ highest g = ap highest e in omega arith
 
 pub build_step : (items old : List Item) (i : Item) (a : Action) (e : Effect) (h g : Heights) → old ≡ i ∷ items → i ≡ item.Build a → e ≡ effect_of a → lowest old h ≡ g
@@ -393,8 +395,27 @@ raise_step (x ∷ es) (suc i) d h k g l e f =
     let n : suc (i + 1) ≡ suc i + 1 = omega arith in
     subst P n (raise_step es i d h k g (omega arith) e f)
 
-pub too_high : (es : List Effect) (h : Heights) → nat_le (tops h) 64 ≡ false → 64 < highest (raised_all es h)
+pub too_high : (es : List Effect) (h : Heights) → nat_le (tops h) HEIGHT_LIMIT ≡ false → HEIGHT_LIMIT < highest (raised_all es h)
 too_high es h f = let a = tops_highest h in let b = raised_all_highest es h in grind (arith, nat_tests)
 
-pub still_within : (e : Effect) (h k : Heights) → k ≡ raised e h → highest h ≤ 64 → nat_le (tops k) 64 ≡ true → highest k ≤ 64
+pub still_within : (e : Effect) (h k : Heights) → k ≡ raised e h → highest h ≤ HEIGHT_LIMIT → nat_le (tops k) HEIGHT_LIMIT ≡ true → highest k ≤ HEIGHT_LIMIT
 still_within e h k f l t = let b = subst (λ (j : Heights). highest j ≤ max (highest h) (tops j)) (sym f) (raised_tops e h) in grind (arith, nat_tests)
+
+-- ---- a row that is no higher than its part
+
+abbrev pub SameLowest : List Item → List Effect → Type 0
+SameLowest items es = (h : Heights) → lowest items h ≡ raised_all es h
+
+pub least_step : (row : List Item) (i : ℕ) (d : Item) (es more : List Effect) → i < length row
+    → ((h : Heights) → raised_all es h ≡ raised_all more (lowest (get_or row i d ∷ []) h)) → SameLowest (drop (i + 1) row) more → SameLowest (drop i row) es
+least_step [] i d es more l f g = absurd (omega arith)
+least_step (x ∷ row) zero d es more l f g = λ h. lowest-append (x ∷ []) row h ∙ (g (lowest (x ∷ []) h) ∙ sym (f h))
+least_step (x ∷ row) (suc i) d es more l f g =
+    let P : ℕ → Type 0 = λ j. SameLowest (drop j (x ∷ row)) more in
+    let n : suc i + 1 ≡ suc (i + 1) = omega arith in
+    least_step row i d es more (omega arith) f (subst P n g)
+
+pub level_row : (items old row : List Item) (i : Item) (p : Part) (m : Heights) → old ≡ i ∷ items → i ≡ item.Part p
+    → SameLowest row (least_effects p) → lowest (row ++ items) m ≡ lowest old m
+level_row items old row i p m e g f =
+    lowest-append row items m ∙ (ap (lowest items) (f m) ∙ sym (ap (λ is. lowest is m) (e ∙ ap (λ j. j ∷ items) g)))

@@ -2,21 +2,13 @@
 use Rattle.std.specs.Prelude.{ℕ, ◌+◌, max, List, [], ◌∷◌, if◌then◌else◌, true, false}
 use Rattle.ode_grammar.specs.declared.item.Action.{Action}
 use Rattle.ode_grammar.specs.declared.terminal.Terminal.{Terminal}
+use Rattle.ode_grammar.specs.Stacks.{top, rest}
 use Rattle.ode_grammar.specs.Texts.{Meaning}
 use Rattle.ode_heights.specs.declared.effect.Effect.{Effect}
 use Rattle.ode_heights.specs.declared.effect.Effect.TheVariants as effect
 use Rattle.ode_heights.specs.declared.height.Height.{Height}
 use Rattle.ode_heights.specs.declared.height.Heights.{Heights}
 use Rattle.ode_heights.specs.Effects.{effect_of}
-
--- the element on top of a stack, or this one where it is empty; and the others
-abbrev pub top : {A : Type 0} → A → List A → A
-top none [] = none
-top none (x ∷ xs) = x
-
-abbrev pub rest : {A : Type 0} → List A → List A
-rest [] = []
-rest (x ∷ xs) = xs
 
 abbrev pub leaf : Height
 leaf = record { own = 1; bare = true }

@@ -1,10 +1,14 @@
 //! Heights.
 ghost use Rattle.std.specs.Prelude.{◌≡◌, ◌≤◌, ◌+◌, ◌∷◌, nat_le, OnOk, IfOk};
-ghost use Rattle.ode_heights.specs.Heights.{top, rest, leaf, none, greatest, greatest_own, highest, raised, tops, above};
+ghost use Rattle.ode_grammar.specs.Stacks.{top, rest};
+ghost use Rattle.ode_heights.specs.Heights.{leaf, none, greatest, greatest_own, highest, raised, tops, above};
 
 use crate::effect::Effect;
 use ode_grammar::Stack;
 use std::alloc::{AllocError, Global};
+
+/// The height above which no text is read.
+pub const HEIGHT_LIMIT: usize = 64;
 
 /// How high a part is, and whether it is a leaf or brackets, round which brackets count one.
 #[derive(Clone, Copy, Debug, PartialEq, Eq)]
@@ -23,11 +27,11 @@ pub struct Heights {
 /// Takes the height on top away.
 #[tactic(auto, using(crate::proofs::HeightLaws::top_laws))]
 fn pop(heights: &mut Stack<Height>) -> Height
-    requires { greatest_own heights.old ≤ 64 }
+    requires { greatest_own heights.old ≤ HEIGHT_LIMIT }
     ensures result { result ≡ top leaf heights.old }
     ensures new { heights.new ≡ rest heights.old }
-    ensures own { result.own ≤ 64 }
-    ensures others { greatest_own heights.new ≤ 64 }
+    ensures own { result.own ≤ HEIGHT_LIMIT }
+    ensures others { greatest_own heights.new ≤ HEIGHT_LIMIT }
 {
     match heights.pop() {
         Some(height) => height,
@@ -38,11 +42,11 @@ fn pop(heights: &mut Stack<Height>) -> Height
 /// Takes the number on top away.
 #[tactic(auto, using(crate::proofs::HeightLaws::top_laws))]
 fn pop_number(heights: &mut Stack<usize>) -> usize
-    requires { greatest heights.old ≤ 64 }
+    requires { greatest heights.old ≤ HEIGHT_LIMIT }
     ensures result { result ≡ top 0 heights.old }
     ensures new { heights.new ≡ rest heights.old }
-    ensures own { result ≤ 64 }
-    ensures others { greatest heights.new ≤ 64 }
+    ensures own { result ≤ HEIGHT_LIMIT }
+    ensures others { greatest heights.new ≤ HEIGHT_LIMIT }
 {
     match heights.pop() {
         Some(height) => height,
@@ -72,7 +76,7 @@ impl Heights {
 
     /// Whether the heights on top are within the limit.
     pub fn tops_fit(&self) -> bool
-        ensures { result ≡ nat_le (tops self.now) 64 }
+        ensures { result ≡ nat_le (tops self.now) HEIGHT_LIMIT }
     {
         let shaped = match self.shaped.peek() {
             Some(height) => height.own,
@@ -82,11 +86,11 @@ impl Heights {
             Some(height) => *height,
             None => 0,
         };
-        shaped.max(plain) <= 64
+        shaped.max(plain) <= HEIGHT_LIMIT
     }
 
     fn push_above(&mut self, parts: usize) -> Result<(), AllocError>
-        requires { parts ≤ 64 }
+        requires { parts ≤ HEIGHT_LIMIT }
         ensures { OnOk result (self.new ≡ record self.old { shaped = above parts ∷ self.old.shaped }) }
     {
         self.shaped.push(Height {
@@ -98,7 +102,7 @@ impl Heights {
     /// The heights after an action with this effect.
     #[tactic(auto, unfolding(crate::specs::Heights::raised))]
     pub fn raise(&mut self, effect: Effect) -> Result<(), AllocError>
-        requires { highest self.old ≤ 64 }
+        requires { highest self.old ≤ HEIGHT_LIMIT }
         ensures { OnOk result (self.new ≡ raised effect self.old) }
     {
         match effect {

@@ -8,4 +8,4 @@ mod least;
 
 pub use deep::first_too_deep;
 pub use effect::{Effect, effect_of};
-pub use height::{Height, Heights};
+pub use height::{HEIGHT_LIMIT, Height, Heights};

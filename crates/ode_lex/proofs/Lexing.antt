@@ -17,7 +17,7 @@ prepend front (Tokens tokens) = Tokens (front ++ tokens)
 prepend front (NoToken at) = NoToken at
 
 -- bytes that belong to what began before are passed
-from_past : (at past : ℕ) (bytes : List ℕ) → lexed_from at past bytes ≡ lexed_from (at + past) 0 (drop past bytes)
+pub from_past : (at past : ℕ) (bytes : List ℕ) → lexed_from at past bytes ≡ lexed_from (at + past) 0 (drop past bytes)
 unfolding lexed_from
 from_past at zero [] = refl
 from_past at (suc past) [] = refl
@@ -29,13 +29,13 @@ from_past at (suc past) (b ∷ rest) =
 passed : (at n : ℕ) (b : ℕ) (rest : List ℕ) → lexed_from (at + 1) n rest ≡ lexed_from (at + suc n) 0 (drop n rest)
 passed at n b rest = let e : at + 1 + n ≡ at + suc n = omega arith in from_past (at + 1) n rest ∙ ap (λ k. lexed_from k 0 (drop n rest)) e
 
-gap_front : (at n : ℕ) (bytes : List ℕ) → 0 < length bytes → 0 < n → gap_at bytes ≡ n → lexed_from at 0 bytes ≡ lexed_from (at + n) 0 (drop n bytes)
+pub gap_front : (at n : ℕ) (bytes : List ℕ) → 0 < length bytes → 0 < n → gap_at bytes ≡ n → lexed_from at 0 bytes ≡ lexed_from (at + n) 0 (drop n bytes)
 unfolding lexed_from
 gap_front at n [] some more e = absurd (omega arith)
 gap_front at zero (b ∷ rest) some more e = absurd (omega arith)
 gap_front at (suc n) (b ∷ rest) some more e = rw e (passed at n b rest)
 
-token_front : (at n : ℕ) (kind : TokenKind) (bytes : List ℕ) → 0 < length bytes → 0 < n → gap_at bytes ≡ 0 → token_at bytes ≡ Some (kind, n) → lexed_from at 0 bytes ≡ with_token (record { kind = kind; start = at; end = at + n }) (lexed_from (at + n) 0 (drop n bytes))
+pub token_front : (at n : ℕ) (kind : TokenKind) (bytes : List ℕ) → 0 < length bytes → 0 < n → gap_at bytes ≡ 0 → token_at bytes ≡ Some (kind, n) → lexed_from at 0 bytes ≡ with_token (record { kind = kind; start = at; end = at + n }) (lexed_from (at + n) 0 (drop n bytes))
 unfolding lexed_from
 token_front at n kind [] some more none e = absurd (omega arith)
 token_front at zero kind (b ∷ rest) some more none e = absurd (omega arith)
@@ -48,7 +48,7 @@ unfolding lexed_from
 stray_front at [] some none e = absurd (omega arith)
 stray_front at (b ∷ rest) some none e = rw (none, e)
 
-end_front : (at : ℕ) → lexed_from at 0 [] ≡ Tokens []
+pub end_front : (at : ℕ) → lexed_from at 0 [] ≡ Tokens []
 unfolding lexed_from
 end_front at = refl
 

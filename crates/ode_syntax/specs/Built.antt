@@ -2,6 +2,7 @@
 use Rattle.std.specs.Prelude.{ℕ, ◌^◌, ℤ, pos, nat_lt, List, [], ◌∷◌, ◌++◌, Bool, true, false, Option, Some, None, codes, cond}
 use Rattle.ode_grammar.specs.declared.item.Action.{Action}
 use Rattle.ode_grammar.specs.declared.item.Action.TheVariants as action
+use Rattle.ode_grammar.specs.Stacks.{top, rest}
 use Rattle.ode_lex.specs.declared.token.Mark.{Mark}
 use Rattle.ode_lex.specs.declared.token.Mark.TheVariants as mark
 use Rattle.ode_timer.specs.Dates.{instant_of}
@@ -30,15 +31,6 @@ use Rattle.ode_value.specs.declared.statement.Stmt.{Stmt}
 use Rattle.ode_value.specs.declared.statement.Stmt.TheVariants as stmt
 use Rattle.ode_value.specs.declared.value.Value.TheVariants as value
 use Rattle.ode_syntax.specs.declared.trees.Trees.{Trees}
-
--- the element on top of a stack, or this one where it is empty; and the others
-abbrev pub top : {A : Type 0} → A → List A → A
-top none [] = none
-top none (x ∷ xs) = x
-
-abbrev pub rest : {A : Type 0} → List A → List A
-rest [] = []
-rest (x ∷ xs) = xs
 
 abbrev pub name : List (List ℕ) → List ℕ
 name names = top (codes "x") names

@@ -1,6 +1,7 @@
 //! Classes, their members, and statements of a script, and what each action makes.
 ghost use Rattle.std.specs.Prelude.{◌≡◌, OnOk, IfOk, [], false};
-ghost use Rattle.ode_syntax.specs.Built.{built_class, built_member, built_script, clock_text, declared, event_tree, name, rest, sort_on, top, tree, with_member};
+ghost use Rattle.ode_grammar.specs.Stacks.{rest, top};
+ghost use Rattle.ode_syntax.specs.Built.{built_class, built_member, built_script, clock_text, declared, event_tree, name, sort_on, tree, with_member};
 
 use crate::top::{take, take_event, take_expr, take_list, take_name, take_statement};
 use crate::trees::Trees;

@@ -1,6 +1,7 @@
 //! Event expressions and kinds, and what each action makes.
 ghost use Rattle.std.specs.Prelude.{◌≡◌, OnOk, IfOk, ◌∷◌};
-ghost use Rattle.ode_syntax.specs.Built.{built_event, built_kind, count_of, event_tree, rest, second_of, tree};
+ghost use Rattle.ode_grammar.specs.Stacks.{rest};
+ghost use Rattle.ode_syntax.specs.Built.{built_event, built_kind, count_of, event_tree, second_of, tree};
 
 use crate::top::{take, take_boxed_event, take_expr, take_name};
 use crate::trees::Trees;

@@ -1,6 +1,7 @@
 //! What stands on top of a stack.
 ghost use Rattle.std.specs.Prelude.{◌≡◌, [], IfOk};
-ghost use Rattle.ode_syntax.specs.Built.{top, rest, name, tree, event_tree, right, stmt_tree};
+ghost use Rattle.ode_grammar.specs.Stacks.{rest, top};
+ghost use Rattle.ode_syntax.specs.Built.{name, tree, event_tree, right, stmt_tree};
 
 use crate::words::name_of;
 use ode_grammar::Stack;

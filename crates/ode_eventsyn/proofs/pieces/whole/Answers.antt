@@ -1,6 +1,7 @@
 use Rattle.std.proofs.Common.{length, List, sym, ◌∙◌, subst}
 use Rattle.ode_grammar.specs.Texts.{IsText, IsExtent}
 use Rattle.ode_grammar.specs.declared.terminal.Terminal.{Terminal}
+use Rattle.ode_heights.specs.declared.height.TheConstants.{HEIGHT_LIMIT}
 use Rattle.ode_heights.specs.Depths.{IsTextWithin}
 use Rattle.ode_eventsyn.proofs.Fronts.{are_tree, is_wrong_whole, length_seen, whole_text}
 use Rattle.ode_eventsyn.specs.Parsing.{seen}
@@ -24,5 +25,5 @@ returns-clause-ok c =
     (whole_text c.args.start (seen c.args.place c.args.text.now c.args.tokens.now) (length c.args.tokens.now) c.in_ok-extent.extent
     (subst (λ (ts : List Terminal). IsExtent c.args.start ts c.in_ok-extent.extent) seen_first c.in_ok-extent.ensures)
     (length_seen c.args.place c.args.text.now c.args.tokens.now) (sym c.is_whole.ensures ∙ c.if-not-is_whole.false))
-    (subst (λ (ts : List Terminal). IsText c.args.start ts → IsTextWithin 64 c.args.start ts) seen_again (rw c.in_default.is at c.in_ok-at.ensures.none))
+    (subst (λ (ts : List Terminal). IsText c.args.start ts → IsTextWithin HEIGHT_LIMIT c.args.start ts) seen_again (rw c.in_default.is at c.in_ok-at.ensures.none))
     c.in_ok-made.ensures

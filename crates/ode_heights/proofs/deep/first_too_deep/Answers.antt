@@ -2,10 +2,11 @@ use Rattle.std.proofs.Common.{◌≤◌, ◌++◌, [], arith, sym, ◌∙◌, ap
 use Rattle.ode_grammar.specs.Grammar.{items_of}
 use Rattle.ode_grammar.proofs.Runs.{append_nil}
 use Rattle.ode_grammar.proofs.Steps.{run_step, run_all}
+use Rattle.ode_heights.specs.declared.height.TheConstants.{HEIGHT_LIMIT}
 use Rattle.ode_heights.specs.declared.height.Heights.{Heights}
 use Rattle.ode_heights.specs.Heights.{heights, highest, none}
 use Rattle.ode_heights.proofs.Depths.{no_token, starts_reading, step_within, too_deep_here, refused_no_text, text_within}
-use Rattle.ode_heights.proofs.deep.first_too_deep.Goals.{in-Token, in-Row+in_ok-fits-in-Row+else-not-branch}
+use Rattle.ode_heights.proofs.deep.first_too_deep.Goals.{in-Level, in-Raised+in_ok-fits-in-Raised+else-not-branch}
 use Rattle.ode_heights.proofs.deep.first_too_deep.Goals as goal
 
 pub loop-at-init : goal.loop-at-init
@@ -15,16 +16,16 @@ loop-at-init c =
     record { reads = s.reads; within = s.within }
 
 pub fits-requires : goal.fits-requires
-fits-requires c = let h = c.in_ok-advance.ensures.row c.in-Row.is in step_within c.loop-at.items c.loop-at.made c.advance.new.made _ h.1 c.loop-at.invariant.within
+fits-requires c = let h = c.in_ok-advance.ensures.raised c.in-Raised.is in step_within c.loop-at.items c.loop-at.made c.advance.new.made _ h.1 c.loop-at.invariant.within
 
 pub returns-then-not-branch-clause-some : goal.returns-then-not-branch-clause-some
 returns-then-not-branch-clause-some c =
-    let h = c.in_ok-advance.ensures.row c.in-Row.is in
+    let h = c.in_ok-advance.ensures.raised c.in-Raised.is in
     too_deep_here c.args.start c.args.tokens.now c.loop-at.at c.loop-at.items c.advance.new.items c.loop-at.made c.advance.new.made (omega arith)
     c.loop-at.invariant.reads c.loop-at.invariant.within
     (run_step heights (items_of c.args.start) none c.args.tokens.now c.loop-at.at no_token c.loop-at.items c.loop-at.made c.advance.new.items c.advance.new.made (omega arith)
     c.loop-at.invariant.reads h.0 h.1)
-    (c.in_ok-fits-in-Row.ensures.no c.if-not-branch.true)
+    (c.in_ok-fits-in-Raised.ensures.no c.if-not-branch.true)
 
 pub returns-in-Refused-clause-none : goal.returns-in-Refused-clause-none
 returns-in-Refused-clause-none c = λ t.
@@ -33,19 +34,19 @@ returns-in-Refused-clause-none c = λ t.
 
 pub loop-at-preserved : goal.loop-at-preserved
 loop-at-preserved c = elim c.match-branch-3.branch [
-  | in-Token w ↦
-      let h = c.in_ok-advance.ensures.token w.in-Token.is in
+  | in-Level w ↦
+      let h = c.in_ok-advance.ensures.level w.in-Level.is in
       record {
         reads = run_step heights (items_of c.args.start) none c.args.tokens.now c.loop-at.at no_token c.loop-at.items c.loop-at.made c.advance.new.items c.advance.new.made (omega arith)
             c.loop-at.invariant.reads h.0 h.1;
-        within = subst (λ (k : Heights). highest k ≤ 64) (sym (c.in_ok-advance.ensures.same w.in-Token.is)) c.loop-at.invariant.within;
+        within = subst (λ (k : Heights). highest k ≤ HEIGHT_LIMIT) (sym (c.in_ok-advance.ensures.same w.in-Level.is)) c.loop-at.invariant.within;
       }
-  | in-Row+in_ok-fits-in-Row+else-not-branch w ↦
-      let h = c.in_ok-advance.ensures.row w.in-Row.is in
+  | in-Raised+in_ok-fits-in-Raised+else-not-branch w ↦
+      let h = c.in_ok-advance.ensures.raised w.in-Raised.is in
       record {
         reads = run_step heights (items_of c.args.start) none c.args.tokens.now c.loop-at.at no_token c.loop-at.items c.loop-at.made c.advance.new.items c.advance.new.made (omega arith)
             c.loop-at.invariant.reads h.0 h.1;
-        within = w.in_ok-fits-in-Row.ensures.yes w.if-not-branch.false;
+        within = w.in_ok-fits-in-Raised.ensures.yes w.if-not-branch.false;
       }
 ]
 
