@@ -23,6 +23,7 @@ use Rattle.ode_codec.specs.declared.record.Record.{Record}
 use Rattle.ode_codec.specs.declared.record.Record.TheVariants as of
 use Rattle.ode_codec.proofs.FormatLaws.{IsBytes, IsFormat, bind_some, both_format, fit_again, fit_is, format8, format16, format32, format64, held, int_format, same, spell_byte, spell_int, truth_format, whole_again, whole_takes}
 use Rattle.ode_codec.proofs.ValueLaws.{FitArgs, FitFields, are_kept, args_format, both_true, fields_format, fit_values, in_range, none_there, part_format, spell_args, spell_fields}
+use Rattle.ode_codec.specs.declared.record.TheConstants.{TABLE_PLACES}
 
 -- the numbers of a key are within their types
 pub record IsKey (k : Key) : Type 0 where
@@ -269,14 +270,14 @@ class_piece_again class piece bytes is =
 table_piece_found : (k : Key) (bytes : List ℕ) (r : Record) → IsKey k → IsBytes bytes → Reading.table_piece_under k bytes ≡ Some r → Spells table_piece_kind k bytes r
 unfolding Reading.table_piece_under key_of value_of IsKept HasRanges
 table_piece_found k bytes r is fits e =
-    let a = bind_some (fit (2 ^ 32) k.a) (λ class. fit (2 ^ 32) k.b >>= λ place. holding (is_piece bytes) >>= λ _. Some (of.TablePiece class (place / 65536) (place % 65536) bytes)) r e in
-    let b = bind_some (fit (2 ^ 32) k.b) (λ place. holding (is_piece bytes) >>= λ _. Some (of.TablePiece a.0 (place / 65536) (place % 65536) bytes)) r a.2 in
-    let c = bind_some (holding (is_piece bytes)) (λ _. Some (of.TablePiece a.0 (b.0 / 65536) (b.0 % 65536) bytes)) r b.2 in
+    let a = bind_some (fit (2 ^ 32) k.a) (λ class. fit (2 ^ 32) k.b >>= λ place. holding (is_piece bytes) >>= λ _. Some (of.TablePiece class (place / TABLE_PLACES) (place % TABLE_PLACES) bytes)) r e in
+    let b = bind_some (fit (2 ^ 32) k.b) (λ place. holding (is_piece bytes) >>= λ _. Some (of.TablePiece a.0 (place / TABLE_PLACES) (place % TABLE_PLACES) bytes)) r a.2 in
+    let c = bind_some (holding (is_piece bytes)) (λ _. Some (of.TablePiece a.0 (b.0 / TABLE_PLACES) (b.0 % TABLE_PLACES) bytes)) r b.2 in
     let low = fit_is (2 ^ 32) k.a a.0 a.1 in
     let short = fit_is (2 ^ 32) k.b b.0 b.1 in
     let place_low : b.0 < 2 ^ 32 = subst (λ n. n < 2 ^ 32) short.1 short.0 in
-    let together : b.0 ≡ b.0 / 65536 * 65536 + b.0 % 65536 = omega arith in
-    subst (Spells table_piece_kind k bytes) (same (of.TablePiece a.0 (b.0 / 65536) (b.0 % 65536) bytes) r c.2)
+    let together : b.0 ≡ b.0 / TABLE_PLACES * TABLE_PLACES + b.0 % TABLE_PLACES = omega arith in
+    subst (Spells table_piece_kind k bytes) (same (of.TablePiece a.0 (b.0 / TABLE_PLACES) (b.0 % TABLE_PLACES) bytes) r c.2)
     (record {
       rules = record { kept = piece_is bytes (held (is_piece bytes) c.0 c.1); ranges = (subst (λ n. n < 2 ^ 32) low.1 low.0, omega arith, omega arith) };
       key = ap (λ n. key table_piece_kind n k.b) low.1 ∙ ap (key table_piece_kind a.0) (short.1 ∙ together);
@@ -284,19 +285,19 @@ table_piece_found k bytes r is fits e =
     })
 
 table_piece_again : (class trigger piece : ℕ) (bytes : List ℕ) → IsRecord (of.TablePiece class trigger piece bytes)
-    → Reading.table_piece_under (key table_piece_kind class (trigger * 65536 + piece)) bytes ≡ Some (of.TablePiece class trigger piece bytes)
+    → Reading.table_piece_under (key table_piece_kind class (trigger * TABLE_PLACES + piece)) bytes ≡ Some (of.TablePiece class trigger piece bytes)
 unfolding Reading.table_piece_under IsKept HasRanges
 table_piece_again class trigger piece bytes is =
-    let place : ℕ = trigger * 65536 + piece in
+    let place : ℕ = trigger * TABLE_PLACES + piece in
     let first : trigger < 2 ^ 16 = is.ranges.1 in
     let second : piece < 2 ^ 16 = is.ranges.2 in
-    let low : trigger * 65536 + piece < 2 ^ 32 = omega arith in
-    let back : (trigger * 65536 + piece) / 65536 ≡ trigger = omega arith in
-    let rest : (trigger * 65536 + piece) % 65536 ≡ piece = omega arith in
-    next_by (fit (2 ^ 32) class) class (λ c. fit (2 ^ 32) place >>= λ p. holding (is_piece bytes) >>= λ _. Some (of.TablePiece c (p / 65536) (p % 65536) bytes)) (fit_again (2 ^ 32) class is.ranges.0)
-    ∙ next_by (fit (2 ^ 32) place) place (λ p. holding (is_piece bytes) >>= λ _. Some (of.TablePiece class (p / 65536) (p % 65536) bytes)) (fit_again (2 ^ 32) place low)
-    ∙ next_by (holding (is_piece bytes)) tt (λ _. Some (of.TablePiece class (place / 65536) (place % 65536) bytes)) (held_again (is_piece bytes) (piece_passes bytes is.kept))
-    ∙ ap (λ t. Some (of.TablePiece class t (place % 65536) bytes)) back ∙ ap (λ p. Some (of.TablePiece class trigger p bytes)) rest
+    let low : trigger * TABLE_PLACES + piece < 2 ^ 32 = omega arith in
+    let back : (trigger * TABLE_PLACES + piece) / TABLE_PLACES ≡ trigger = omega arith in
+    let rest : (trigger * TABLE_PLACES + piece) % TABLE_PLACES ≡ piece = omega arith in
+    next_by (fit (2 ^ 32) class) class (λ c. fit (2 ^ 32) place >>= λ p. holding (is_piece bytes) >>= λ _. Some (of.TablePiece c (p / TABLE_PLACES) (p % TABLE_PLACES) bytes)) (fit_again (2 ^ 32) class is.ranges.0)
+    ∙ next_by (fit (2 ^ 32) place) place (λ p. holding (is_piece bytes) >>= λ _. Some (of.TablePiece class (p / TABLE_PLACES) (p % TABLE_PLACES) bytes)) (fit_again (2 ^ 32) place low)
+    ∙ next_by (holding (is_piece bytes)) tt (λ _. Some (of.TablePiece class (place / TABLE_PLACES) (place % TABLE_PLACES) bytes)) (held_again (is_piece bytes) (piece_passes bytes is.kept))
+    ∙ ap (λ t. Some (of.TablePiece class t (place % TABLE_PLACES) bytes)) back ∙ ap (λ p. Some (of.TablePiece class trigger p bytes)) rest
 
 -- ---- heads of classes
 

@@ -8,6 +8,7 @@ use Rattle.std.proofs.lemmas.Bool.{ltb-false, le-ltb}
 use Rattle.std.proofs.lemmas.Bool.Decides.{nat_tests}
 use Rattle.std.proofs.lemmas.List.{take_at, drop_at, take-append-drop, length-append, length-take}
 use Rattle.std.proofs.lemmas.List.Concat.{flat_map-cons}
+use Rattle.ode_value.specs.Limits.{text_limit}
 use Rattle.ode_value.specs.Records.{spelled_value}
 use Rattle.ode_value.specs.Text.{IsText, is_bad_byte}
 use Rattle.ode_value.specs.declared.value.Ref.{Ref}
@@ -80,14 +81,14 @@ none_there (Some n) h = absurd cc
 
 text_is : (bytes : List ℕ) → is_text bytes ≡ true → IsText bytes
 text_is bytes h =
-    let parts = both_true (nat_le (length bytes) 2048) (is_none (position is_bad_byte bytes)) h in
-    let short : nat_le (length bytes) 2048 ≡ true = parts.0 in
+    let parts = both_true (nat_le (length bytes) text_limit) (is_none (position is_bad_byte bytes)) h in
+    let short : nat_le (length bytes) text_limit ≡ true = parts.0 in
     record { short = grind (arith, nat_tests); each = none_there (position is_bad_byte bytes) parts.1 }
 
 text_passes : (bytes : List ℕ) → IsText bytes → is_text bytes ≡ true
 text_passes bytes is =
-    let le : length bytes ≤ 2048 = is.short in
-    let short : nat_le (length bytes) 2048 ≡ true = grind (arith, nat_tests) in
+    let le : length bytes ≤ text_limit = is.short in
+    let short : nat_le (length bytes) text_limit ≡ true = grind (arith, nat_tests) in
     ap (λ b. b && is_none (position is_bad_byte bytes)) short ∙ ap (λ (o : Option ℕ). is_none o) is.each
 
 abbrev spell_text : List ℕ → List ℕ

@@ -12,6 +12,7 @@ use Rattle.ode_codec.specs.Values.{args_in, fields_in}
 use Rattle.ode_codec.specs.declared.record.Counters.{Counters}
 use Rattle.ode_codec.specs.declared.record.Record.{Record}
 use Rattle.ode_codec.specs.declared.record.Record.TheVariants as of
+use Rattle.ode_codec.specs.declared.record.TheConstants.{TABLE_PLACES}
 
 abbrev pub u16_in : List ℕ → Option (ℕ × List ℕ)
 u16_in = number_in w16
@@ -94,7 +95,7 @@ table_piece_under k bytes = do
   class ← fit (2 ^ 32) k.a
   place ← fit (2 ^ 32) k.b
   _ ← holding (is_piece bytes)
-  Some (of.TablePiece class (place / 65536) (place % 65536) bytes)
+  Some (of.TablePiece class (place / TABLE_PLACES) (place % TABLE_PLACES) bytes)
 
 unfoldable pub object_under : Key → List ℕ → Option Record
 object_under k bytes = do

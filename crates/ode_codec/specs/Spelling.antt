@@ -11,6 +11,7 @@ use Rattle.ode_codec.specs.declared.record.Counters.{Counters}
 use Rattle.ode_codec.specs.declared.record.Entry.{Entry}
 use Rattle.ode_codec.specs.declared.record.Record.{Record}
 use Rattle.ode_codec.specs.declared.record.Record.TheVariants as of
+use Rattle.ode_codec.specs.declared.record.TheConstants.{TABLE_PLACES}
 
 abbrev pub u16 : ℕ → List ℕ
 u16 n = to_be_bytes w16 n
@@ -58,7 +59,7 @@ key_of (of.Counters c) = key counters_kind 0 0
 key_of (of.ClassHead class name parent text_length triggers) = key class_head_kind class 0
 key_of (of.ClassPiece class piece bytes) = key class_piece_kind class piece
 key_of (of.TableHead class trigger states symbols) = key table_head_kind class trigger
-key_of (of.TablePiece class trigger piece bytes) = key table_piece_kind class (trigger * 65536 + piece)
+key_of (of.TablePiece class trigger piece bytes) = key table_piece_kind class (trigger * TABLE_PLACES + piece)
 key_of (of.Object object class last) = key object_kind object 0
 key_of (of.Version object number parent fields) = key version_kind object number
 key_of (of.Activation a) = key activation_kind a.object a.number

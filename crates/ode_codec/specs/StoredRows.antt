@@ -13,6 +13,7 @@ use Rattle.ode_value.specs.Keys.{key, counters_key, class_head_key, class_piece_
 use Rattle.ode_value.specs.Tables.{Table}
 use Rattle.ode_value.specs.Worlds.{Declared, Entry, Object, Bones, World, kept_at}
 use Rattle.ode_value.specs.Limits.{value_limit}
+use Rattle.ode_codec.specs.declared.record.TheConstants.{TABLE_PLACES}
 
 -- the table of each trigger is known by its class and its place there
 pub record Stored : Type 0 where
@@ -83,7 +84,7 @@ table_head class place t = (key table_head_kind class place, u16 t.states ++ byt
 
 -- a piece of a table
 abbrev pub table_row : ℕ → ℕ → ℕ × List ℕ → Row
-table_row class place piece = (key table_piece_kind class (place * 65536 + piece.0), piece.1)
+table_row class place piece = (key table_piece_kind class (place * TABLE_PLACES + piece.0), piece.1)
 
 -- a table
 abbrev pub table_pieces : ℕ → ℕ → Table → List Row

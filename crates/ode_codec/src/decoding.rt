@@ -11,7 +11,7 @@ ghost use Rattle.ode_codec.specs.Reading.{table_head_under, table_piece_under, v
 
 use crate::outside::Unread;
 use crate::reading::{read_bool, read_i64, read_u8, read_u16, read_u32, read_u64};
-use crate::record::{Activation, Counters, Entry, Record};
+use crate::record::{Activation, Counters, Entry, Record, TABLE_PLACES};
 use crate::values::{read_args, read_fields};
 use ode_value::limits::{NUMBER_LIMIT, TRANSACTION_LIMIT, VALUE_LIMIT};
 use ode_value::{Key, List, Name, OdeText, TextError};
@@ -199,8 +199,8 @@ fn read_table_piece(alloc: Global, key: Key, bytes: &[u8]) -> Result<Record, Unr
     let bytes = List::from_slice(alloc, bytes)?;
     Ok(Record::TablePiece {
         class,
-        trigger: (place / 65_536) as u16,
-        piece: (place % 65_536) as u16,
+        trigger: (place / TABLE_PLACES) as u16,
+        piece: (place % TABLE_PLACES) as u16,
         bytes,
     })
 }

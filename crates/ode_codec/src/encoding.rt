@@ -8,7 +8,7 @@ ghost use Rattle.ode_codec.specs.Reading.{record_under};
 ghost use Rattle.ode_codec.specs.Rules.{IsKept, IsRecord};
 ghost use Rattle.ode_codec.specs.Spelling.{activation_value, clock_value, counters_value, entry_value, key_of, spelled, truth, u16, u32, u64, value_of, values};
 
-use crate::record::{Activation, Counters, Entry, Record};
+use crate::record::{Activation, Counters, Entry, Record, TABLE_PLACES};
 use ode_host::{put_i64, put_u8, put_u16, put_u32, put_u64};
 use ode_value::{Key, List, Name, Ref, Value};
 use std::alloc::{AllocError, Global};
@@ -199,7 +199,7 @@ fn key_of(one: &Record) -> Key
         Record::ClassPiece { class, piece, .. } => make_key(Key::CLASS_PIECE, u64::from(*class), u64::from(*piece)),
         Record::TableHead { class, trigger, .. } => make_key(Key::TABLE_HEAD, u64::from(*class), u64::from(*trigger)),
         Record::TablePiece { class, trigger, piece, .. } => {
-            make_key(Key::TABLE_PIECE, u64::from(*class), u64::from(*trigger) * 65_536 + u64::from(*piece))
+            make_key(Key::TABLE_PIECE, u64::from(*class), u64::from(*trigger) * u64::from(TABLE_PLACES) + u64::from(*piece))
         },
         Record::Object { object, .. } => make_key(Key::OBJECT, *object, 0),
         Record::Version { object, number, .. } => make_key(Key::VERSION, *object, u64::from(*number)),

@@ -2,6 +2,9 @@
 
 use ode_value::{List, Name, Value};
 
+/// The places that the pieces of one trigger's table have among those of a class.
+pub const TABLE_PLACES: u32 = 65_536;
+
 /// The next numbers of an object or activation, of a transaction and of an entry; and how far the clock has come: an instant,
 /// an object and a place in its class's list of kinds, all zero where it isn't set.
 #[derive(Clone, Copy, Debug, PartialEq, Eq)]

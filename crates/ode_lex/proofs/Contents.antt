@@ -2,14 +2,15 @@
 use Rattle.std.proofs.Common.{◌≡◌, ℕ, ◌+◌, ◌≤◌, true, leb, cond, List, [], ◌∷◌, length, drop, Option, Some, None, arith, ◌∙◌, ap, refl}
 use Rattle.std.proofs.lemmas.Bool.Decides.{nat_tests}
 use Rattle.std.proofs.lemmas.List.{drop-drop}
+use Rattle.ode_value.specs.Limits.{text_limit}
 use Rattle.ode_lex.specs.Texts.{begins_with_quote, content, length_of_short, with_front, SpellsByte}
 
 -- the length of a text of which the first `at` bytes spell `count` bytes of content, and what is found behind them
 abbrev pub length_behind : ℕ → ℕ → Option (List ℕ × ℕ) → Option ℕ
 length_behind count at None = None
-length_behind count at (Some found) = cond (leb (count + length found.0) 2048) (Some (at + found.1)) None
+length_behind count at (Some found) = cond (leb (count + length found.0) text_limit) (Some (at + found.1)) None
 
-same_length : (m n k l : ℕ) → m ≡ n → k ≡ l → cond (leb m 2048) (Some k) None ≡ cond (leb n 2048) (Some l) None
+same_length : (m n k l : ℕ) → m ≡ n → k ≡ l → cond (leb m text_limit) (Some k) None ≡ cond (leb n text_limit) (Some l) None
 same_length m n k l e f = cc
 
 -- at the front
@@ -18,7 +19,7 @@ behind_none None = refl
 behind_none (Some found) = same_length _ _ _ _ (omega arith) (omega arith)
 
 -- at the closing quote
-pub behind_closed : (count at : ℕ) (bytes : List ℕ) → count ≤ 2048 → begins_with_quote bytes ≡ true → length_behind count at (content bytes) ≡ Some (at + 1)
+pub behind_closed : (count at : ℕ) (bytes : List ℕ) → count ≤ text_limit → begins_with_quote bytes ≡ true → length_behind count at (content bytes) ≡ Some (at + 1)
 behind_closed count at [] small e = cc
 behind_closed count at (b ∷ []) small e = rw e (grind (arith, nat_tests))
 behind_closed count at (b ∷ c ∷ rest) small e = rw e (grind (arith, nat_tests))

@@ -1,5 +1,6 @@
 -- Texts in quotes.
 use Rattle.std.specs.Prelude.{◌≡◌, drop, false, ℕ, ◌+◌, Bool, nat_le, ◌==◌, ◌||◌, if◌then◌else◌, List, [], ◌∷◌, length, Option, None, Some, option_map}
+use Rattle.ode_value.specs.Limits.{text_limit}
 use Rattle.ode_value.specs.Text.{is_bad_byte}
 
 -- `"` and `\`
@@ -26,10 +27,10 @@ content (b ∷ c ∷ rest) =
     else (if is_bad_byte b then None
     else with_front b 1 (content (c ∷ rest))))
 
--- the length of the text behind its opening quote, where its content has at most 2,048 bytes
+-- the length of the text behind its opening quote, where its content is no longer than a text
 abbrev pub length_of_short : Option (List ℕ × ℕ) → Option ℕ
 length_of_short None = None
-length_of_short (Some found) = if nat_le (length found.0) 2048 then Some found.1 else None
+length_of_short (Some found) = if nat_le (length found.0) text_limit then Some found.1 else None
 
 unfoldable pub text_length : List ℕ → Option ℕ
 text_length bytes = length_of_short (content bytes)
