@@ -80,6 +80,7 @@ impl<K> Heap<K> {
         ensures looks { Looks (H.view host.old) (H.view host.new) }
         ensures usable { K.live self.new ≡ is_usable result }
         ensures cause { RoseIf (IsErrOf result HeapError.DiskFault) (H.view host.old).disk_faults (H.view host.new).disk_faults }
+        ensures too_large { OnTooLarge result (λ _. ⊥) }
         ensures at { OnDamaged result (λ k. k ≡ counters_key) }
     {
         read_counters(alloc, &mut self.keeper, host)
@@ -101,6 +102,7 @@ impl<K> Heap<K> {
         ensures looks { Looks (H.view host.old) (H.view host.new) }
         ensures usable { K.live self.new ≡ is_usable result }
         ensures cause { RoseIf (IsErrOf result HeapError.DiskFault) (H.view host.old).disk_faults (H.view host.new).disk_faults }
+        ensures too_large { OnTooLarge result (λ _. ⊥) }
         ensures at { OnDamaged result (λ k. IsOfObject id k) }
     {
         read_object(alloc, &mut self.keeper, host, id)
@@ -124,6 +126,7 @@ impl<K> Heap<K> {
         ensures looks { Looks (H.view host.old) (H.view host.new) }
         ensures usable { K.live self.new ≡ is_usable result }
         ensures cause { RoseIf (IsErrOf result HeapError.DiskFault) (H.view host.old).disk_faults (H.view host.new).disk_faults }
+        ensures too_large { OnTooLarge result (λ _. ⊥) }
         ensures at { OnDamaged result (λ k. k ≡ version_key id number) }
     {
         read_version(alloc, &mut self.keeper, host, id, number, class)
@@ -146,6 +149,7 @@ impl<K> Heap<K> {
         ensures looks { Looks (H.view host.old) (H.view host.new) }
         ensures usable { K.live self.new ≡ is_usable result }
         ensures cause { RoseIf (IsErrOf result HeapError.DiskFault) (H.view host.old).disk_faults (H.view host.new).disk_faults }
+        ensures too_large { OnTooLarge result (λ _. ⊥) }
         ensures at { OnDamaged result (λ k. (k.kind ≡ activation_kind) × (k.a ≡ id)) }
     {
         read_activations(alloc, &mut self.keeper, host, id, classes)
@@ -162,6 +166,7 @@ impl<K> Heap<K> {
         ensures looks { Looks (H.view host.old) (H.view host.new) }
         ensures usable { K.live self.new ≡ is_usable result }
         ensures cause { RoseIf (IsErrOf result HeapError.DiskFault) (H.view host.old).disk_faults (H.view host.new).disk_faults }
+        ensures too_large { OnTooLarge result (λ _. ⊥) }
         ensures at { OnDamaged result (λ k. k ≡ object_key id) }
     {
         read_object_from(&mut self.keeper, host, id)
@@ -183,6 +188,7 @@ impl<K> Heap<K> {
         ensures looks { Looks (H.view host.old) (H.view host.new) }
         ensures usable { K.live self.new ≡ is_usable result }
         ensures cause { RoseIf (IsErrOf result HeapError.DiskFault) (H.view host.old).disk_faults (H.view host.new).disk_faults }
+        ensures too_large { OnTooLarge result (λ _. ⊥) }
         ensures at { OnDamaged result (λ k. (k.kind ≡ entry_kind) × (number ≤ k.a)) }
     {
         read_entry_from(alloc, &mut self.keeper, host, number)
@@ -199,6 +205,7 @@ impl<K> Heap<K> {
         ensures looks { Looks (H.view host.old) (H.view host.new) }
         ensures usable { K.live self.new ≡ is_usable result }
         ensures cause { RoseIf (IsErrOf result HeapError.DiskFault) (H.view host.old).disk_faults (H.view host.new).disk_faults }
+        ensures too_large { OnTooLarge result (λ _. ⊥) }
         ensures at { OnDamaged result (λ k. k.kind ≡ entry_kind) }
     {
         count_entries(&mut self.keeper, host)
