@@ -5,6 +5,7 @@ ghost use Rattle.ode_host.specs.Host.{Looks};
 ghost use Rattle.ode_keep.specs.Entries.{Entries};
 ghost use Rattle.ode_heap.specs.Activations.{activations_in, as_activation, fit_params, fits};
 ghost use Rattle.ode_heap.specs.Answers.{Answers, OnDamaged, UnlessFault, is_usable};
+ghost use Rattle.ode_heap.specs.Staging.{OnTooLarge};
 ghost use Rattle.ode_value.specs.Keys.{activation_kind};
 
 use crate::error::HeapError;
@@ -80,6 +81,7 @@ pub(crate) fn read_activations<H: Host, K: Keep<H>>(
     ensures looks { Looks (H.view host.old) (H.view host.new) }
     ensures usable { K.live keeper.new ≡ is_usable result }
     ensures cause { RoseIf (IsErrOf result HeapError.DiskFault) (H.view host.old).disk_faults (H.view host.new).disk_faults }
+    ensures too_large { OnTooLarge result (λ _. ⊥) }
     ensures at { OnDamaged result (λ k. (k.kind ≡ activation_kind) × (k.a ≡ id)) }
 {
     let mut activations = List::new(alloc);

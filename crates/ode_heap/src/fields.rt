@@ -5,6 +5,7 @@ ghost use Rattle.ode_host.specs.Host.{Looks};
 ghost use Rattle.ode_keep.specs.Entries.{Entries};
 ghost use Rattle.ode_heap.specs.Answers.{Answers, OnDamaged, UnlessFault, is_usable};
 ghost use Rattle.ode_heap.specs.Looking.{fields_of, version_in};
+ghost use Rattle.ode_heap.specs.Staging.{OnTooLarge};
 ghost use Rattle.ode_value.specs.Keys.{version_key};
 
 use crate::error::HeapError;
@@ -57,6 +58,7 @@ pub(crate) fn read_version<H: Host, K: Keep<H>>(
     ensures looks { Looks (H.view host.old) (H.view host.new) }
     ensures usable { K.live keeper.new ≡ is_usable result }
     ensures cause { RoseIf (IsErrOf result HeapError.DiskFault) (H.view host.old).disk_faults (H.view host.new).disk_faults }
+    ensures too_large { OnTooLarge result (λ _. ⊥) }
     ensures at { OnDamaged result (λ k. k ≡ version_key id number) }
 {
     let key = Key {

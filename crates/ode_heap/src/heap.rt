@@ -78,6 +78,7 @@ impl<K> Heap<K> {
         ensures looks { Looks (H.view host.old) (H.view host.new) }
         ensures usable { K.live self.new ≡ is_usable result }
         ensures cause { RoseIf (IsErrOf result HeapError.DiskFault) (H.view host.old).disk_faults (H.view host.new).disk_faults }
+        ensures too_large { OnTooLarge result (λ _. ⊥) }
         ensures at { OnDamaged result (λ k. k ≡ counters_key) }
     {
         read_counters(alloc, &mut self.keeper, host)
@@ -99,6 +100,7 @@ impl<K> Heap<K> {
         ensures looks { Looks (H.view host.old) (H.view host.new) }
         ensures usable { K.live self.new ≡ is_usable result }
         ensures cause { RoseIf (IsErrOf result HeapError.DiskFault) (H.view host.old).disk_faults (H.view host.new).disk_faults }
+        ensures too_large { OnTooLarge result (λ _. ⊥) }
         ensures at { OnDamaged result (λ k. IsOfObject id k) }
     {
         read_object(alloc, &mut self.keeper, host, id)
@@ -122,6 +124,7 @@ impl<K> Heap<K> {
         ensures looks { Looks (H.view host.old) (H.view host.new) }
         ensures usable { K.live self.new ≡ is_usable result }
         ensures cause { RoseIf (IsErrOf result HeapError.DiskFault) (H.view host.old).disk_faults (H.view host.new).disk_faults }
+        ensures too_large { OnTooLarge result (λ _. ⊥) }
         ensures at { OnDamaged result (λ k. k ≡ version_key id number) }
     {
         read_version(alloc, &mut self.keeper, host, id, number, class)
@@ -144,6 +147,7 @@ impl<K> Heap<K> {
         ensures looks { Looks (H.view host.old) (H.view host.new) }
         ensures usable { K.live self.new ≡ is_usable result }
         ensures cause { RoseIf (IsErrOf result HeapError.DiskFault) (H.view host.old).disk_faults (H.view host.new).disk_faults }
+        ensures too_large { OnTooLarge result (λ _. ⊥) }
         ensures at { OnDamaged result (λ k. (k.kind ≡ activation_kind) × (k.a ≡ id)) }
     {
         read_activations(alloc, &mut self.keeper, host, id, classes)
@@ -160,6 +164,7 @@ impl<K> Heap<K> {
         ensures looks { Looks (H.view host.old) (H.view host.new) }
         ensures usable { K.live self.new ≡ is_usable result }
         ensures cause { RoseIf (IsErrOf result HeapError.DiskFault) (H.view host.old).disk_faults (H.view host.new).disk_faults }
+        ensures too_large { OnTooLarge result (λ _. ⊥) }
         ensures at { OnDamaged result (λ k. k ≡ object_key id) }
     {
         read_object_from(&mut self.keeper, host, id)
@@ -181,6 +186,7 @@ impl<K> Heap<K> {
         ensures looks { Looks (H.view host.old) (H.view host.new) }
         ensures usable { K.live self.new ≡ is_usable result }
         ensures cause { RoseIf (IsErrOf result HeapError.DiskFault) (H.view host.old).disk_faults (H.view host.new).disk_faults }
+        ensures too_large { OnTooLarge result (λ _. ⊥) }
         ensures at { OnDamaged result (λ k. (k.kind ≡ entry_kind) × (number ≤ k.a)) }
     {
         read_entry_from(alloc, &mut self.keeper, host, number)
@@ -197,6 +203,7 @@ impl<K> Heap<K> {
         ensures looks { Looks (H.view host.old) (H.view host.new) }
         ensures usable { K.live self.new ≡ is_usable result }
         ensures cause { RoseIf (IsErrOf result HeapError.DiskFault) (H.view host.old).disk_faults (H.view host.new).disk_faults }
+        ensures too_large { OnTooLarge result (λ _. ⊥) }
         ensures at { OnDamaged result (λ k. k.kind ≡ entry_kind) }
     {
         count_entries(&mut self.keeper, host)

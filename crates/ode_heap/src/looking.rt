@@ -8,6 +8,7 @@ ghost use Rattle.ode_host.specs.Host.{Looks};
 ghost use Rattle.ode_keep.specs.Entries.{Entries};
 ghost use Rattle.ode_heap.specs.Answers.{Answers, OnDamaged, UnlessFault, is_usable};
 ghost use Rattle.ode_heap.specs.Looking.{decoded, least_at, looked_up};
+ghost use Rattle.ode_heap.specs.Staging.{OnTooLarge};
 
 use crate::error::{HeapError, at_key};
 use ode_codec::{Record, decode};
@@ -45,6 +46,7 @@ pub(crate) fn look_up<H: Host, K: Keep<H>>(
     ensures looks { Looks (H.view host.old) (H.view host.new) }
     ensures usable { K.live keeper.new ≡ is_usable result }
     ensures cause { RoseIf (IsErrOf result HeapError.DiskFault) (H.view host.old).disk_faults (H.view host.new).disk_faults }
+    ensures too_large { OnTooLarge result (λ _. ⊥) }
     ensures at { OnDamaged result (λ k. k ≡ key) }
 {
     match keeper.get(host, key) {
@@ -71,6 +73,7 @@ pub(crate) fn least_key<H: Host, K: Keep<H>>(
     ensures looks { Looks (H.view host.old) (H.view host.new) }
     ensures usable { K.live keeper.new ≡ is_usable result }
     ensures cause { RoseIf (IsErrOf result HeapError.DiskFault) (H.view host.old).disk_faults (H.view host.new).disk_faults }
+    ensures too_large { OnTooLarge result (λ _. ⊥) }
     ensures at { OnDamaged result (λ k. k ≡ key) }
 {
     match keeper.keys_from(host, key) {

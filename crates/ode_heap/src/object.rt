@@ -7,6 +7,7 @@ ghost use Rattle.ode_keep.specs.Entries.{Entries};
 ghost use Rattle.ode_heap.specs.Answers.{Answers, OnDamaged, There, UnlessFault, is_usable};
 ghost use Rattle.ode_heap.specs.Looking.{as_version, object_from, object_number};
 ghost use Rattle.ode_heap.specs.Objects.{IsOfObject, object_in, versions_in};
+ghost use Rattle.ode_heap.specs.Staging.{OnTooLarge};
 ghost use Rattle.ode_heap.specs.Walking.{is_from, next_in};
 ghost use Rattle.ode_value.specs.Keys.{key, object_key, version_kind};
 
@@ -50,6 +51,7 @@ pub(crate) fn next_record<H: Host, K: Keep<H>>(
     ensures cause { RoseIf (IsErrOf result HeapError.DiskFault) (H.view host.old).disk_faults (H.view host.new).disk_faults }
     ensures above { IfOk result (λ found. IfSome found (λ f. start.b ≤ f.0.b)) }
     ensures beside { IfOk result (λ found. IfSome found (λ f. (f.0.kind ≡ start.kind) × (f.0.a ≡ start.a))) }
+    ensures too_large { OnTooLarge result (λ _. ⊥) }
     ensures at { OnDamaged result (λ k. (k.kind ≡ start.kind) × (k.a ≡ start.a)) }
 {
     let Some(key) = least_key(keeper, host, start)? else {
@@ -94,6 +96,7 @@ fn read_versions<H: Host, K: Keep<H>>(
     ensures looks { Looks (H.view host.old) (H.view host.new) }
     ensures usable { K.live keeper.new ≡ is_usable result }
     ensures cause { RoseIf (IsErrOf result HeapError.DiskFault) (H.view host.old).disk_faults (H.view host.new).disk_faults }
+    ensures too_large { OnTooLarge result (λ _. ⊥) }
     ensures at { OnDamaged result (λ k. (k.kind ≡ version_kind) × (k.a ≡ id)) }
 {
     let mut versions = List::new(alloc);
@@ -130,6 +133,7 @@ pub(crate) fn read_object<H: Host, K: Keep<H>>(
     ensures looks { Looks (H.view host.old) (H.view host.new) }
     ensures usable { K.live keeper.new ≡ is_usable result }
     ensures cause { RoseIf (IsErrOf result HeapError.DiskFault) (H.view host.old).disk_faults (H.view host.new).disk_faults }
+    ensures too_large { OnTooLarge result (λ _. ⊥) }
     ensures at { OnDamaged result (λ k. IsOfObject id k) }
 {
     let key = Key {
@@ -163,6 +167,7 @@ pub(crate) fn read_object_from<H: Host, K: Keep<H>>(
     ensures looks { Looks (H.view host.old) (H.view host.new) }
     ensures usable { K.live keeper.new ≡ is_usable result }
     ensures cause { RoseIf (IsErrOf result HeapError.DiskFault) (H.view host.old).disk_faults (H.view host.new).disk_faults }
+    ensures too_large { OnTooLarge result (λ _. ⊥) }
     ensures at { OnDamaged result (λ k. k ≡ object_key id) }
 {
     let start = Key {

@@ -7,6 +7,7 @@ ghost use Rattle.ode_keep.specs.Entries.{Entries};
 ghost use Rattle.ode_heap.specs.Answers.{Answers, OnDamaged, There, UnlessFault, is_usable};
 ghost use Rattle.ode_heap.specs.Looking.{as_entry, entry_from, entry_key_from, of_entry};
 ghost use Rattle.ode_heap.specs.Queue.{queued_in};
+ghost use Rattle.ode_heap.specs.Staging.{OnTooLarge};
 ghost use Rattle.ode_value.specs.Keys.{entry_key, entry_kind};
 
 use crate::error::HeapError;
@@ -48,6 +49,7 @@ fn next_entry_key<H: Host, K: Keep<H>>(
     ensures usable { K.live keeper.new ≡ is_usable result }
     ensures cause { RoseIf (IsErrOf result HeapError.DiskFault) (H.view host.old).disk_faults (H.view host.new).disk_faults }
     ensures kind { IfOk result (λ found. IfSome found (λ key. key.kind ≡ entry_kind)) }
+    ensures too_large { OnTooLarge result (λ _. ⊥) }
     ensures at { OnDamaged result (λ k. k ≡ entry_key number) }
 {
     let start = Key {
@@ -89,6 +91,7 @@ pub(crate) fn read_entry_from<H: Host, K: Keep<H>>(
     ensures looks { Looks (H.view host.old) (H.view host.new) }
     ensures usable { K.live keeper.new ≡ is_usable result }
     ensures cause { RoseIf (IsErrOf result HeapError.DiskFault) (H.view host.old).disk_faults (H.view host.new).disk_faults }
+    ensures too_large { OnTooLarge result (λ _. ⊥) }
     ensures at { OnDamaged result (λ k. (k.kind ≡ entry_kind) × (number ≤ k.a)) }
 {
     match next_entry_key(keeper, host, number)? {
@@ -123,6 +126,7 @@ pub(crate) fn count_entries<H: Host, K: Keep<H>>(
     ensures looks { Looks (H.view host.old) (H.view host.new) }
     ensures usable { K.live keeper.new ≡ is_usable result }
     ensures cause { RoseIf (IsErrOf result HeapError.DiskFault) (H.view host.old).disk_faults (H.view host.new).disk_faults }
+    ensures too_large { OnTooLarge result (λ _. ⊥) }
     ensures at { OnDamaged result (λ k. k.kind ≡ entry_kind) }
 {
     let mut count: u32 = 0;
