@@ -78,7 +78,7 @@ specific o v rest some small from up e =
 not_null : (o : ℕ) → 0 < o → (o == 0) ≡ false
 not_null o l = grind (arith, nat_tests)
 
-spelled : (r : Ref) → 0 < r.object → spelled_ref r ≡ 35 ∷ (digits_of r.object ++ spelled_version r.version)
+pub spelled : (r : Ref) → 0 < r.object → spelled_ref r ≡ 35 ∷ (digits_of r.object ++ spelled_version r.version)
 spelled r l = rw (not_null r.object l) refl
 
 numbers_token : (o : ℕ) (version : Option ℕ) (rest : List ℕ) → IsRef (record { object = o; version = version }) → 0 < o → stops rest ≡ true

@@ -1,0 +1,8 @@
+//! Classes and statements, read and printed.
+#![tactic(auto)]
+
+mod parser;
+
+pub use ode_eventsyn::SyntaxError;
+pub use ode_print::print_class;
+pub use parser::{parse_class, parse_statement};

@@ -1,0 +1,11 @@
+pub mod Cuts
+pub mod Both
+pub mod ExprRows
+pub mod Marked
+pub mod Prints
+pub mod CutTexts
+pub mod Spells
+pub mod Goods
+pub mod Sounds
+pub mod Effects
+pub mod Readings
