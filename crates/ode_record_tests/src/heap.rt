@@ -1,15 +1,16 @@
 //! What a heap gives of three objects.
+use crate::classes::{one_class, with_fields};
 use crate::database::{Database, Stored, key, row};
 use ode_heap::HeapError;
 use ode_types::Classes;
-use ode_value::{Class, Field, List, Name, OdeText, Sort, Value};
+use ode_value::{List, Sort, Value};
 use ode_versions::Version;
 use std::alloc::{AllocError, Global};
 use std::test::Fail;
 
 // Objects 1, 2 and 5. Object 1 has versions 1 and 3, the latter derived from 2, and two activations; object 2 has one version and
-// nothing else; object 5 has versions 1 and 2 and one activation. Two entries wait.
-fn rows() -> [Stored; 14] {
+// nothing else; object 5 has versions 1 and 2 and two activations. Two entries wait.
+fn rows() -> [Stored; 15] {
     [
         row(
             1,
@@ -33,6 +34,7 @@ fn rows() -> [Stored; 14] {
         row(8, 1, 7, b"\0\0\0\x01\0\0\0\x01\0"),
         row(8, 1, 9, b"\0\0\0\x01\0\0\0\0\0"),
         row(8, 5, 6, b"\0\0\0\x01\0\0\0\0\0"),
+        row(8, 5, 8, b"\0\0\0\x01\0\0\x01\x02\0"),
         row(9, 4, 0, b"\0\0\0\0\0\0\0\x01\0\0\0\x01\0\0\x01\0"),
         row(9, 6, 0, b"\0\0\0\0\0\0\0\x05\0\0\0\x01\0\0\x02\x01\x01\x01"),
     ]
@@ -42,32 +44,6 @@ fn filled(alloc: Global) -> Result<Database, HeapError> {
     let mut database = Database::new(alloc, &[])?;
     database.put(&rows())?;
     Ok(database)
-}
-
-fn name(alloc: Global, bytes: &[u8]) -> Result<Name, AllocError> {
-    let text = OdeText::new(alloc, bytes).map_err(|_| AllocError)?;
-    Name::new(text).ok_or(AllocError)
-}
-
-// A class with fields of these sorts.
-fn class(alloc: Global, sorts: &[Sort]) -> Result<Class, AllocError> {
-    let mut fields = List::new(alloc);
-    for sort in sorts {
-        fields.push(Field {
-            name: name(alloc, b"f")?,
-            sort: sort.copy(alloc)?,
-        })?;
-    }
-    Ok(Class {
-        number: 1,
-        name: name(alloc, b"C")?,
-        parent: None,
-        fields,
-        methods: List::new(alloc),
-        constraints: List::new(alloc),
-        kinds: List::new(alloc),
-        triggers: List::new(alloc),
-    })
 }
 
 fn version(number: u32, parent: Option<u32>) -> Version {
@@ -110,17 +86,17 @@ fn objects_have_their_own_versions(rt: HostRuntime) -> Result<(), Fail> {
 #[test]
 fn fields_are_those_of_the_class(rt: HostRuntime) -> Result<(), Fail> {
     let mut database = filled(rt.alloc()).map_err(|_| AllocError)?;
-    let fitting = class(rt.alloc(), &[Sort::Int, Sort::Text])?;
+    let fitting = with_fields(rt.alloc(), &[Sort::Int, Sort::Text])?;
     let Ok(Some(values)) = database.version(1, 3, &fitting) else {
         return Err(Fail::from("version 3"));
     };
     assert!(rt; matches!(values.as_slice(), [Value::Int(-1), Value::Text(_)]));
     assert!(rt; matches!(database.version(1, 2, &fitting), Ok(None)));
     assert!(rt; matches!(database.version(3, 1, &fitting), Ok(None)));
-    let longer = class(rt.alloc(), &[Sort::Int, Sort::Text, Sort::Int])?;
+    let longer = with_fields(rt.alloc(), &[Sort::Int, Sort::Text, Sort::Int])?;
     let damaged = Err(HeapError::Damaged { key: key(7, 1, 3) });
     assert_eq!(rt; database.version(1, 3, &longer).map(|_| ()), damaged);
-    let other = class(rt.alloc(), &[Sort::Text, Sort::Text])?;
+    let other = with_fields(rt.alloc(), &[Sort::Text, Sort::Text])?;
     assert_eq!(rt; database.version(1, 3, &other).map(|_| ()), damaged);
     Ok(())
 }
@@ -193,6 +169,54 @@ fn an_activation_without_its_class_is_damaged(rt: HostRuntime) -> Result<(), Fai
         database.activations(5, &classes).map(|found| found.len()),
         fifth
     );
+    Ok(())
+}
+
+// The numbers and the states of an object's activations.
+fn states(
+    alloc: Global,
+    database: &mut Database,
+    id: u64,
+    classes: &Classes,
+) -> Result<List<(u64, u16)>, HeapError> {
+    let mut states = List::new(alloc);
+    for activation in database.activations(id, classes)?.as_slice() {
+        states.push((activation.number, activation.state))?;
+    }
+    Ok(states)
+}
+
+#[test]
+fn objects_have_their_own_activations(rt: HostRuntime) -> Result<(), Fail> {
+    let alloc = rt.alloc();
+    let mut database = filled(alloc).map_err(|_| AllocError)?;
+    let classes = one_class(alloc)?;
+    let first = states(alloc, &mut database, 1, &classes).map_err(|_| AllocError)?;
+    assert_eq!(rt; first.as_slice(), [(7, 1), (9, 0)].as_slice());
+    let second = states(alloc, &mut database, 2, &classes).map_err(|_| AllocError)?;
+    assert!(rt; second.is_empty());
+    let fifth = states(alloc, &mut database, 5, &classes).map_err(|_| AllocError)?;
+    assert_eq!(rt; fifth.as_slice(), [(6, 0), (8, 258)].as_slice());
+    Ok(())
+}
+
+// A trigger that isn't there, and an argument too many.
+#[test]
+fn activations_fit_their_triggers(rt: HostRuntime) -> Result<(), Fail> {
+    let alloc = rt.alloc();
+    let mut database = filled(alloc).map_err(|_| AllocError)?;
+    let classes = one_class(alloc)?;
+    for bytes in [
+        b"\0\0\0\x01\0\x01\0\0\0".as_slice(),
+        b"\0\0\0\x01\0\0\0\0\x01\x01\0",
+    ] {
+        assert_eq!(rt; database.put(&[row(8, 5, 3, bytes)]), Ok(()));
+        let damaged = Err(HeapError::Damaged { key: key(8, 5, 3) });
+        assert_eq!(rt;
+            states(alloc, &mut database, 5, &classes).map(|_| ()),
+            damaged
+        );
+    }
     Ok(())
 }
 

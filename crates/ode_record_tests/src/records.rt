@@ -26,10 +26,6 @@ fn is_spelling(alloc: Global, key: Key, bytes: &[u8]) -> Result<bool, AllocError
     }
 }
 
-fn key(kind: u8, a: u64, b: u64) -> Key {
-    Key { kind, a, b }
-}
-
 #[test]
 fn a_version_of_two_fields(rt: HostRuntime) -> Result<(), Fail> {
     let found = decode(rt.alloc(), VECTOR, &BYTES)?;
@@ -63,6 +59,7 @@ fn a_byte_more_or_less(rt: HostRuntime) -> Result<(), Fail> {
     Ok(())
 }
 
+// A key with bytes, and whether they are a record's.
 #[derive(Clone, Copy)]
 struct Case {
     key: Key,
@@ -70,7 +67,22 @@ struct Case {
     is_record: bool,
 }
 
-// Each kind at an end of its ranges, and outside.
+fn inside(kind: u8, a: u64, b: u64, bytes: &'static [u8]) -> Case {
+    Case {
+        key: Key { kind, a, b },
+        bytes,
+        is_record: true,
+    }
+}
+
+fn outside(kind: u8, a: u64, b: u64, bytes: &'static [u8]) -> Case {
+    Case {
+        key: Key { kind, a, b },
+        bytes,
+        is_record: false,
+    }
+}
+
 fn check_all(rt: &impl Abort, alloc: Global, cases: &[Case]) -> Result<(), Fail> {
     for case in cases {
         assert_eq!(rt; is_spelling(alloc, case.key, case.bytes)?, case.is_record);
@@ -78,183 +90,224 @@ fn check_all(rt: &impl Abort, alloc: Global, cases: &[Case]) -> Result<(), Fail>
     Ok(())
 }
 
-#[test]
-fn heads_and_pieces(rt: HostRuntime) -> Result<(), Fail> {
-    let cases = [
-        Case {
-            key: key(2, 4_294_967_295, 0),
-            bytes: b"\x01A\0\0\0\0\xff\xff\xff\xff\xff\xff",
-            is_record: true,
-        },
-        Case {
-            key: key(2, 4_294_967_296, 0),
-            bytes: b"\x01A\0\0\0\0\xff\xff\xff\xff\xff\xff",
-            is_record: false,
-        },
-        Case {
-            key: key(2, 1, 0),
-            bytes: b"\x00\0\0\0\0\0\0\0\0\0\0",
-            is_record: false,
-        },
-        Case {
-            key: key(2, 1, 0),
-            bytes: b"\x01-\0\0\0\0\0\0\0\0\0\0",
-            is_record: false,
-        },
-        Case {
-            key: key(2, 1, 1),
-            bytes: b"\x01A\0\0\0\0\0\0\0\0\0\0",
-            is_record: false,
-        },
-        Case {
-            key: key(3, 1, 4_294_967_295),
-            bytes: b"c",
-            is_record: true,
-        },
-        Case {
-            key: key(3, 1, 0),
-            bytes: b"",
-            is_record: false,
-        },
-        Case {
-            key: key(4, 1, 65_535),
-            bytes: b"\x02\x00\x20",
-            is_record: true,
-        },
-        Case {
-            key: key(4, 1, 65_536),
-            bytes: b"\x02\x00\x20",
-            is_record: false,
-        },
-        Case {
-            key: key(5, 1, 131_073),
-            bytes: b"\x00\x01",
-            is_record: true,
-        },
-        Case {
-            key: key(6, 18_446_744_073_709_551_615, 0),
-            bytes: b"\0\0\0\x01\xff\xff\xff\xff",
-            is_record: true,
-        },
-        Case {
-            key: key(6, 1, 0),
-            bytes: b"\0\0\0\x01\0\0\0",
-            is_record: false,
-        },
-        Case {
-            key: key(0, 0, 0),
-            bytes: b"",
-            is_record: false,
-        },
-        Case {
-            key: key(10, 0, 0),
-            bytes: b"",
-            is_record: false,
-        },
-    ];
-    check_all(&rt, rt.alloc(), &cases)
+const MAX_U32: u64 = u32::MAX as u64;
+
+const MAX_U16: u64 = u16::MAX as u64;
+
+fn counters() -> [Case; 8] {
+    [
+        inside(
+            1,
+            0,
+            0,
+            b"\0\0\0\0\0\0\0\x01\0\0\0\0\0\0\0\x01\0\0\0\0\0\0\0\x01\0\0\0\0\0\0\0\0\0\0\0\0\0\0\0\0\0\0\0\0\0",
+        ),
+        inside(
+            1,
+            0,
+            0,
+            b"\x40\0\0\0\0\0\0\0\x40\0\0\0\0\x01\0\0\x40\0\0\0\0\0\0\0\x01\x7f\xff\xff\xff\xff\xff\xff\xff\xff\xff\xff\xff\xff\xff\xff\xff\xff\xff\xff\xff",
+        ),
+        outside(
+            1,
+            0,
+            0,
+            b"\0\0\0\0\0\0\0\0\0\0\0\0\0\0\0\x01\0\0\0\0\0\0\0\x01\0\0\0\0\0\0\0\0\0\0\0\0\0\0\0\0\0\0\0\0\0",
+        ),
+        outside(
+            1,
+            0,
+            0,
+            b"\x40\0\0\0\0\0\0\0\x40\0\0\0\0\x01\0\x01\x40\0\0\0\0\0\0\0\0\0\0\0\0\0\0\0\0\0\0\0\0\0\0\0\0\0\0\0\0",
+        ),
+        outside(
+            1,
+            0,
+            0,
+            b"\0\0\0\0\0\0\0\x01\0\0\0\0\0\0\0\x01\x40\0\0\0\0\0\0\x01\0\0\0\0\0\0\0\0\0\0\0\0\0\0\0\0\0\0\0\0\0",
+        ),
+        outside(
+            1,
+            0,
+            0,
+            b"\0\0\0\0\0\0\0\x01\0\0\0\0\0\0\0\x01\0\0\0\0\0\0\0\x01\0\0\0\0\0\0\0\0\0\0\0\0\0\0\0\0\0\0\0\0\x01",
+        ),
+        outside(
+            1,
+            0,
+            0,
+            b"\0\0\0\0\0\0\0\x01\0\0\0\0\0\0\0\x01\0\0\0\0\0\0\0\x01\x02\0\0\0\0\0\0\0\0\0\0\0\0\0\0\0\0\0\0\0\0",
+        ),
+        outside(
+            1,
+            0,
+            1,
+            b"\0\0\0\0\0\0\0\x01\0\0\0\0\0\0\0\x01\0\0\0\0\0\0\0\x01\0\0\0\0\0\0\0\0\0\0\0\0\0\0\0\0\0\0\0\0\0",
+        ),
+    ]
+}
+
+fn heads() -> [Case; 12] {
+    [
+        inside(2, 0, 0, b"\x01A\0\0\0\0\0\0\0\0\0\0"),
+        inside(
+            2,
+            MAX_U32,
+            0,
+            b"\x02_9\xff\xff\xff\xff\xff\xff\xff\xff\xff\xff",
+        ),
+        outside(2, MAX_U32 + 1, 0, b"\x01A\0\0\0\0\0\0\0\0\0\0"),
+        outside(2, 1, 1, b"\x01A\0\0\0\0\0\0\0\0\0\0"),
+        outside(2, 1, 0, b"\x00\0\0\0\0\0\0\0\0\0\0"),
+        outside(2, 1, 0, b"\x01-\0\0\0\0\0\0\0\0\0\0"),
+        inside(4, 0, 0, b"\0\0\0"),
+        inside(4, MAX_U32, MAX_U16, b"\xff\xff\xff"),
+        outside(4, MAX_U32 + 1, 0, b"\0\x02\x03"),
+        outside(4, 1, MAX_U16 + 1, b"\0\x02\x03"),
+        outside(4, 1, 0, b"\0\x02"),
+        outside(4, 1, 0, b"\0\x02\x03\0"),
+    ]
+}
+
+fn pieces() -> [Case; 9] {
+    [
+        inside(3, 0, 0, b"\0"),
+        inside(3, MAX_U32, MAX_U32, b"class"),
+        outside(3, MAX_U32 + 1, 0, b"class"),
+        outside(3, 1, MAX_U32 + 1, b"class"),
+        outside(3, 1, 0, b""),
+        inside(5, 0, 0, b"\xff"),
+        inside(5, MAX_U32, MAX_U32, b"\0\x01"),
+        outside(5, 1, MAX_U32 + 1, b"\0\x01"),
+        outside(5, 1, 0, b""),
+    ]
+}
+
+fn objects() -> [Case; 10] {
+    [
+        inside(6, 0, 0, b"\0\0\0\0\0\0\0\0"),
+        inside(6, u64::MAX, 0, b"\xff\xff\xff\xff\xff\xff\xff\xff"),
+        outside(6, 1, 1, b"\0\0\0\x01\0\0\0\x01"),
+        outside(6, 1, 0, b"\0\0\0\x01\0\0\0"),
+        inside(7, 0, 0, b"\0\0\0\0\0\0"),
+        inside(7, u64::MAX, MAX_U32, b"\xff\xff\xff\xff\0\0"),
+        outside(7, 1, MAX_U32 + 1, b"\0\0\0\0\0\0"),
+        outside(7, 1, 1, b"\0\0\0\0\0\x02\x01\x01"),
+        outside(0, 0, 0, b""),
+        outside(10, 0, 0, b""),
+    ]
+}
+
+fn fields() -> [Case; 14] {
+    [
+        inside(7, 1, 1, b"\0\0\0\0\0\x01\0\x80\0\0\0\0\0\0\0"),
+        inside(7, 1, 1, b"\0\0\0\0\0\x01\0\x7f\xff\xff\xff\xff\xff\xff\xff"),
+        inside(7, 1, 1, b"\0\0\0\0\0\x02\x01\0\x01\x01"),
+        outside(7, 1, 1, b"\0\0\0\0\0\x01\x01\x02"),
+        inside(7, 1, 1, b"\0\0\0\0\0\x01\x02\0\x02 ~"),
+        outside(7, 1, 1, b"\0\0\0\0\0\x01\x02\0\x01\x1f"),
+        outside(7, 1, 1, b"\0\0\0\0\0\x01\x02\0\x01\x7f"),
+        outside(7, 1, 1, b"\0\0\0\0\0\x01\x02\0\x02a"),
+        inside(7, 1, 1, b"\0\0\0\0\0\x01\x03\0\0\0\0\0\0\0\0\0\0\0\0"),
+        inside(7, 1, 1, b"\0\0\0\0\0\x01\x03\0\0\0\0\0\0\0\x01\0\0\0\0"),
+        inside(
+            7,
+            1,
+            1,
+            b"\0\0\0\0\0\x01\x03\xff\xff\xff\xff\xff\xff\xff\xff\xff\xff\xff\xff",
+        ),
+        outside(7, 1, 1, b"\0\0\0\0\0\x01\x03\0\0\0\0\0\0\0\0\0\0\0\x01"),
+        outside(7, 1, 1, b"\0\0\0\0\0\x01\x04"),
+        outside(7, 1, 1, b"\0\0\0\0\0\0\x01\x01"),
+    ]
+}
+
+fn activations_and_entries() -> [Case; 9] {
+    [
+        inside(8, 0, 0, b"\0\0\0\0\0\0\0\0\0"),
+        inside(
+            8,
+            u64::MAX,
+            u64::MAX,
+            b"\xff\xff\xff\xff\xff\xff\xff\xff\x01\x01\x01",
+        ),
+        outside(8, 1, 2, b"\0\0\0\x01\0\0\0\0"),
+        outside(8, 1, 2, b"\0\0\0\x01\0\0\0\0\x02\x01\x01"),
+        inside(9, 0, 0, b"\0\0\0\0\0\0\0\0\0\0\0\0\0\0\0\0"),
+        inside(
+            9,
+            u64::MAX,
+            0,
+            b"\xff\xff\xff\xff\xff\xff\xff\xff\xff\xff\xff\xff\xff\xff\xff\x01\x01\0",
+        ),
+        outside(9, 1, 1, b"\0\0\0\0\0\0\0\x01\0\0\0\x01\0\0\x01\0"),
+        outside(9, 1, 0, b"\0\0\0\0\0\0\0\x01\0\0\0\x01\0\0\x01"),
+        outside(9, 1, 0, b"\0\0\0\0\0\0\0\x01\0\0\0\x01\0\0\x01\0\0"),
+    ]
 }
 
 #[test]
-fn fields_and_arguments(rt: HostRuntime) -> Result<(), Fail> {
-    let cases = [
-        Case {
-            key: key(7, 1, 1),
-            bytes: b"\0\0\0\0\0\0",
-            is_record: true,
-        },
-        Case {
-            key: key(7, 1, 1),
-            bytes: b"\0\0\0\0\0\x01\x01\x01",
-            is_record: true,
-        },
-        Case {
-            key: key(7, 1, 1),
-            bytes: b"\0\0\0\0\0\x01\x01\x02",
-            is_record: false,
-        },
-        Case {
-            key: key(7, 1, 1),
-            bytes: b"\0\0\0\0\0\x01\x03\0\0\0\0\0\0\0\0\0\0\0\0",
-            is_record: true,
-        },
-        Case {
-            key: key(7, 1, 1),
-            bytes: b"\0\0\0\0\0\x01\x03\0\0\0\0\0\0\0\0\0\0\0\x01",
-            is_record: false,
-        },
-        Case {
-            key: key(7, 1, 1),
-            bytes: b"\0\0\0\0\0\x01\x03\0\0\0\0\0\0\0\x01\0\0\0\x01",
-            is_record: true,
-        },
-        Case {
-            key: key(7, 1, 1),
-            bytes: b"\0\0\0\0\0\x01\x02\0\x01\x1f",
-            is_record: false,
-        },
-        Case {
-            key: key(7, 1, 1),
-            bytes: b"\0\0\0\0\0\x01\x02\0\x02a",
-            is_record: false,
-        },
-        Case {
-            key: key(7, 1, 1),
-            bytes: b"\0\0\0\0\0\x01\x04",
-            is_record: false,
-        },
-        Case {
-            key: key(8, 1, 2),
-            bytes: b"\0\0\0\x01\0\x02\x01\xff\x01\0\x80\0\0\0\0\0\0\0",
-            is_record: true,
-        },
-        Case {
-            key: key(9, 1, 0),
-            bytes: b"\0\0\0\0\0\0\0\x01\0\0\0\x01\0\0\x10\0",
-            is_record: true,
-        },
-        Case {
-            key: key(9, 1, 1),
-            bytes: b"\0\0\0\0\0\0\0\x01\0\0\0\x01\0\0\x10\0",
-            is_record: false,
-        },
-    ];
-    check_all(&rt, rt.alloc(), &cases)
+fn each_kind_at_the_ends_of_its_ranges(rt: HostRuntime) -> Result<(), Fail> {
+    let alloc = rt.alloc();
+    check_all(&rt, alloc, &counters())?;
+    check_all(&rt, alloc, &heads())?;
+    check_all(&rt, alloc, &pieces())?;
+    check_all(&rt, alloc, &objects())?;
+    check_all(&rt, alloc, &fields())?;
+    check_all(&rt, alloc, &activations_and_entries())
+}
+
+// The bytes of a record: some at the front, and one byte many times behind them.
+fn filled(alloc: Global, front: &[u8], byte: u8, count: usize) -> Result<Vec<u8>, AllocError> {
+    let mut bytes = front.to_vec(alloc)?;
+    for _ in 0..count {
+        bytes.push(byte)?;
+    }
+    Ok(bytes)
+}
+
+// Names, texts, pieces and counts of the greatest length, and those longer by one.
+#[test]
+fn the_longest_of_each(rt: HostRuntime) -> Result<(), Fail> {
+    let alloc = rt.alloc();
+    let piece = Key {
+        kind: 3,
+        a: 1,
+        b: 0,
+    };
+    assert!(rt; is_spelling(alloc, piece, &filled(alloc, b"", b'c', 3_968)?)?);
+    assert!(rt; !is_spelling(alloc, piece, &filled(alloc, b"", b'c', 3_969)?)?);
+    let text = b"\0\0\0\0\0\x01\x02\x08\0";
+    assert!(rt; is_spelling(alloc, VECTOR, &filled(alloc, text, b'x', 2_048)?)?);
+    let text = b"\0\0\0\0\0\x01\x02\x08\x01";
+    assert!(rt; !is_spelling(alloc, VECTOR, &filled(alloc, text, b'x', 2_049)?)?);
+    let fields = b"\0\0\0\0\xff\xff";
+    assert!(rt; is_spelling(alloc, VECTOR, &filled(alloc, fields, 1, 131_070)?)?);
+    let activation = Key {
+        kind: 8,
+        a: 1,
+        b: 2,
+    };
+    let args = b"\0\0\0\x01\0\0\0\0\xff";
+    assert!(rt; is_spelling(alloc, activation, &filled(alloc, args, 1, 510)?)?);
+    Ok(())
 }
 
 #[test]
-fn counters(rt: HostRuntime) -> Result<(), Fail> {
+fn names_of_64_bytes(rt: HostRuntime) -> Result<(), Fail> {
     let cases = [
-        Case {
-            key: key(1, 0, 0),
-            bytes: b"\0\0\0\0\0\0\0\x01\0\0\0\0\0\0\0\x01\0\0\0\0\0\0\0\x01\0\0\0\0\0\0\0\0\0\0\0\0\0\0\0\0\0\0\0\0\0",
-            is_record: true,
-        },
-        Case {
-            key: key(1, 0, 0),
-            bytes: b"\0\0\0\0\0\0\0\0\0\0\0\0\0\0\0\x01\0\0\0\0\0\0\0\x01\0\0\0\0\0\0\0\0\0\0\0\0\0\0\0\0\0\0\0\0\0",
-            is_record: false,
-        },
-        Case {
-            key: key(1, 0, 0),
-            bytes: b"\x40\0\0\0\0\0\0\0\x40\0\0\0\0\x01\0\0\x40\0\0\0\0\0\0\0\x01\x80\0\0\0\0\0\0\0\xff\xff\xff\xff\xff\xff\xff\xff\xff\xff\xff\xff",
-            is_record: true,
-        },
-        Case {
-            key: key(1, 0, 0),
-            bytes: b"\x40\0\0\0\0\0\0\0\x40\0\0\0\0\x01\0\x01\x40\0\0\0\0\0\0\0\0\0\0\0\0\0\0\0\0\0\0\0\0\0\0\0\0\0\0\0\0",
-            is_record: false,
-        },
-        Case {
-            key: key(1, 0, 0),
-            bytes: b"\0\0\0\0\0\0\0\x01\0\0\0\0\0\0\0\x01\0\0\0\0\0\0\0\x01\0\0\0\0\0\0\0\0\0\0\0\0\0\0\0\0\0\0\0\0\x01",
-            is_record: false,
-        },
-        Case {
-            key: key(1, 0, 0),
-            bytes: b"\0\0\0\0\0\0\0\x01\0\0\0\0\0\0\0\x01\0\0\0\0\0\0\0\x01\x02\0\0\0\0\0\0\0\0\0\0\0\0\0\0\0\0\0\0\0\0",
-            is_record: false,
-        },
+        inside(
+            2,
+            1,
+            0,
+            b"\x40aaaaaaaaaaaaaaaaaaaaaaaaaaaaaaaaaaaaaaaaaaaaaaaaaaaaaaaaaaaaaaaa\0\0\0\0\0\0\0\0\0\0",
+        ),
+        outside(
+            2,
+            1,
+            0,
+            b"\x41aaaaaaaaaaaaaaaaaaaaaaaaaaaaaaaaaaaaaaaaaaaaaaaaaaaaaaaaaaaaaaaaa\0\0\0\0\0\0\0\0\0\0",
+        ),
     ];
     check_all(&rt, rt.alloc(), &cases)
 }
