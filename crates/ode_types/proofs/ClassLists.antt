@@ -50,11 +50,11 @@ module _ {X : Type 0} (p : X → Bool) where
     by_test next true = refl
     by_test next false = next
 
-  slice_get-behind : (front : List X) (x : X) (xs : List X) → slice_get (front ++ x ∷ xs) (length front) ≡ Some x
+  pub slice_get-behind : (front : List X) (x : X) (xs : List X) → slice_get (front ++ x ∷ xs) (length front) ≡ Some x
   slice_get-behind [] x xs = refl
   slice_get-behind (y ∷ front) x xs = slice_get-behind front x xs
 
-  length-more : (x : X) (ys : List X) → length (ys ++ x ∷ []) ≡ length ys + 1
+  pub length-more : (x : X) (ys : List X) → length (ys ++ x ∷ []) ≡ length ys + 1
   length-more x [] = refl
   length-more x (y ∷ ys) = let rest = length-more x ys in omega arith
 

@@ -1,4 +1,14 @@
 pub mod CheckedClasses
 pub mod ClassLists
+pub mod EventLaws
+pub mod FamilyLaws
+pub mod KeptLaws
+pub mod KeptRights
+pub mod KeptStatements
+pub mod LineLaws
 pub mod LiteralLaws
 pub mod Places
+pub mod StatementLaws
+pub mod StaticLaws
+pub mod TurnLaws
+pub mod TypingLaws

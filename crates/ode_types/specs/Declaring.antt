@@ -1,5 +1,5 @@
 -- The first pass over a class: names, class names in sorts, kinds and numbers, without bodies.
-use Rattle.std.specs.Prelude.{ℕ, ◌+◌, List, [], ◌∷◌, ◌++◌, length, codes, Bool, true, false, not, ◌&&◌, ◌||◌, nat_le, ◌==◌, is_some, is_none, Option, Some, None, Ok}
+use Rattle.std.specs.Prelude.{ℕ, ◌+◌, List, [], ◌∷◌, ◌++◌, length, codes, Bool, true, false, not, ◌&&◌, ◌||◌, nat_le, nat_lt, ◌==◌, is_some, is_none, Option, Some, None, Ok}
 use Rattle.std.specs.List.{list_any, filter_map}
 use Rattle.std.specs.Option.{option_map, option_map_or}
 use Rattle.std.specs.Str.{bytes_eq}
@@ -18,12 +18,13 @@ use Rattle.ode_value.specs.Same.{same_kind, same_sort}
 use Rattle.ode_types.specs.Checks.{Check, ◌>>=◌, ◌>>◌, needs, found, through}
 use Rattle.ode_types.specs.Events.{kind_method}
 use Rattle.ode_types.specs.Families.{class_named, ancestors_of, line_of, field_named, method_named, constraint_named, trigger_named}
-use Rattle.ode_types.specs.Limits.{field_limit, trigger_limit, ancestor_limit}
+use Rattle.ode_types.specs.Limits.{field_limit, trigger_limit, ancestor_limit, classes_limit}
+use Rattle.ode_types.specs.Sorts.{is_void}
 
--- a class without members of its own: the next number, and what it inherits
-abbrev pub without_members : List Class → List ℕ → Option Class → Class
-without_members known name parent = record {
-  number = length known + 1;
+-- a class without members of its own: its number and name, and what it inherits
+abbrev pub without_members : ℕ → List ℕ → Option Class → Class
+without_members number name parent = record {
+  number = number;
   name = name;
   parent = option_map (λ (p : Class). p.number) parent;
   fields = option_map_or (λ (p : Class). p.fields) parent [];
@@ -48,12 +49,19 @@ parent_in known (Some name) = do
   p ← found (UnknownName name) (class_named known name)
   Ok (Some p)
 
--- the class's name is new, and its parent is declared
-abbrev pub begins : List Class → ClassDecl → Check Class
+-- the next number, where one is left
+abbrev pub numbered : List Class → List ℕ → Check ℕ
+numbered known name = do
+  needs (TooMany name) (nat_lt (length known) classes_limit)
+  Ok (length known + 1)
+
+-- the class's name is new, its parent is declared, and a number is left for it
+unfoldable pub begins : List Class → ClassDecl → Check Class
 begins known d = do
   needs (Duplicate d.name) (is_none (class_named known d.name))
   parent ← parent_in known d.parent
-  Ok (without_members known d.name parent)
+  number ← numbered known d.name
+  Ok (without_members number d.name parent)
 
 -- the kind's last word, or the method's name
 abbrev pub kind_word : Kind → List ℕ
@@ -88,16 +96,27 @@ module _ (known : List Class) (d : ClassDecl) where
   knows_sort (sort.Reference name) = needs (UnknownName name) (bytes_eq name d.name || is_some (class_named known name))
   knows_sort _ = Ok tt
 
-  -- parameters differ
-  abbrev pub knows_param : List (List ℕ) → Param → Check (List (List ℕ))
-  knows_param before p = do
-    knows_sort p.sort
-    needs (Duplicate p.name) (not (list_any (bytes_eq p.name) before))
-    Ok (p.name ∷ before)
+  -- a value's sort; no text has a value of the sort void
+  abbrev pub knows_value : List ℕ → Sort → Check (Unit {0})
+  knows_value name s = do
+    knows_sort s
+    needs (WrongSort name) (not (is_void (Some s)))
 
+  -- a parameter behind those before it
+  abbrev pub knows_param : List Param → Param → Check (Unit {0})
+  knows_param before p = do
+    knows_value p.name p.sort
+    needs (Duplicate p.name) (not (list_any (λ (q : Param). bytes_eq q.name p.name) before))
+
+  abbrev pub next_param : List Param → Param → Check (List Param)
+  next_param before p = do
+    knows_param before p
+    Ok (before ++ p ∷ [])
+
+  -- parameters differ
   abbrev pub knows_params : List Param → Check (Unit {0})
   knows_params params = do
-    _ ← through knows_param [] params
+    _ ← through next_param [] params
     Ok tt
 
   -- a method of this name is among the members, or an ancestor has one
@@ -111,16 +130,20 @@ module _ (known : List Class) (d : ClassDecl) where
     needs (UnknownName (kind_word k)) (option_map_or (has_method c) (kind_method k) true)
     Ok (with_member c (member.Events (k ∷ [])))
 
+  -- a method has the shape of the one that it redefines
+  abbrev pub inherits_shape : Class → Method → Check (Unit {0})
+  inherits_shape c m = needs (NotInherited m.name) (option_map_or (same_shape m) (method_named (ancestors_of known c) m.name) true)
+
   -- a member, behind those that the class has so far
   abbrev pub declares : Class → Member → Check Class
   declares c (member.Field name s) = do
-    knows_sort s
+    knows_value name s
     needs (Duplicate name) (is_none (field_named c.fields name))
     Ok (with_member c (member.Field name s))
   declares c (member.Method m) = do
     knows_sort m.result
     needs (Duplicate m.name) (is_none (method_named (c ∷ []) m.name))
-    needs (NotInherited m.name) (option_map_or (same_shape m) (method_named (ancestors_of known c) m.name) true)
+    inherits_shape c m
     knows_params m.params
     Ok (with_member c (member.Method m))
   declares c (member.Constraint x) = do
@@ -138,7 +161,7 @@ module _ (known : List Class) (d : ClassDecl) where
   is_small c = nat_le (length c.fields) field_limit && nat_le (length c.triggers) trigger_limit && nat_le (length (ancestors_of known c)) ancestor_limit
 
   -- all members
-  abbrev pub declared : Class → Check Class
+  unfoldable pub declared : Class → Check Class
   declared start = do
     c ← through declares start d.members
     needs (TooMany d.name) (is_small c)

@@ -28,18 +28,21 @@ kind_method (kind.Before name) = Some name
 kind_method (kind.After name) = Some name
 kind_method _ = None
 
--- the parameters of an event: those of the nearest method that its kind names
+-- the nearest method that a kind names, of a class
+abbrev pub event_method_in : List Class → Option Class → Kind → Option Method
+event_method_in classes class k =
+    option_and_then (λ name. option_and_then (λ (c : Class). method_named (line_of classes c) name) class) (kind_method k)
+
+-- the parameters of an event: those of its method
 abbrev pub event_params : Scope → Kind → List Param
-event_params scope k =
-    let line = option_map_or (line_of scope.classes) scope.class [] in
-    option_map_or (λ (m : Method). m.params) (option_and_then (method_named line) (kind_method k)) []
+event_params scope k = option_map_or (λ (m : Method). m.params) (event_method_in scope.classes scope.class k) []
 
 -- the class lists a kind, or an ancestor does
 abbrev pub is_listed : Scope → Kind → Bool
 is_listed scope k = option_map_or (λ (c : Class). list_any (same_kind k) c.kinds) scope.class false
 
 -- a mask, which sees the event's parameters behind the trigger's, and is plain
-abbrev pub mask : Kind → Option Expr → Scope → Check (Option Expr)
+unfoldable pub mask : Kind → Option Expr → Scope → Check (Option Expr)
 mask k None scope = Ok None
 mask k (Some e) scope = do
   test ← fitting sort.Bool e (plain_scope (with_params (event_params scope k) scope))
@@ -58,12 +61,16 @@ one make e scope = do
   a ← e scope
   Ok (make a)
 
--- one level of an event expression
-abbrev pub listing_of : event.EventExpr-F Listing → Listing
-listing_of (event.Leaf k m) scope = do
+-- a leaf: its kind is listed
+unfoldable pub leaf_listed : Kind → Option Expr → Listing
+leaf_listed k m scope = do
   needs (wrong scope) (is_listed scope k)
   test ← mask k m scope
   Ok (checked.Leaf k test)
+
+-- one level of an event expression
+abbrev pub listing_of : event.EventExpr-F Listing → Listing
+listing_of (event.Leaf k m) scope = leaf_listed k m scope
 listing_of event.Any scope = Ok checked.Any
 listing_of event.First scope = Ok checked.First
 listing_of (event.Not e) scope = one checked.Not e scope

@@ -1,3 +1,4 @@
+pub mod Answers
 pub mod Bodies
 pub mod Checked
 pub mod Checks
@@ -5,7 +6,9 @@ pub mod Declaring
 pub mod Events
 pub mod Families
 pub mod Indexed
+pub mod Kept
 pub mod Limits
+pub mod Lines
 pub mod Literals
 pub mod Rights
 pub mod Scopes

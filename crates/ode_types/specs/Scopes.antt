@@ -1,7 +1,7 @@
 -- Where an expression or a statement stands, and what a name means there.
 use Rattle.std.specs.Prelude.{ℕ, ◌+◌, List, [], ◌∷◌, ◌++◌, length, Bool, true, false, is_some, Option, Some}
-use Rattle.std.specs.List.{find, enumerate_from}
-use Rattle.std.specs.Option.{option_map, option_map_or, option_or}
+use Rattle.std.specs.List.{find}
+use Rattle.std.specs.Option.{option_copied, option_map, option_map_or, option_or}
 use Rattle.std.specs.Str.{bytes_eq}
 use Rattle.ode_value.specs.declared.binding.Param.{Param}
 use Rattle.ode_value.specs.declared.binding.Var.{Var}
@@ -13,6 +13,9 @@ use Rattle.ode_value.specs.declared.reason.CheckError.TheVariants.{WrongSort}
 use Rattle.ode_value.specs.declared.statement.Sort.{Sort}
 use Rattle.ode_value.specs.declared.value.Ref.{Ref}
 use Rattle.ode_types.specs.Families.{field_named}
+use Rattle.ode_types.specs.Limits.{in_slots}
+use Rattle.ode_types.specs.declared.place.Locals.{Locals}
+use Rattle.ode_types.specs.declared.place.Place.{Place}
 
 -- the classes that are known; the class that `this` is of; the member's name; the parameters and locals that are seen, each with
 -- its slot; the next local's slot; what `return` gives; an expression is plain; the classes of the literals
@@ -32,7 +35,7 @@ member_scope classes c name params result = record {
   classes = classes;
   class = Some c;
   member = name;
-  seen = enumerate_from 0 params;
+  seen = in_slots 0 params;
   next = length params;
   result = result;
   is_plain = false;
@@ -45,7 +48,7 @@ plain_scope scope = record scope { is_plain = true }
 
 -- with the parameters of an event behind those that are seen
 abbrev pub with_params : List Param → Scope → Scope
-with_params params scope = record scope { seen = scope.seen ++ enumerate_from scope.next params }
+with_params params scope = record scope { seen = scope.seen ++ in_slots scope.next params }
 
 -- with one more local
 abbrev pub with_local : List ℕ → Sort → Scope → Scope
@@ -62,19 +65,38 @@ behind inner scope = record scope { next = inner.next }
 abbrev pub wrong : Scope → CheckError
 wrong scope = WrongSort scope.member
 
--- the first parameter or local of this name that is seen, and the field of the class
-abbrev pub local_named : Scope → List ℕ → Option (ℕ × Param)
-local_named scope name = find (λ (p : ℕ × Param). bytes_eq p.1.name name) scope.seen
+-- the first parameter or local of this name among those that are seen, and the field of the class
+abbrev pub local_named : List (ℕ × Param) → List ℕ → Option (ℕ × Param)
+local_named seen name = find (λ (p : ℕ × Param). bytes_eq p.1.name name) seen
 
-abbrev pub own_field : Scope → List ℕ → Option (ℕ × Field)
-own_field scope name = field_named (option_map_or (λ (c : Class). c.fields) scope.class []) name
+abbrev pub own_field : Option Class → List ℕ → Option (ℕ × Field)
+own_field class name = field_named (option_map_or (λ (c : Class). c.fields) class []) name
 
 -- a parameter or local of this name is seen
 abbrev pub is_seen : Scope → List ℕ → Bool
-is_seen scope name = is_some (local_named scope name)
+is_seen scope name = is_some (local_named scope.seen name)
+
+-- what a name means as a field, and its sort
+abbrev pub own_meaning : Option Class → List ℕ → Option (Var × Sort)
+own_meaning class name = option_map (λ (f : ℕ × Field). (var.Own f.0, f.1.sort)) (own_field class name)
 
 -- what a name means: a parameter or a local, else a field; and its sort
 abbrev pub meaning : Scope → List ℕ → Option (Var × Sort)
-meaning scope name =
-    option_or (option_map (λ (p : ℕ × Param). (var.Local p.0, p.1.sort)) (local_named scope name))
-    (option_map (λ (f : ℕ × Field). (var.Own f.0, f.1.sort)) (own_field scope name))
+meaning scope name = option_or (option_map (λ (p : ℕ × Param). (var.Local p.0, p.1.sort)) (local_named scope.seen name)) (own_meaning scope.class name)
+
+-- the scope of what stands at a place, with these locals
+abbrev pub scope_of : Place → Locals → Scope
+scope_of place locals = record {
+  classes = place.known;
+  class = option_copied place.class;
+  member = place.member.now;
+  seen = locals.seen;
+  next = locals.next;
+  result = place.result.now;
+  is_plain = place.is_plain;
+  literals = place.literals.now;
+}
+
+-- the same where no local is looked at
+abbrev pub scope_at : Place → Scope
+scope_at place = scope_of place (record { seen = []; next = 0 })

@@ -1,6 +1,9 @@
 -- The static rules: a checked class or the first rule that is broken, and the same of a statement of a script.
 use Rattle.std.specs.Prelude.{ℕ, List, [], ◌∷◌, ◌++◌, codes, false, fold, None, Ok}
 use Rattle.ode_value.specs.declared.class.Class.{Class}
+use Rattle.ode_value.specs.declared.member.Constraint.{Constraint}
+use Rattle.ode_value.specs.declared.member.Method.{Method}
+use Rattle.ode_value.specs.declared.member.TriggerDecl.{TriggerDecl}
 use Rattle.ode_value.specs.declared.statement.ClassDecl.{ClassDecl}
 use Rattle.ode_value.specs.declared.statement.Member.{Member}
 use Rattle.ode_value.specs.declared.statement.Member.TheVariants as member
@@ -14,27 +17,48 @@ use Rattle.ode_types.specs.Events.{listed}
 use Rattle.ode_types.specs.Scopes.{Scope, member_scope, plain_scope}
 use Rattle.ode_types.specs.Typing.{fitting}
 
--- the second pass over a member; fields and kinds have nothing more to check
-abbrev pub checked_member : List Class → Class → Member → Check Member
-checked_member classes c (member.Method m) = do
+-- the second pass over a method, a constraint and a trigger
+unfoldable pub method_checked : List Class → Class → Method → Check Method
+method_checked classes c m = do
   ss ← body m.body (member_scope classes c m.name m.params m.result)
-  Ok (member.Method (record m { body = ss }))
-checked_member classes c (member.Constraint x) = do
+  Ok (record m { body = ss })
+
+unfoldable pub constraint_checked : List Class → Class → Constraint → Check Constraint
+constraint_checked classes c x = do
   test ← fitting sort.Bool x.test (plain_scope (member_scope classes c x.name [] sort.Void))
-  Ok (member.Constraint (record x { test = test }))
-checked_member classes c (member.Trigger t) = do
+  Ok (record x { test = test })
+
+unfoldable pub trigger_checked : List Class → Class → TriggerDecl → Check TriggerDecl
+trigger_checked classes c t = do
   event ← listed t.event (member_scope classes c t.name t.params sort.Void)
   action ← body t.action (member_scope classes c t.name t.params sort.Void)
-  Ok (member.Trigger (record t { event = event; action = action }))
+  Ok (record t { event = event; action = action })
+
+-- over a member; fields and kinds have nothing more to check
+abbrev pub checked_member : List Class → Class → Member → Check Member
+checked_member classes c (member.Method m) = do
+  n ← method_checked classes c m
+  Ok (member.Method n)
+checked_member classes c (member.Constraint x) = do
+  y ← constraint_checked classes c x
+  Ok (member.Constraint y)
+checked_member classes c (member.Trigger t) = do
+  u ← trigger_checked classes c t
+  Ok (member.Trigger u)
 checked_member classes c m = Ok m
+
+-- over all members, which are added to what the class begins with
+unfoldable pub completed : List Class → Class → ClassDecl → Class → Check Class
+completed classes c d start = do
+  members ← each (checked_member classes c) d.members
+  Ok (fold with_member start members)
 
 -- both passes over a class, by the classes that are known
 unfoldable pub check_class : List Class → ClassDecl → Check Class
 check_class known d = do
   start ← begins known d
   draft ← declared known d start
-  members ← each (checked_member (known ++ draft ∷ []) draft) d.members
-  Ok (fold with_member start members)
+  completed (known ++ draft ∷ []) draft d start
 
 -- where a statement of a script stands, by the classes and by the classes of its literals
 abbrev pub script_scope : List Class → List (Ref × ℕ) → Scope

@@ -1,12 +1,13 @@
 //! The classes that are declared.
-ghost use Rattle.std.specs.Prelude.{◌≡◌, ◌<◌, [], ◌∷◌, ◌++◌, OnErr, OnOk, length, remove};
+ghost use Rattle.std.specs.Prelude.{◌≡◌, ◌<◌, ◌≤◌, ◌-◌, [], ◌∷◌, ◌++◌, IfSome, OnErr, OnOk, length, remove, reverse, take};
 ghost use Rattle.std.specs.BTreeMap.{insert_entry};
 ghost use Rattle.std.specs.Cmp.Lexicographic.{slice_cmp};
 ghost use Rattle.std.specs.List.{slice_get};
 ghost use Rattle.std.specs.Option.{option_copied};
 ghost use Rattle.std.specs.Ordering.{nat_cmp};
 ghost use Rattle.ode_types.specs.Checked.{IsChecked};
-ghost use Rattle.ode_types.specs.Families.{class_named, class_numbered};
+ghost use Rattle.ode_types.specs.Families.{class_named, class_numbered, upward};
+ghost use Rattle.ode_types.specs.Lines.{headed, parent_in};
 ghost use Rattle.ode_types.specs.Indexed.{place_named};
 
 use ode_value::{Class, List, Name};
@@ -87,6 +88,24 @@ impl Classes {
         match self.place_of(name) {
             Some(place) => at(self.list.as_slice(), place),
             None => None,
+        }
+    }
+
+    /// The class of this number, where it is among the first ones. The line from it up goes on among those before it.
+    pub(crate) fn among(&self, number: u32, before: usize) -> Option<&Class>
+        ensures line { upward number (reverse (take before self.now))
+            ≡ headed (option_copied result) (upward (parent_in result) (reverse (take (number - 1) self.now))) }
+        ensures low { IfSome result (λ _. 1 ≤ number) }
+    {
+        let classes = self.list.as_slice();
+        if number == 0 {
+            return None;
+        }
+        let place = number as usize - 1;
+        if place < before {
+            at(classes, place)
+        } else {
+            None
         }
     }
 

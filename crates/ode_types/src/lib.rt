@@ -1,10 +1,26 @@
 //! The static rules: a checked class or statement, or the first rule that it breaks.
 #![tactic(auto)]
 
+mod bodies;
 mod classes;
+mod families;
+mod limits;
+mod line;
+mod names;
+mod place;
 mod references;
+mod rights;
 mod running;
+mod sorts;
+mod statics;
+mod stop;
+mod typing;
 
 pub use classes::Classes;
+pub use limits::{
+    ANCESTOR_LIMIT, CLASSES_LIMIT, FIELD_LIMIT, SLOT_LIMIT, TRIGGER_LIMIT, limits_agree,
+};
 pub use references::literals;
 pub use running::Running;
+pub use statics::check_statement;
+pub use stop::CheckStop;

@@ -1,0 +1,175 @@
+//! Statements and bodies.
+ghost use Rattle.std.specs.Prelude.{◌≡◌, OnOk, length, take};
+ghost use Rattle.ode_types.specs.Answers.{Answers, AnswersWith};
+ghost use Rattle.ode_types.specs.Bodies.{body_checked, checks, deactivate_checked, let_checked, return_checked, set_checked, show_checked};
+ghost use Rattle.ode_types.specs.Scopes.{scope_of};
+
+use crate::place::{Locals, Place};
+use crate::rights::{Right, check_rhs, fitting, reference};
+use crate::sorts::{fits, is_void, starting};
+use crate::stop::{CheckStop, duplicate, unknown, wrong};
+use ode_value::{Expr, List, Rhs, Sort, Stmt, Var};
+use std::alloc::Global;
+
+// A `let`. Its name is seen behind it.
+#[tactic(auto, using(crate::proofs::TypingLaws::stops_with, crate::proofs::TurnLaws::kept_more), unfolding(crate::specs::Bodies::let_checked))]
+fn check_let(
+    alloc: Global,
+    var: &Var,
+    rhs: &Rhs,
+    place: &Place,
+    locals: &mut Locals,
+) -> Result<Stmt, CheckStop>
+    ensures answers { AnswersWith (let_checked var.now rhs.now (scope_of place.now locals.old)) (scope_of place.now locals.new) result }
+    ensures kept { OnOk result (take (length locals.old.seen) locals.new.seen ≡ locals.old.seen) }
+{
+    let Var::Name(name) = var else {
+        return wrong(alloc, place.member);
+    };
+    if locals.named(name).is_some() {
+        return duplicate(alloc, name);
+    }
+    let Right { rhs, sort } = check_rhs(alloc, rhs, place, locals)?;
+    match starting(sort) {
+        Some(sort) if locals.has_slot() => {
+            let slot = locals.add(alloc, name, sort)?;
+            Ok(Stmt::Let(Var::Local(slot), rhs))
+        }
+        _ => wrong(alloc, place.member),
+    }
+}
+
+#[tactic(auto, using(crate::proofs::TypingLaws::stops_with), unfolding(crate::specs::Bodies::set_checked))]
+fn check_set(
+    alloc: Global,
+    var: &Var,
+    rhs: &Rhs,
+    place: &Place,
+    locals: &Locals,
+) -> Result<Stmt, CheckStop>
+    ensures { AnswersWith (set_checked var.now rhs.now (scope_of place.now locals.now)) (scope_of place.now locals.now) result }
+{
+    let Var::Name(name) = var else {
+        return wrong(alloc, place.member);
+    };
+    let Some((var, sort)) = place.meaning(alloc, locals, name)? else {
+        return unknown(alloc, name);
+    };
+    let right = check_rhs(alloc, rhs, place, locals)?;
+    if fits(&place.known, &right.sort, &sort) {
+        Ok(Stmt::Set(var, right.rhs))
+    } else {
+        wrong(alloc, place.member)
+    }
+}
+
+#[tactic(auto, using(crate::proofs::TypingLaws::stops_through), unfolding(crate::specs::Bodies::return_checked))]
+fn check_return(
+    alloc: Global,
+    e: &Option<Expr>,
+    place: &Place,
+    locals: &Locals,
+) -> Result<Stmt, CheckStop>
+    ensures { Answers (return_checked e.now (scope_of place.now locals.now)) result }
+{
+    match e {
+        Some(e) => {
+            let value = fitting(alloc, place.result, e, place, locals)?;
+            Ok(Stmt::Return(Some(value)))
+        }
+        None => match place.result {
+            Sort::Void => Ok(Stmt::Return(None)),
+            _ => wrong(alloc, place.member),
+        },
+    }
+}
+
+#[tactic(auto, using(crate::proofs::TypingLaws::stops_through), unfolding(crate::specs::Bodies::show_checked))]
+fn check_show(alloc: Global, rhs: &Rhs, place: &Place, locals: &Locals) -> Result<Stmt, CheckStop>
+    ensures { Answers (show_checked rhs.now (scope_of place.now locals.now)) result }
+{
+    let right = check_rhs(alloc, rhs, place, locals)?;
+    if is_void(&right.sort) {
+        return wrong(alloc, place.member);
+    }
+    Ok(Stmt::Show(right.rhs))
+}
+
+#[tactic(auto, using(crate::proofs::TypingLaws::stops_through), unfolding(crate::specs::Bodies::deactivate_checked))]
+fn check_deactivate(
+    alloc: Global,
+    e: &Expr,
+    f: &Expr,
+    place: &Place,
+    locals: &Locals,
+) -> Result<Stmt, CheckStop>
+    ensures { Answers (deactivate_checked e.now f.now (scope_of place.now locals.now)) result }
+{
+    let of = reference(alloc, e, place, locals)?;
+    let number = fitting(alloc, &Sort::Int, f, place, locals)?;
+    Ok(Stmt::Deactivate(of.expr, number))
+}
+
+/// A statement with slots for its names, or the first rule that it breaks. What it declares is seen behind it.
+#[cycle(statements)]
+#[tactic(auto, using(crate::proofs::StatementLaws::statements))]
+pub(crate) fn check_stmt(
+    alloc: Global,
+    s: &Stmt,
+    place: &Place,
+    locals: &mut Locals,
+) -> Result<Stmt, CheckStop>
+    ensures answers { AnswersWith (checks s.now (scope_of place.now locals.old)) (scope_of place.now locals.new) result }
+    ensures kept { OnOk result (take (length locals.old.seen) locals.new.seen ≡ locals.old.seen) }
+{
+    match s {
+        Stmt::Let(var, rhs) => check_let(alloc, var, rhs, place, locals),
+        Stmt::Set(var, rhs) => check_set(alloc, var, rhs, place, locals),
+        Stmt::Do(rhs) => {
+            let right = check_rhs(alloc, rhs, place, locals)?;
+            Ok(Stmt::Do(right.rhs))
+        }
+        Stmt::If(test, first, second) => {
+            let test = fitting(alloc, &Sort::Bool, test, place, locals)?;
+            let first = check_body(alloc, first.as_slice(), place, locals)?;
+            let second = check_body(alloc, second.as_slice(), place, locals)?;
+            Ok(Stmt::If(test, first, second))
+        }
+        Stmt::Return(e) => check_return(alloc, e, place, locals),
+        Stmt::Delete(e) => {
+            let of = reference(alloc, e, place, locals)?;
+            Ok(Stmt::Delete(of.expr))
+        }
+        Stmt::DropVersion(e) => {
+            let of = reference(alloc, e, place, locals)?;
+            Ok(Stmt::DropVersion(of.expr))
+        }
+        Stmt::Deactivate(e, f) => check_deactivate(alloc, e, f, place, locals),
+        Stmt::Show(rhs) => check_show(alloc, rhs, place, locals),
+        Stmt::Say(e) => {
+            let text = fitting(alloc, &Sort::Text, e, place, locals)?;
+            Ok(Stmt::Say(text))
+        }
+        Stmt::TAbort => Ok(Stmt::TAbort),
+    }
+}
+
+/// A body. Its locals aren't seen behind it, and keep their slots.
+#[cycle(statements)]
+pub(crate) fn check_body(
+    alloc: Global,
+    body: &[Stmt],
+    place: &Place,
+    locals: &mut Locals,
+) -> Result<List<Stmt>, CheckStop>
+    ensures answers { AnswersWith (body_checked body.now (scope_of place.now locals.old)) (scope_of place.now locals.new) result }
+    ensures kept { OnOk result (locals.new.seen ≡ locals.old.seen) }
+{
+    let seen = locals.seen.len();
+    let mut checked = List::new(alloc);
+    for s in body {
+        checked.push(check_stmt(alloc, s, place, locals)?)?;
+    }
+    locals.forget(seen);
+    Ok(checked)
+}

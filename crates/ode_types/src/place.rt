@@ -1,0 +1,123 @@
+//! Where a tree stands, and the parameters and locals that are seen there.
+ghost use Rattle.std.specs.Prelude.{◌≡◌, true, ◌+◌, ◌≤◌, ◌<◌, nat_lt, ◌++◌, ◌∷◌, [], IfOk, OnOk, length, take};
+ghost use Rattle.std.specs.Option.{option_copied};
+ghost use Rattle.ode_types.specs.Limits.{slot_limit};
+ghost use Rattle.ode_types.specs.Scopes.{local_named, meaning, own_meaning, scope_of};
+
+use crate::families::field_named;
+use crate::limits::SLOT_LIMIT;
+use crate::line::Known;
+use ode_value::{Class, List, Name, Param, Ref, Sort, Var};
+use std::alloc::{AllocError, Global};
+
+/// Where a tree stands.
+#[derive(Drop)]
+pub(crate) struct Place<'a> {
+    /// The classes that are known.
+    pub(crate) known: Known<'a>,
+    /// The class that `this` is of.
+    pub(crate) class: Option<&'a Class>,
+    /// The member's name.
+    pub(crate) member: &'a Name,
+    /// What `return` gives.
+    pub(crate) result: &'a Sort,
+    /// Whether expressions are plain.
+    pub(crate) is_plain: bool,
+    /// The numbers of the literals' classes.
+    pub(crate) literals: &'a [(Ref, u32)],
+}
+
+/// The parameters and locals that are seen, each with its slot, and the next local's slot.
+#[derive(Drop)]
+pub(crate) struct Locals {
+    pub(crate) seen: List<(u16, Param)>,
+    pub(crate) next: usize,
+}
+
+impl Locals {
+    /// None is seen.
+    pub(crate) fn new(alloc: Global) -> Locals
+        ensures seen { result.seen ≡ [] }
+        ensures next { result.next ≡ 0 }
+    {
+        Locals {
+            seen: List::new(alloc),
+            next: 0,
+        }
+    }
+
+    /// The first parameter or local of this name that is seen.
+    pub(crate) fn named(&self, name: &Name) -> Option<&(u16, Param)>
+        ensures { option_copied result ≡ local_named self.now.seen name.now }
+    {
+        self.seen
+            .as_slice()
+            .iter()
+            .find(|local| local.1.name.same(name))
+    }
+
+    /// Whether a slot is left for one more local.
+    #[tactic(auto, unfolding(crate::specs::Limits::slot_limit))]
+    pub(crate) fn has_slot(&self) -> bool
+        ensures test { result ≡ nat_lt self.now.next slot_limit }
+        ensures left { result ≡ true → self.now.next < slot_limit }
+    {
+        self.next < SLOT_LIMIT
+    }
+
+    /// One more local, and its slot.
+    #[tactic(auto, unfolding(crate::specs::Limits::slot_limit))]
+    pub(crate) fn add(&mut self, alloc: Global, name: &Name, sort: Sort) -> Result<u16, AllocError>
+        requires { self.old.next < slot_limit }
+        ensures slot { IfOk result (λ slot. slot ≡ self.old.next) }
+        ensures seen { OnOk result (self.new.seen ≡ self.old.seen ++ (self.old.next, record { name = name.now; sort = sort }) ∷ []) }
+        ensures next { OnOk result (self.new.next ≡ self.old.next + 1) }
+    {
+        let slot = self.next as u16;
+        let name = name.copy(alloc)?;
+        self.seen.push((slot, Param { name, sort }))?;
+        self.next += 1;
+        Ok(slot)
+    }
+
+    /// Only the first ones are seen from here on.
+    pub(crate) fn forget(&mut self, seen: usize)
+        requires { seen ≤ length self.old.seen }
+        ensures seen { self.new.seen ≡ take seen self.old.seen }
+        ensures next { self.new.next ≡ self.old.next }
+    {
+        while self.seen.len() > seen {
+            self.seen.remove(self.seen.len() - 1);
+        }
+    }
+}
+
+impl<'a> Place<'a> {
+    // What a name means as a field, and its sort.
+    fn own_meaning(&self, alloc: Global, name: &Name) -> Result<Option<(Var, Sort)>, AllocError>
+        ensures { IfOk result (λ m. m ≡ own_meaning (option_copied self.now.class) name.now) }
+    {
+        let Some(class) = self.class else {
+            return Ok(None);
+        };
+        match field_named(class.fields.as_slice(), name) {
+            Some((slot, field)) => Ok(Some((Var::Own(slot), field.sort.copy(alloc)?))),
+            None => Ok(None),
+        }
+    }
+
+    /// What a name means: a parameter or a local, else a field; and its sort.
+    pub(crate) fn meaning(
+        &self,
+        alloc: Global,
+        locals: &Locals,
+        name: &Name,
+    ) -> Result<Option<(Var, Sort)>, AllocError>
+        ensures { IfOk result (λ m. m ≡ meaning (scope_of self.now locals.now) name.now) }
+    {
+        match locals.named(name) {
+            Some(local) => Ok(Some((Var::Local(local.0), local.1.sort.copy(alloc)?))),
+            None => self.own_meaning(alloc, name),
+        }
+    }
+}

@@ -1,0 +1,343 @@
+//! Right sides: calls, `pnew`, `newversion`, `activate` and expressions.
+ghost use Rattle.std.specs.Prelude.{◌≡◌, ◌+◌, List as Items, ℕ, drop};
+ghost use Rattle.std.specs.List.{list_any};
+ghost use Rattle.std.specs.Option.{option_copied};
+ghost use Rattle.std.specs.Str.{bytes_eq};
+ghost use Rattle.ode_value.specs.declared.statement.Expr.{Expr as Tree};
+ghost use Rattle.ode_types.specs.Answers.{Answers, AnswersWith};
+ghost use Rattle.ode_types.specs.Rights.{activated, argument, arguments, call_from, call_of, made, made_of, method_call, right, setting, settings, trigger_activated};
+ghost use Rattle.ode_types.specs.Scopes.{scope_of};
+ghost use Rattle.ode_types.specs.Typing.{fitting, reference};
+
+use crate::families::{field_named, method_named, trigger_named};
+use crate::place::{Locals, Place};
+use crate::sorts::{class_of, fits, is_reference};
+use crate::stop::{CheckStop, unknown, wrong};
+use crate::typing::{Typed, check_expr};
+use ode_value::{Call, Class, Expr, List, Method, Name, Param, Rhs, Sort, TriggerDecl};
+use std::alloc::Global;
+
+/// A checked right side and the sort of its value.
+#[derive(Drop)]
+pub(crate) struct Right {
+    pub(crate) rhs: Rhs,
+    pub(crate) sort: Option<Sort>,
+}
+
+/// An expression that fits a sort.
+#[tactic(auto, using(crate::proofs::TypingLaws::stops_through), unfolding(crate::specs::Typing::fitting))]
+pub(crate) fn fitting(
+    alloc: Global,
+    wanted: &Sort,
+    e: &Expr,
+    place: &Place,
+    locals: &Locals,
+) -> Result<Expr, CheckStop>
+    ensures { Answers (fitting wanted.now e.now (scope_of place.now locals.now)) result }
+{
+    let checked = check_expr(alloc, e, place, locals)?;
+    if fits(&place.known, &checked.sort, wanted) {
+        Ok(checked.expr)
+    } else {
+        wrong(alloc, place.member)
+    }
+}
+
+/// A reference, which may be null.
+#[tactic(auto, using(crate::proofs::TypingLaws::stops_through), unfolding(crate::specs::Typing::reference))]
+pub(crate) fn reference(
+    alloc: Global,
+    e: &Expr,
+    place: &Place,
+    locals: &Locals,
+) -> Result<Typed, CheckStop>
+    ensures { Answers (reference e.now (scope_of place.now locals.now)) result }
+{
+    let checked = check_expr(alloc, e, place, locals)?;
+    if is_reference(&checked.sort) {
+        Ok(checked)
+    } else {
+        wrong(alloc, place.member)
+    }
+}
+
+// An argument against the parameter at its place.
+#[tactic(auto, using(crate::proofs::TypingLaws::stops_through, crate::proofs::TurnLaws::drop_there, crate::proofs::TurnLaws::drop_none))]
+fn argument(
+    alloc: Global,
+    params: &[Param],
+    i: usize,
+    e: &Expr,
+    place: &Place,
+    locals: &Locals,
+) -> Result<Expr, CheckStop>
+    ensures { AnswersWith (argument (scope_of place.now locals.now) (drop i params.now) e.now) (drop (i + 1) params.now) result }
+{
+    match params.get(i) {
+        Some(param) => fitting(alloc, &param.sort, e, place, locals),
+        None => {
+            check_expr(alloc, e, place, locals)?;
+            wrong(alloc, place.member)
+        }
+    }
+}
+
+// Arguments, each against its parameter. One too many is checked before it is wrong.
+fn arguments(
+    alloc: Global,
+    params: &[Param],
+    args: &[Expr],
+    place: &Place,
+    locals: &Locals,
+) -> Result<List<Expr>, CheckStop>
+    ensures { Answers (arguments (scope_of place.now locals.now) params.now args.now) result }
+{
+    let mut checked = List::new(alloc);
+    for i in 0..args.len() {
+        let next = argument(alloc, params, i, &args[i], place, locals)?;
+        checked.push(next)?;
+    }
+    if args.len() < params.len() {
+        return wrong(alloc, place.member);
+    }
+    Ok(checked)
+}
+
+fn is_set(sets: &[(Name, Expr)], name: &Name) -> bool
+    ensures { result ≡ list_any (λ (s : Items ℕ × Tree). bytes_eq s.0 name.now) sets.now }
+{
+    sets.iter().any(|set| set.0.same(name))
+}
+
+// The value of a field that a `pnew` names. None of those before it has the name.
+#[tactic(auto, using(crate::proofs::TypingLaws::stops_through), unfolding(crate::specs::Rights::setting))]
+fn setting(
+    alloc: Global,
+    class: &Class,
+    before: &[(Name, Expr)],
+    set: &(Name, Expr),
+    place: &Place,
+    locals: &Locals,
+) -> Result<(Name, Expr), CheckStop>
+    ensures { Answers (setting (scope_of place.now locals.now) class.now before.now set.now) result }
+{
+    let Some((_, field)) = field_named(class.fields.as_slice(), &set.0) else {
+        return unknown(alloc, &set.0);
+    };
+    if is_set(before, &set.0) {
+        return wrong(alloc, place.member);
+    }
+    let value = fitting(alloc, &field.sort, &set.1, place, locals)?;
+    Ok((set.0.copy(alloc)?, value))
+}
+
+fn settings(
+    alloc: Global,
+    class: &Class,
+    sets: &[(Name, Expr)],
+    place: &Place,
+    locals: &Locals,
+) -> Result<List<(Name, Expr)>, CheckStop>
+    ensures { Answers (settings (scope_of place.now locals.now) class.now sets.now) result }
+{
+    let mut checked = List::new(alloc);
+    for set in sets {
+        let next = setting(alloc, class, checked.as_slice(), set, place, locals)?;
+        checked.push(next)?;
+    }
+    Ok(checked)
+}
+
+// A call of a method, behind its receiver.
+#[tactic(auto, using(crate::proofs::TypingLaws::stops_through), unfolding(crate::specs::Rights::method_call))]
+fn method_call(
+    alloc: Global,
+    of: Option<Expr>,
+    method: &Method,
+    call: &Call,
+    place: &Place,
+    locals: &Locals,
+) -> Result<Right, CheckStop>
+    ensures { Answers (method_call of method.now call.now (scope_of place.now locals.now)) result }
+{
+    let args = arguments(
+        alloc,
+        method.params.as_slice(),
+        call.args.as_slice(),
+        place,
+        locals,
+    )?;
+    let name = call.method.copy(alloc)?;
+    let sort = method.result.copy(alloc)?;
+    Ok(Right {
+        rhs: Rhs::Call(Call {
+            of,
+            method: name,
+            args,
+        }),
+        sort: Some(sort),
+    })
+}
+
+#[tactic(auto, unfolding(crate::specs::Rights::call_of))]
+fn call_of<'a>(
+    alloc: Global,
+    of: Option<Expr>,
+    class: Option<&'a Class>,
+    call: &Call,
+    place: &Place<'a>,
+    locals: &Locals,
+) -> Result<Right, CheckStop>
+    ensures { Answers (call_of of (option_copied class.entry) call.now (scope_of place.now locals.now)) result }
+{
+    let Some(class) = class else {
+        return wrong(alloc, place.member);
+    };
+    match method_named(&place.known, class, &call.method) {
+        Some(method) => method_call(alloc, of, method, call, place, locals),
+        None => unknown(alloc, &call.method),
+    }
+}
+
+#[tactic(auto, using(crate::proofs::TypingLaws::stops_through))]
+fn call_from(
+    alloc: Global,
+    e: &Expr,
+    call: &Call,
+    place: &Place,
+    locals: &Locals,
+) -> Result<Right, CheckStop>
+    ensures { Answers (call_from (Some e.now) call.now (scope_of place.now locals.now)) result }
+{
+    let of = check_expr(alloc, e, place, locals)?;
+    let class = class_of(&place.known, &of.sort);
+    call_of(alloc, Some(of.expr), class, call, place, locals)
+}
+
+fn check_call(
+    alloc: Global,
+    call: &Call,
+    place: &Place,
+    locals: &Locals,
+) -> Result<Right, CheckStop>
+    ensures { Answers (call_from call.now.of call.now (scope_of place.now locals.now)) result }
+{
+    match &call.of {
+        Some(e) => call_from(alloc, e, call, place, locals),
+        None => call_of(alloc, None, place.class, call, place, locals),
+    }
+}
+
+#[tactic(auto, using(crate::proofs::TypingLaws::stops_through), unfolding(crate::specs::Rights::trigger_activated))]
+fn trigger_activated(
+    alloc: Global,
+    of: Expr,
+    trigger: &TriggerDecl,
+    name: &Name,
+    given: &[Expr],
+    place: &Place,
+    locals: &Locals,
+) -> Result<Right, CheckStop>
+    ensures { Answers (trigger_activated of trigger.now name.now given.now (scope_of place.now locals.now)) result }
+{
+    let args = arguments(alloc, trigger.params.as_slice(), given, place, locals)?;
+    Ok(Right {
+        rhs: Rhs::Activate {
+            of,
+            trigger: name.copy(alloc)?,
+            args,
+        },
+        sort: Some(Sort::Int),
+    })
+}
+
+#[tactic(auto, unfolding(crate::specs::Rights::activated))]
+fn activated(
+    alloc: Global,
+    of: Typed,
+    name: &Name,
+    given: &[Expr],
+    place: &Place,
+    locals: &Locals,
+) -> Result<Right, CheckStop>
+    ensures { Answers (activated of name.now given.now (scope_of place.now locals.now)) result }
+{
+    let Some(class) = class_of(&place.known, &of.sort) else {
+        return wrong(alloc, place.member);
+    };
+    match trigger_named(&place.known, class, name) {
+        Some(trigger) => trigger_activated(alloc, of.expr, trigger, name, given, place, locals),
+        None => unknown(alloc, name),
+    }
+}
+
+// A new object of a class.
+#[tactic(auto, using(crate::proofs::TypingLaws::stops_through), unfolding(crate::specs::Rights::made_of))]
+fn made_of(
+    alloc: Global,
+    class: &Class,
+    name: &Name,
+    fields: &[(Name, Expr)],
+    place: &Place,
+    locals: &Locals,
+) -> Result<Right, CheckStop>
+    ensures { Answers (made_of class.now name.now fields.now (scope_of place.now locals.now)) result }
+{
+    let fields = settings(alloc, class, fields, place, locals)?;
+    let sort = Sort::Reference(name.copy(alloc)?);
+    let class = name.copy(alloc)?;
+    Ok(Right {
+        rhs: Rhs::New { class, fields },
+        sort: Some(sort),
+    })
+}
+
+#[tactic(auto, unfolding(crate::specs::Rights::made))]
+fn made(
+    alloc: Global,
+    name: &Name,
+    fields: &[(Name, Expr)],
+    place: &Place,
+    locals: &Locals,
+) -> Result<Right, CheckStop>
+    ensures { Answers (made name.now fields.now (scope_of place.now locals.now)) result }
+{
+    match place.known.named(name) {
+        Some(class) => made_of(alloc, class, name, fields, place, locals),
+        None => unknown(alloc, name),
+    }
+}
+
+/// A right side with slots for its names, and its value's sort; or the first rule that it breaks.
+#[tactic(auto, using(crate::proofs::TypingLaws::stops_through), unfolding(crate::specs::Rights::right))]
+pub(crate) fn check_rhs(
+    alloc: Global,
+    rhs: &Rhs,
+    place: &Place,
+    locals: &Locals,
+) -> Result<Right, CheckStop>
+    ensures { Answers (right rhs.now (scope_of place.now locals.now)) result }
+{
+    match rhs {
+        Rhs::Plain(e) => {
+            let checked = check_expr(alloc, e, place, locals)?;
+            Ok(Right {
+                rhs: Rhs::Plain(checked.expr),
+                sort: checked.sort,
+            })
+        }
+        Rhs::Call(call) => check_call(alloc, call, place, locals),
+        Rhs::New { class, fields } => made(alloc, class, fields.as_slice(), place, locals),
+        Rhs::NewVersion(e) => {
+            let of = reference(alloc, e, place, locals)?;
+            Ok(Right {
+                rhs: Rhs::NewVersion(of.expr),
+                sort: of.sort,
+            })
+        }
+        Rhs::Activate { of, trigger, args } => {
+            let of = check_expr(alloc, of, place, locals)?;
+            activated(alloc, of, trigger, args.as_slice(), place, locals)
+        }
+    }
+}

@@ -1,0 +1,48 @@
+//! Why a check gives no tree.
+ghost use Rattle.std.specs.Prelude.{Bool, Err};
+ghost use Rattle.ode_types.specs.Answers.{Answers};
+ghost use Rattle.ode_types.specs.Checks.{needs};
+ghost use Rattle.ode_value.specs.declared.reason.CheckError.TheVariants.{Duplicate, UnknownName, WrongSort};
+
+use ode_value::{CheckError, Name};
+use std::alloc::{AllocError, Global};
+
+/// Why a check gives no tree.
+#[derive(Drop)]
+pub enum CheckStop {
+    Memory,
+    /// The first static rule that is broken, with the name at which it is.
+    Broken(CheckError),
+}
+
+impl From<AllocError> for CheckStop {
+    ghost use Rattle.std.specs.Prelude.{◌≡◌};
+    ghost use Rattle.ode_types.specs.declared.stop.CheckStop.TheVariants.{Memory};
+
+    ghost from_gives = { λ _ e. e ≡ Memory };
+
+    fn from(_: AllocError) -> CheckStop {
+        CheckStop::Memory
+    }
+}
+
+/// A name that nothing has.
+pub(crate) fn unknown<T>(alloc: Global, name: &Name) -> Result<T, CheckStop>
+    ensures { Answers (Err (UnknownName name.now)) result }
+{
+    Err(CheckStop::Broken(CheckError::UnknownName(name.copy(alloc)?)))
+}
+
+/// A name that is there already.
+pub(crate) fn duplicate<T>(alloc: Global, name: &Name) -> Result<T, CheckStop>
+    ensures { Answers (Err (Duplicate name.now)) result }
+{
+    Err(CheckStop::Broken(CheckError::Duplicate(name.copy(alloc)?)))
+}
+
+/// Any other mismatch in the member of this name.
+pub(crate) fn wrong<T>(alloc: Global, member: &Name) -> Result<T, CheckStop>
+    ensures { Answers (Err (WrongSort member.now)) result }
+{
+    Err(CheckStop::Broken(CheckError::WrongSort(member.copy(alloc)?)))
+}
