@@ -1,0 +1,16 @@
+pub mod Basics
+pub mod ExprLaws
+pub mod FitLaws
+pub mod GrowLaws
+pub mod ValueLaws
+pub mod WalkActs
+pub mod WalkMaking
+pub mod WalkPosting
+pub mod WalkValues
+pub mod WalkCalls
+pub mod WalkRights
+pub mod WalkStatements
+pub mod SlotLaws
+pub mod WalkCompleting
+pub mod SettleLaws
+pub mod WorldLaws
