@@ -1,0 +1,5 @@
+mod Values
+mod Classes
+mod States
+mod Readable
+mod Shown
