@@ -3,4 +3,4 @@
 
 mod laws;
 
-pub use laws::expressions_are_read_again;
+pub use laws::{events_are_read_again, expressions_are_read_again};
