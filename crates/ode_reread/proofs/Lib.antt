@@ -15,3 +15,4 @@ pub mod EventRows
 pub mod AllRows
 pub mod InstantKinds
 pub mod Readings
+pub mod Longest
