@@ -21,6 +21,8 @@ use Rattle.ode_heights.specs.Heights.{above, in_pair, leaf, raised}
 use Rattle.ode_terminals.specs.declared.seen.Place.{Place}
 use Rattle.ode_terminals.specs.Seen.{reference_terminal, this_terminal}
 use Rattle.ode_value.specs.Words.{is_free, reserved}
+use Rattle.ode_value.specs.declared.event.EventExpr.{EventExpr}
+use Rattle.ode_value.specs.declared.event.Kind.{Kind}
 use Rattle.ode_value.specs.declared.operator.UnOp.{UnOp}
 use Rattle.ode_value.specs.declared.statement.Expr.{Expr}
 use Rattle.ode_value.specs.declared.statement.Expr.TheVariants as expr
@@ -28,6 +30,8 @@ use Rattle.ode_value.specs.declared.value.Value.TheVariants as value
 use Rattle.ode_syntax.specs.Built.{binary_of, built, built_right_side, built_statement, built_event, built_kind, built_class, built_member, built_script, unary_of}
 use Rattle.ode_syntax.specs.Kept.{content_of, is_text, kept_as, leaf_of, name_of, text_of, word_leaf, Spelled}
 use Rattle.ode_reread.proofs.Both.{Both, keep, make}
+use Rattle.ode_reread.proofs.EventGoods.{GoodEvent, GoodInstants, GoodKind}
+use Rattle.ode_reread.proofs.EventPrints.{with_event, with_kind}
 use Rattle.ode_reread.proofs.ExprRows.{longer, rows}
 use Rattle.ode_reread.proofs.Marked.{is_leaf, with_expr, with_mark_on, with_name}
 use Rattle.ode_reread.proofs.Prints.{made_field, made_version, nothing}
@@ -48,7 +52,38 @@ pub record Adds (place : Place) (b w : Both) : Type 0 where
 abbrev pub Replaces : Place → Both → Both → Type 0
 Replaces place b w = (e : Expr) (h : Height) (c : Both) → b ≡ with_expr e h c → Good place e h → Adds place c w
 
+-- an event expression more, or one in place of the one on top, that is good where the instants are
+pub record AddsEvent (place : Place) (b w : Both) : Type 0 where
+  pub e : EventExpr
+  pub h : Height
+  pub good : GoodInstants place → GoodEvent place e h
+  pub is : w ≡ with_event e h b
+
+abbrev pub ReplacesEvent : Place → Both → Both → Type 0
+ReplacesEvent place b w = (e : EventExpr) (h : Height) (c : Both) → b ≡ with_event e h c → (GoodInstants place → GoodEvent place e h) → AddsEvent place c w
+
+-- a kind more, and an event expression in place of a kind
+pub record AddsKind (place : Place) (b w : Both) : Type 0 where
+  pub k : Kind
+  pub good : GoodInstants place → GoodKind place k
+  pub is : w ≡ with_kind k b
+
+abbrev pub Masks : Place → Both → Both → Type 0
+Masks place b w = (k : Kind) (c : Both) → b ≡ with_kind k c → (GoodInstants place → GoodKind place k) → AddsEvent place c w
+
 abbrev pub Effect : Place → Part → Both → Both → Type 0
+Effect place part.EventUnary b w = AddsEvent place b w
+Effect place part.EventAnds b w = ReplacesEvent place b w
+Effect place part.EventOrs b w = ReplacesEvent place b w
+Effect place part.MoreRelative b w = ReplacesEvent place b w
+Effect place part.MorePrior b w = ReplacesEvent place b w
+Effect place part.MoreSequence b w = ReplacesEvent place b w
+Effect place part.Mask b w = Masks place b w
+Effect place part.Kind b w = AddsKind place b w
+Effect place part.AfterWhat b w = AddsKind place b w
+Effect place part.BeforeWhat b w = AddsKind place b w
+Effect place part.TimeWhat b w = AddsKind place b w
+Effect place part.Period b w = AddsKind place b w
 Effect place part.Expr b w = Adds place b w
 Effect place part.Unary b w = Adds place b w
 Effect place part.Dots b w = Replaces place b w
@@ -72,13 +107,13 @@ abbrev pub RowIs : Place → Part → Terminal → List Item → Type 0
 RowIs place p k row = (kd : TokenKind) (bytes : List ℕ) → Sound place (spelt k kd bytes) → (b w : Both)
     → Leads place row (keep (spelt k kd bytes) b) w → Effect place p b w
 
-replaced : (place : Place) (b c w : Both) → Adds place b c → Replaces place c w → Adds place b w
+pub replaced : (place : Place) (b c w : Both) → Adds place b c → Replaces place c w → Adds place b w
 replaced place b c w a r = r a.e a.h b a.is a.good
 
-finished : (place : Place) (b c w : Both) → Adds place b c → c ≡ w → Adds place b w
+pub finished : (place : Place) (b c w : Both) → Adds place b c → c ≡ w → Adds place b w
 finished place b c w a e = subst (λ x. Adds place b x) e a
 
-added : (place : Place) (b m : Both) (e : Expr) (h : Height) → Good place e h → m ≡ with_expr e h b → Adds place b m
+pub added : (place : Place) (b m : Both) (e : Expr) (h : Height) → Good place e h → m ≡ with_expr e h b → Adds place b m
 added place b m e h good is = record { e = e; h = h; good = good; is = is }
 
 -- ---- what leaves say
@@ -108,7 +143,7 @@ leaf_read place own k kind.Text bytes e s = text_good place (text_of (content_of
 leaf_read place own k (kind.Reference r) bytes e s = let m = s.says in reference_good place r m.0 m.1 (ap is_leaf (sym s.seen_as) ∙ e)
 leaf_read place own k (kind.Mark m) bytes e s = this_good place own
 
-name_free : (bytes : List ℕ) → is_free (name_of bytes) ≡ true
+pub name_free : (bytes : List ℕ) → is_free (name_of bytes) ≡ true
 unfolding reserved
 name_free bytes = cases (is_free bytes) refl
   where
@@ -180,7 +215,7 @@ name_after place kd bytes s b w l =
     let x = added place b (make action.Variable (with_name name b)) (expr.Name name) leaf (name_good place name (name_free bytes)) (made_variable name b) in
     finished place b l.0 w (replaced place b _ l.0 x l.1) l.2
 
-unary_rows : (place : Place) → this_terminal place ≡ terminal.Leaf → (k : Terminal) → IfRow (RowIs place part.Unary k) (after part.Unary k)
+pub unary_rows : (place : Place) → this_terminal place ≡ terminal.Leaf → (k : Terminal) → IfRow (RowIs place part.Unary k) (after part.Unary k)
 unfolding after kept_as built raised
 unary_rows place own terminal.Leaf = leaf_after place own terminal.Leaf refl (λ kd bs b. refl)
 unary_rows place own terminal.Number = leaf_after place own terminal.Number refl (λ kd bs b. refl)
@@ -205,7 +240,7 @@ dot_after place kd bytes s b w l = λ e h c is good.
     let x = added place c m (expr.Field e name) (above h.own) (field_good place e h name (name_free l.1) good) (ap (λ y. make action.Field (with_name name y)) is ∙ made_field e h name c) in
     finished place c l.3.0 w (replaced place c m l.3.0 x l.3.1) l.3.2
 
-dots_rows : (place : Place) (k : Terminal) → IfRow (RowIs place part.Dots k) (after part.Dots k)
+pub dots_rows : (place : Place) (k : Terminal) → IfRow (RowIs place part.Dots k) (after part.Dots k)
 unfolding after
 dots_rows place terminal.Dot = dot_after place
 dots_rows place other = tt
@@ -277,28 +312,28 @@ or_after place kd bytes s b w l = λ e h c is good.
     let o = p.2 in
     finished place c o.0 w (replaced place c _ o.0 x o.1) o.2
 
-factors_rows : (place : Place) (k : Terminal) → IfRow (RowIs place part.Factors k) (after part.Factors k)
+pub factors_rows : (place : Place) (k : Terminal) → IfRow (RowIs place part.Factors k) (after part.Factors k)
 unfolding after
 factors_rows place terminal.Times = factor_after place
 factors_rows place other = tt
 
-sums_rows : (place : Place) (k : Terminal) → IfRow (RowIs place part.Sums k) (after part.Sums k)
+pub sums_rows : (place : Place) (k : Terminal) → IfRow (RowIs place part.Sums k) (after part.Sums k)
 unfolding after kept_as
 sums_rows place terminal.Plus = sum_after place terminal.Plus refl (λ m bytes b. refl)
 sums_rows place terminal.Minus = sum_after place terminal.Minus refl (λ m bytes b. refl)
 sums_rows place other = tt
 
-compare_rows : (place : Place) (k : Terminal) → IfRow (RowIs place part.Compare k) (after part.Compare k)
+pub compare_rows : (place : Place) (k : Terminal) → IfRow (RowIs place part.Compare k) (after part.Compare k)
 unfolding after
 compare_rows place terminal.Compares = compare_after place
 compare_rows place other = tt
 
-ands_rows : (place : Place) (k : Terminal) → IfRow (RowIs place part.Ands k) (after part.Ands k)
+pub ands_rows : (place : Place) (k : Terminal) → IfRow (RowIs place part.Ands k) (after part.Ands k)
 unfolding after
 ands_rows place terminal.AndAnd = and_after place
 ands_rows place other = tt
 
-ors_rows : (place : Place) (k : Terminal) → IfRow (RowIs place part.Ors k) (after part.Ors k)
+pub ors_rows : (place : Place) (k : Terminal) → IfRow (RowIs place part.Ors k) (after part.Ors k)
 unfolding after
 ors_rows place terminal.OrOr = or_after place
 ors_rows place other = tt
@@ -338,44 +373,5 @@ whole_row place k (Some row) p = λ kd bytes s b w l.
     let a5 = replaced place b j.0 n.0 a4 n.1 in
     finished place b n.0 w a5 n.2
 
-expr_rows : (place : Place) → this_terminal place ≡ terminal.Leaf → (k : Terminal) → IfRow (RowIs place part.Expr k) (after part.Expr k)
+pub expr_rows : (place : Place) → this_terminal place ≡ terminal.Leaf → (k : Terminal) → IfRow (RowIs place part.Expr k) (after part.Expr k)
 expr_rows place own k = subst (IfRow (RowIs place part.Expr k)) (sym (rows k)) (whole_row place k (after part.Unary k) (unary_rows place own k))
-
--- ---- all parts
-
-any_row : (place : Place) (p : Part) (k : Terminal) (r : Option (List Item)) → ((b w : Both) → Effect place p b w) → IfRow (RowIs place p k) r
-any_row place p k None f = tt
-any_row place p k (Some row) f = λ kd bytes s b w l. f b w
-
-all_rows : (place : Place) → this_terminal place ≡ terminal.Leaf → (p : Part) (k : Terminal) → IfRow (RowIs place p k) (after p k)
-all_rows place own part.Expr k = expr_rows place own k
-all_rows place own part.Unary k = unary_rows place own k
-all_rows place own part.Dots k = dots_rows place k
-all_rows place own part.Factors k = factors_rows place k
-all_rows place own part.Sums k = sums_rows place k
-all_rows place own part.Compare k = compare_rows place k
-all_rows place own part.Ands k = ands_rows place k
-all_rows place own part.Ors k = ors_rows place k
-all_rows place own other k = any_row place other k (after other k) (λ b w. tt)
-
--- ---- parts that are left out
-
-kept_as_is : (place : Place) (b : Both) (a : Action) → Some action.Nothing ≡ Some a → Replaces place b (make a b)
-kept_as_is place b a f = λ e h c is good.
-    added place c (make a b) e h good (ap (λ x. make x b) (sym (same_Some action.Nothing a f)) ∙ (nothing b ∙ is))
-
-pub left_out : (place : Place) (p : Part) (a : Action) (b : Both) → skipped p ≡ Some a → Effect place p b (make a b)
-unfolding skipped
-left_out place part.Expr a b e = absurd (none-some a e)
-left_out place part.Unary a b e = absurd (none-some a e)
-left_out place part.Dots a b e = kept_as_is place b a e
-left_out place part.Factors a b e = kept_as_is place b a e
-left_out place part.Sums a b e = kept_as_is place b a e
-left_out place part.Compare a b e = kept_as_is place b a e
-left_out place part.Ands a b e = kept_as_is place b a e
-left_out place part.Ors a b e = kept_as_is place b a e
-left_out place other a b e = tt
-
--- the row of a part does what the part does
-pub row_does : (place : Place) → this_terminal place ≡ terminal.Leaf → (p : Part) (k : Terminal) (row : List Item) → after p k ≡ Some row → RowIs place p k row
-row_does place own p k row e = subst (IfRow (RowIs place p k)) e (all_rows place own p k)

@@ -146,7 +146,7 @@ text_is_leaf : (o : Option ℤ) → is_leaf (instant_terminal o) ≡ true
 text_is_leaf None = refl
 text_is_leaf (Some n) = refl
 
-text_says : (t : List ℕ) → is_text t ≡ true → text_of (content_of (value_text (value.Text t))) ≡ t
+pub text_says : (t : List ℕ) → is_text t ≡ true → text_of (content_of (value_text (value.Text t))) ≡ t
 unfolding content_of
 text_says t h =
     let x = both_true (nat_le (length t) 2048) (list_all (λ b. not (is_bad_byte b)) t) h in
@@ -165,7 +165,7 @@ reference_good place r some h e =
 
 -- ---- names
 
-free_word : (name : List ℕ) → is_free name ≡ true → is_word name ≡ true
+pub free_word : (name : List ℕ) → is_free name ≡ true → is_word name ≡ true
 free_word name h = (both_true _ _ h).0
 
 -- a free word is in no row of the table
@@ -208,7 +208,7 @@ this_among : (w : List ℕ) → list_any (λ x. bytes_eq x w) reserved ≡ false
 unfolding reserved
 this_among w e = not_among (codes "this") w reserved refl e
 
-named : (place : Place) (name : List ℕ) → is_free name ≡ true → IsNamed (spell place kind.Word name) name
+pub named : (place : Place) (name : List ℕ) → is_free name ≡ true → IsNamed (spell place kind.Word name) name
 named place name h =
     let x = both_true (is_word name) (not (list_any (λ x. bytes_eq x name) reserved)) h in
     let free = is_false (list_any (λ x. bytes_eq x name) reserved) x.1 in

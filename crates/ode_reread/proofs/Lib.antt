@@ -7,5 +7,12 @@ pub mod CutTexts
 pub mod Spells
 pub mod Goods
 pub mod Sounds
+pub mod EventPrints
+pub mod EventSpells
+pub mod EventGoods
 pub mod Effects
+pub mod EventRows
+pub mod AllRows
+pub mod InstantKinds
 pub mod Readings
+pub mod Longest

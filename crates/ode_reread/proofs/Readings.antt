@@ -21,10 +21,11 @@ use Rattle.ode_heights.specs.Heights.{heights as of_heights, highest, none}
 use Rattle.ode_terminals.specs.declared.seen.Place.{Place}
 use Rattle.ode_terminals.specs.declared.seen.Place.TheVariants as place_of
 use Rattle.ode_terminals.specs.Seen.{terminal_of, this_terminal}
-use Rattle.ode_value.specs.Printing.{expr_text, printed}
+use Rattle.ode_value.specs.Printing.{event_text, expr_text, printed, printed_event}
+use Rattle.ode_value.specs.declared.event.EventExpr.{EventExpr}
 use Rattle.ode_value.specs.declared.statement.Expr.{Expr}
 use Rattle.ode_syntax.specs.declared.trees.Trees.{Trees}
-use Rattle.ode_syntax.specs.Built.{tree}
+use Rattle.ode_syntax.specs.Built.{event_tree, tree}
 use Rattle.ode_syntax.specs.Kept.{spelled, Spelled}
 use Rattle.ode_syntax.specs.Trees.{no_trees, Makes}
 use Rattle.ode_reread.proofs.Cuts.{Cut}
@@ -32,7 +33,10 @@ use Rattle.ode_reread.proofs.Cuts as cuts
 use Rattle.ode_reread.specs.Rereading.{IsRead}
 use Rattle.ode_reread.proofs.Both.{its_heights, its_trees, lifted, both, keep, make, seen_of, Both}
 use Rattle.ode_reread.proofs.CutTexts.{cut_text}
-use Rattle.ode_reread.proofs.Effects.{left_out, row_does, spelt, split, Leads}
+use Rattle.ode_reread.proofs.AllRows.{left_out, row_does}
+use Rattle.ode_reread.proofs.Effects.{spelt, split, Leads}
+use Rattle.ode_reread.proofs.EventGoods.{GoodEvent, GoodInstants}
+use Rattle.ode_reread.proofs.EventPrints.{with_event}
 use Rattle.ode_reread.proofs.Goods.{Good}
 use Rattle.ode_reread.proofs.Marked.{with_expr}
 use Rattle.ode_reread.proofs.Sounds.{text_sounds, Sound, Sounds}
@@ -129,3 +133,33 @@ expr_again most place text made own r =
     let same : tree made.exprs ≡ a.e = ap (λ (v : Trees). tree v.exprs) (sym x.trees) ∙ ap (λ (b : Both). tree b.trees.exprs) is in
     let within = own_height a.h most (subst (λ (b : Both). highest b.heights ≤ most) is x.within) in
     subst (λ e. (again : Trees) × IsRead most start.Expr place (expr_text e) again × (tree again.exprs ≡ e)) (sym same) (good_again most place a.e a.h a.good within)
+
+-- ---- event expressions
+
+event_good_again : (most : ℕ) (place : Place) (e : EventExpr) (h : Height) → GoodEvent place e h → h.own ≤ most
+    → (again : Trees) × IsRead most start.Event place (event_text e) again × (event_tree again.events ≡ e)
+unfolding items_of
+event_good_again most place e h g l =
+    let low = g.no_higher in
+    let out = with_event e g.low at_start in
+    let cut = subst (λ (x : List ℕ). Cut place x g.tokens) (append-nil g.text)
+    (subst (λ us. Cut place (g.text ++ []) us) (append-nil g.tokens) (g.spells.cuts [] [] refl cuts.End)) in
+    let derives = subst (λ us. Derives both (items_of start.Event) at_start us out) (append-nil g.tokens) (g.prints.whole [] at_start [] out Done) in
+    let read = is_read most start.Event place g.text g.tokens out cut derives (one_height g.low most (omega arith)) in
+    (out.trees, subst (λ (t : List ℕ). IsRead most start.Event place t out.trees) (ap (λ p. p.text) (sym g.shown)) read, refl)
+
+pub event_again : (most : ℕ) (place : Place) (text : List ℕ) (made : Trees) → this_terminal place ≡ terminal.Leaf → GoodInstants place
+    → IsRead most start.Event place text made
+    → (again : Trees) × IsRead most start.Event place (event_text (event_tree made.events)) again × (event_tree again.events ≡ event_tree made.events)
+unfolding items_of
+event_again most place text made own instants r =
+    let x = reading most start.Event place text made own r in
+    let l = x.leads in
+    let a1 = l.1 in
+    let a2 = l.2.1 a1.e a1.h at_start a1.is a1.good in
+    let a = l.2.2.1 a2.e a2.h at_start a2.is a2.good in
+    let is : x.out ≡ with_event a.e a.h at_start = sym l.2.2.2 ∙ a.is in
+    let same : event_tree made.events ≡ a.e = ap (λ (v : Trees). event_tree v.events) (sym x.trees) ∙ ap (λ (b : Both). event_tree b.trees.events) is in
+    let within = own_height a.h most (subst (λ (b : Both). highest b.heights ≤ most) is x.within) in
+    subst (λ e. (again : Trees) × IsRead most start.Event place (event_text e) again × (event_tree again.events ≡ e)) (sym same)
+    (event_good_again most place a.e a.h (a.good instants) within)

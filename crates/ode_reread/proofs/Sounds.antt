@@ -188,11 +188,11 @@ is_operator terminal.AndAnd = true
 is_operator terminal.OrOr = true
 is_operator other = false
 
-either : (p : Terminal → Bool) (c : Bool) (x y : Terminal) → p x ≡ false → p y ≡ false → p (cond c x y) ≡ false
+pub either : (p : Terminal → Bool) (c : Bool) (x y : Terminal) → p x ≡ false → p y ≡ false → p (cond c x y) ≡ false
 either p true x y e f = e
 either p false x y e f = f
 
-never : (p : Terminal → Bool) (rs : List (List ℕ × Terminal)) (w : List ℕ) → list_all (λ (r : List ℕ × Terminal). not (p r.1)) rs ≡ true → p terminal.Name ≡ false
+pub never : (p : Terminal → Bool) (rs : List (List ℕ × Terminal)) (w : List ℕ) → list_all (λ (r : List ℕ × Terminal). not (p r.1)) rs ≡ true → p terminal.Name ≡ false
     → p (looked_up rs w) ≡ false
 never p [] w e f = f
 never p (r ∷ rs) w e f =

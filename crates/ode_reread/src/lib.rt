@@ -3,4 +3,7 @@
 
 mod laws;
 
-pub use laws::expressions_are_read_again;
+pub use laws::{
+    events_are_read_again, expressions_are_read_again, printed_events_are_parsed,
+    printed_expressions_are_parsed,
+};

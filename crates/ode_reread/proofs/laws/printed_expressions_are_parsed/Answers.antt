@@ -1,0 +1,31 @@
+use Rattle.std.proofs.Common.{◌≡◌, ℕ, List, length, refl, sym, ◌∙◌, ap, subst}
+use Rattle.ode_grammar.specs.declared.reader.Start.TheVariants as start
+use Rattle.ode_heights.specs.declared.height.TheConstants.{HEIGHT_LIMIT}
+use Rattle.ode_terminals.specs.declared.seen.Place.TheVariants.{Anywhere}
+use Rattle.ode_value.specs.Printing.{expr_text, printed}
+use Rattle.ode_value.specs.declared.statement.Expr.{Expr}
+use Rattle.ode_syntax.specs.declared.trees.Trees.{Trees}
+use Rattle.ode_syntax.specs.Built.{tree}
+use Rattle.ode_reread.specs.Rereading.{IsRead, IsExprOf}
+use Rattle.ode_reread.proofs.Longest.{longest_again, not_refused}
+use Rattle.ode_reread.proofs.Readings.{expr_again}
+use Rattle.ode_reread.proofs.laws.printed_expressions_are_parsed.Goals as goal
+
+-- the printed text is read as the tree
+read : (text : List ℕ) (e : Expr) → IsExprOf text e → (again : Trees) × IsRead HEIGHT_LIMIT start.Expr Anywhere (expr_text e) again × (tree again.exprs ≡ e)
+read text e r =
+    subst (λ x. (again : Trees) × IsRead HEIGHT_LIMIT start.Expr Anywhere (expr_text x) again × (tree again.exprs ≡ x)) (sym r.2) (expr_again HEIGHT_LIMIT Anywhere text r.0 refl r.1)
+
+pub returns-clause-tokens : goal.returns-clause-tokens
+returns-clause-tokens c = λ text e r. let x = read text e r in (x.1.tokens, x.1.lexed_as)
+
+pub returns-clause-found : goal.returns-clause-found
+returns-clause-found c = λ text e tokens end made r l h.
+    let x = read text e r in
+    let y = longest_again start.Expr Anywhere (expr_text e) tokens x.0 l x.1 end made h in
+    (ap (λ (v : Trees). tree v.exprs) y.0 ∙ x.2, y.1)
+
+pub returns-clause-not_refused : goal.returns-clause-not_refused
+returns-clause-not_refused c = λ text e tokens why r l h.
+    let x = read text e r in
+    not_refused start.Expr Anywhere (expr_text e) tokens x.0 l x.1 why h
