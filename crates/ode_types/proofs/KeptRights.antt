@@ -40,7 +40,7 @@ is_right_given r s t at h is =
     let same : made ≡ t = cc in
     subst (λ (u : Right). right_sort at u.rhs ≡ Some u.sort) same is
 
-both_true : (a b : Bool) → a ≡ true → b ≡ true → (a && b) ≡ true
+pub both_true : (a b : Bool) → a ≡ true → b ≡ true → (a && b) ≡ true
 both_true a b p q = ap (λ x. x && b) p ∙ q
 
 not_none : {X : Type 0} (x : X) (xs : List X) → (length (x ∷ xs) == 0) ≡ true → ⊥

@@ -89,7 +89,7 @@ slice_get_last : {X : Type 0} (xs : List X) (x : X) → slice_get (xs ++ x ∷ [
 slice_get_last [] x = refl
 slice_get_last (y ∷ ys) x = slice_get_last ys x
 
-still_hold : (slots more : List (Option Sort)) (seen : List (ℕ × Param)) → AllByRecursion (Holds slots) seen → AllByRecursion (Holds (slots ++ more)) seen
+pub still_hold : (slots more : List (Option Sort)) (seen : List (ℕ × Param)) → AllByRecursion (Holds slots) seen → AllByRecursion (Holds (slots ++ more)) seen
 still_hold slots more [] all = tt
 still_hold slots more (l ∷ seen) all = (slice_get_more slots more l.0 (Some l.1.sort) all.0, still_hold slots more seen all.1)
 
