@@ -24,7 +24,7 @@ use Rattle.ode_value.specs.declared.statement.Stmt.TheOpen as stmt
 use Rattle.ode_value.specs.Same.{same_kind}
 use Rattle.ode_types.specs.Events.{event_method_in, kind_method}
 use Rattle.ode_types.specs.Families.{line_of, method_named}
-use Rattle.ode_types.specs.Kept.{Setting, Slots, are_masks, are_masks_of, held, inner_slots, is_assigned, is_body, is_constraint, is_fit, is_leaf, is_mask, is_method, is_ref, is_right, is_trigger, keeps_slots, let_slots, member_setting, plain_setting, right_sort, slots_behind, slots_of, slots_through, with_slots, without_inner}
+use Rattle.ode_types.specs.Kept.{Setting, Slots, are_masks, are_masks_of, held, inner_slots, is_assigned, is_body, is_constraint, is_fit, is_leaf, is_mask, is_method, is_ref, is_right, is_trigger, let_slots, member_setting, plain_setting, slots_behind, slots_of, slots_through, with_slots, without_inner}
 use Rattle.ode_types.specs.Sorts.{is_void, starting}
 use Rattle.ode_types.specs.Typing.{where_so}
 use Rattle.ode_types.proofs.KeptHeads.{bare, head, is_fit-bare, is_ref-bare, is_right-bare, line_of-head, method_head, method_named-head, or-same, right_sort-bare, then-same}

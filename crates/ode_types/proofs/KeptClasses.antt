@@ -1,20 +1,18 @@
 -- A class that was checked is typed.
-use Rattle.std.proofs.Common.{◌≡◌, ℕ, ◌-◌, List, [], ◌∷◌, ◌++◌, fold, length, map, Bool, true, false, Option, Some, None, Result, Ok, Err, refl, ap, sym, ◌∙◌, subst, arith, append-nil, append_assoc}
-use Rattle.std.specs.Prelude.{◌&&◌, ◌||◌, ◌==◌, not, is_some, is_none, IsTrue}
+use Rattle.std.proofs.Common.{◌≡◌, ℕ, ◌-◌, List, [], ◌∷◌, ◌++◌, fold, map, Bool, true, Option, Some, None, Ok, refl, ap, sym, ◌∙◌, subst, arith, append-nil, append_assoc}
+use Rattle.std.specs.Prelude.{not, is_some, is_none}
 use Rattle.std.specs.List.{AllByRecursion, list_all, list_any}
 use Rattle.std.specs.Option.{option_map_or}
 use Rattle.std.proofs.lemmas.List.{map-append}
 use Rattle.std.proofs.lemmas.List.Folds.{list_all-append}
 use Rattle.ode_value.specs.declared.binding.Param.{Param}
 use Rattle.ode_value.specs.declared.class.Class.{Class}
-use Rattle.ode_value.specs.declared.event.EventExpr.{EventExpr}
 use Rattle.ode_value.specs.declared.event.Kind.{Kind}
 use Rattle.ode_value.specs.declared.member.Constraint.{Constraint}
 use Rattle.ode_value.specs.declared.member.Method.{Method}
 use Rattle.ode_value.specs.declared.member.TriggerDecl.{TriggerDecl}
-use Rattle.ode_value.specs.declared.reason.CheckError.TheVariants.{Duplicate, TooMany, UnknownName, WrongSort}
+use Rattle.ode_value.specs.declared.reason.CheckError.TheVariants.{Duplicate, TooMany, UnknownName}
 use Rattle.ode_value.specs.declared.statement.ClassDecl.{ClassDecl}
-use Rattle.ode_value.specs.declared.statement.Expr.{Expr}
 use Rattle.ode_value.specs.declared.statement.Member.{Member}
 use Rattle.ode_value.specs.declared.statement.Member.TheVariants as member
 use Rattle.ode_value.specs.declared.statement.Sort.{Sort}
@@ -22,11 +20,11 @@ use Rattle.ode_value.specs.declared.statement.Sort.TheVariants as sort
 use Rattle.ode_value.specs.declared.statement.Stmt.{Stmt}
 use Rattle.ode_value.specs.Same.{same_kind}
 use Rattle.ode_types.specs.Bodies.{body, body_checked, next_checked}
-use Rattle.ode_types.specs.Checks.{Check, ◌>>=◌, ◌>>◌, each, in_turn, needs, through}
+use Rattle.ode_types.specs.Checks.{◌>>=◌, ◌>>◌, each, in_turn, needs, through}
 use Rattle.ode_types.specs.Declaring.{begins, declared, declares, has_method, is_small, kind_word, knows_method, knows_trigger, knows_value, lists, numbered, parent_in, with_member, without_members}
 use Rattle.ode_types.specs.Events.{kind_method, listed}
-use Rattle.ode_types.specs.Families.{class_named, constraint_named, field_named, line_of, method_named, trigger_named}
-use Rattle.ode_types.specs.Kept.{IsTypedClass, are_masks, held, is_body, is_constraint, is_method, is_trigger, member_setting, slots_behind, slots_through, with_slots}
+use Rattle.ode_types.specs.Families.{class_named, constraint_named, field_named, line_of}
+use Rattle.ode_types.specs.Kept.{IsTypedClass, are_masks, held, is_body, is_constraint, is_method, is_trigger, slots_behind, slots_through, with_slots}
 use Rattle.ode_types.specs.Limits.{slot_limit}
 use Rattle.ode_types.specs.Scopes.{Scope, behind, member_scope, plain_scope}
 use Rattle.ode_types.specs.Static.{check_class, checked_member, completed, constraint_checked, method_checked, trigger_checked}
@@ -35,7 +33,7 @@ use Rattle.ode_types.proofs.CheckedClasses.{bind-ok}
 use Rattle.ode_types.proofs.KeptBodies.{is_constraint-same, is_method-same, is_trigger-same}
 use Rattle.ode_types.proofs.KeptEvents.{event_kept, held_behind, length_held}
 use Rattle.ode_types.proofs.KeptHeads.{all-same, constraint_head, head, method_head, trigger_head}
-use Rattle.ode_types.proofs.KeptLaws.{Holds, Shows, setting_of}
+use Rattle.ode_types.proofs.KeptLaws.{Shows, setting_of}
 use Rattle.ode_types.proofs.KeptRights.{both_true, fitting_kept}
 use Rattle.ode_types.proofs.KeptStatements.{Settles, statement_settles}
 

@@ -1,5 +1,5 @@
 -- What a check of an event expression gives has listed kinds and typed masks.
-use Rattle.std.proofs.Common.{◌≡◌, ℕ, zero, suc, ◌+◌, ◌-◌, List, [], ◌∷◌, ◌++◌, length, map, take, Bool, true, false, Option, Some, None, Result, Ok, Err, refl, ap, sym, ◌∙◌, subst, arith, append_assoc}
+use Rattle.std.proofs.Common.{◌≡◌, ℕ, zero, suc, ◌+◌, ◌-◌, List, [], ◌∷◌, ◌++◌, length, take, Bool, true, false, Option, Some, None, Ok, refl, ap, sym, ◌∙◌, subst, append_assoc}
 use Rattle.std.specs.Prelude.{◌&&◌, slice_get}
 use Rattle.std.specs.List.{AllByRecursion, enumerate_from, list_any}
 use Rattle.std.specs.Option.{option_map_or}
@@ -9,12 +9,11 @@ use Rattle.ode_value.specs.declared.event.EventExpr.{EventExpr, out-EventExpr, r
 use Rattle.ode_value.specs.declared.event.EventExpr.TheOpen as event
 use Rattle.ode_value.specs.declared.event.EventExpr.TheVariants as checked
 use Rattle.ode_value.specs.declared.event.Kind.{Kind}
-use Rattle.ode_value.specs.declared.member.Method.{Method}
 use Rattle.ode_value.specs.declared.statement.Expr.{Expr}
 use Rattle.ode_value.specs.declared.statement.Sort.{Sort}
 use Rattle.ode_value.specs.declared.statement.Sort.TheVariants as sort
 use Rattle.ode_value.specs.Same.{same_kind}
-use Rattle.ode_types.specs.Checks.{Check, ◌>>=◌, ◌>>◌, needs}
+use Rattle.ode_types.specs.Checks.{◌>>=◌, needs}
 use Rattle.ode_types.specs.Events.{Listing, event_method_in, event_params, is_listed, leaf_listed, listed, listing_of, mask}
 use Rattle.ode_types.specs.Kept.{Setting, are_masks, are_masks_of, held, is_leaf, is_mask}
 use Rattle.ode_types.specs.Limits.{slot_limit}

@@ -1,21 +1,18 @@
 -- What typing sees of the classes: all but what stands in their bodies.
-use Rattle.std.proofs.Common.{◌≡◌, ℕ, List, [], ◌∷◌, ◌++◌, length, map, reverse, Bool, true, false, cond, Option, Some, None, refl, ap, sym, ◌∙◌, subst}
-use Rattle.std.specs.Prelude.{◌&&◌, ◌||◌, ◌==◌, not, is_some, slice_get}
+use Rattle.std.proofs.Common.{◌≡◌, ℕ, List, [], ◌∷◌, ◌++◌, map, reverse, Bool, true, false, cond, Option, Some, None, refl, ap, sym, ◌∙◌, subst}
+use Rattle.std.specs.Prelude.{◌&&◌, ◌||◌, ◌==◌, not}
 use Rattle.std.specs.List.{find, flat_map, list_all, list_any}
 use Rattle.std.specs.Option.{option_and_then, option_map, option_map_or, unwrap_or}
 use Rattle.std.specs.Str.{bytes_eq}
 use Rattle.std.proofs.lemmas.List.{map-append, reverse-append}
 use Rattle.ode_value.specs.declared.binding.Param.{Param}
-use Rattle.ode_value.specs.declared.binding.Var.{Var}
-use Rattle.ode_value.specs.declared.binding.Var.TheVariants as var
 use Rattle.ode_value.specs.declared.class.Class.{Class}
 use Rattle.ode_value.specs.declared.class.Field.{Field}
 use Rattle.ode_value.specs.declared.event.EventExpr.TheVariants as event
 use Rattle.ode_value.specs.declared.member.Constraint.{Constraint}
 use Rattle.ode_value.specs.declared.member.Method.{Method}
 use Rattle.ode_value.specs.declared.member.TriggerDecl.{TriggerDecl}
-use Rattle.ode_value.specs.declared.statement.Call.{Call}
-use Rattle.ode_value.specs.declared.statement.Expr.{Expr, out-Expr, roll-Expr, map-Expr, fold-roll-Expr, ind-Expr}
+use Rattle.ode_value.specs.declared.statement.Expr.{Expr, roll-Expr, map-Expr, fold-roll-Expr, ind-Expr}
 use Rattle.ode_value.specs.declared.statement.Expr.TheOpen as expr
 use Rattle.ode_value.specs.declared.statement.Expr.TheVariants as checked
 use Rattle.ode_value.specs.declared.statement.Rhs.{Rhs}
@@ -26,10 +23,10 @@ use Rattle.ode_value.specs.declared.value.Ref.{Ref}
 use Rattle.ode_value.specs.declared.value.Value.{Value}
 use Rattle.ode_value.specs.declared.value.Value.TheVariants as value
 use Rattle.ode_value.specs.Same.{same_ref}
-use Rattle.ode_types.specs.Families.{ancestors_of, class_named, class_numbered, field_named, is_a, line_of, method_named, trigger_named, upward}
+use Rattle.ode_types.specs.Families.{class_named, class_numbered, field_named, is_a, line_of, method_named, trigger_named, upward}
 use Rattle.ode_types.specs.Kept.{Setting, Sorting, are_fit, field_sort, is_fit, is_ref, is_right, is_set, receiver_class, right_sort, sort_in, sorting_of}
 use Rattle.ode_types.specs.Sorts.{binary_sort, class_of, fits, inherits, is_reference, unary_sort}
-use Rattle.ode_types.specs.Typing.{literal_class, literal_sort, value_sort, where_so}
+use Rattle.ode_types.specs.Typing.{literal_sort, value_sort, where_so}
 
 -- ---- lists and options under a map
 

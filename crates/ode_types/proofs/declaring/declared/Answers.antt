@@ -1,11 +1,5 @@
-use Rattle.std.proofs.Common.{◌≡◌, ap, arith}
 use Rattle.std.proofs.lemmas.Result.{err_from_is_err_and}
-use Rattle.std.specs.Prelude.{Ok}
-use Rattle.ode_value.specs.declared.class.Class.{Class}
-use Rattle.ode_value.specs.declared.reason.CheckError.TheVariants.{TooMany}
-use Rattle.ode_types.specs.Checks.{◌>>=◌, ◌>>◌, Check, needs, through}
-use Rattle.ode_types.specs.Declaring.{declared, declares, is_small}
-use Rattle.ode_types.proofs.DeclaringLaws.{small, stopped}
+use Rattle.ode_types.proofs.DeclaringLaws.{stopped}
 use Rattle.ode_types.proofs.declaring.declared.Goals as goal
 
 pub returns-in_err-declare : goal.returns-in_err-declare

@@ -1,4 +1,4 @@
-use Rattle.std.proofs.Common.{◌≡◌, ap, arith}
+use Rattle.std.proofs.Common.{arith}
 use Rattle.std.proofs.lemmas.Result.{err_from_is_err_and}
 use Rattle.ode_types.proofs.DeclaringLaws.{params-end, params-stop}
 use Rattle.ode_types.proofs.declaring.needs_params.Goals as goal

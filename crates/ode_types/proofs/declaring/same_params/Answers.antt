@@ -1,4 +1,4 @@
-use Rattle.std.proofs.Common.{◌≡◌, sym, arith}
+use Rattle.std.proofs.Common.{sym, arith}
 use Rattle.ode_types.proofs.DeclaringLaws.{same_params-other}
 use Rattle.ode_types.proofs.declaring.same_params.Goals as goal
 
