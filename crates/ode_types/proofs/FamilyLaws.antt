@@ -1,5 +1,5 @@
 -- Look-ups along a line, by one class.
-use Rattle.std.proofs.Common.{◌≡◌, ℕ, ◌-◌, ◌+◌, List, [], ◌∷◌, ◌++◌, Bool, true, false, cond, Option, Some, None, refl, ap, sym, ◌∙◌, arith, append_assoc, length, take}
+use Rattle.std.proofs.Common.{◌≡◌, ℕ, ◌-◌, ◌+◌, List, [], ◌∷◌, ◌++◌, Bool, true, false, cond, Some, refl, ap, sym, ◌∙◌, arith, append_assoc, length, take}
 use Rattle.std.proofs.lemmas.List.{append-nil}
 use Rattle.std.proofs.lemmas.Iterator.Adapters.{position_from-zero}
 use Rattle.std.proofs.lemmas.List.Folds.{find-append}
@@ -8,10 +8,11 @@ use Rattle.std.specs.Option.{option_or, option_and_then, option_map}
 use Rattle.std.specs.Str.{bytes_eq}
 use Rattle.ode_value.specs.declared.class.Class.{Class}
 use Rattle.ode_value.specs.declared.class.Field.{Field}
+use Rattle.ode_value.specs.declared.member.Constraint.{Constraint}
 use Rattle.ode_value.specs.declared.member.Method.{Method}
 use Rattle.ode_value.specs.declared.member.TriggerDecl.{TriggerDecl}
 use Rattle.ode_types.proofs.ClassLists.{length-more, slice_get-behind}
-use Rattle.ode_types.specs.Families.{field_named, method_named, trigger_named}
+use Rattle.ode_types.specs.Families.{constraint_named, field_named, method_named, trigger_named}
 use Rattle.ode_types.specs.Limits.{slot_limit}
 
 pub method_named-own : (c : Class) (name : List ℕ) → method_named (c ∷ []) name ≡ find (λ (m : Method). bytes_eq m.name name) c.methods
@@ -25,6 +26,12 @@ trigger_named-own c name = ap (find (λ (t : TriggerDecl). bytes_eq t.name name)
 
 pub trigger_named-next : (c : Class) (line : List Class) (name : List ℕ) → trigger_named (c ∷ line) name ≡ option_or (trigger_named (c ∷ []) name) (trigger_named line name)
 trigger_named-next c line name = find-append (λ (t : TriggerDecl). bytes_eq t.name name) c.triggers _ ∙ ap (λ o. option_or o (trigger_named line name)) (sym (trigger_named-own c name))
+
+pub constraint_named-own : (c : Class) (name : List ℕ) → constraint_named (c ∷ []) name ≡ find (λ (x : Constraint). bytes_eq x.name name) c.constraints
+constraint_named-own c name = ap (find (λ (x : Constraint). bytes_eq x.name name)) (append-nil c.constraints)
+
+pub constraint_named-next : (c : Class) (line : List Class) (name : List ℕ) → constraint_named (c ∷ line) name ≡ option_or (constraint_named (c ∷ []) name) (constraint_named line name)
+constraint_named-next c line name = find-append (λ (x : Constraint). bytes_eq x.name name) c.constraints _ ∙ ap (λ o. option_or o (constraint_named line name)) (sym (constraint_named-own c name))
 
 -- the first of numbered ones, by its place
 module _ {X : Type 0} (p : X → Bool) where
@@ -53,4 +60,4 @@ field_named-place fields name = by (take (slot_limit - 0) fields) where
 
 pub ruleset fields_by_place = (field_named-place)
 
-pub ruleset named_along = (method_named-next, trigger_named-next)
+pub ruleset named_along = (method_named-next, trigger_named-next, constraint_named-next)

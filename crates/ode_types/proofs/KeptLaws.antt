@@ -1,5 +1,5 @@
 -- What a check gives is typed.
-use Rattle.std.proofs.Common.{◌≡◌, ℕ, zero, suc, ◌+◌, ◌-◌, List, [], ◌∷◌, ◌++◌, length, map, take, Bool, true, false, cond, Option, Some, None, Result, Ok, Err, refl, ap, sym, ◌∙◌, subst, arith}
+use Rattle.std.proofs.Common.{◌≡◌, ℕ, zero, suc, ◌-◌, List, [], ◌∷◌, length, take, Bool, true, false, cond, Option, Some, None, Ok, refl, ap, sym, ◌∙◌, subst}
 use Rattle.std.specs.Prelude.{not, slice_get, position}
 use Rattle.std.specs.List.{AllByRecursion, find}
 use Rattle.std.specs.Option.{option_and_then, option_map, option_or}
@@ -19,7 +19,7 @@ use Rattle.ode_value.specs.declared.statement.Expr.TheVariants as checked
 use Rattle.ode_value.specs.declared.statement.Sort.{Sort}
 use Rattle.ode_value.specs.declared.statement.Sort.TheVariants as sort
 use Rattle.ode_value.specs.declared.value.Value.{Value}
-use Rattle.ode_types.specs.Checks.{Check, ◌>>=◌, ◌>>◌, needs, found}
+use Rattle.ode_types.specs.Checks.{Check, ◌>>=◌, needs, found}
 use Rattle.ode_types.specs.Families.{field_named}
 use Rattle.ode_types.specs.Kept.{Setting, Sorting, field_sort, sort_in, sorting_of}
 use Rattle.ode_types.specs.Limits.{slot_limit}

@@ -1,5 +1,5 @@
 -- What a check of a right side gives has the sort that it gives.
-use Rattle.std.proofs.Common.{◌≡◌, ℕ, List, [], ◌∷◌, ◌++◌, length, Bool, true, false, Option, Some, None, Result, Ok, Err, refl, ap, sym, ◌∙◌, subst, arith}
+use Rattle.std.proofs.Common.{◌≡◌, ℕ, List, [], ◌∷◌, ◌++◌, length, Bool, true, false, Option, Some, None, Ok, Err, refl, ap, sym, ◌∙◌, subst, arith}
 use Rattle.std.specs.Prelude.{◌==◌, ◌&&◌, not}
 use Rattle.std.specs.List.{list_all, list_any}
 use Rattle.std.specs.Option.{option_and_then, option_map_or}
@@ -10,7 +10,6 @@ use Rattle.ode_value.specs.declared.class.Class.{Class}
 use Rattle.ode_value.specs.declared.class.Field.{Field}
 use Rattle.ode_value.specs.declared.member.Method.{Method}
 use Rattle.ode_value.specs.declared.member.TriggerDecl.{TriggerDecl}
-use Rattle.ode_value.specs.declared.reason.CheckError.{CheckError}
 use Rattle.ode_value.specs.declared.reason.CheckError.TheVariants.{UnknownName}
 use Rattle.ode_value.specs.declared.statement.Call.{Call}
 use Rattle.ode_value.specs.declared.statement.Expr.{Expr}
@@ -40,7 +39,7 @@ is_right_given r s t at h is =
     let same : made ≡ t = cc in
     subst (λ (u : Right). right_sort at u.rhs ≡ Some u.sort) same is
 
-both_true : (a b : Bool) → a ≡ true → b ≡ true → (a && b) ≡ true
+pub both_true : (a b : Bool) → a ≡ true → b ≡ true → (a && b) ≡ true
 both_true a b p q = ap (λ x. x && b) p ∙ q
 
 not_none : {X : Type 0} (x : X) (xs : List X) → (length (x ∷ xs) == 0) ≡ true → ⊥

@@ -1,6 +1,6 @@
 -- What a check of a statement gives is typed, and the slots behind it are those of the scope that it leaves.
-use Rattle.std.proofs.Common.{◌≡◌, ◌≤◌, ℕ, zero, suc, ◌+◌, ◌-◌, List, [], ◌∷◌, ◌++◌, length, map, Bool, true, false, Option, Some, None, Result, Ok, Err, refl, ap, sym, ◌∙◌, subst, arith, length-append}
-use Rattle.std.specs.Prelude.{◌==◌, ◌&&◌, not, nat_lt, is_some, replicate, slice_get, IsTrue}
+use Rattle.std.proofs.Common.{◌≡◌, ◌≤◌, ℕ, zero, suc, ◌+◌, ◌-◌, List, [], ◌∷◌, ◌++◌, length, map, Bool, true, false, Option, Some, None, Ok, refl, ap, sym, ◌∙◌, subst, arith, length-append}
+use Rattle.std.specs.Prelude.{◌==◌, ◌&&◌, not, nat_lt, is_some, replicate, slice_get}
 use Rattle.std.specs.List.{AllByRecursion}
 use Rattle.std.specs.Option.{option_and_then, option_map, option_map_or}
 use Rattle.std.proofs.lemmas.Bool.Decides.{nat_tests}
@@ -9,7 +9,6 @@ use Rattle.ode_value.specs.declared.binding.Var.{Var}
 use Rattle.ode_value.specs.declared.binding.Var.TheVariants as var
 use Rattle.ode_value.specs.declared.class.Class.{Class}
 use Rattle.ode_value.specs.declared.class.Field.{Field}
-use Rattle.ode_value.specs.declared.reason.CheckError.{CheckError}
 use Rattle.ode_value.specs.declared.reason.CheckError.TheVariants.{Duplicate, UnknownName}
 use Rattle.ode_value.specs.declared.statement.Expr.{Expr}
 use Rattle.ode_value.specs.declared.statement.Rhs.{Rhs}
@@ -19,9 +18,9 @@ use Rattle.ode_value.specs.declared.statement.Stmt.{Stmt, out-Stmt, roll-Stmt, m
 use Rattle.ode_value.specs.declared.statement.Stmt.TheOpen as stmt
 use Rattle.ode_value.specs.declared.statement.Stmt.TheVariants as checked
 use Rattle.ode_value.specs.declared.value.Ref.{Ref}
-use Rattle.ode_types.specs.Bodies.{Checking, body, body_checked, checks, checking_of, deactivate_checked, follow, inner, keeps, let_checked, next_checked, return_checked, set_checked, show_checked}
+use Rattle.ode_types.specs.Bodies.{Checking, checks, checking_of, deactivate_checked, follow, inner, keeps, let_checked, return_checked, set_checked, show_checked}
 use Rattle.ode_types.specs.Checks.{Check, ◌>>=◌, ◌>>◌, needs, found, in_turn}
-use Rattle.ode_types.specs.Kept.{IsTypedStatement, Setting, Slots, field_sort, inner_slots, is_assigned, is_fit, is_ref, is_right, keeps_slots, let_slots, right_sort, script_setting, slots_behind, slots_of, slots_through, with_slots, without_inner}
+use Rattle.ode_types.specs.Kept.{IsTypedStatement, Setting, Slots, inner_slots, is_assigned, is_fit, is_ref, is_right, keeps_slots, let_slots, right_sort, script_setting, slots_behind, slots_of, slots_through, with_slots, without_inner}
 use Rattle.ode_types.specs.Limits.{slot_limit}
 use Rattle.ode_types.specs.Rights.{right}
 use Rattle.ode_types.specs.Scopes.{Scope, behind, is_seen, meaning, with_local, wrong}
@@ -29,9 +28,7 @@ use Rattle.ode_types.specs.Sorts.{fits, is_void, starting}
 use Rattle.ode_types.specs.Static.{check_statement, script_scope}
 use Rattle.ode_types.specs.Typing.{fitting, reference, where_so}
 use Rattle.ode_types.specs.declared.rights.Right.{Right}
-use Rattle.ode_types.specs.declared.typing.Typed.{Typed}
 use Rattle.ode_types.proofs.CheckedClasses.{bind-ok, needs-ok}
-use Rattle.ode_types.proofs.ClassLists.{slice_get-behind}
 use Rattle.ode_types.proofs.KeptLaws.{Holds, Shows, found-ok, meaning_by, setting_of}
 use Rattle.ode_types.proofs.KeptRights.{fitting_kept, reference_is, right_kept}
 
@@ -89,7 +86,7 @@ slice_get_last : {X : Type 0} (xs : List X) (x : X) → slice_get (xs ++ x ∷ [
 slice_get_last [] x = refl
 slice_get_last (y ∷ ys) x = slice_get_last ys x
 
-still_hold : (slots more : List (Option Sort)) (seen : List (ℕ × Param)) → AllByRecursion (Holds slots) seen → AllByRecursion (Holds (slots ++ more)) seen
+pub still_hold : (slots more : List (Option Sort)) (seen : List (ℕ × Param)) → AllByRecursion (Holds slots) seen → AllByRecursion (Holds (slots ++ more)) seen
 still_hold slots more [] all = tt
 still_hold slots more (l ∷ seen) all = (slice_get_more slots more l.0 (Some l.1.sort) all.0, still_hold slots more seen all.1)
 

@@ -1,11 +1,11 @@
 -- Lines of ancestors among numbered classes.
-use Rattle.std.proofs.Common.{◌≡◌, ℕ, zero, suc, ◌+◌, ◌-◌, List, [], ◌∷◌, ◌++◌, length, map, reverse, Bool, true, false, cond, Some, None, Option, refl, ap, sym, ◌∙◌, subst, ◌<◌, ◌≤◌, arith, take}
+use Rattle.std.proofs.Common.{◌≡◌, ℕ, zero, suc, ◌+◌, List, [], ◌∷◌, ◌++◌, length, map, reverse, Bool, true, false, cond, Some, None, Option, refl, ap, sym, ◌∙◌, ◌<◌, ◌≤◌, arith, take}
 use Rattle.std.proofs.lemmas.Bool.Decides.{nat_tests}
 use Rattle.std.proofs.lemmas.List.{append-nil, reverse-append}
 use Rattle.std.proofs.lemmas.List.Folds.{find-append}
 use Rattle.std.specs.Prelude.{◌==◌}
 use Rattle.std.specs.List.{slice_get, range_with_len, find}
-use Rattle.std.specs.Option.{option_map_or, option_copied, option_or, unwrap_or}
+use Rattle.std.specs.Option.{option_map_or, option_or, unwrap_or}
 use Rattle.ode_value.specs.declared.class.Class.{Class}
 use Rattle.ode_types.specs.Families.{upward}
 use Rattle.ode_types.specs.Indexed.{AreNumbered}

@@ -1,6 +1,5 @@
 -- Typing by one level, and checks that follow one another.
-use Rattle.std.proofs.Common.{◌≡◌, Result, Ok, Err, refl, ap, sym, ◌∙◌}
-use Rattle.ode_value.specs.declared.reason.CheckError.{CheckError}
+use Rattle.std.proofs.Common.{◌≡◌, Err, ap}
 use Rattle.ode_value.specs.declared.statement.Expr.{Expr, out-Expr, map-Expr, fold_out-Expr, the_lemmas}
 use Rattle.ode_types.specs.Answers.{Answers, AnswersWith}
 use Rattle.ode_types.specs.Checks.{Check, ◌>>=◌}

@@ -1,5 +1,5 @@
 -- Statements and bodies. A statement's check gives the scope of the next one.
-use Rattle.std.specs.Prelude.{List, [], ◌∷◌, map, not, nat_lt, Option, Some, None, Ok, Err}
+use Rattle.std.specs.Prelude.{List, not, nat_lt, Option, Some, None, Ok, Err}
 use Rattle.ode_value.specs.declared.binding.Var.{Var}
 use Rattle.ode_value.specs.declared.binding.Var.TheVariants as var
 use Rattle.ode_value.specs.declared.reason.CheckError.TheVariants.{UnknownName, Duplicate}

@@ -1,6 +1,6 @@
 -- The first pass over a class: names, class names in sorts, kinds and numbers, without bodies.
 use Rattle.std.specs.Prelude.{ℕ, ◌+◌, List, [], ◌∷◌, ◌++◌, length, codes, Bool, true, false, not, ◌&&◌, ◌||◌, nat_le, nat_lt, ◌==◌, is_some, is_none, Option, Some, None, Ok}
-use Rattle.std.specs.List.{list_any, filter_map}
+use Rattle.std.specs.List.{list_any}
 use Rattle.std.specs.Option.{option_map, option_map_or}
 use Rattle.std.specs.Str.{bytes_eq}
 use Rattle.ode_value.specs.declared.binding.Param.{Param}
@@ -8,6 +8,7 @@ use Rattle.ode_value.specs.declared.class.Class.{Class}
 use Rattle.ode_value.specs.declared.event.Kind.{Kind}
 use Rattle.ode_value.specs.declared.event.Kind.TheVariants as kind
 use Rattle.ode_value.specs.declared.member.Method.{Method}
+use Rattle.ode_value.specs.declared.member.TriggerDecl.{TriggerDecl}
 use Rattle.ode_value.specs.declared.reason.CheckError.TheVariants.{UnknownName, Duplicate, WrongSort, NotInherited, TooMany}
 use Rattle.ode_value.specs.declared.statement.ClassDecl.{ClassDecl}
 use Rattle.ode_value.specs.declared.statement.Member.{Member}
@@ -76,10 +77,10 @@ kind_word kind.TAbort = codes "tabort"
 kind_word (kind.TimeEvery n) = codes "every"
 kind_word (kind.TimeAt t) = codes "at"
 
--- the name of a method
-abbrev pub method_name : Member → Option (List ℕ)
-method_name (member.Method m) = Some m.name
-method_name _ = None
+-- a member is a method of this name
+abbrev pub is_method : List ℕ → Member → Bool
+is_method name (member.Method m) = bytes_eq name m.name
+is_method name _ = false
 
 -- two methods have the same result and parameter sorts
 abbrev pub same_params : List Param → List Param → Bool
@@ -89,6 +90,18 @@ same_params _ _ = false
 
 abbrev pub same_shape : Method → Method → Bool
 same_shape m n = same_sort m.result n.result && same_params m.params n.params
+
+-- a method has the shape of the one that it redefines
+abbrev pub inherits_shape : List Class → Class → Method → Check (Unit {0})
+inherits_shape known c m = needs (NotInherited m.name) (option_map_or (same_shape m) (method_named (ancestors_of known c) m.name) true)
+
+-- an initial trigger, which nothing calls with arguments, has no parameters
+abbrev pub is_callable : TriggerDecl → Bool
+is_callable t = not t.initial || length t.params == 0
+
+-- a class is within the limits
+abbrev pub is_small : List Class → Class → Bool
+is_small known c = nat_le (length c.fields) field_limit && nat_le (length c.triggers) trigger_limit && nat_le (length (ancestors_of known c)) ancestor_limit
 
 module _ (known : List Class) (d : ClassDecl) where
   -- a class in a sort is declared earlier, or is the class itself
@@ -121,7 +134,7 @@ module _ (known : List Class) (d : ClassDecl) where
 
   -- a method of this name is among the members, or an ancestor has one
   abbrev pub has_method : Class → List ℕ → Bool
-  has_method c name = list_any (bytes_eq name) (filter_map method_name d.members) || is_some (method_named (ancestors_of known c) name)
+  has_method c name = list_any (is_method name) d.members || is_some (method_named (ancestors_of known c) name)
 
   -- a kind isn't listed yet, and names a method where it names one
   abbrev pub lists : Class → Kind → Check Class
@@ -130,9 +143,20 @@ module _ (known : List Class) (d : ClassDecl) where
     needs (UnknownName (kind_word k)) (option_map_or (has_method c) (kind_method k) true)
     Ok (with_member c (member.Events (k ∷ [])))
 
-  -- a method has the shape of the one that it redefines
-  abbrev pub inherits_shape : Class → Method → Check (Unit {0})
-  inherits_shape c m = needs (NotInherited m.name) (option_map_or (same_shape m) (method_named (ancestors_of known c) m.name) true)
+  -- a method: its result's class is known, the class has none of its name, and it has the shape of the one that it redefines
+  abbrev pub knows_method : Class → Method → Check (Unit {0})
+  knows_method c m = do
+    knows_sort m.result
+    needs (Duplicate m.name) (is_none (method_named (c ∷ []) m.name))
+    inherits_shape known c m
+    knows_params m.params
+
+  -- a trigger: its name is new, and an initial one has no parameters
+  abbrev pub knows_trigger : Class → TriggerDecl → Check (Unit {0})
+  knows_trigger c t = do
+    needs (Duplicate t.name) (is_none (trigger_named (line_of known c) t.name))
+    knows_params t.params
+    needs (WrongSort t.name) (is_callable t)
 
   -- a member, behind those that the class has so far
   abbrev pub declares : Class → Member → Check Class
@@ -141,28 +165,19 @@ module _ (known : List Class) (d : ClassDecl) where
     needs (Duplicate name) (is_none (field_named c.fields name))
     Ok (with_member c (member.Field name s))
   declares c (member.Method m) = do
-    knows_sort m.result
-    needs (Duplicate m.name) (is_none (method_named (c ∷ []) m.name))
-    inherits_shape c m
-    knows_params m.params
+    knows_method c m
     Ok (with_member c (member.Method m))
   declares c (member.Constraint x) = do
     needs (Duplicate x.name) (is_none (constraint_named (line_of known c) x.name))
     Ok (with_member c (member.Constraint x))
   declares c (member.Events kinds) = through lists c kinds
   declares c (member.Trigger t) = do
-    needs (Duplicate t.name) (is_none (trigger_named (line_of known c) t.name))
-    knows_params t.params
-    needs (WrongSort t.name) (not t.initial || length t.params == 0)
+    knows_trigger c t
     Ok (with_member c (member.Trigger t))
-
-  -- a class is within the limits
-  abbrev pub is_small : Class → Bool
-  is_small c = nat_le (length c.fields) field_limit && nat_le (length c.triggers) trigger_limit && nat_le (length (ancestors_of known c)) ancestor_limit
 
   -- all members
   unfoldable pub declared : Class → Check Class
   declared start = do
     c ← through declares start d.members
-    needs (TooMany d.name) (is_small c)
+    needs (TooMany d.name) (is_small known c)
     Ok c

@@ -1,6 +1,6 @@
 -- What holds of a checked tree: each expression has a sort, each slot in it is there and holds a value of its sort, and each
 -- method, trigger, class and field that it names is found.
-use Rattle.std.specs.Prelude.{ℕ, ◌+◌, ◌-◌, List, [], ◌∷◌, ◌++◌, length, map, replicate, Bool, true, false, not, ◌&&◌, ◌==◌, is_some, IsTrue, Option, Some, None, slice_get}
+use Rattle.std.specs.Prelude.{ℕ, ◌-◌, List, [], ◌∷◌, ◌++◌, length, map, replicate, Bool, true, false, not, ◌&&◌, ◌==◌, is_some, IsTrue, Option, Some, None, slice_get}
 use Rattle.std.specs.List.{list_all, list_any}
 use Rattle.std.specs.Option.{option_and_then, option_map, option_map_or}
 use Rattle.ode_value.specs.declared.binding.Param.{Param}
@@ -14,7 +14,6 @@ use Rattle.ode_value.specs.declared.event.Kind.{Kind}
 use Rattle.ode_value.specs.declared.member.Constraint.{Constraint}
 use Rattle.ode_value.specs.declared.member.Method.{Method}
 use Rattle.ode_value.specs.declared.member.TriggerDecl.{TriggerDecl}
-use Rattle.ode_value.specs.declared.statement.Call.{Call}
 use Rattle.ode_value.specs.declared.statement.Expr.{Expr, fold-Expr}
 use Rattle.ode_value.specs.declared.statement.Expr.TheOpen as expr
 use Rattle.ode_value.specs.declared.statement.Rhs.{Rhs}
@@ -27,7 +26,7 @@ use Rattle.ode_value.specs.declared.value.Ref.{Ref}
 use Rattle.ode_value.specs.Same.{same_kind}
 use Rattle.ode_types.specs.Events.{event_method_in}
 use Rattle.ode_types.specs.Families.{class_named, field_named, line_of, method_named, trigger_named}
-use Rattle.ode_types.specs.Sorts.{binary_sort, class_of, fits, is_of, is_reference, is_void, starting, unary_sort}
+use Rattle.ode_types.specs.Sorts.{binary_sort, class_of, fits, is_reference, is_void, starting, unary_sort}
 use Rattle.ode_types.specs.Typing.{value_sort, where_so}
 
 -- the classes, the class that `this` is of, what `return` gives, whether expressions are plain, the literals' classes; and what each

@@ -1,7 +1,7 @@
 //! Statements and bodies.
 ghost use Rattle.std.specs.Prelude.{◌≡◌, OnOk, length, take};
 ghost use Rattle.ode_types.specs.Answers.{Answers, AnswersWith};
-ghost use Rattle.ode_types.specs.Bodies.{body_checked, checks, deactivate_checked, let_checked, return_checked, set_checked, show_checked};
+ghost use Rattle.ode_types.specs.Bodies.{body, body_checked, checks, deactivate_checked, let_checked, return_checked, set_checked, show_checked};
 ghost use Rattle.ode_types.specs.Scopes.{scope_of};
 
 use crate::place::{Locals, Place};
@@ -152,6 +152,20 @@ pub(crate) fn check_stmt(
         }
         Stmt::TAbort => Ok(Stmt::TAbort),
     }
+}
+
+/// A whole body.
+#[tactic(auto, using(crate::proofs::StaticLaws::first_of))]
+pub(crate) fn whole_body(
+    alloc: Global,
+    statements: &[Stmt],
+    place: &Place,
+    locals: Locals,
+) -> Result<List<Stmt>, CheckStop>
+    ensures { Answers (body statements.now (scope_of place.now locals)) result }
+{
+    let mut locals = locals;
+    check_body(alloc, statements, place, &mut locals)
 }
 
 /// A body. Its locals aren't seen behind it, and keep their slots.

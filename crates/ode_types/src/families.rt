@@ -6,11 +6,11 @@ ghost use Rattle.std.specs.Str.{bytes_eq};
 ghost use Rattle.ode_value.specs.declared.class.Class.{Class as Declared};
 ghost use Rattle.ode_value.specs.declared.class.Field.{Field as OfClass};
 ghost use Rattle.ode_types.specs.Limits.{slot_limit};
-ghost use Rattle.ode_types.specs.Families.{field_named, is_a, line_of, method_named, seen_field, trigger_named};
+ghost use Rattle.ode_types.specs.Families.{constraint_named, field_named, is_a, line_of, method_named, seen_field, trigger_named};
 
 use crate::limits::in_slots;
 use crate::line::{Known, Line};
-use ode_value::{Class, Field, Method, Name, TriggerDecl};
+use ode_value::{Class, Constraint, Field, Method, Name, TriggerDecl};
 
 /// The field of this name, with its slot.
 #[tactic(auto, using(crate::proofs::FamilyLaws::fields_by_place))]
@@ -142,4 +142,42 @@ pub(crate) fn is_a(known: &Known, class: &Class, name: &Name) -> bool
     ensures { result ≡ is_a known.now class.now name.now }
 {
     class.name.same(name) || is_above(&mut known.ancestors(class), name)
+}
+
+// The constraint of this name that a class itself has.
+fn own_constraint<'a>(class: &'a Class, name: &Name) -> Option<&'a Constraint>
+    ensures { option_copied result ≡ constraint_named (class.now ∷ []) name.now }
+{
+    class
+        .constraints
+        .as_slice()
+        .iter()
+        .find(|constraint| constraint.name.same(name))
+}
+
+#[tactic(auto, using(crate::proofs::FamilyLaws::named_along))]
+fn constraint_above<'a>(line: &mut Line<'a>, name: &Name) -> Option<&'a Constraint>
+    ensures { option_copied result ≡ constraint_named line.old name.now }
+{
+    while let Some(class) = line.next() {
+        if let Some(constraint) = own_constraint(class, name) {
+            return Some(constraint);
+        }
+    }
+    None
+}
+
+/// The constraint of this name of a class and its ancestors.
+#[tactic(auto, using(crate::proofs::FamilyLaws::named_along))]
+pub(crate) fn constraint_named<'a>(
+    known: &Known<'a>,
+    class: &'a Class,
+    name: &Name,
+) -> Option<&'a Constraint>
+    ensures { option_copied result ≡ constraint_named (line_of known.now class.now) name.now }
+{
+    match own_constraint(class, name) {
+        Some(constraint) => Some(constraint),
+        None => constraint_above(&mut known.ancestors(class), name),
+    }
 }

@@ -3,9 +3,12 @@
 
 mod bodies;
 mod classes;
+mod declaring;
+mod events;
 mod families;
 mod limits;
 mod line;
+mod members;
 mod names;
 mod place;
 mod references;
@@ -20,6 +23,7 @@ pub use classes::Classes;
 pub use limits::{
     ANCESTOR_LIMIT, CLASSES_LIMIT, FIELD_LIMIT, SLOT_LIMIT, TRIGGER_LIMIT, limits_agree,
 };
+pub use members::check_class;
 pub use references::literals;
 pub use running::Running;
 pub use statics::check_statement;

@@ -1,5 +1,5 @@
 //! The classes that a check sees, and the line from a class to its ancestors.
-ghost use Rattle.std.specs.Prelude.{◌≡◌, ◌++◌};
+ghost use Rattle.std.specs.Prelude.{◌≡◌, ◌++◌, length, nat_le};
 ghost use Rattle.std.specs.Option.{option_copied, unwrap_or};
 ghost use Rattle.ode_types.specs.Families.{ancestors_of, class_named, class_numbered, upward};
 ghost use Rattle.ode_types.specs.Lines.{alone, headed};
@@ -155,5 +155,17 @@ impl<'a> Line<'a> {
         self.before = self.number as usize - 1;
         self.number = parent_of(class);
         Some(class)
+    }
+
+    /// Whether at most so many are still to come.
+    pub(crate) fn is_within(mut self, limit: usize) -> bool
+        ensures { result ≡ nat_le (length self.entry) limit }
+    {
+        for _passed in 0..limit {
+            if self.next().is_none() {
+                return true;
+            }
+        }
+        self.next().is_none()
     }
 }

@@ -1,11 +1,11 @@
 //! Where a tree stands, and the parameters and locals that are seen there.
 ghost use Rattle.std.specs.Prelude.{◌≡◌, true, ◌+◌, ◌≤◌, ◌<◌, nat_lt, ◌++◌, ◌∷◌, [], IfOk, OnOk, length, take};
 ghost use Rattle.std.specs.Option.{option_copied};
-ghost use Rattle.ode_types.specs.Limits.{slot_limit};
+ghost use Rattle.ode_types.specs.Limits.{in_slots, slot_limit};
 ghost use Rattle.ode_types.specs.Scopes.{local_named, meaning, own_meaning, scope_of};
 
 use crate::families::field_named;
-use crate::limits::SLOT_LIMIT;
+use crate::limits::{SLOT_LIMIT, in_slots};
 use crate::line::Known;
 use ode_value::{Class, List, Name, Param, Ref, Sort, Var};
 use std::alloc::{AllocError, Global};
@@ -56,6 +56,46 @@ impl Locals {
             .find(|local| local.1.name.same(name))
     }
 
+    /// Parameters behind those that are seen, with slots from the next local's on.
+    #[tactic(auto, unfolding(crate::specs::Limits::slot_limit))]
+    pub(crate) fn see(&mut self, alloc: Global, params: &[Param]) -> Result<(), AllocError>
+        ensures seen { OnOk result (self.new.seen ≡ self.old.seen ++ in_slots self.old.next params.now) }
+        ensures next { OnOk result (self.new.next ≡ self.old.next) }
+    {
+        let mut slot = self.next;
+        for param in in_slots(params, slot) {
+            let param = param.copy(alloc)?;
+            self.seen.push((slot as u16, param))?;
+            slot += 1;
+        }
+        Ok(())
+    }
+
+    /// The parameters of a member, which are seen from its start on.
+    pub(crate) fn of(alloc: Global, params: &[Param]) -> Result<Locals, AllocError>
+        ensures { IfOk result (λ locals. (locals.seen ≡ in_slots 0 params.now) × (locals.next ≡ length params.now)) }
+    {
+        let mut locals = Locals::new(alloc);
+        locals.see(alloc, params)?;
+        locals.next = params.len();
+        Ok(locals)
+    }
+
+    /// The same again.
+    pub(crate) fn copy(&self, alloc: Global) -> Result<Locals, AllocError>
+        ensures { IfOk result (λ copy. copy ≡ self.now) }
+    {
+        let mut seen = List::new(alloc);
+        for local in self.seen.as_slice() {
+            let param = local.1.copy(alloc)?;
+            seen.push((local.0, param))?;
+        }
+        Ok(Locals {
+            seen,
+            next: self.next,
+        })
+    }
+
     /// Whether a slot is left for one more local.
     #[tactic(auto, unfolding(crate::specs::Limits::slot_limit))]
     pub(crate) fn has_slot(&self) -> bool
@@ -93,6 +133,20 @@ impl Locals {
 }
 
 impl<'a> Place<'a> {
+    /// The same place, where expressions are plain.
+    pub(crate) fn plain(&self) -> Place<'a>
+        ensures { result ≡ record self.now { is_plain = true } }
+    {
+        Place {
+            known: self.known.again(),
+            class: self.class,
+            member: self.member,
+            result: self.result,
+            is_plain: true,
+            literals: self.literals,
+        }
+    }
+
     // What a name means as a field, and its sort.
     fn own_meaning(&self, alloc: Global, name: &Name) -> Result<Option<(Var, Sort)>, AllocError>
         ensures { IfOk result (λ m. m ≡ own_meaning (option_copied self.now.class) name.now) }

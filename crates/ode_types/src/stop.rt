@@ -2,7 +2,7 @@
 ghost use Rattle.std.specs.Prelude.{Bool, Err};
 ghost use Rattle.ode_types.specs.Answers.{Answers};
 ghost use Rattle.ode_types.specs.Checks.{needs};
-ghost use Rattle.ode_value.specs.declared.reason.CheckError.TheVariants.{Duplicate, UnknownName, WrongSort};
+ghost use Rattle.ode_value.specs.declared.reason.CheckError.TheVariants.{Duplicate, TooMany, UnknownName, WrongSort};
 
 use ode_value::{CheckError, Name};
 use std::alloc::{AllocError, Global};
@@ -38,6 +38,13 @@ pub(crate) fn duplicate<T>(alloc: Global, name: &Name) -> Result<T, CheckStop>
     ensures { Answers (Err (Duplicate name.now)) result }
 {
     Err(CheckStop::Broken(CheckError::Duplicate(name.copy(alloc)?)))
+}
+
+/// More of something than a class may have, or more classes than there are numbers.
+pub(crate) fn too_many<T>(alloc: Global, name: &Name) -> Result<T, CheckStop>
+    ensures { Answers (Err (TooMany name.now)) result }
+{
+    Err(CheckStop::Broken(CheckError::TooMany(name.copy(alloc)?)))
 }
 
 /// Any other mismatch in the member of this name.

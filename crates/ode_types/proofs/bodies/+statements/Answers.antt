@@ -1,9 +1,9 @@
-use Rattle.std.proofs.Common.{◌≡◌, ℕ, List, Ok, Err, ap, sym, ◌∙◌, length, take, arith}
+use Rattle.std.proofs.Common.{ℕ, List, Ok, ap, ◌∙◌, take, arith}
 use Rattle.std.proofs.lemmas.Result.{err_from_is_err_and}
 use Rattle.ode_value.specs.declared.statement.Stmt.{Stmt}
 use Rattle.ode_types.specs.Bodies.{body_checked, next_checked}
 use Rattle.ode_types.specs.Checks.{Check, ◌>>=◌, in_turn}
-use Rattle.ode_types.specs.Scopes.{Scope, behind, scope_of}
+use Rattle.ode_types.specs.Scopes.{Scope, scope_of}
 use Rattle.ode_types.proofs.StatementLaws.{behind-forget, behind_body, if-done, if-first, if-second}
 use Rattle.ode_types.proofs.TurnLaws.{turn-end, turn-stops-with}
 use Rattle.ode_types.proofs.bodies.+statements.Goals as goal

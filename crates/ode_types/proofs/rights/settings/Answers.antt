@@ -1,10 +1,10 @@
-use Rattle.std.proofs.Common.{◌≡◌, ℕ, ◌+◌, List, [], ◌∷◌, ◌++◌, drop, length, Ok, Err, ap, sym, ◌∙◌, subst, arith}
+use Rattle.std.proofs.Common.{ℕ, List, [], ◌∷◌, ◌++◌, Ok, Err, ap, subst, arith}
 use Rattle.std.proofs.lemmas.Result.{err_from_is_err_and}
 use Rattle.ode_value.specs.declared.statement.Expr.{Expr}
 use Rattle.ode_types.specs.Answers.{Answers}
 use Rattle.ode_types.specs.Checks.{Check, ◌>>=◌, in_turn}
 use Rattle.ode_types.specs.Rights.{next_setting, setting, settings}
-use Rattle.ode_types.specs.Scopes.{Scope, scope_of}
+use Rattle.ode_types.specs.Scopes.{scope_of}
 use Rattle.ode_types.proofs.TurnLaws.{turn-end, turn-stops}
 use Rattle.ode_types.proofs.TypingLaws.{stops_with}
 use Rattle.ode_types.proofs.rights.settings.Goals as goal

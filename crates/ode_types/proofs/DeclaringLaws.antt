@@ -1,0 +1,83 @@
+-- The first pass over a class, as loops make it.
+use Rattle.std.proofs.Common.{◌≡◌, ℕ, zero, suc, ◌+◌, ◌<◌, ◌≤◌, List, [], ◌∷◌, ◌++◌, length, drop, take, get_or, Bool, true, false, Ok, Err, refl, ap, sym, ◌∙◌, arith}
+use Rattle.std.specs.Prelude.{◌&&◌}
+use Rattle.ode_value.specs.declared.binding.Param.{Param}
+use Rattle.ode_value.specs.declared.class.Class.{Class}
+use Rattle.ode_value.specs.declared.reason.CheckError.TheVariants.{TooMany}
+use Rattle.ode_value.specs.declared.statement.ClassDecl.{ClassDecl}
+use Rattle.ode_value.specs.declared.statement.Member.{Member}
+use Rattle.ode_value.specs.Same.{same_sort}
+use Rattle.ode_types.specs.Answers.{Answers, Leaves}
+use Rattle.ode_types.specs.Checks.{Check, ◌>>=◌, ◌>>◌, needs, through}
+use Rattle.ode_types.specs.Declaring.{declared, declares, is_small, knows_param, knows_params, next_param, same_params}
+use Rattle.ode_types.specs.declared.stop.CheckStop.{CheckStop}
+use Rattle.ode_types.specs.declared.stop.CheckStop.TheVariants as stop
+use Rattle.ode_types.proofs.TurnLaws.{drop_all, drop_at, through-end, through-step, through-stops}
+
+-- ---- parameter sorts of two methods
+
+pub same_params-next : (ps qs : List Param) (i : ℕ) (p q : Param) → i < length ps → i < length qs → p ≡ get_or ps i p → q ≡ get_or qs i q
+    → same_params (drop i ps) (drop i qs) ≡ (same_sort p.sort q.sort && same_params (drop (i + 1) ps) (drop (i + 1) qs))
+same_params-next ps qs i p q low below is also =
+    ap (λ (xs : List Param). same_params xs (drop i qs)) (drop_at ps i p low ∙ ap (λ (x : Param). x ∷ drop (i + 1) ps) (sym is))
+    ∙ ap (λ (ys : List Param). same_params (p ∷ drop (i + 1) ps) ys) (drop_at qs i q below ∙ ap (λ (y : Param). y ∷ drop (i + 1) qs) (sym also))
+
+pub same_params-end : (ps qs : List Param) (i : ℕ) → length ps ≤ i → length qs ≤ i → same_params (drop i ps) (drop i qs) ≡ true
+same_params-end ps qs i low below = ap (λ (xs : List Param). same_params xs (drop i qs)) (drop_all ps i low) ∙ ap (λ (ys : List Param). same_params [] ys) (drop_all qs i below)
+
+pub same_params-other : (ps qs : List Param) → (length ps ≡ length qs → ⊥) → same_params ps qs ≡ false
+same_params-other [] [] other = absurd (other refl)
+same_params-other [] (q ∷ qs) other = refl
+same_params-other (p ∷ ps) [] other = refl
+same_params-other (p ∷ ps) (q ∷ qs) other = by (same_sort p.sort q.sort) (same_params-other ps qs (λ e. other (ap suc e))) where
+  by : (b : Bool) → same_params ps qs ≡ false → (b && same_params ps qs) ≡ false
+  by true rest = rest
+  by false rest = refl
+
+-- ---- parameters
+
+take_one : {X : Type 0} (xs : List X) (i : ℕ) (d : X) → i < length xs → take (i + 1) xs ≡ take i xs ++ get_or xs i d ∷ []
+take_one [] i d h = absurd (omega arith)
+take_one (y ∷ ys) zero d h = refl
+take_one (y ∷ ys) (suc i) d h = let next : suc i + 1 ≡ suc (i + 1) = omega arith in ap (λ n. take n (y ∷ ys)) next ∙ ap (λ zs. y ∷ zs) (take_one ys i d (omega arith))
+
+module _ (known : List Class) (d : ClassDecl) (params : List Param) (i : ℕ) where
+  pub params-step : (p : Param) (u : Unit {0}) → i < length params → p ≡ get_or params i p
+      → through (next_param known d) [] params ≡ through (next_param known d) (take i params) (drop i params) → knows_param known d (take i params) p ≡ Ok u
+      → through (next_param known d) [] params ≡ through (next_param known d) (take (i + 1) params) (drop (i + 1) params)
+  params-step p u low is so ok =
+      let more : take (i + 1) params ≡ take i params ++ p ∷ [] = take_one params i p low ∙ ap (λ (x : Param). take i params ++ x ∷ []) (sym is) in
+      through-step (next_param known d) (through (next_param known d) [] params) (take i params) (take i params ++ p ∷ []) params i p low is so (ap (λ m. m >>= (λ _. Ok (take i params ++ p ∷ []))) ok)
+      ∙ ap (λ (xs : List Param). through (next_param known d) xs (drop (i + 1) params)) (sym more)
+
+  pub params-stop : (p : Param) (e : CheckStop) → i < length params → p ≡ get_or params i p
+      → through (next_param known d) [] params ≡ through (next_param known d) (take i params) (drop i params) → Answers {T = Unit {0}} (knows_param known d (take i params) p) (Err e)
+      → Answers {T = Unit {0}} (knows_params known d params) (Err e)
+  params-stop p stop.Memory low is so h = tt
+  params-stop p (stop.Broken e) low is so h =
+      through-stops (next_param known d) (through (next_param known d) [] params) (λ _. Ok tt) (take i params) [] params i p (stop.Broken e) low is so (ap (λ m. m >>= (λ _. Ok (take i params ++ p ∷ []))) h)
+
+  pub params-end : length params ≤ i → through (next_param known d) [] params ≡ through (next_param known d) (take i params) (drop i params) → knows_params known d params ≡ Ok tt
+  params-end low so = ap (λ m. m >>= (λ _. Ok tt)) (through-end (next_param known d) (through (next_param known d) [] params) (take i params) params i low so)
+
+-- ---- all members
+
+module _ (known : List Class) (d : ClassDecl) (start : Class) where
+  -- what comes behind the members
+  abbrev pub small : Class → Check Class
+  small c = needs (TooMany d.name) (is_small known c) >> Ok c
+
+  pub stopped : (c e : Class) (members : List Member) (i : ℕ) (m : Member) (s : CheckStop) → members ≡ d.members → i < length members → m ≡ get_or members i m
+      → through (declares known d) start members ≡ through (declares known d) c (drop i members) → Leaves {S = Class} (declares known d c m) e (Err s) → Answers {T = Class} (declared known d start) (Err s)
+  unfolding declared
+  stopped c e members i m stop.Memory all low is so h = tt
+  stopped c e members i m (stop.Broken b) all low is so h =
+      ap (λ (ms : List Member). through (declares known d) start ms >>= small) (sym all)
+      ∙ through-stops (declares known d) (through (declares known d) start members) small c e members i m (stop.Broken b) low is so h
+
+  pub all_declared : (c : Class) (members : List Member) (i : ℕ) → members ≡ d.members → length members ≤ i
+      → through (declares known d) start members ≡ through (declares known d) c (drop i members) → declared known d start ≡ small c
+  unfolding declared
+  all_declared c members i all low so =
+      ap (λ (ms : List Member). through (declares known d) start ms >>= small) (sym all)
+      ∙ ap (λ m. m >>= small) (through-end (declares known d) (through (declares known d) start members) c members i low so)

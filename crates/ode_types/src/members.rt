@@ -1,0 +1,196 @@
+//! The second pass over a class: bodies, constraints and triggers.
+ghost use Rattle.std.specs.Prelude.{◌≡◌, ◌++◌, ◌∷◌, [], IfOk, OnOk, false};
+ghost use Rattle.std.specs.Option.{option_copied};
+ghost use Rattle.ode_types.specs.Answers.{Answers};
+ghost use Rattle.ode_types.specs.Declaring.{with_member};
+ghost use Rattle.ode_types.specs.Kept.{IsTypedClass};
+ghost use Rattle.ode_types.specs.Static.{check_class, checked_member, completed, constraint_checked, method_checked, trigger_checked};
+
+use crate::bodies::whole_body;
+use crate::classes::Classes;
+use crate::declaring::{begins, declared};
+use crate::events::check_event;
+use crate::line::Known;
+use crate::place::{Locals, Place};
+use crate::rights::fitting;
+use crate::stop::CheckStop;
+use ode_value::{
+    Class, ClassDecl, Constraint, Field, Kind, Member, Method, Name, Ref, Sort, TriggerDecl,
+};
+use std::alloc::{AllocError, Global};
+
+// Where a member of a class stands.
+fn member_place<'a>(
+    known: &'a Classes,
+    draft: &'a Class,
+    name: &'a Name,
+    returned: &'a Sort,
+    literals: &'a [(Ref, u32)],
+) -> Place<'a>
+    ensures known { result.known ≡ known.now ++ draft.now ∷ [] }
+    ensures class { option_copied result.class ≡ Some draft.now }
+    ensures member { result.member.now ≡ name.now }
+    ensures result { result.result.now ≡ returned.now }
+    ensures plain { result.is_plain ≡ false }
+    ensures literals { result.literals.now ≡ literals.now }
+{
+    Place {
+        known: Known::new(known, Some(draft)),
+        class: Some(draft),
+        member: name,
+        result: returned,
+        is_plain: false,
+        literals,
+    }
+}
+
+#[tactic(auto, using(crate::proofs::TypingLaws::stops_through, crate::proofs::MemberLaws::scope_is), unfolding(crate::specs::Static::method_checked))]
+fn check_method(
+    alloc: Global,
+    known: &Classes,
+    draft: &Class,
+    method: &Method,
+) -> Result<Method, CheckStop>
+    ensures { Answers (method_checked (known.now ++ draft.now ∷ []) draft.now method.now) result }
+{
+    let place = member_place(known, draft, &method.name, &method.result, &[]);
+    let locals = Locals::of(alloc, method.params.as_slice())?;
+    let body = whole_body(alloc, method.body.as_slice(), &place, locals)?;
+    let name = method.name.copy(alloc)?;
+    let result = method.result.copy(alloc)?;
+    let params = method.params.copy(alloc)?;
+    Ok(Method {
+        name,
+        result,
+        params,
+        body,
+    })
+}
+
+#[tactic(auto, using(crate::proofs::TypingLaws::stops_through, crate::proofs::MemberLaws::scope_is), unfolding(crate::specs::Static::constraint_checked))]
+fn check_constraint(
+    alloc: Global,
+    known: &Classes,
+    draft: &Class,
+    constraint: &Constraint,
+) -> Result<Constraint, CheckStop>
+    ensures { Answers (constraint_checked (known.now ++ draft.now ∷ []) draft.now constraint.now) result }
+{
+    let void = Sort::Void;
+    let place = member_place(known, draft, &constraint.name, &void, &[]);
+    let locals = Locals::new(alloc);
+    let test = fitting(
+        alloc,
+        &Sort::Bool,
+        &constraint.test,
+        &place.plain(),
+        &locals,
+    )?;
+    Ok(Constraint {
+        name: constraint.name.copy(alloc)?,
+        soft: constraint.soft,
+        test,
+    })
+}
+
+#[tactic(auto, using(crate::proofs::TypingLaws::stops_through, crate::proofs::MemberLaws::scope_is), unfolding(crate::specs::Static::trigger_checked))]
+fn check_trigger(
+    alloc: Global,
+    known: &Classes,
+    draft: &Class,
+    trigger: &TriggerDecl,
+) -> Result<TriggerDecl, CheckStop>
+    ensures { Answers (trigger_checked (known.now ++ draft.now ∷ []) draft.now trigger.now) result }
+{
+    let void = Sort::Void;
+    let place = member_place(known, draft, &trigger.name, &void, &[]);
+    let locals = Locals::of(alloc, trigger.params.as_slice())?;
+    let event = check_event(alloc, &trigger.event, &place, &locals)?;
+    let action = whole_body(alloc, trigger.action.as_slice(), &place, locals)?;
+    let name = trigger.name.copy(alloc)?;
+    let params = trigger.params.copy(alloc)?;
+    Ok(TriggerDecl {
+        name,
+        initial: trigger.initial,
+        perpetual: trigger.perpetual,
+        whole: trigger.whole,
+        mode: trigger.mode,
+        params,
+        event,
+        action,
+    })
+}
+
+// The second pass over a member. Fields and kinds have nothing more to check.
+#[tactic(auto, using(crate::proofs::TypingLaws::stops_through))]
+fn check_member(
+    alloc: Global,
+    known: &Classes,
+    draft: &Class,
+    member: &Member,
+) -> Result<Member, CheckStop>
+    ensures { Answers (checked_member (known.now ++ draft.now ∷ []) draft.now member.now) result }
+{
+    match member {
+        Member::Method(method) => Ok(Member::Method(check_method(alloc, known, draft, method)?)),
+        Member::Constraint(constraint) => Ok(Member::Constraint(check_constraint(
+            alloc, known, draft, constraint,
+        )?)),
+        Member::Trigger(trigger) => Ok(Member::Trigger(check_trigger(
+            alloc, known, draft, trigger,
+        )?)),
+        _ => Ok(member.copy(alloc)?),
+    }
+}
+
+fn add_kinds(alloc: Global, class: &mut Class, kinds: &[Kind]) -> Result<(), AllocError>
+    ensures { OnOk result (class.new ≡ record class.old { kinds = class.old.kinds ++ kinds.now }) }
+{
+    for kind in kinds {
+        class.kinds.push(kind.copy(alloc)?)?;
+    }
+    Ok(())
+}
+
+// One more member of a class.
+fn add_member(alloc: Global, class: &mut Class, member: Member) -> Result<(), AllocError>
+    ensures { OnOk result (class.new ≡ with_member class.old member) }
+{
+    match member {
+        Member::Field(name, sort) => class.fields.push(Field { name, sort }),
+        Member::Method(method) => class.methods.push(method),
+        Member::Constraint(constraint) => class.constraints.push(constraint),
+        Member::Events(kinds) => add_kinds(alloc, class, kinds.as_slice()),
+        Member::Trigger(trigger) => class.triggers.push(trigger),
+    }
+}
+
+// The second pass over the members of a class, which are added to what it begins with.
+#[tactic(auto, unfolding(crate::specs::Static::completed))]
+fn completed(
+    alloc: Global,
+    known: &Classes,
+    decl: &ClassDecl,
+    draft: &Class,
+    start: Class,
+) -> Result<Class, CheckStop>
+    ensures { Answers (completed (known.now ++ draft.now ∷ []) draft.now decl.now start) result }
+{
+    let mut class = start;
+    for member in decl.members.as_slice() {
+        let checked = check_member(alloc, known, draft, member)?;
+        add_member(alloc, &mut class, checked)?;
+    }
+    Ok(class)
+}
+
+/// A class with slots for the names in its trees, by the classes that are there; or the first static rule that it breaks.
+#[tactic(auto, using(crate::proofs::TypingLaws::stops_through), unfolding(crate::specs::Static::check_class))]
+pub fn check_class(alloc: Global, known: &Classes, decl: &ClassDecl) -> Result<Class, CheckStop>
+    ensures answers { Answers (check_class known.now decl.now) result }
+    ensures typed { IfOk result (λ class. IsTypedClass (known.now ++ class ∷ []) class) }
+{
+    let start = begins(alloc, known, decl)?;
+    let draft = declared(alloc, known, decl, start.copy(alloc)?)?;
+    completed(alloc, known, decl, &draft, start)
+}
