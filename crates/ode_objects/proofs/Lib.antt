@@ -1,0 +1,4 @@
+pub mod Kept
+pub mod ShortValues
+mod Sums
+mod TakenOver

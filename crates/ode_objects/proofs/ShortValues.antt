@@ -1,0 +1,81 @@
+-- How long values are that are put.
+use Rattle.std.proofs.Common.{◌≡◌, ◌≤◌, ◌++◌, ℕ, List, [], ◌∷◌, true, Option, Some, None, length, refl, arith, length-append}
+use Rattle.std.proofs.lemmas.Bool.Decides.{nat_tests}
+use Rattle.std.proofs.lemmas.List.Sums.{sum_by-cons}
+use Rattle.std.specs.Prelude.{◌&&◌, nat_le, nat_lt, OnOk, Result, Ok, Err}
+use Rattle.std.specs.List.{flat_map}
+use Rattle.ode_codec.specs.Spelling.{u16, u32, value_of, values}
+use Rattle.ode_codec.specs.declared.record.Activation.{Activation}
+use Rattle.ode_codec.specs.declared.record.Counters.{Counters}
+use Rattle.ode_codec.specs.declared.record.Entry.{Entry}
+use Rattle.ode_codec.specs.declared.record.Record.TheVariants as of
+use Rattle.ode_objects.proofs.Kept.{second_of}
+use Rattle.ode_objects.specs.Values.{are_args, are_fields, are_kept}
+use Rattle.ode_value.specs.Lengths.{value_length, values_length, version_size}
+use Rattle.ode_value.specs.Limits.{args_limit, value_limit}
+use Rattle.ode_value.specs.Records.{byte, spelled_value}
+use Rattle.ode_value.specs.declared.value.Value.{Value}
+use Rattle.ode_value.specs.declared.value.Value.TheVariants as value
+use Rattle.std.proofs.lemmas.Map.Views.{All-values-insert_entry}
+use Rattle.std.specs.BTreeMap.{insert_entry}
+use Rattle.std.specs.Option.{IfSome}
+use Rattle.ode_keep.specs.Entries.{Changes}
+use Rattle.ode_objects.specs.Records.{AreShort, IsKeptChange, put_becomes}
+use Rattle.ode_objects.specs.declared.records.Becomes.{Becomes}
+use Rattle.ode_objects.specs.declared.records.Becomes.TheVariants.{Is, Goes, Stays}
+use Rattle.ode_value.specs.Keys.{key_cmp}
+use Rattle.ode_value.specs.declared.key.Key.{Key}
+
+fields_fit : (vs : List Value) → are_fields vs ≡ true → values_length vs ≤ 3962
+unfolding are_fields value_limit
+fields_fit vs kept = let short : nat_le (version_size vs) 3968 ≡ true = second_of (are_kept vs) (nat_le (version_size vs) 3968) kept in grind (arith, nat_tests)
+
+args_fit : (vs : List Value) → are_args vs ≡ true → values_length vs ≤ 768
+unfolding are_args args_limit
+args_fit vs kept =
+    let rest = second_of (nat_lt (length vs) 256) (are_kept vs && nat_le (values_length vs) 768) kept in
+    let short : nat_le (values_length vs) 768 ≡ true = second_of (are_kept vs) (nat_le (values_length vs) 768) rest in
+    grind (arith, nat_tests)
+
+length-value : (v : Value) → length (spelled_value v) ≡ value_length v
+length-value (value.Int n) = refl
+length-value (value.Bool b) = refl
+length-value (value.Text t) = omega (arith, length-append (byte 2 ++ u16 (length t)) t)
+length-value (value.Reference r) = refl
+
+length-values : (vs : List Value) → length (values vs) ≡ values_length vs
+length-values [] = refl
+length-values (v ∷ vs) = omega (arith, length-append (spelled_value v) (flat_map spelled_value vs), length-value v, length-values vs, sum_by-cons value_length v vs)
+
+pub short_version : (id number parent : ℕ) (vs : List Value) → are_fields vs ≡ true → length (value_of (of.Version id number parent vs)) ≤ value_limit
+unfolding value_of value_limit
+short_version id number parent vs kept = omega (arith, length-append (u32 parent) (u16 (length vs) ++ values vs), length-append (u16 (length vs)) (values vs), length-values vs, fields_fit vs kept)
+
+pub short_activation : (a : Activation) → are_args a.args ≡ true → length (value_of (of.Activation a)) ≤ value_limit
+unfolding value_of value_limit
+short_activation a kept = omega (arith, length-values a.args, args_fit a.args kept)
+
+pub short_entry : (n : ℕ) (e : Entry) → are_args e.args ≡ true → length (value_of (of.Entry n e)) ≤ value_limit
+unfolding value_of value_limit
+short_entry n e kept = omega (arith, length-values e.args, args_fit e.args kept)
+
+pub short_counters : (c : Counters) → length (value_of (of.Counters c)) ≤ value_limit
+unfolding value_of value_limit
+short_counters c = omega arith
+
+pub short_object : (id class last : ℕ) → length (value_of (of.Object id class last)) ≤ value_limit
+unfolding value_of value_limit
+short_object id class last = omega arith
+
+short_put : (k : Key) (w : Option (List ℕ)) (cs : Changes) → AreShort cs → IfSome w (λ bytes. length bytes ≤ value_limit) → AreShort (insert_entry key_cmp cs k w)
+short_put k w cs short one = All-values-insert_entry key_cmp k w (λ (v : Option (List ℕ)). IfSome v (λ bytes. length bytes ≤ value_limit)) cs short one
+
+pub short_becomes : (k : Key) (b : Becomes) (cs : Changes) → IsKeptChange b → AreShort cs → AreShort (put_becomes k b cs)
+short_becomes k (Is r) cs kept short = short_put k (Some (value_of r)) cs short kept.1
+short_becomes k Goes cs kept short = short_put k None cs short tt
+short_becomes k Stays cs kept short = short
+
+-- what follows from a fact at a value
+pub on_ok : {X E : Type 0} {P Q : Type 0} (r : Result X E) → OnOk r P → (P → Q) → OnOk r Q
+on_ok (Ok x) is next = next is
+on_ok (Err e) is next = tt

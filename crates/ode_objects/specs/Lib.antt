@@ -1,0 +1,7 @@
+pub mod Values
+pub mod Objects
+pub mod Tracked
+pub mod Loading
+pub mod Records
+pub mod Rewinding
+pub mod Weights

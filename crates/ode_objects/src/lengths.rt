@@ -1,0 +1,41 @@
+//! How many bytes values and records take.
+ghost use Rattle.std.specs.Prelude.{◌≡◌, ◌<◌, ◌≤◌, nat_le};
+ghost use Rattle.ode_value.specs.Lengths as machine;
+ghost use Rattle.ode_value.specs.Lengths.{value_length, values_length};
+
+use ode_value::Value;
+
+/// Bytes of a key.
+pub const KEY: u64 = 17;
+/// Bytes of an object's record.
+pub const OBJECT: u64 = KEY + 8;
+/// Bytes before the fields in the value of a version.
+pub const VERSION_HEAD: usize = 6;
+/// Bytes before the arguments in the value of an activation.
+pub const ACTIVATION_HEAD: usize = 9;
+
+/// The bytes of a value.
+pub fn value_length(value: &Value) -> usize
+    ensures length { result ≡ value_length value.now }
+    ensures short { result < 4096 }
+{
+    match value {
+        Value::Int(_) => 9,
+        Value::Bool(_) => 2,
+        Value::Text(text) => 3 + text.as_bytes().len(),
+        Value::Reference(_) => 13,
+    }
+}
+
+/// Whether values take at most so many bytes.
+pub fn fit(values: &[Value], limit: usize) -> bool
+    ensures { result ≡ nat_le (values_length values.now) limit }
+{
+    match values {
+        [] => true,
+        [value, values @ ..] => match limit.checked_sub(value_length(value)) {
+            Some(rest) => fit(values, rest),
+            None => false,
+        },
+    }
+}

@@ -1,0 +1,150 @@
+//! Values that a record can hold.
+ghost use Rattle.std.specs.Prelude.{◌≡◌, cond, true, Some, None, IfOk};
+ghost use Rattle.ode_objects.specs.Values.{are_args, are_fields, are_kept, is_kept};
+
+use crate::lengths::{VERSION_HEAD, fit};
+use ode_value::limits::{ARGS_LIMIT, VALUE_LIMIT};
+use ode_value::{List, Value};
+use std::alloc::{AllocError, Global};
+use std::marker::Model;
+
+fn is_kept(value: &Value) -> bool
+    ensures { result ≡ is_kept value.now }
+{
+    match value {
+        Value::Reference(reference) => match reference.version {
+            Some(version) => 0 < reference.object && 0 < version,
+            None => true,
+        },
+        _ => true,
+    }
+}
+
+fn are_kept(values: &[Value]) -> bool
+    ensures { result ≡ are_kept values.now }
+{
+    match values {
+        [] => true,
+        [value, values @ ..] => is_kept(value) && are_kept(values),
+    }
+}
+
+#[tactic(auto, unfolding(crate::specs::Values::are_fields, ode_value::specs::Limits::value_limit))]
+fn are_fields(values: &[Value]) -> bool
+    ensures { result ≡ are_fields values.now }
+{
+    are_kept(values) && fit(values, VALUE_LIMIT - VERSION_HEAD)
+}
+
+#[tactic(auto, unfolding(crate::specs::Values::are_args, ode_value::specs::Limits::args_limit))]
+fn are_args(values: &[Value]) -> bool
+    ensures { result ≡ are_args values.now }
+{
+    values.len() < 256 && are_kept(values) && fit(values, ARGS_LIMIT)
+}
+
+/// Fields of a version that a record can hold.
+#[derive(Drop)]
+pub struct KeptFields {
+    values: List<Value>,
+}
+
+impl Model for KeptFields {
+    ghost use Rattle.std.specs.Prelude.{◌≡◌, true};
+    ghost use Rattle.ode_objects.specs.Values.{are_fields};
+    ghost use Rattle.std.specs.Prelude.{List as Items};
+    ghost use Rattle.ode_value.specs.declared.value.Value.{Value as Plain};
+    ghost use Rattle.ode_value.specs.contracts.value.Value as value;
+    ghost use Rattle.std.specs.Coded.{coded_list};
+
+    ghost Value = { Items Plain };
+
+    ghost coded = { coded_list value.the_row.coded };
+
+    ghost view = { λ s. s.values };
+
+    ghost invariant = { λ s. are_fields s.values ≡ true };
+}
+
+impl KeptFields {
+    /// These fields, where a record can hold them.
+    pub fn new(values: List<Value>) -> Option<KeptFields>
+        ensures { result ≡ cond (are_fields values) (Some values) None }
+    {
+        if are_fields(values.as_slice()) {
+            Some(KeptFields { values })
+        } else {
+            None
+        }
+    }
+
+    /// The fields.
+    pub fn values(&self) -> &List<Value>
+        ensures value { result.now ≡ self.now }
+        ensures short { are_fields self.now ≡ true }
+    {
+        &self.values
+    }
+
+    /// The same fields again.
+    pub fn copy(&self, alloc: Global) -> Result<KeptFields, AllocError>
+        ensures { IfOk result (λ copy. copy ≡ self.now) }
+    {
+        Ok(KeptFields {
+            values: self.values.copy(alloc)?,
+        })
+    }
+}
+
+/// Arguments of an activation or of an entry that a record can hold.
+#[derive(Drop)]
+pub struct KeptArgs {
+    values: List<Value>,
+}
+
+impl Model for KeptArgs {
+    ghost use Rattle.std.specs.Prelude.{◌≡◌, true};
+    ghost use Rattle.ode_objects.specs.Values.{are_args};
+    ghost use Rattle.std.specs.Prelude.{List as Items};
+    ghost use Rattle.ode_value.specs.declared.value.Value.{Value as Plain};
+    ghost use Rattle.ode_value.specs.contracts.value.Value as value;
+    ghost use Rattle.std.specs.Coded.{coded_list};
+
+    ghost Value = { Items Plain };
+
+    ghost coded = { coded_list value.the_row.coded };
+
+    ghost view = { λ s. s.values };
+
+    ghost invariant = { λ s. are_args s.values ≡ true };
+}
+
+impl KeptArgs {
+    /// These arguments, where a record can hold them.
+    pub fn new(values: List<Value>) -> Option<KeptArgs>
+        ensures { result ≡ cond (are_args values) (Some values) None }
+    {
+        if are_args(values.as_slice()) {
+            Some(KeptArgs { values })
+        } else {
+            None
+        }
+    }
+
+    /// The arguments.
+    pub fn values(&self) -> &List<Value>
+        ensures value { result.now ≡ self.now }
+        ensures short { are_args self.now ≡ true }
+    {
+        &self.values
+    }
+
+    /// The same arguments again.
+    pub fn copy(&self, alloc: Global) -> Result<KeptArgs, AllocError>
+        ensures { IfOk result (λ copy. copy ≡ self.now) }
+    {
+        Ok(KeptArgs {
+            values: self.values.copy(alloc)?,
+        })
+    }
+}

@@ -1,0 +1,4 @@
+pub mod Maps
+pub mod Rising
+pub mod Batches
+pub mod Counts

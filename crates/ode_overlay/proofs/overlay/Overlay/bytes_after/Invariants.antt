@@ -1,0 +1,12 @@
+use Rattle.std.proofs.Common.{◌≡◌, ◌+◌, ◌<◌, ◌^◌}
+use Rattle.std.specs.List.{sum_by}
+use Rattle.std.specs.Map.{values_of}
+use Rattle.ode_objects.specs.Weights.{capped, weight_after}
+use Rattle.ode_overlay.specs.Settling.{bytes_after}
+use Rattle.ode_overlay.proofs.overlay.Overlay.bytes_after.Given as goal
+
+abbrev pub invariant-loop-tracked : goal.invariant-loop-tracked
+invariant-loop-tracked l = record {
+  rest : capped (l.bytes + sum_by weight_after (values_of l.tracked-iterator)) ≡ capped (bytes_after l.self);
+  fits : l.bytes < 2 ^ 64;
+}
