@@ -1,0 +1,4 @@
+mod Levels
+mod Locals
+mod Rounds
+mod Values

@@ -1,0 +1,20 @@
+use Rattle.std.proofs.Common.{◌≡◌, ℕ, List, drop}
+use Rattle.ode_value.specs.Acts.{each}
+use Rattle.ode_value.specs.Firings.{Place}
+use Rattle.ode_value.specs.Pasts.{Past, numbers}
+use Rattle.ode_value.specs.Settling.{posts_last}
+use Rattle.ode_value.specs.Worlds.{Declared}
+use Rattle.ode_interpreter.specs.Seen.{with_classes}
+use Rattle.ode_interpreter.specs.Settled.{last_place}
+use Rattle.ode_interpreter.proofs.settling.post_each.Given as goal
+
+abbrev pub invariant-loop-id : goal.invariant-loop-id
+invariant-loop-id g l =
+    let past : Past (Unit {0}) ℕ = numbers (g.S.Schema.tables l.schema) in
+    let place : Place (Unit {0}) ℕ = last_place past l.kept in
+    record {
+      kept : (k : g.T.Acts.Known) → g.T.Acts.knows l.fn.tx k → g.T.Acts.knows l.tx k;
+      rest : (classes : List Declared) (k : g.T.Acts.Known) → g.S.Schema.declares l.schema classes → g.T.Acts.knows l.fn.tx k
+          → each (posts_last past place l.kind) (drop l.id-index l.ids) (with_classes classes (g.T.Acts.view l.tx k))
+          ≡ each (posts_last past place l.kind) l.fn.ids (with_classes classes (g.T.Acts.view l.fn.tx k));
+    }

@@ -1,0 +1,536 @@
+//! Statements, calls and points.
+ghost use Rattle.std.specs.Prelude.{◌≡◌, List as Items, map};
+ghost use Rattle.std.specs.List.{All};
+ghost use Rattle.ode_value.specs.Acts.{each};
+ghost use Rattle.ode_value.specs.Executing.{actions_of, deeper, execute, executes, in_turn, level, right};
+ghost use Rattle.ode_value.specs.Pasts.{numbers};
+ghost use Rattle.ode_value.specs.Posting.{enters, posts, runs, touches, touches_first, treats};
+ghost use Rattle.ode_value.specs.Statements.{activates, calls_behind, calls_deeper, calls_inside, copies, creates, deactivates, deletes, drops_version};
+ghost use Rattle.ode_value.specs.Worlds.{Declared};
+ghost use Rattle.ode_interpreter.specs.Seen.{Ends, EndsBy, Leaves, firing, flow_of, scene, with_classes};
+
+use crate::acts::Acts;
+use crate::creating::make_named;
+use crate::expressions::{default_value, evaluate_all, holds, receiver, reference, set};
+use crate::firing::Firing;
+use crate::scene::{Scene, null};
+use crate::schema::Schema;
+use crate::stop::Stop;
+use ode_value::{Expr, Kind, List, Mode, Name, Reason, Ref, Rhs, Stmt, Value};
+use std::alloc::Global;
+
+/// Statements in turn, up to the first that gives a value.
+#[cycle(go)]
+pub(crate) fn exec_all<S: Schema, T: Acts<S>>(
+    alloc: Global,
+    schema: &S,
+    tx: &mut T,
+    on: &mut Scene,
+    levels: u8,
+    body: &[Stmt],
+) -> Result<Option<Value>, Stop>
+    ensures acts { (classes : Items Declared) (g : T.Known) → S.declares schema.now classes → T.knows tx.old g → EndsBy (flow_of (scene on.new)) result (with_classes classes (T.view tx.new g)) (in_turn (map (execute (numbers (S.tables schema.now)) (deeper (numbers (S.tables schema.now)) levels)) body.now) (scene on.old) (with_classes classes (T.view tx.old g))) }
+    ensures kept { (g : T.Known) → T.knows tx.old g → Leaves result (T.knows tx.new g) (T.failed tx.new g) }
+{
+    for s in body {
+        match exec(alloc, schema, tx, on, levels, s)? {
+            Some(v) => return Ok(Some(v)),
+            None => {}
+        }
+    }
+    Ok(None)
+}
+
+/// A body.
+#[cycle(go)]
+#[tactic(auto, unfolding(ode_value::specs::Executing::executes))]
+pub(crate) fn run_body<S: Schema, T: Acts<S>>(
+    alloc: Global,
+    schema: &S,
+    tx: &mut T,
+    on: Scene,
+    levels: u8,
+    body: &[Stmt],
+) -> Result<Option<Value>, Stop>
+    ensures acts { (classes : Items Declared) (g : T.Known) → S.declares schema.now classes → T.knows tx.old g → Ends result (with_classes classes (T.view tx.new g)) (executes (numbers (S.tables schema.now)) (deeper (numbers (S.tables schema.now)) levels) body.now (scene on) (with_classes classes (T.view tx.old g))) }
+    ensures kept { (g : T.Known) → T.knows tx.old g → Leaves result (T.knows tx.new g) (T.failed tx.new g) }
+{
+    let mut on = on;
+    match exec_all(alloc, schema, tx, &mut on, levels, body)? {
+        Some(v) => Ok(Some(v)),
+        None => Ok(None),
+    }
+}
+
+/// One statement: the value that it gives.
+#[cycle(go)]
+#[tactic(auto, unfolding(ode_value::specs::Executing::execute))]
+pub(crate) fn exec<S: Schema, T: Acts<S>>(
+    alloc: Global,
+    schema: &S,
+    tx: &mut T,
+    on: &mut Scene,
+    levels: u8,
+    s: &Stmt,
+) -> Result<Option<Value>, Stop>
+    ensures acts { (classes : Items Declared) (g : T.Known) → S.declares schema.now classes → T.knows tx.old g → EndsBy (flow_of (scene on.new)) result (with_classes classes (T.view tx.new g)) (execute (numbers (S.tables schema.now)) (deeper (numbers (S.tables schema.now)) levels) s.now (scene on.old) (with_classes classes (T.view tx.old g))) }
+    ensures kept { (g : T.Known) → T.knows tx.old g → Leaves result (T.knows tx.new g) (T.failed tx.new g) }
+{
+    tx.count(schema)?;
+    match s {
+        Stmt::Let(var, rhs) => {
+            let v = right(alloc, schema, tx, levels, on, rhs)?;
+            set(schema, tx, on, var, v)?;
+            Ok(None)
+        }
+        Stmt::Set(var, rhs) => {
+            let v = right(alloc, schema, tx, levels, on, rhs)?;
+            set(schema, tx, on, var, v)?;
+            Ok(None)
+        }
+        Stmt::Do(rhs) => {
+            right(alloc, schema, tx, levels, on, rhs)?;
+            Ok(None)
+        }
+        Stmt::If(test, first, second) => {
+            if holds(schema, tx, on, test)? {
+                exec_all(alloc, schema, tx, on, levels, first.as_slice())
+            } else {
+                exec_all(alloc, schema, tx, on, levels, second.as_slice())
+            }
+        }
+        Stmt::Return(Some(e)) => Ok(Some(tx.evaluate(schema, on, e)?)),
+        Stmt::Return(None) => Ok(Some(null())),
+        Stmt::Delete(e) => {
+            delete(alloc, schema, tx, levels, on, e)?;
+            Ok(None)
+        }
+        Stmt::DropVersion(e) => {
+            drop_version(alloc, schema, tx, levels, on, e)?;
+            Ok(None)
+        }
+        Stmt::Deactivate(e, number) => {
+            deactivate(alloc, schema, tx, levels, on, e, number)?;
+            Ok(None)
+        }
+        Stmt::Show(rhs) => {
+            let v = right(alloc, schema, tx, levels, on, rhs)?;
+            tx.show(schema, &v)?;
+            Ok(None)
+        }
+        Stmt::Say(e) => {
+            let v = tx.evaluate(schema, on, e)?;
+            tx.say(schema, &v)?;
+            Ok(None)
+        }
+        Stmt::TAbort => Err(Stop::Abort(Reason::Asked)),
+    }
+}
+
+/// A right side.
+#[cycle(go)]
+#[tactic(auto, unfolding(ode_value::specs::Executing::right))]
+pub(crate) fn right<S: Schema, T: Acts<S>>(
+    alloc: Global,
+    schema: &S,
+    tx: &mut T,
+    levels: u8,
+    on: &Scene,
+    rhs: &Rhs,
+) -> Result<Value, Stop>
+    ensures acts { (classes : Items Declared) (g : T.Known) → S.declares schema.now classes → T.knows tx.old g → Ends result (with_classes classes (T.view tx.new g)) (right (numbers (S.tables schema.now)) (deeper (numbers (S.tables schema.now)) levels) rhs.now (scene on.now) (with_classes classes (T.view tx.old g))) }
+    ensures kept { (g : T.Known) → T.knows tx.old g → Leaves result (T.knows tx.new g) (T.failed tx.new g) }
+{
+    match rhs {
+        Rhs::Plain(e) => tx.evaluate(schema, on, e),
+        Rhs::Call(c) => {
+            let r = receiver(schema, tx, on, &c.of)?;
+            let args = evaluate_all(alloc, schema, tx, on, c.args.as_slice())?;
+            call(alloc, schema, tx, levels, r, &c.method, args)
+        }
+        Rhs::New { class, fields } => create(
+            alloc,
+            schema,
+            tx,
+            levels,
+            on,
+            class,
+            fields.as_slice(),
+        ),
+        Rhs::NewVersion(e) => new_version(alloc, schema, tx, levels, on, e),
+        Rhs::Activate { of, trigger, args } => activate(
+            alloc,
+            schema,
+            tx,
+            levels,
+            on,
+            of,
+            trigger,
+            args.as_slice(),
+        ),
+    }
+}
+
+/// A new object.
+#[cycle(go)]
+#[tactic(auto, unfolding(ode_value::specs::Statements::creates))]
+pub(crate) fn create<S: Schema, T: Acts<S>>(
+    alloc: Global,
+    schema: &S,
+    tx: &mut T,
+    levels: u8,
+    on: &Scene,
+    class: &Name,
+    fields: &[(Name, Expr)],
+) -> Result<Value, Stop>
+    ensures acts { (classes : Items Declared) (g : T.Known) → S.declares schema.now classes → T.knows tx.old g → Ends result (with_classes classes (T.view tx.new g)) (creates (numbers (S.tables schema.now)) (actions_of (deeper (numbers (S.tables schema.now)) levels)) class.now fields.now (scene on.now) (with_classes classes (T.view tx.old g))) }
+    ensures kept { (g : T.Known) → T.knows tx.old g → Leaves result (T.knows tx.new g) (T.failed tx.new g) }
+{
+    let object = make_named(alloc, schema, tx, on, class, fields)?;
+    let r = Ref {
+        object,
+        version: None,
+    };
+    tx.test_hard(schema, r)?;
+    post(alloc, schema, tx, levels, object, &Kind::Create, &[])?;
+    Ok(Value::Reference(r))
+}
+
+/// An object is removed.
+#[cycle(go)]
+#[tactic(auto, unfolding(ode_value::specs::Statements::deletes))]
+pub(crate) fn delete<S: Schema, T: Acts<S>>(
+    alloc: Global,
+    schema: &S,
+    tx: &mut T,
+    levels: u8,
+    on: &Scene,
+    e: &Expr,
+) -> Result<(), Stop>
+    ensures acts { (classes : Items Declared) (g : T.Known) → S.declares schema.now classes → T.knows tx.old g → Ends result (with_classes classes (T.view tx.new g)) (deletes (numbers (S.tables schema.now)) (actions_of (deeper (numbers (S.tables schema.now)) levels)) e.now (scene on.now) (with_classes classes (T.view tx.old g))) }
+    ensures kept { (g : T.Known) → T.knows tx.old g → Leaves result (T.knows tx.new g) (T.failed tx.new g) }
+{
+    let r = reference(schema, tx, on, e)?;
+    touch(alloc, schema, tx, levels, r.object)?;
+    tx.stand(schema, r)?;
+    post(alloc, schema, tx, levels, r.object, &Kind::Delete, &[])?;
+    tx.live(schema, r.object)?;
+    tx.remove(schema, r.object)
+}
+
+/// A new version of an object.
+#[cycle(go)]
+pub(crate) fn new_version<S: Schema, T: Acts<S>>(
+    alloc: Global,
+    schema: &S,
+    tx: &mut T,
+    levels: u8,
+    on: &Scene,
+    e: &Expr,
+) -> Result<Value, Stop>
+    ensures acts { (classes : Items Declared) (g : T.Known) → S.declares schema.now classes → T.knows tx.old g → Ends result (with_classes classes (T.view tx.new g)) (copies (numbers (S.tables schema.now)) (actions_of (deeper (numbers (S.tables schema.now)) levels)) e.now (scene on.now) (with_classes classes (T.view tx.old g))) }
+    ensures kept { (g : T.Known) → T.knows tx.old g → Leaves result (T.knows tx.new g) (T.failed tx.new g) }
+{
+    let r = reference(schema, tx, on, e)?;
+    touch(alloc, schema, tx, levels, r.object)?;
+    let new = tx.derive(schema, r)?;
+    Ok(Value::Reference(new))
+}
+
+/// A version is removed.
+#[cycle(go)]
+pub(crate) fn drop_version<S: Schema, T: Acts<S>>(
+    alloc: Global,
+    schema: &S,
+    tx: &mut T,
+    levels: u8,
+    on: &Scene,
+    e: &Expr,
+) -> Result<(), Stop>
+    ensures acts { (classes : Items Declared) (g : T.Known) → S.declares schema.now classes → T.knows tx.old g → Ends result (with_classes classes (T.view tx.new g)) (drops_version (numbers (S.tables schema.now)) (actions_of (deeper (numbers (S.tables schema.now)) levels)) e.now (scene on.now) (with_classes classes (T.view tx.old g))) }
+    ensures kept { (g : T.Known) → T.knows tx.old g → Leaves result (T.knows tx.new g) (T.failed tx.new g) }
+{
+    let r = reference(schema, tx, on, e)?;
+    touch(alloc, schema, tx, levels, r.object)?;
+    tx.drop_version(schema, r)
+}
+
+/// A new activation.
+#[cycle(go)]
+pub(crate) fn activate<S: Schema, T: Acts<S>>(
+    alloc: Global,
+    schema: &S,
+    tx: &mut T,
+    levels: u8,
+    on: &Scene,
+    of: &Expr,
+    trigger: &Name,
+    args: &[Expr],
+) -> Result<Value, Stop>
+    ensures acts { (classes : Items Declared) (g : T.Known) → S.declares schema.now classes → T.knows tx.old g → Ends result (with_classes classes (T.view tx.new g)) (activates (numbers (S.tables schema.now)) (actions_of (deeper (numbers (S.tables schema.now)) levels)) of.now trigger.now args.now (scene on.now) (with_classes classes (T.view tx.old g))) }
+    ensures kept { (g : T.Known) → T.knows tx.old g → Leaves result (T.knows tx.new g) (T.failed tx.new g) }
+{
+    let r = reference(schema, tx, on, of)?;
+    let args = evaluate_all(alloc, schema, tx, on, args)?;
+    touch(alloc, schema, tx, levels, r.object)?;
+    tx.stand(schema, r)?;
+    tx.activate(schema, r, trigger, args)
+}
+
+/// An activation goes off.
+#[cycle(go)]
+#[tactic(auto, unfolding(ode_value::specs::Statements::deactivates))]
+pub(crate) fn deactivate<S: Schema, T: Acts<S>>(
+    alloc: Global,
+    schema: &S,
+    tx: &mut T,
+    levels: u8,
+    on: &Scene,
+    e: &Expr,
+    number: &Expr,
+) -> Result<(), Stop>
+    ensures acts { (classes : Items Declared) (g : T.Known) → S.declares schema.now classes → T.knows tx.old g → Ends result (with_classes classes (T.view tx.new g)) (deactivates (numbers (S.tables schema.now)) (actions_of (deeper (numbers (S.tables schema.now)) levels)) e.now number.now (scene on.now) (with_classes classes (T.view tx.old g))) }
+    ensures kept { (g : T.Known) → T.knows tx.old g → Leaves result (T.knows tx.new g) (T.failed tx.new g) }
+{
+    let r = reference(schema, tx, on, e)?;
+    let v = tx.evaluate(schema, on, number)?;
+    touch(alloc, schema, tx, levels, r.object)?;
+    tx.stand(schema, r)?;
+    tx.deactivate(schema, r, &v)
+}
+
+/// A call.
+#[cycle(go)]
+#[tactic(auto, using(crate::proofs::Levels::calls_there), unfolding(ode_value::specs::Executing::deeper))]
+pub(crate) fn call<S: Schema, T: Acts<S>>(
+    alloc: Global,
+    schema: &S,
+    tx: &mut T,
+    levels: u8,
+    r: Ref,
+    name: &Name,
+    args: List<Value>,
+) -> Result<Value, Stop>
+    ensures acts { (classes : Items Declared) (g : T.Known) → S.declares schema.now classes → T.knows tx.old g → Ends result (with_classes classes (T.view tx.new g)) (calls_deeper (numbers (S.tables schema.now)) (deeper (numbers (S.tables schema.now)) levels) r name.now args (with_classes classes (T.view tx.old g))) }
+    ensures kept { (g : T.Known) → T.knows tx.old g → Leaves result (T.knows tx.new g) (T.failed tx.new g) }
+{
+    if levels == 0 {
+        return Err(Stop::Abort(Reason::Depth));
+    }
+    call_inside(alloc, schema, tx, levels - 1, r, name, args)
+}
+
+/// A call at its level.
+#[cycle(go)]
+#[tactic(auto, unfolding(ode_value::specs::Statements::calls_inside))]
+pub(crate) fn call_inside<S: Schema, T: Acts<S>>(
+    alloc: Global,
+    schema: &S,
+    tx: &mut T,
+    levels: u8,
+    r: Ref,
+    name: &Name,
+    args: List<Value>,
+) -> Result<Value, Stop>
+    ensures acts { (classes : Items Declared) (g : T.Known) → S.declares schema.now classes → T.knows tx.old g → Ends result (with_classes classes (T.view tx.new g)) (calls_inside (numbers (S.tables schema.now)) (level (numbers (S.tables schema.now)) (deeper (numbers (S.tables schema.now)) levels)) r name.now args (with_classes classes (T.view tx.old g))) }
+    ensures kept { (g : T.Known) → T.knows tx.old g → Leaves result (T.knows tx.new g) (T.failed tx.new g) }
+{
+    touch(alloc, schema, tx, levels, r.object)?;
+    tx.stand(schema, r)?;
+    let before = Kind::Before(name.copy(alloc)?);
+    post(
+        alloc,
+        schema,
+        tx,
+        levels,
+        r.object,
+        &before,
+        args.as_slice(),
+    )?;
+    tx.live(schema, r.object)?;
+    let class = tx.class_of(schema, r.object)?;
+    let Some(method) = schema.method(class, name) else {
+        return Err(Stop::Abort(Reason::NoObject(0)));
+    };
+    let on = Scene {
+        this: r,
+        locals: args.copy(alloc)?,
+    };
+    let v = run_body(alloc, schema, tx, on, levels, method.body.as_slice())?;
+    call_after(alloc, schema, tx, levels, r, name, args.as_slice())?;
+    match v {
+        Some(v) => Ok(v),
+        None => Ok(default_value(alloc, &method.result)?),
+    }
+}
+
+/// What follows the body of a call.
+#[cycle(go)]
+#[tactic(auto, unfolding(ode_value::specs::Statements::calls_behind))]
+pub(crate) fn call_after<S: Schema, T: Acts<S>>(
+    alloc: Global,
+    schema: &S,
+    tx: &mut T,
+    levels: u8,
+    r: Ref,
+    name: &Name,
+    args: &[Value],
+) -> Result<(), Stop>
+    ensures acts { (classes : Items Declared) (g : T.Known) → S.declares schema.now classes → T.knows tx.old g → Ends result (with_classes classes (T.view tx.new g)) (calls_behind (numbers (S.tables schema.now)) (actions_of (deeper (numbers (S.tables schema.now)) levels)) r name.now args.now (with_classes classes (T.view tx.old g))) }
+    ensures kept { (g : T.Known) → T.knows tx.old g → Leaves result (T.knows tx.new g) (T.failed tx.new g) }
+{
+    if !tx.denotes(schema, r)? {
+        return Ok(());
+    }
+    tx.test_hard(schema, r)?;
+    let after = Kind::After(name.copy(alloc)?);
+    post(alloc, schema, tx, levels, r.object, &after, args)?;
+    Ok(())
+}
+
+/// An object is touched.
+#[cycle(go)]
+#[tactic(auto, unfolding(ode_value::specs::Posting::touches))]
+pub(crate) fn touch<S: Schema, T: Acts<S>>(
+    alloc: Global,
+    schema: &S,
+    tx: &mut T,
+    levels: u8,
+    id: u64,
+) -> Result<(), Stop>
+    ensures acts { (classes : Items Declared) (g : T.Known) → S.declares schema.now classes → T.knows tx.old g → Ends result (with_classes classes (T.view tx.new g)) (touches (numbers (S.tables schema.now)) (actions_of (deeper (numbers (S.tables schema.now)) levels)) id (with_classes classes (T.view tx.old g))) }
+    ensures kept { (g : T.Known) → T.knows tx.old g → Leaves result (T.knows tx.new g) (T.failed tx.new g) }
+{
+    tx.live(schema, id)?;
+    if tx.is_touched(schema, id)? {
+        return Ok(());
+    }
+    touch_first(alloc, schema, tx, levels, id)
+}
+
+/// The first touch of an object.
+#[cycle(go)]
+pub(crate) fn touch_first<S: Schema, T: Acts<S>>(
+    alloc: Global,
+    schema: &S,
+    tx: &mut T,
+    levels: u8,
+    id: u64,
+) -> Result<(), Stop>
+    ensures acts { (classes : Items Declared) (g : T.Known) → S.declares schema.now classes → T.knows tx.old g → Ends result (with_classes classes (T.view tx.new g)) (touches_first (numbers (S.tables schema.now)) (actions_of (deeper (numbers (S.tables schema.now)) levels)) id (with_classes classes (T.view tx.old g))) }
+    ensures kept { (g : T.Known) → T.knows tx.old g → Leaves result (T.knows tx.new g) (T.failed tx.new g) }
+{
+    tx.join(schema, id)?;
+    post(alloc, schema, tx, levels, id, &Kind::TBegin, &[])
+}
+
+/// A point is posted.
+#[cycle(go)]
+#[tactic(auto, unfolding(ode_value::specs::Posting::posts))]
+pub(crate) fn post<S: Schema, T: Acts<S>>(
+    alloc: Global,
+    schema: &S,
+    tx: &mut T,
+    levels: u8,
+    id: u64,
+    kind: &Kind,
+    args: &[Value],
+) -> Result<(), Stop>
+    ensures acts { (classes : Items Declared) (g : T.Known) → S.declares schema.now classes → T.knows tx.old g → Ends result (with_classes classes (T.view tx.new g)) (posts (numbers (S.tables schema.now)) (actions_of (deeper (numbers (S.tables schema.now)) levels)) id kind.now args.now (with_classes classes (T.view tx.old g))) }
+    ensures kept { (g : T.Known) → T.knows tx.old g → Leaves result (T.knows tx.new g) (T.failed tx.new g) }
+{
+    if tx.is_listed(schema, id, kind)? {
+        let firings = tx.arise(schema, id, kind, args)?;
+        return fire_all(alloc, schema, tx, levels, firings.as_slice());
+    }
+    Ok(())
+}
+
+/// Firings in order.
+#[cycle(go)]
+pub(crate) fn fire_all<S: Schema, T: Acts<S>>(
+    alloc: Global,
+    schema: &S,
+    tx: &mut T,
+    levels: u8,
+    firings: &[Firing],
+) -> Result<(), Stop>
+    requires { All (λ f. S.has_trigger schema.now f.trigger.class f.trigger.place) firings.now }
+    ensures acts { (classes : Items Declared) (g : T.Known) → S.declares schema.now classes → T.knows tx.old g → Ends result (with_classes classes (T.view tx.new g)) (each (treats (actions_of (deeper (numbers (S.tables schema.now)) levels))) (map (firing (S.trigger schema.now)) firings.now) (with_classes classes (T.view tx.old g))) }
+    ensures kept { (g : T.Known) → T.knows tx.old g → Leaves result (T.knows tx.new g) (T.failed tx.new g) }
+{
+    for f in firings {
+        fire(alloc, schema, tx, levels, f)?;
+    }
+    Ok(())
+}
+
+/// A firing by its mode.
+#[cycle(go)]
+#[tactic(auto, unfolding(ode_value::specs::Posting::treats))]
+pub(crate) fn fire<S: Schema, T: Acts<S>>(
+    alloc: Global,
+    schema: &S,
+    tx: &mut T,
+    levels: u8,
+    f: &Firing,
+) -> Result<(), Stop>
+    requires { S.has_trigger schema.now f.now.trigger.class f.now.trigger.place }
+    ensures acts { (classes : Items Declared) (g : T.Known) → S.declares schema.now classes → T.knows tx.old g → Ends result (with_classes classes (T.view tx.new g)) (treats (actions_of (deeper (numbers (S.tables schema.now)) levels)) (firing (S.trigger schema.now) f.now) (with_classes classes (T.view tx.old g))) }
+    ensures kept { (g : T.Known) → T.knows tx.old g → Leaves result (T.knows tx.new g) (T.failed tx.new g) }
+{
+    match schema.trigger(f.trigger).mode {
+        Mode::Immediate => act(alloc, schema, tx, levels, f),
+        Mode::Deferred => tx.defer(schema, f),
+        Mode::Dependent => tx.collect(schema, false, f),
+        Mode::Independent => tx.collect(schema, true, f),
+    }
+}
+
+/// An action.
+#[cycle(go)]
+#[tactic(auto, unfolding(ode_value::specs::Posting::runs))]
+pub(crate) fn act<S: Schema, T: Acts<S>>(
+    alloc: Global,
+    schema: &S,
+    tx: &mut T,
+    levels: u8,
+    f: &Firing,
+) -> Result<(), Stop>
+    requires { S.has_trigger schema.now f.now.trigger.class f.now.trigger.place }
+    ensures acts { (classes : Items Declared) (g : T.Known) → S.declares schema.now classes → T.knows tx.old g → Ends result (with_classes classes (T.view tx.new g)) (runs (actions_of (deeper (numbers (S.tables schema.now)) levels)) (firing (S.trigger schema.now) f.now) (with_classes classes (T.view tx.old g))) }
+    ensures kept { (g : T.Known) → T.knows tx.old g → Leaves result (T.knows tx.new g) (T.failed tx.new g) }
+{
+    tx.tell(schema, f)?;
+    tx.live(schema, f.object)?;
+    let on = Scene {
+        this: Ref {
+            object: f.object,
+            version: None,
+        },
+        locals: f.args.copy(alloc)?,
+    };
+    let trigger = schema.trigger(f.trigger);
+    enter(alloc, schema, tx, levels, on, trigger.action.as_slice())?;
+    Ok(())
+}
+
+/// A body one level deeper.
+#[cycle(go)]
+#[tactic(auto, using(crate::proofs::Levels::enters_there), unfolding(ode_value::specs::Executing::deeper))]
+pub(crate) fn enter<S: Schema, T: Acts<S>>(
+    alloc: Global,
+    schema: &S,
+    tx: &mut T,
+    levels: u8,
+    on: Scene,
+    body: &[Stmt],
+) -> Result<Option<Value>, Stop>
+    ensures acts { (classes : Items Declared) (g : T.Known) → S.declares schema.now classes → T.knows tx.old g → Ends result (with_classes classes (T.view tx.new g)) (enters (actions_of (deeper (numbers (S.tables schema.now)) levels)) body.now (scene on) (with_classes classes (T.view tx.old g))) }
+    ensures kept { (g : T.Known) → T.knows tx.old g → Leaves result (T.knows tx.new g) (T.failed tx.new g) }
+{
+    if levels == 0 {
+        return Err(Stop::Abort(Reason::Depth));
+    }
+    run_body(alloc, schema, tx, on, levels - 1, body)
+}
