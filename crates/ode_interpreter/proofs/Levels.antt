@@ -1,6 +1,5 @@
 -- Statements and levels by one level.
-use Rattle.std.proofs.Common.{◌≡◌, ℕ, zero, suc, ◌-◌, ◌<◌, List, map, Option, Some, Result, true, false, Bool, refl, sym, ap, subst, ◌∙◌, arith}
-use Rattle.std.specs.Prelude.{cond}
+use Rattle.std.proofs.Common.{◌≡◌, ℕ, zero, suc, ◌-◌, ◌<◌, List, map, Option, Some, Result, sym, ap, subst, ◌∙◌, arith}
 use Rattle.ode_value.specs.declared.statement.Expr.{Expr}
 use Rattle.ode_value.specs.declared.statement.Stmt.{Stmt, fold-roll-Stmt}
 use Rattle.ode_value.specs.declared.statement.Stmt.TheOpen as o
@@ -8,13 +7,10 @@ use Rattle.ode_value.specs.declared.statement.Stmt.TheVariants as v
 use Rattle.ode_value.specs.declared.value.Ref.{Ref}
 use Rattle.ode_value.specs.declared.value.Value.{Value}
 use Rattle.ode_value.specs.Pasts.{Past}
-use Rattle.ode_value.specs.Acts.{Outcome, Done, Act, counts, go_on}
 use Rattle.ode_value.specs.Evaluation.{Frame}
-use Rattle.ode_value.specs.Executing.{Doing, Flow, actions_of, counted_doing, doing, execute, executes, in_turn, deeper, level}
-use Rattle.ode_value.specs.Expressions.{evaluates, is_true}
+use Rattle.ode_value.specs.Executing.{Doing, actions_of, counted_doing, execute, executes, deeper, level}
 use Rattle.ode_value.specs.Statements.{Inner, calls_deeper, calls_inside}
 use Rattle.ode_value.specs.Posting.{enters}
-use Rattle.ode_value.specs.Transactions.{Tx}
 use Rattle.ode_interpreter.specs.declared.stop.Stop.{Stop}
 use Rattle.ode_interpreter.specs.Seen.{Ends, NumberTx}
 

@@ -2,7 +2,7 @@
 use Rattle.std.proofs.Common.{◌≡◌, ℕ, zero, suc, ◌+◌, ◌-◌, ◌<◌, ◌≤◌, ap, subst, arith}
 use Rattle.std.specs.Prelude.{slice_get}
 use Rattle.ode_value.specs.Pasts.{Past}
-use Rattle.ode_value.specs.Acts.{Outcome, Done}
+use Rattle.ode_value.specs.Acts.{Done}
 use Rattle.ode_value.specs.Completing.{goes_round, round}
 use Rattle.ode_value.specs.Transactions.{Tx}
 

@@ -1,4 +1,4 @@
-use Rattle.std.proofs.Common.{◌≡◌, List, ◌++◌, drop}
+use Rattle.std.proofs.Common.{◌≡◌, List, drop}
 use Rattle.ode_value.specs.Expressions.{evaluates_all}
 use Rattle.ode_value.specs.Worlds.{Declared}
 use Rattle.ode_interpreter.specs.Seen.{scene, with_classes}

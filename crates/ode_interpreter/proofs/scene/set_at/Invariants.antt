@@ -1,4 +1,4 @@
-use Rattle.std.proofs.Common.{◌≡◌, ◌≤◌, length}
+use Rattle.std.proofs.Common.{◌≡◌, length}
 use Rattle.ode_value.specs.Evaluation.{set_at}
 use Rattle.ode_interpreter.proofs.scene.set_at.Given as goal
 
