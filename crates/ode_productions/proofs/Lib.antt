@@ -1,2 +1,4 @@
 pub mod Texts
 pub mod Rows
+pub mod PhraseRows
+pub mod Decomposed
