@@ -1,24 +1,23 @@
 -- What the rows of statements and classes derive is what the productions say.
-use Rattle.std.proofs.Common.{◌≡◌, ◌⊎◌, inl, inr, ℕ, List, [], ◌∷◌, ◌++◌, append_assoc, Option, Some, None, refl, sym, ◌∙◌, ap, subst}
+use Rattle.std.proofs.Common.{◌≡◌, ◌⊎◌, inl, inr, List, [], ◌∷◌, ◌++◌, append_assoc, Option, Some, None, refl, sym, ◌∙◌, ap, subst}
 use Rattle.std.proofs.lemmas.List.{append-nil}
 use Rattle.ode_grammar.specs.declared.item.Part.{Part}
 use Rattle.ode_grammar.specs.declared.item.Part.TheVariants as part
-use Rattle.ode_grammar.specs.declared.item.Action.{Action}
 use Rattle.ode_grammar.specs.declared.item.Action.TheVariants as action
 use Rattle.ode_grammar.specs.declared.item.Item.{Item}
 use Rattle.ode_grammar.specs.declared.item.Item.TheVariants as item
 use Rattle.ode_grammar.specs.declared.terminal.Terminal.{Terminal}
 use Rattle.ode_grammar.specs.declared.terminal.Terminal.TheVariants as terminal
-use Rattle.ode_grammar.specs.Expressions.{atom, behind_unary, comp, conj, sum, term}
+use Rattle.ode_grammar.specs.Expressions.{atom, behind_unary, comp, conj, sum}
 use Rattle.ode_grammar.specs.Events.{event as whole_event}
 use Rattle.ode_grammar.specs.Grammar.{after}
 use Rattle.ode_grammar.specs.Statements.{body, done, dotted_call, new}
 use Rattle.ode_grammar.proofs.Follows.{IfRow}
 use Rattle.ode_productions.specs.Productions.{Is, Symbol}
 use Rattle.ode_productions.specs.Productions as is
-use Rattle.ode_productions.specs.Phrases.{Phrase, Says, AArguments, AMoreArguments, ADotted, ASets, AMoreSets, AChange, AGiven, ARight, ASimple, AInner, AInners, ABody, AOtherwise, ASort, AParams, AMoreKinds, AInitially, ALasts, AScoped, AModed, AMember, AMembers, AParented, AClass, AStatement, AMoreParams}
+use Rattle.ode_productions.specs.Phrases.{Phrase, Says, AArguments, AMoreArguments, ADotted, ASets, AMoreSets, AChange, AGiven, ARight, ASimple, AInner, AInners, AOtherwise, ASort, AParams, AMoreKinds, AInitially, ALasts, AScoped, AModed, AMember, AMembers, AParented, AClass, AStatement, AMoreParams}
 use Rattle.ode_productions.specs.Phrases as says
-use Rattle.ode_productions.proofs.Rows.{ended, event_front, extend, finish, one, split, to_comparison, to_conjunction, to_expression, to_sum, to_term, unary_rows, Front, PartYields, RowYields, Yields}
+use Rattle.ode_productions.proofs.Rows.{ended, event_front, extend, one, split, to_comparison, to_conjunction, to_expression, to_sum, to_term, unary_rows, Front, PartYields, RowYields, Yields}
 use Rattle.ode_productions.proofs.Texts.{longer}
 
 -- ---- expressions in front of items

@@ -1,20 +1,16 @@
 -- What the rows derive is what the productions say.
 use Rattle.std.proofs.Common.{◌≡◌, ◌⊎◌, List, [], ◌∷◌, ◌++◌, append_assoc, Option, Some, None, refl, sym, ◌∙◌, ap, subst}
 use Rattle.std.proofs.lemmas.List.{append-nil}
-use Rattle.std.proofs.lemmas.Option.{none-some}
 use Rattle.ode_grammar.specs.declared.item.Part.{Part}
 use Rattle.ode_grammar.specs.declared.item.Part.TheVariants as part
-use Rattle.ode_grammar.specs.declared.item.Action.{Action}
 use Rattle.ode_grammar.specs.declared.item.Action.TheVariants as action
 use Rattle.ode_grammar.specs.declared.item.Item.{Item}
 use Rattle.ode_grammar.specs.declared.item.Item.TheVariants as item
-use Rattle.ode_grammar.specs.declared.reader.Start.TheVariants as start
 use Rattle.ode_grammar.specs.declared.terminal.Terminal.{Terminal}
 use Rattle.ode_grammar.specs.declared.terminal.Terminal.TheVariants as terminal
-use Rattle.ode_grammar.specs.Expressions.{behind_unary, comp, conj, sum, term}
+use Rattle.ode_grammar.specs.Expressions.{behind_unary, term}
 use Rattle.ode_grammar.specs.Events.{counted, evand, event as whole_event, folded}
-use Rattle.ode_grammar.specs.Grammar.{after, items_of, skipped}
-use Rattle.ode_grammar.specs.Texts.{plain, Derives, Done, IsText, Make, Next, Rule, Skip}
+use Rattle.ode_grammar.specs.Grammar.{after}
 use Rattle.ode_grammar.proofs.Follows.{IfRow}
 use Rattle.ode_productions.specs.Productions.{Is, Symbol}
 use Rattle.ode_productions.specs.Productions as is

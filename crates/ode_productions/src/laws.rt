@@ -18,12 +18,14 @@ pub fn events_are_productions()
     ensures productions { (tokens : List Terminal) → Is Event tokens → IsText start.Event tokens }
 {}
 
-/// A class of the rows is one of the productions.
+/// A class of the rows is one of the productions, and the other way round.
 pub fn classes_are_productions()
-    ensures { (tokens : List Terminal) → IsText start.Class tokens → Says AClass tokens }
+    ensures rows { (tokens : List Terminal) → IsText start.Class tokens → Says AClass tokens }
+    ensures productions { (tokens : List Terminal) → Says AClass tokens → IsText start.Class tokens }
 {}
 
-/// A statement of a script, of the rows, is one of the productions.
+/// A statement of a script, of the rows, is one of the productions, and the other way round.
 pub fn statements_are_productions()
-    ensures { (tokens : List Terminal) → IsText start.Statement tokens → Says AStatement tokens }
+    ensures rows { (tokens : List Terminal) → IsText start.Statement tokens → Says AStatement tokens }
+    ensures productions { (tokens : List Terminal) → Says AStatement tokens → IsText start.Statement tokens }
 {}
