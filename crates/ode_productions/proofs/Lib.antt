@@ -1,2 +1,5 @@
 pub mod Texts
 pub mod Rows
+pub mod PhraseRows
+pub mod PhraseTexts
+pub mod Decomposed

@@ -105,56 +105,56 @@ rows terminal.Trigger = refl
 rows terminal.Version = refl
 rows terminal.Void = refl
 
-no_unary_skip : (a : Action) → skipped part.Unary ≡ Some a → ⊥
+pub no_unary_skip : (a : Action) → skipped part.Unary ≡ Some a → ⊥
 unfolding skipped
 no_unary_skip a e = none-some a e
 
-begins : {items : List Item} {ts : List Terminal} → D (item.Part part.Unary ∷ behind_unary ++ items) ts → D (item.Part part.Expr ∷ items) ts
+pub begins : {items : List Item} {ts : List Terminal} → D (item.Part part.Unary ∷ behind_unary ++ items) ts → D (item.Part part.Expr ∷ items) ts
 begins {items = items} (Rule {t = t} {ts = ts} p row e d) =
     Rule part.Expr (row ++ behind_unary) (rows t ∙ ap (longer behind_unary) e) (subst (λ is. D is ts) (sym (append_assoc row behind_unary items)) d)
 begins (Skip p a e d) = absurd (no_unary_skip a e)
 
 -- ---- what each symbol does
 
-abbrev U : Item
+abbrev pub U : Item
 U = item.Part part.Unary
 
-abbrev F : Item
+abbrev pub F : Item
 F = item.Part part.Factors
 
-abbrev S : Item
+abbrev pub S : Item
 S = item.Part part.Sums
 
-abbrev C : Item
+abbrev pub C : Item
 C = item.Part part.Compare
 
-abbrev As : List Item → List Item → List Terminal → Type 0
+abbrev pub As : List Item → List Item → List Terminal → Type 0
 As behind front us = (items : List Item) (ts : List Terminal) → D (behind ++ items) ts → D (front ++ items) (us ++ ts)
 
 -- the words that take two events or more
-record IsFolding (k : Terminal) (a : Action) (p : Part) : Type 0 where
+pub record IsFolding (k : Terminal) (a : Action) (p : Part) : Type 0 where
   pub first : after part.EventUnary k ≡ Some (folded (item.Build a) (item.Part p))
   pub comma : after p terminal.Comma ≡ Some (whole_event ++ item.Build a ∷ item.Part p ∷ [])
   pub closed : after p terminal.CloseParen ≡ Some []
 
-relative_folds : IsFolding terminal.Relative action.Relative part.MoreRelative
+pub relative_folds : IsFolding terminal.Relative action.Relative part.MoreRelative
 unfolding after
 relative_folds = record { first = refl; comma = refl; closed = refl }
 
-prior_folds : IsFolding terminal.Prior action.Prior part.MorePrior
+pub prior_folds : IsFolding terminal.Prior action.Prior part.MorePrior
 unfolding after
 prior_folds = record { first = refl; comma = refl; closed = refl }
 
-sequence_folds : IsFolding terminal.Sequence action.Sequence part.MoreSequence
+pub sequence_folds : IsFolding terminal.Sequence action.Sequence part.MoreSequence
 unfolding after
 sequence_folds = record { first = refl; comma = refl; closed = refl }
 
 -- behind the first event, and behind a later one
-record AsMore (us : List Terminal) : Type 0 where
+pub record AsMore (us : List Terminal) : Type 0 where
   pub first : (k : Terminal) (a : Action) (p : Part) → IsFolding k a p → As [] (item.Token terminal.Comma ∷ whole_event ++ item.Build a ∷ item.Part p ∷ []) us
   pub later : (k : Terminal) (a : Action) (p : Part) → IsFolding k a p → As [] (item.Part p ∷ []) us
 
-abbrev AsSymbol : Symbol → List Terminal → Type 0
+abbrev pub AsSymbol : Symbol → List Terminal → Type 0
 AsSymbol is.Atom us = As (item.Part part.Dots ∷ []) (U ∷ []) us
 AsSymbol is.Chain us = As (item.Part part.Dots ∷ []) (U ∷ []) us
 AsSymbol is.Unary us = As [] (U ∷ []) us
@@ -172,84 +172,84 @@ AsSymbol is.More us = AsMore us
 
 -- ---- pieces
 
-regroup : {items : List Item} (xs ys ts : List Terminal) → D items (xs ++ (ys ++ ts)) → D items ((xs ++ ys) ++ ts)
+pub regroup : {items : List Item} (xs ys ts : List Terminal) → D items (xs ++ (ys ++ ts)) → D items ((xs ++ ys) ++ ts)
 regroup {items = items} xs ys ts d = subst (λ us. D items us) (sym (append_assoc xs ys ts)) d
 
-no : (p : Part) → skipped p ≡ Some action.Nothing → {items : List Item} {ts : List Terminal} → D items ts → D (item.Part p ∷ items) ts
+pub no : (p : Part) → skipped p ≡ Some action.Nothing → {items : List Item} {ts : List Terminal} → D items ts → D (item.Part p ∷ items) ts
 no p e d = Skip p action.Nothing e d
 
-no_dots : {items : List Item} {ts : List Terminal} → D items ts → D (item.Part part.Dots ∷ items) ts
+pub no_dots : {items : List Item} {ts : List Terminal} → D items ts → D (item.Part part.Dots ∷ items) ts
 unfolding skipped
 no_dots d = no part.Dots refl d
 
-no_factors : {items : List Item} {ts : List Terminal} → D items ts → D (F ∷ items) ts
+pub no_factors : {items : List Item} {ts : List Terminal} → D items ts → D (F ∷ items) ts
 unfolding skipped
 no_factors d = no part.Factors refl d
 
-no_sums : {items : List Item} {ts : List Terminal} → D items ts → D (S ∷ items) ts
+pub no_sums : {items : List Item} {ts : List Terminal} → D items ts → D (S ∷ items) ts
 unfolding skipped
 no_sums d = no part.Sums refl d
 
-no_compare : {items : List Item} {ts : List Terminal} → D items ts → D (C ∷ items) ts
+pub no_compare : {items : List Item} {ts : List Terminal} → D items ts → D (C ∷ items) ts
 unfolding skipped
 no_compare d = no part.Compare refl d
 
-no_ands : {items : List Item} {ts : List Terminal} → D items ts → D (item.Part part.Ands ∷ items) ts
+pub no_ands : {items : List Item} {ts : List Terminal} → D items ts → D (item.Part part.Ands ∷ items) ts
 unfolding skipped
 no_ands d = no part.Ands refl d
 
-no_ors : {items : List Item} {ts : List Terminal} → D items ts → D (item.Part part.Ors ∷ items) ts
+pub no_ors : {items : List Item} {ts : List Terminal} → D items ts → D (item.Part part.Ors ∷ items) ts
 unfolding skipped
 no_ors d = no part.Ors refl d
 
-no_event_ands : {items : List Item} {ts : List Terminal} → D items ts → D (item.Part part.EventAnds ∷ items) ts
+pub no_event_ands : {items : List Item} {ts : List Terminal} → D items ts → D (item.Part part.EventAnds ∷ items) ts
 unfolding skipped
 no_event_ands d = no part.EventAnds refl d
 
-no_event_ors : {items : List Item} {ts : List Terminal} → D items ts → D (item.Part part.EventOrs ∷ items) ts
+pub no_event_ors : {items : List Item} {ts : List Terminal} → D items ts → D (item.Part part.EventOrs ∷ items) ts
 unfolding skipped
 no_event_ors d = no part.EventOrs refl d
 
-no_mask : {items : List Item} {ts : List Terminal} → D items ts → D (item.Part part.Mask ∷ items) ts
+pub no_mask : {items : List Item} {ts : List Terminal} → D items ts → D (item.Part part.Mask ∷ items) ts
 unfolding skipped
 no_mask d = Skip part.Mask action.Unmasked refl d
 
 -- a whole expression, and a whole event expression
-whole : (us : List Terminal) → AsSymbol is.Expression us → (items : List Item) (ts : List Terminal) → D items ts → D (item.Part part.Expr ∷ items) (us ++ ts)
+pub whole : (us : List Terminal) → AsSymbol is.Expression us → (items : List Item) (ts : List Terminal) → D items ts → D (item.Part part.Expr ∷ items) (us ++ ts)
 whole us x items ts d = begins (x items ts (no_ors d))
 
-event_whole : (us : List Terminal) → AsSymbol is.Event us → (items : List Item) (ts : List Terminal) → D items ts → D (whole_event ++ items) (us ++ ts)
+pub event_whole : (us : List Terminal) → AsSymbol is.Event us → (items : List Item) (ts : List Terminal) → D items ts → D (whole_event ++ items) (us ++ ts)
 event_whole us x items ts d = x items ts (no_event_ors d)
 
-token : (k : Terminal) {items : List Item} {ts : List Terminal} → D items ts → D (item.Token k ∷ items) (k ∷ ts)
+pub token : (k : Terminal) {items : List Item} {ts : List Terminal} → D items ts → D (item.Token k ∷ items) (k ∷ ts)
 token k d = Next k refl d
 
-atom : (k : Terminal) (row : List Item) → after part.Unary k ≡ Some (row ++ item.Part part.Dots ∷ []) → ((items : List Item) (ts : List Terminal) → D items ts → D (row ++ items) ts)
+pub atom : (k : Terminal) (row : List Item) → after part.Unary k ≡ Some (row ++ item.Part part.Dots ∷ []) → ((items : List Item) (ts : List Terminal) → D items ts → D (row ++ items) ts)
     → AsSymbol is.Atom (k ∷ [])
 atom k row e f = λ items ts d.
     Rule part.Unary (row ++ item.Part part.Dots ∷ []) e (subst (λ is. D is ts) (sym (append_assoc row (item.Part part.Dots ∷ []) items)) (f (item.Part part.Dots ∷ items) ts d))
 
-leaf_atom : (k : Terminal) → after part.Unary k ≡ Some (item.Build action.Leaf ∷ item.Part part.Dots ∷ []) → AsSymbol is.Atom (k ∷ [])
+pub leaf_atom : (k : Terminal) → after part.Unary k ≡ Some (item.Build action.Leaf ∷ item.Part part.Dots ∷ []) → AsSymbol is.Atom (k ∷ [])
 leaf_atom k e = λ items ts d. Rule part.Unary (item.Build action.Leaf ∷ item.Part part.Dots ∷ []) e (Make action.Leaf d)
 
-kind_of : (first second : Terminal) (p : Part) (a : Action) → after part.EventUnary first ≡ Some (item.Part p ∷ item.Part part.Mask ∷ [])
-    → after p second ≡ Some (item.Build a ∷ []) → AsSymbol is.Kind (first ∷ second ∷ [])
-kind_of first second p a e f = λ items ts d. Rule part.EventUnary (item.Part p ∷ item.Part part.Mask ∷ []) e (Rule p (item.Build a ∷ []) f (Make a d))
+pub kind_of : (k l : Terminal) (p : Part) (a : Action) → after part.EventUnary k ≡ Some (item.Part p ∷ item.Part part.Mask ∷ [])
+    → after p l ≡ Some (item.Build a ∷ []) → AsSymbol is.Kind (k ∷ l ∷ [])
+kind_of k l p a e f = λ items ts d. Rule part.EventUnary (item.Part p ∷ item.Part part.Mask ∷ []) e (Rule p (item.Build a ∷ []) f (Make a d))
 
-folded_event : (k : Terminal) (a : Action) (p : Part) → IsFolding k a p → (ts us : List Terminal) → AsSymbol is.Event ts → AsMore us
+pub folded_event : (k : Terminal) (a : Action) (p : Part) → IsFolding k a p → (ts us : List Terminal) → AsSymbol is.Event ts → AsMore us
     → AsSymbol is.EventAtom (k ∷ terminal.OpenParen ∷ ts ++ us)
 folded_event k a p i ts us x m = λ items rest d.
     Rule part.EventUnary (folded (item.Build a) (item.Part p)) i.first
     (token terminal.OpenParen (regroup ts us rest (event_whole ts x (item.Token terminal.Comma ∷ whole_event ++ item.Build a ∷ item.Part p ∷ items) (us ++ rest) (m.first k a p i items rest d))))
 
-counted_event : (k : Terminal) (a : Action) → after part.EventUnary k ≡ Some (counted (item.Build a)) → (ts : List Terminal) → AsSymbol is.Event ts
+pub counted_event : (k : Terminal) (a : Action) → after part.EventUnary k ≡ Some (counted (item.Build a)) → (ts : List Terminal) → AsSymbol is.Event ts
     → AsSymbol is.EventAtom (k ∷ terminal.Count ∷ terminal.OpenParen ∷ ts ++ terminal.CloseParen ∷ [])
 counted_event k a e ts x = λ items rest d.
     Rule part.EventUnary (counted (item.Build a)) e
     (token terminal.Count (token terminal.OpenParen (regroup ts (terminal.CloseParen ∷ []) rest
     (event_whole ts x (item.Token terminal.CloseParen ∷ item.Build a ∷ items) (terminal.CloseParen ∷ rest) (token terminal.CloseParen (Make a d))))))
 
-last_event : (ts : List Terminal) → AsSymbol is.Event ts → AsMore (terminal.Comma ∷ ts ++ terminal.CloseParen ∷ [])
+pub last_event : (ts : List Terminal) → AsSymbol is.Event ts → AsMore (terminal.Comma ∷ ts ++ terminal.CloseParen ∷ [])
 last_event ts x = record {
   first = λ k a p i items rest d.
       token terminal.Comma (regroup ts (terminal.CloseParen ∷ []) rest
@@ -259,7 +259,7 @@ last_event ts x = record {
       (event_whole ts x (item.Build a ∷ item.Part p ∷ items) (terminal.CloseParen ∷ rest) (Make a (Rule p [] i.closed d))));
 }
 
-next_event : (ts us : List Terminal) → AsSymbol is.Event ts → AsMore us → AsMore (terminal.Comma ∷ ts ++ us)
+pub next_event : (ts us : List Terminal) → AsSymbol is.Event ts → AsMore us → AsMore (terminal.Comma ∷ ts ++ us)
 next_event ts us x m = record {
   first = λ k a p i items rest d.
       token terminal.Comma (regroup ts us rest (event_whole ts x (item.Build a ∷ item.Part p ∷ items) (us ++ rest) (Make a (m.later k a p i items rest d))));
@@ -268,7 +268,7 @@ next_event ts us x m = record {
       (event_whole ts x (item.Build a ∷ item.Part p ∷ items) (us ++ rest) (Make a (m.later k a p i items rest d))));
 }
 
-fa_event : (ts us vs : List Terminal) → AsSymbol is.Event ts → AsSymbol is.Event us → AsSymbol is.Event vs
+pub fa_event : (ts us vs : List Terminal) → AsSymbol is.Event ts → AsSymbol is.Event us → AsSymbol is.Event vs
     → AsSymbol is.EventAtom (terminal.Fa ∷ terminal.OpenParen ∷ ts ++ terminal.Comma ∷ us ++ terminal.Comma ∷ vs ++ terminal.CloseParen ∷ [])
 unfolding after
 fa_event ts us vs x y z = λ items rest d.
@@ -290,7 +290,7 @@ fa_event ts us vs x y z = λ items rest d.
 
 -- ---- all
 
-derived : {s : Symbol} {ts : List Terminal} → Is s ts → AsSymbol s ts
+pub derived : {s : Symbol} {ts : List Terminal} → Is s ts → AsSymbol s ts
 unfolding after
 derived is.LeafAtom = leaf_atom terminal.Leaf refl
 derived is.NumberAtom = leaf_atom terminal.Number refl

@@ -3,6 +3,7 @@ ghost use Rattle.std.specs.Prelude.{List};
 ghost use Rattle.ode_grammar.specs.declared.reader.Start.TheVariants as start;
 ghost use Rattle.ode_grammar.specs.declared.terminal.Terminal.{Terminal};
 ghost use Rattle.ode_grammar.specs.Texts.{IsText};
+ghost use Rattle.ode_productions.specs.Phrases.{AClass, AStatement, Says};
 ghost use Rattle.ode_productions.specs.Productions.{Event, Expression, Is};
 
 /// An expression of the rows is one of the productions, and the other way round.
@@ -15,4 +16,16 @@ pub fn expressions_are_productions()
 pub fn events_are_productions()
     ensures rows { (tokens : List Terminal) → IsText start.Event tokens → Is Event tokens }
     ensures productions { (tokens : List Terminal) → Is Event tokens → IsText start.Event tokens }
+{}
+
+/// A class of the rows is one of the productions, and the other way round.
+pub fn classes_are_productions()
+    ensures rows { (tokens : List Terminal) → IsText start.Class tokens → Says AClass tokens }
+    ensures productions { (tokens : List Terminal) → Says AClass tokens → IsText start.Class tokens }
+{}
+
+/// A statement of a script, of the rows, is one of the productions, and the other way round.
+pub fn statements_are_productions()
+    ensures rows { (tokens : List Terminal) → IsText start.Statement tokens → Says AStatement tokens }
+    ensures productions { (tokens : List Terminal) → Says AStatement tokens → IsText start.Statement tokens }
 {}

@@ -3,4 +3,7 @@
 
 mod laws;
 
-pub use laws::{events_are_productions, expressions_are_productions};
+pub use laws::{
+    classes_are_productions, events_are_productions, expressions_are_productions,
+    statements_are_productions,
+};

@@ -1,5 +1,5 @@
 -- What the rows of all parts do.
-use Rattle.std.proofs.Common.{◌≡◌, ℕ, List, Option, Some, None, sym, ap, ◌∙◌, subst}
+use Rattle.std.proofs.Common.{◌≡◌, List, Option, Some, None, sym, ap, ◌∙◌, subst}
 use Rattle.std.proofs.lemmas.Option.{none-some, same_Some}
 use Rattle.ode_grammar.specs.declared.item.Part.{Part}
 use Rattle.ode_grammar.specs.declared.item.Part.TheVariants as part

@@ -1,7 +1,7 @@
 -- What a text is cut into is what its lexer finds.
-use Rattle.std.proofs.Common.{◌≡◌, ℕ, zero, suc, ◌+◌, ◌-◌, ◌<◌, ◌≤◌, List, [], ◌∷◌, ◌++◌, length, drop, take, map, Some, arith, sym, ◌∙◌, ap, refl, subst, append_assoc}
+use Rattle.std.proofs.Common.{◌≡◌, ℕ, ◌+◌, ◌-◌, ◌<◌, List, [], ◌∷◌, ◌++◌, length, drop, take, map, Some, arith, sym, ◌∙◌, ap, refl, subst, append_assoc}
 use Rattle.std.proofs.lemmas.List.{length-append}
-use Rattle.ode_lex.specs.Tokens.{gap_at, token_at, lexed, lexed_from, with_token, Lexed, Tokens}
+use Rattle.ode_lex.specs.Tokens.{gap_at, token_at, lexed, lexed_from, with_token, Tokens}
 use Rattle.ode_lex.specs.declared.token.Token.{Token}
 use Rattle.ode_lex.specs.declared.token.TokenKind.{TokenKind}
 use Rattle.ode_lex.proofs.Lexing.{end_front, gap_front, token_front}

@@ -1,29 +1,26 @@
 -- What a text of each part does to the trees and heights: an expression adds one that is good.
-use Rattle.std.proofs.Common.{◌≡◌, ◌≤◌, ℕ, ◌+◌, max, Bool, true, false, cond, codes, pos, List, [], ◌∷◌, ◌++◌, Option, Some, None, refl, sym, ◌∙◌, ap, subst, arith}
+use Rattle.std.proofs.Common.{◌≡◌, ◌≤◌, ℕ, ◌+◌, max, Bool, true, false, cond, codes, List, [], ◌∷◌, ◌++◌, Option, Some, None, refl, sym, ◌∙◌, ap, subst, arith}
 use Rattle.std.specs.Str.{bytes_eq}
-use Rattle.std.proofs.lemmas.Option.{none-some, same_Some}
 use Rattle.ode_lex.specs.declared.token.Mark.{Mark}
 use Rattle.ode_lex.specs.declared.token.TokenKind.{TokenKind}
 use Rattle.ode_lex.specs.declared.token.TokenKind.TheVariants as kind
 use Rattle.ode_grammar.specs.declared.item.Part.{Part}
 use Rattle.ode_grammar.specs.declared.item.Part.TheVariants as part
-use Rattle.ode_grammar.specs.declared.item.Action.{Action}
 use Rattle.ode_grammar.specs.declared.item.Action.TheVariants as action
 use Rattle.ode_grammar.specs.declared.item.Item.{Item}
 use Rattle.ode_grammar.specs.declared.item.Item.TheVariants as item
 use Rattle.ode_grammar.specs.declared.terminal.Terminal.{Terminal}
 use Rattle.ode_grammar.specs.declared.terminal.Terminal.TheVariants as terminal
 use Rattle.ode_grammar.specs.Expressions.{behind_unary, term, sum, comp, conj}
-use Rattle.ode_grammar.specs.Grammar.{after, skipped}
+use Rattle.ode_grammar.specs.Grammar.{after}
 use Rattle.ode_grammar.proofs.Follows.{IfRow}
 use Rattle.ode_heights.specs.declared.height.Height.{Height}
 use Rattle.ode_heights.specs.Heights.{above, in_pair, leaf, raised}
 use Rattle.ode_terminals.specs.declared.seen.Place.{Place}
-use Rattle.ode_terminals.specs.Seen.{reference_terminal, this_terminal}
+use Rattle.ode_terminals.specs.Seen.{this_terminal}
 use Rattle.ode_value.specs.Words.{is_free, reserved}
 use Rattle.ode_value.specs.declared.event.EventExpr.{EventExpr}
 use Rattle.ode_value.specs.declared.event.Kind.{Kind}
-use Rattle.ode_value.specs.declared.operator.UnOp.{UnOp}
 use Rattle.ode_value.specs.declared.statement.Expr.{Expr}
 use Rattle.ode_value.specs.declared.statement.Expr.TheVariants as expr
 use Rattle.ode_value.specs.declared.value.Value.TheVariants as value
@@ -34,8 +31,8 @@ use Rattle.ode_reread.proofs.EventGoods.{GoodEvent, GoodInstants, GoodKind}
 use Rattle.ode_reread.proofs.EventPrints.{with_event, with_kind}
 use Rattle.ode_reread.proofs.ExprRows.{longer, rows}
 use Rattle.ode_reread.proofs.Marked.{is_leaf, with_expr, with_mark_on, with_name}
-use Rattle.ode_reread.proofs.Prints.{made_field, made_version, nothing}
-use Rattle.ode_reread.proofs.Goods.{binary_good, false_good, field_good, good_up, int_good, name_good, null, null_good, reference_good, text_good, this_good, true_good, unary_good, version_good, Good}
+use Rattle.ode_reread.proofs.Prints.{made_field, made_version}
+use Rattle.ode_reread.proofs.Goods.{binary_good, false_good, field_good, good_up, int_good, name_good, null_good, reference_good, text_good, this_good, true_good, unary_good, version_good, Good}
 use Rattle.ode_reread.proofs.Sounds.{is_operator, operator_is_mark, Sound}
 
 abbrev pub spelt : Terminal → TokenKind → List ℕ → Spelled

@@ -1,5 +1,5 @@
 -- Event expressions whose printed text is read as they are, no higher than they were read.
-use Rattle.std.proofs.Common.{◌≡◌, ◌≤◌, ◌<◌, ◌^◌, ℕ, ◌+◌, ℤ, max, Bool, true, false, cond, codes, ◌==◌, ◌||◌, nat_le, nat_lt, pos, List, [], ◌∷◌, ◌++◌, ◌⊎◌, inl, inr, Some, None, arith, refl, sym, ◌∙◌, ap, subst}
+use Rattle.std.proofs.Common.{◌≡◌, ◌≤◌, ◌<◌, ◌^◌, ℕ, max, Bool, true, false, cond, codes, nat_lt, pos, List, [], ◌∷◌, ◌++◌, ◌⊎◌, inl, inr, Some, None, arith, refl, sym, ◌∙◌, ap}
 use Rattle.std.proofs.lemmas.Bool.Decides.{nat_tests}
 use Rattle.std.proofs.lemmas.List.{append-nil}
 use Rattle.ode_lex.specs.declared.token.Mark.TheVariants as mark
@@ -32,7 +32,7 @@ use Rattle.ode_syntax.specs.declared.trees.Trees.{Trees}
 use Rattle.ode_syntax.specs.Built.{count_of, second_of}
 use Rattle.ode_syntax.specs.Kept.{kept_as, Spelled}
 use Rattle.ode_reread.proofs.Cuts.{spell}
-use Rattle.ode_reread.proofs.EventPrints.{after_begins, after_method, and_prints, any_prints, at_tail, before_begins, before_method, choose_counts, counted_prints, create_what, delete_what, every_counts, every_tail, fa_prints, first_prints, folded_prints, kind_prints, leaf_prints, masked_prints, named_tail, not_prints, or_prints, prior_folds, relative_folds, sequence_folds, tabort_what, tbegin_what, tcommit_what, tcomplete_what, time_begins, with_leaf_on, word_tail, EventPrints, IsCount, IsInstant, IsPeriod, IsWord, KindPrints}
+use Rattle.ode_reread.proofs.EventPrints.{after_begins, after_method, and_prints, any_prints, before_begins, before_method, choose_counts, counted_prints, create_what, delete_what, every_counts, every_tail, fa_prints, first_prints, folded_prints, kind_prints, leaf_prints, masked_prints, named_tail, not_prints, or_prints, prior_folds, relative_folds, sequence_folds, tabort_what, tbegin_what, tcommit_what, tcomplete_what, time_begins, word_tail, EventPrints, IsCount, IsPeriod, IsWord, KindPrints}
 use Rattle.ode_reread.proofs.EventSpells.{between_spells, call_spells, comma_spells, counted_spells, mask_spells, not_spells, number_spells, words_spell}
 use Rattle.ode_reread.proofs.Goods.{free_word, named, shown_as, Good}
 use Rattle.ode_reread.proofs.Marked.{as_operand, bracketed, marked}

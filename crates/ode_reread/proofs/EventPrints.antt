@@ -1,5 +1,5 @@
 -- A printed event expression is a text of its tree, and its height is that of the tree.
-use Rattle.std.proofs.Common.{◌≡◌, ℕ, ◌+◌, ℤ, max, Bool, true, false, cond, List, [], ◌∷◌, ◌++◌, append_assoc, Some, None, refl, sym, ◌∙◌, ap, subst}
+use Rattle.std.proofs.Common.{◌≡◌, ℕ, ◌+◌, ℤ, max, Bool, true, false, List, [], ◌∷◌, ◌++◌, append_assoc, Some, None, refl, sym, ◌∙◌, ap, subst}
 use Rattle.ode_lex.specs.declared.token.Mark.TheVariants as mark
 use Rattle.ode_grammar.specs.declared.item.Action.{Action}
 use Rattle.ode_grammar.specs.declared.item.Part.{Part}
@@ -11,7 +11,7 @@ use Rattle.ode_grammar.specs.declared.terminal.Terminal.{Terminal}
 use Rattle.ode_grammar.specs.declared.terminal.Terminal.TheVariants as terminal
 use Rattle.ode_grammar.specs.Events.{evand, event as whole_event, folded, counted}
 use Rattle.ode_grammar.specs.Grammar.{after, skipped}
-use Rattle.ode_grammar.specs.Texts.{Derives, Next, Make, Rule, Skip}
+use Rattle.ode_grammar.specs.Texts.{Next, Make, Rule, Skip}
 use Rattle.ode_heights.specs.declared.height.Height.{Height}
 use Rattle.ode_heights.specs.Heights.{above, leaf, raised}
 use Rattle.ode_value.specs.declared.event.EventExpr.{EventExpr}
@@ -21,7 +21,7 @@ use Rattle.ode_value.specs.declared.event.Kind.TheVariants as point
 use Rattle.ode_value.specs.declared.statement.Expr.{Expr}
 use Rattle.ode_syntax.specs.Built.{built, built_right_side, built_statement, built_event, built_kind, built_class, built_member, built_script, count_of, second_of}
 use Rattle.ode_syntax.specs.Kept.{Spelled, kept_as}
-use Rattle.ode_reread.proofs.Both.{Both, both, keep, make}
+use Rattle.ode_reread.proofs.Both.{Both, keep, make}
 use Rattle.ode_reread.proofs.ExprRows.{begins}
 use Rattle.ode_reread.proofs.Marked.{marked, bracketed, as_operand, operand_height, with_expr, with_name, with_mark_on, IsNamed}
 use Rattle.ode_reread.proofs.Prints.{at, closed, ended, kept_named, no_dots, nothing, opened, regroup, Ds, Prints}

@@ -8,11 +8,9 @@ use Rattle.ode_lex.specs.declared.token.Mark.{Mark}
 use Rattle.ode_lex.specs.declared.token.Mark.TheVariants as mark
 use Rattle.ode_lex.specs.declared.token.TokenKind.{TokenKind}
 use Rattle.ode_lex.specs.declared.token.TokenKind.TheVariants as kind
-use Rattle.ode_grammar.specs.declared.item.Part.{Part}
 use Rattle.ode_grammar.specs.declared.item.Part.TheVariants as part
 use Rattle.ode_grammar.specs.declared.item.Action.{Action}
 use Rattle.ode_grammar.specs.declared.item.Action.TheVariants as action
-use Rattle.ode_grammar.specs.declared.item.Item.{Item}
 use Rattle.ode_grammar.specs.declared.item.Item.TheVariants as item
 use Rattle.ode_grammar.specs.declared.terminal.Terminal.{Terminal}
 use Rattle.ode_grammar.specs.declared.terminal.Terminal.TheVariants as terminal
@@ -32,15 +30,14 @@ use Rattle.ode_value.specs.declared.event.Kind.{Kind}
 use Rattle.ode_value.specs.declared.event.Kind.TheVariants as point
 use Rattle.ode_value.specs.declared.statement.Expr.{Expr}
 use Rattle.ode_syntax.specs.Built.{built, built_right_side, built_statement, built_event, built_kind, built_class, built_member, built_script, second_of}
-use Rattle.ode_syntax.specs.Kept.{kept_as, leaf_of, name_of, Spelled}
+use Rattle.ode_syntax.specs.Kept.{kept_as, leaf_of, name_of}
 use Rattle.ode_reread.proofs.Both.{Both, keep, make}
-use Rattle.ode_reread.proofs.Effects.{name_free, spelt, AddsEvent, AddsKind, Leads, Masks, ReplacesEvent, RowIs}
-use Rattle.ode_reread.proofs.EventGoods.{after_method_good, and_good, any_good, before_method_good, choose_good, create_good, delete_good, event_up, every_good, fa_good, first_good, masked_good, not_good, number_leaf, or_good, plain_good, prior_good, relative_good, sequence_good, small_count, tabort_good, tbegin_good, tcommit_good, tcomplete_good, time_every_good, GoodEvent, GoodInstants, GoodKind}
+use Rattle.ode_reread.proofs.Effects.{name_free, spelt, AddsEvent, AddsKind, Masks, ReplacesEvent, RowIs}
+use Rattle.ode_reread.proofs.EventGoods.{after_method_good, and_good, any_good, before_method_good, choose_good, create_good, delete_good, event_up, every_good, fa_good, first_good, masked_good, not_good, number_leaf, or_good, plain_good, prior_good, relative_good, sequence_good, small_count, tabort_good, tbegin_good, tcommit_good, tcomplete_good, time_every_good, GoodEvent, GoodInstants}
 use Rattle.ode_reread.proofs.EventPrints.{after_method, before_method, choose_counts, create_what, delete_what, every_counts, made_and, made_any, made_at, made_every, made_fa, made_first, made_or, made_unmasked, prior_folds, relative_folds, sequence_folds, tabort_what, tbegin_what, tcommit_what, tcomplete_what, with_event, with_kind, with_leaf_on}
-use Rattle.ode_reread.proofs.Goods.{Good}
 use Rattle.ode_reread.proofs.Marked.{with_expr, with_mark_on}
 use Rattle.ode_reread.proofs.Prints.{nothing}
-use Rattle.ode_reread.proofs.Sounds.{either, is_operator, never, operator_is_mark, Sound}
+use Rattle.ode_reread.proofs.Sounds.{either, never, operator_is_mark, Sound}
 
 event_replaced : (place : Place) (b c w : Both) → AddsEvent place b c → ReplacesEvent place c w → AddsEvent place b w
 event_replaced place b c w a r = r a.e a.h b a.is a.good

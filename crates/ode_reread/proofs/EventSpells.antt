@@ -1,5 +1,5 @@
 -- Event expressions as texts that are cut into their tokens.
-use Rattle.std.proofs.Common.{◌≡◌, ◌<◌, ◌^◌, ℕ, ◌+◌, Bool, true, false, cond, codes, pos, List, [], ◌∷◌, ◌++◌, length, arith, refl, sym, ◌∙◌, ap, append_assoc}
+use Rattle.std.proofs.Common.{◌≡◌, ◌<◌, ◌^◌, ℕ, true, codes, pos, List, [], ◌∷◌, ◌++◌, arith, refl, ◌∙◌, ap, append_assoc}
 use Rattle.std.proofs.lemmas.Fmt.{decimal_is_IsNumeral}
 use Rattle.ode_lex.specs.declared.token.Mark.TheVariants as mark
 use Rattle.ode_lex.specs.declared.token.TokenKind.TheVariants as kind

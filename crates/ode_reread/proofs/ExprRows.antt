@@ -1,6 +1,6 @@
 -- An expression begins as an operand does.
-use Rattle.std.proofs.Common.{◌≡◌, List, [], ◌∷◌, ◌++◌, append_assoc, Option, Some, None, refl, sym, ap, subst, ◌∙◌}
-use Rattle.std.proofs.lemmas.Option.{none-some, same_Some}
+use Rattle.std.proofs.Common.{◌≡◌, List, ◌∷◌, ◌++◌, append_assoc, Option, Some, None, refl, sym, ap, subst, ◌∙◌}
+use Rattle.std.proofs.lemmas.Option.{none-some}
 use Rattle.ode_grammar.specs.declared.item.Part.TheVariants as part
 use Rattle.ode_grammar.specs.declared.item.Action.{Action}
 use Rattle.ode_grammar.specs.declared.item.Item.{Item}
@@ -9,7 +9,7 @@ use Rattle.ode_grammar.specs.declared.terminal.Terminal.{Terminal}
 use Rattle.ode_grammar.specs.declared.terminal.Terminal.TheVariants as terminal
 use Rattle.ode_grammar.specs.Expressions.{behind_unary}
 use Rattle.ode_grammar.specs.Grammar.{after, skipped}
-use Rattle.ode_grammar.specs.Texts.{Derives, Next, Make, Rule, Skip}
+use Rattle.ode_grammar.specs.Texts.{Derives, Rule, Skip}
 use Rattle.ode_syntax.specs.Kept.{Spelled}
 use Rattle.ode_reread.proofs.Both.{Both, both}
 

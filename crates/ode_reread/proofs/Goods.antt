@@ -1,10 +1,9 @@
 -- Expressions whose printed text is read as they are, no higher than they were read.
-use Rattle.std.proofs.Common.{◌≡◌, ◌≤◌, ◌<◌, ◌^◌, ℕ, ◌+◌, max, Bool, true, false, not, ◌&&◌, ◌||◌, cond, codes, map, ◌==◌, nat_le, nat_lt, ℤ, pos, List, [], ◌∷◌, ◌++◌, length, Option, Some, None, arith, refl, sym, ◌∙◌, ap, subst}
-use Rattle.std.specs.List.{flat_map, list_all, list_any}
+use Rattle.std.proofs.Common.{◌≡◌, ◌≤◌, ◌<◌, ◌^◌, ℕ, max, Bool, true, false, not, ◌||◌, cond, codes, map, ◌==◌, nat_le, nat_lt, ℤ, pos, List, [], ◌∷◌, ◌++◌, length, Option, Some, None, arith, refl, sym, ◌∙◌, ap, subst}
+use Rattle.std.specs.List.{list_all, list_any}
 use Rattle.std.specs.Str.{bytes_eq}
 use Rattle.std.proofs.lemmas.Slice.Eq.{bytes_eq-Decides}
 use Rattle.std.proofs.lemmas.Bool.{false≢true}
-use Rattle.std.proofs.lemmas.Bool.Decides.{nat_tests}
 use Rattle.std.proofs.lemmas.Fmt.{decimal_is_IsNumeral}
 use Rattle.ode_lex.specs.declared.token.Mark.TheVariants as mark
 use Rattle.ode_lex.specs.declared.token.TokenKind.{TokenKind}
@@ -34,14 +33,14 @@ use Rattle.ode_value.specs.declared.value.Value.{Value}
 use Rattle.ode_value.specs.declared.value.Value.TheVariants as value
 use Rattle.ode_value.proofs.Decimals.{number_begins}
 use Rattle.ode_value.proofs.PrintLaws.{printed-Lit, printed-Name, printed-Binary}
-use Rattle.ode_syntax.specs.Kept.{content_of, found, is_text, leaf_of, name_of, text_of, Spelled}
+use Rattle.ode_syntax.specs.Kept.{content_of, found, is_text, leaf_of, text_of, Spelled}
 use Rattle.ode_relex.specs.Ends.{opens}
 use Rattle.ode_relex.proofs.WordTokens.{both_true, either_false, is_false}
 use Rattle.ode_relex.proofs.ReferenceTokens.{reference_token, spelled}
 use Rattle.ode_relex.proofs.TextTokens.{text_content, text_token}
 use Rattle.ode_relex.proofs.NumberTokens.{number_token}
 use Rattle.ode_reread.proofs.Cuts.{spell}
-use Rattle.ode_reread.proofs.Marked.{is_leaf, as_operand, bracketed, marked, operand_height, operator_mark, sign_mark, IsLeaf, IsNamed}
+use Rattle.ode_reread.proofs.Marked.{is_leaf, as_operand, bracketed, marked, operator_mark, sign_mark, IsNamed}
 use Rattle.ode_reread.proofs.Prints.{binary_prints, field_prints, leaf_prints, named_prints, unary_prints, version_prints, Prints}
 use Rattle.ode_reread.proofs.Spells.{binary_spells, digits_open, ends_stops, field_spells, operand_spells, token_spells, unary_spells, version_spells, word_spells, Spells}
 

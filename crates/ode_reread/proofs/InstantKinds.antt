@@ -1,8 +1,7 @@
 -- A printed instant is read as the kind of point that it is.
-use Rattle.std.proofs.Common.{◌≡◌, ◌<◌, ℕ, ◌+◌, ◌-◌, ◌*◌, ◌/◌, ◌%◌, ℤ, pos, Bool, true, false, not, ◌&&◌, ◌||◌, ◌==◌, cond, codes, nat_le, List, [], ◌∷◌, ◌++◌, length, take, drop, Option, Some, None, option_map, arith, refl, sym, ◌∙◌, ap, subst, length-append}
+use Rattle.std.proofs.Common.{◌≡◌, ◌<◌, ℕ, ◌+◌, ◌-◌, ◌/◌, ◌%◌, ℤ, pos, Bool, true, false, not, ◌&&◌, ◌||◌, ◌==◌, cond, codes, nat_le, List, [], ◌∷◌, ◌++◌, length, take, Option, Some, None, option_map, arith, refl, sym, ◌∙◌, ap, subst, length-append}
 use Rattle.std.specs.List.{flat_map, list_all}
 use Rattle.std.specs.Str.{bytes_eq}
-use Rattle.std.proofs.lemmas.Bool.{false≢true}
 use Rattle.std.proofs.lemmas.Bool.Decides.{nat_tests}
 use Rattle.std.proofs.lemmas.Slice.Eq.{bytes_eq-Decides}
 use Rattle.ode_lex.specs.declared.token.TokenKind.TheVariants as kind
@@ -11,19 +10,18 @@ use Rattle.ode_grammar.specs.declared.item.Part.TheVariants as part
 use Rattle.ode_grammar.specs.declared.terminal.Terminal.TheVariants as terminal
 use Rattle.ode_terminals.specs.declared.seen.Place.{Place}
 use Rattle.ode_terminals.specs.Seen.{between_quotes, instant_terminal}
-use Rattle.ode_timer.specs.Dates.{date_in, date_of, days_before, instant_of, is_real, second_of as second_of_date, spelled as spelled_date}
+use Rattle.ode_timer.specs.Dates.{date_in, days_before, instant_of, is_real, second_of as second_of_date, spelled as spelled_date}
 use Rattle.ode_value.specs.Instants.{digit, instant_text, two_digits}
 use Rattle.ode_value.specs.Text.{is_bad_byte}
 use Rattle.ode_value.specs.Texts.{escaped, value_text}
 use Rattle.ode_value.specs.declared.event.Kind.TheVariants as point
-use Rattle.ode_value.specs.declared.statement.Expr.{Expr}
 use Rattle.ode_value.specs.declared.statement.Expr.TheVariants as expr
 use Rattle.ode_value.specs.declared.value.Value.TheVariants as value
-use Rattle.ode_syntax.specs.Built.{or_zero, second_of}
-use Rattle.ode_syntax.specs.Kept.{content_of, kept_as, leaf_of, text_of, Spelled}
+use Rattle.ode_syntax.specs.Built.{or_zero}
+use Rattle.ode_syntax.specs.Kept.{content_of, kept_as, text_of}
 use Rattle.ode_relex.specs.Ends.{is_text, IsToken}
 use Rattle.ode_relex.proofs.TextTokens.{text_token}
-use Rattle.ode_relex.proofs.WordTokens.{both_true, either_false, is_false, neither}
+use Rattle.ode_relex.proofs.WordTokens.{both_true, is_false}
 use Rattle.ode_instants.proofs.InstantTexts.{text_again}
 use Rattle.ode_reread.proofs.Both.{keep, Both}
 use Rattle.ode_reread.proofs.CutTexts.{take_front}

@@ -1,5 +1,5 @@
 -- A text that is read is the longest text in front, and isn't refused.
-use Rattle.std.proofs.Common.{◌≡◌, ◌≤◌, ◌<◌, ◌⊎◌, inl, inr, ℕ, suc, ◌+◌, true, false, List, [], ◌∷◌, ◌++◌, length, map, take, drop, take_all, arith, refl, sym, ◌∙◌, ap, subst}
+use Rattle.std.proofs.Common.{◌≡◌, ◌≤◌, ◌<◌, ◌⊎◌, inl, inr, ℕ, suc, ◌+◌, List, [], ◌∷◌, length, map, take, drop, take_all, arith, refl, sym, ◌∙◌, ap, subst}
 use Rattle.std.proofs.lemmas.Bool.{cases_lt}
 use Rattle.std.proofs.lemmas.List.{take-append-drop}
 use Rattle.ode_lex.specs.declared.token.Token.{Token}
@@ -17,7 +17,7 @@ use Rattle.ode_heights.specs.Depths.{BeginsWithin, IsTextWithin}
 use Rattle.ode_heights.specs.Heights.{heights as of_heights}
 use Rattle.ode_terminals.specs.declared.seen.Place.{Place}
 use Rattle.ode_syntax.specs.declared.trees.Trees.{Trees}
-use Rattle.ode_syntax.specs.Kept.{spelled, Spelled}
+use Rattle.ode_syntax.specs.Kept.{spelled}
 use Rattle.ode_syntax.specs.Trees.{no_trees, trees, Makes}
 use Rattle.ode_eventsyn.specs.declared.error.SyntaxError.{SyntaxError}
 use Rattle.ode_eventsyn.specs.declared.error.SyntaxError.TheVariants as error

@@ -1,5 +1,5 @@
 -- The tokens of printed expressions, and what they do.
-use Rattle.std.proofs.Common.{◌≡◌, ℕ, ◌+◌, Bool, true, false, cond, List, [], ◌∷◌, ◌++◌, Some, refl, ap, ◌∙◌}
+use Rattle.std.proofs.Common.{◌≡◌, ℕ, Bool, true, false, cond, List, [], ◌∷◌, ◌++◌, Some, refl}
 use Rattle.std.proofs.lemmas.Bool.{false≢true}
 use Rattle.ode_lex.specs.Marks.{spelled_mark}
 use Rattle.ode_lex.specs.declared.token.Mark.{Mark}
@@ -8,7 +8,6 @@ use Rattle.ode_lex.specs.declared.token.TokenKind.{TokenKind}
 use Rattle.ode_lex.specs.declared.token.TokenKind.TheVariants as kind
 use Rattle.ode_grammar.specs.declared.item.Part.TheVariants as part
 use Rattle.ode_grammar.specs.declared.item.Action.TheVariants as action
-use Rattle.ode_grammar.specs.declared.item.Item.{Item}
 use Rattle.ode_grammar.specs.declared.item.Item.TheVariants as item
 use Rattle.ode_grammar.specs.declared.terminal.Terminal.{Terminal}
 use Rattle.ode_grammar.specs.declared.terminal.Terminal.TheVariants as terminal

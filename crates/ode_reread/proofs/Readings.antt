@@ -1,14 +1,12 @@
 -- What a whole text makes.
-use Rattle.std.proofs.Common.{◌≡◌, ◌≤◌, ℕ, ◌+◌, max, List, [], ◌∷◌, ◌++◌, map, Some, refl, sym, ◌∙◌, ap, subst, arith}
+use Rattle.std.proofs.Common.{◌≡◌, ◌≤◌, ℕ, List, [], ◌∷◌, ◌++◌, map, refl, sym, ◌∙◌, ap, subst, arith}
 use Rattle.std.proofs.lemmas.List.{append-nil}
 use Rattle.ode_lex.specs.declared.token.Token.{Token}
-use Rattle.ode_lex.specs.Tokens.{lexed, Tokens}
 use Rattle.ode_grammar.specs.declared.item.Item.{Item}
 use Rattle.ode_grammar.specs.declared.item.Item.TheVariants as item
 use Rattle.ode_grammar.specs.declared.item.Part.TheVariants as part
 use Rattle.ode_grammar.specs.declared.reader.Start.{Start}
 use Rattle.ode_grammar.specs.declared.reader.Start.TheVariants as start
-use Rattle.ode_grammar.specs.declared.terminal.Terminal.{Terminal}
 use Rattle.ode_grammar.specs.declared.terminal.Terminal.TheVariants as terminal
 use Rattle.ode_grammar.specs.Grammar.{items_of}
 use Rattle.ode_grammar.specs.Texts.{Derives, Done, Next, Make, Rule, Skip}
@@ -16,18 +14,16 @@ use Rattle.ode_grammar.proofs.Follows.{start_well}
 use Rattle.ode_grammar.proofs.Runs.{one_meaning}
 use Rattle.ode_heights.specs.declared.height.Height.{Height}
 use Rattle.ode_heights.specs.declared.height.Heights.{Heights}
-use Rattle.ode_heights.specs.Depths.{IsTextWithin}
 use Rattle.ode_heights.specs.Heights.{heights as of_heights, highest, none}
 use Rattle.ode_terminals.specs.declared.seen.Place.{Place}
-use Rattle.ode_terminals.specs.declared.seen.Place.TheVariants as place_of
 use Rattle.ode_terminals.specs.Seen.{terminal_of, this_terminal}
-use Rattle.ode_value.specs.Printing.{event_text, expr_text, printed, printed_event}
+use Rattle.ode_value.specs.Printing.{event_text, expr_text}
 use Rattle.ode_value.specs.declared.event.EventExpr.{EventExpr}
 use Rattle.ode_value.specs.declared.statement.Expr.{Expr}
 use Rattle.ode_syntax.specs.declared.trees.Trees.{Trees}
 use Rattle.ode_syntax.specs.Built.{event_tree, tree}
 use Rattle.ode_syntax.specs.Kept.{spelled, Spelled}
-use Rattle.ode_syntax.specs.Trees.{no_trees, Makes}
+use Rattle.ode_syntax.specs.Trees.{no_trees}
 use Rattle.ode_reread.proofs.Cuts.{Cut}
 use Rattle.ode_reread.proofs.Cuts as cuts
 use Rattle.ode_reread.specs.Rereading.{IsRead}

@@ -1,4 +1,4 @@
-use Rattle.ode_productions.proofs.Rows.{event_is}
+use Rattle.ode_productions.proofs.Decomposed.{event_is}
 use Rattle.ode_productions.proofs.Texts.{event_text}
 use Rattle.ode_productions.proofs.laws.events_are_productions.Goals as goal
 

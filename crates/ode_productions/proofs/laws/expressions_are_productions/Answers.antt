@@ -1,4 +1,4 @@
-use Rattle.ode_productions.proofs.Rows.{expression_is}
+use Rattle.ode_productions.proofs.Decomposed.{expression_is}
 use Rattle.ode_productions.proofs.Texts.{expression_text}
 use Rattle.ode_productions.proofs.laws.expressions_are_productions.Goals as goal
 

@@ -1,8 +1,8 @@
-use Rattle.std.proofs.Common.{◌≡◌, ℕ, List, length, refl, sym, ◌∙◌, ap, subst}
+use Rattle.std.proofs.Common.{◌≡◌, ℕ, List, refl, sym, ◌∙◌, ap, subst}
 use Rattle.ode_grammar.specs.declared.reader.Start.TheVariants as start
 use Rattle.ode_heights.specs.declared.height.TheConstants.{HEIGHT_LIMIT}
 use Rattle.ode_terminals.specs.declared.seen.Place.TheVariants.{Anywhere}
-use Rattle.ode_value.specs.Printing.{expr_text, printed}
+use Rattle.ode_value.specs.Printing.{expr_text}
 use Rattle.ode_value.specs.declared.statement.Expr.{Expr}
 use Rattle.ode_syntax.specs.declared.trees.Trees.{Trees}
 use Rattle.ode_syntax.specs.Built.{tree}

@@ -1,0 +1,180 @@
+-- What items derive is what their parts say.
+use Rattle.std.proofs.Common.{◌≡◌, List, [], ◌∷◌, ◌++◌, Some, refl, sym, ap, subst}
+use Rattle.std.proofs.lemmas.List.{append-nil}
+use Rattle.std.proofs.lemmas.Option.{none-some}
+use Rattle.ode_grammar.specs.declared.item.Part.{Part}
+use Rattle.ode_grammar.specs.declared.item.Part.TheVariants as part
+use Rattle.ode_grammar.specs.declared.item.Action.{Action}
+use Rattle.ode_grammar.specs.declared.item.Item.{Item}
+use Rattle.ode_grammar.specs.declared.reader.Start.TheVariants as start
+use Rattle.ode_grammar.specs.declared.terminal.Terminal.{Terminal}
+use Rattle.ode_grammar.specs.Grammar.{after, items_of, skipped}
+use Rattle.ode_grammar.specs.Texts.{plain, Derives, Done, IsText, Make, Next, Rule, Skip}
+use Rattle.ode_grammar.proofs.Follows.{IfRow}
+use Rattle.ode_productions.specs.Productions.{Is, Symbol}
+use Rattle.ode_productions.specs.Productions as is
+use Rattle.ode_productions.specs.Phrases.{Says, AClass, AStatement}
+use Rattle.ode_productions.specs.Phrases as says
+use Rattle.ode_productions.proofs.Rows.{after_what_rows, ands_rows, before_what_rows, compare_rows, dots_rows, ended, event_ands_rows, event_front, event_ors_rows, event_unary_rows, expr_rows, factors_rows, finish, kind_rows, mask_rows, more_prior_rows, more_relative_rows, more_sequence_rows, ors_rows, period_rows, split, sums_rows, time_what_rows, unary_rows, PartYields, RowYields, Yields}
+use Rattle.ode_productions.proofs.PhraseRows.{args_rows, call_dot_rows, chained_rows, class_rows, clock_text_rows, eighth_param_rows, eleventh_param_rows, else_rows, field_or_method_rows, fifteenth_param_rows, fifth_param_rows, fourteenth_param_rows, fourth_param_rows, initial_rows, inner_name_rows, inners_rows, lasting_rows, members_rows, mode_rows, more_args_rows, more_kinds_rows, more_sets_rows, ninth_param_rows, params_rows, parent_rows, return_value_rows, rhs_dot_rows, rhs_dots_rows, rhs_name_rows, rhs_rows, scope_rows, script_rhs_rows, second_param_rows, sets_rows, seventh_param_rows, sixteenth_param_rows, sixth_param_rows, sort_rows, statement_rows, tenth_param_rows, third_param_rows, thirteenth_param_rows, twelfth_param_rows}
+
+-- ---- all parts
+
+all_rows : (p : Part) (k : Terminal) → IfRow (RowYields p k) (after p k)
+all_rows part.Expr k = expr_rows k
+all_rows part.Unary k = unary_rows k
+all_rows part.Dots k = dots_rows k
+all_rows part.Factors k = factors_rows k
+all_rows part.Sums k = sums_rows k
+all_rows part.Compare k = compare_rows k
+all_rows part.Ands k = ands_rows k
+all_rows part.Ors k = ors_rows k
+all_rows part.EventUnary k = event_unary_rows k
+all_rows part.EventAnds k = event_ands_rows k
+all_rows part.EventOrs k = event_ors_rows k
+all_rows part.MoreRelative k = more_relative_rows k
+all_rows part.MorePrior k = more_prior_rows k
+all_rows part.MoreSequence k = more_sequence_rows k
+all_rows part.Mask k = mask_rows k
+all_rows part.Kind k = kind_rows k
+all_rows part.AfterWhat k = after_what_rows k
+all_rows part.BeforeWhat k = before_what_rows k
+all_rows part.TimeWhat k = time_what_rows k
+all_rows part.Period k = period_rows k
+all_rows part.Args k = args_rows k
+all_rows part.MoreArgs k = more_args_rows k
+all_rows part.CallDot k = call_dot_rows k
+all_rows part.Chained k = chained_rows k
+all_rows part.Sets k = sets_rows k
+all_rows part.MoreSets k = more_sets_rows k
+all_rows part.Rhs k = rhs_rows k
+all_rows part.ScriptRhs k = script_rhs_rows k
+all_rows part.RhsDots k = rhs_dots_rows k
+all_rows part.RhsDot k = rhs_dot_rows k
+all_rows part.RhsName k = rhs_name_rows k
+all_rows part.Inners k = inners_rows k
+all_rows part.Statement k = statement_rows k
+all_rows part.ClockText k = clock_text_rows k
+all_rows part.InnerName k = inner_name_rows k
+all_rows part.ReturnValue k = return_value_rows k
+all_rows part.Else k = else_rows k
+all_rows part.Class k = class_rows k
+all_rows part.Parent k = parent_rows k
+all_rows part.Members k = members_rows k
+all_rows part.FieldOrMethod k = field_or_method_rows k
+all_rows part.MoreKinds k = more_kinds_rows k
+all_rows part.Initial k = initial_rows k
+all_rows part.Lasting k = lasting_rows k
+all_rows part.Scope k = scope_rows k
+all_rows part.Mode k = mode_rows k
+all_rows part.Sort k = sort_rows k
+all_rows part.Params k = params_rows k
+all_rows part.SecondParam k = second_param_rows k
+all_rows part.ThirdParam k = third_param_rows k
+all_rows part.FourthParam k = fourth_param_rows k
+all_rows part.FifthParam k = fifth_param_rows k
+all_rows part.SixthParam k = sixth_param_rows k
+all_rows part.SeventhParam k = seventh_param_rows k
+all_rows part.EighthParam k = eighth_param_rows k
+all_rows part.NinthParam k = ninth_param_rows k
+all_rows part.TenthParam k = tenth_param_rows k
+all_rows part.EleventhParam k = eleventh_param_rows k
+all_rows part.TwelfthParam k = twelfth_param_rows k
+all_rows part.ThirteenthParam k = thirteenth_param_rows k
+all_rows part.FourteenthParam k = fourteenth_param_rows k
+all_rows part.FifteenthParam k = fifteenth_param_rows k
+all_rows part.SixteenthParam k = sixteenth_param_rows k
+
+with_nothing : (s : Symbol) (xs : List Terminal) → Is s xs → Is s (xs ++ [])
+with_nothing s xs x = subst (Is s) (sym (append-nil xs)) x
+
+left_out : (p : Part) (a : Action) → skipped p ≡ Some a → PartYields p []
+unfolding skipped
+left_out part.Expr a e = absurd (none-some a e)
+left_out part.Unary a e = absurd (none-some a e)
+left_out part.Dots a e = λ xs x. with_nothing is.Chain xs x
+left_out part.Factors a e = λ xs x. with_nothing is.Term xs x
+left_out part.Sums a e = λ xs x. with_nothing is.Sum xs x
+left_out part.Compare a e = λ xs x. with_nothing is.Comparison xs (is.OneSum x)
+left_out part.Ands a e = λ xs x. with_nothing is.Conjunction xs x
+left_out part.Ors a e = λ xs x. with_nothing is.Expression xs x
+left_out part.EventUnary a e = absurd (none-some a e)
+left_out part.EventAnds a e = λ xs x. with_nothing is.Conjoined xs x
+left_out part.EventOrs a e = λ xs x. with_nothing is.Event xs x
+left_out part.MoreRelative a e = absurd (none-some a e)
+left_out part.MorePrior a e = absurd (none-some a e)
+left_out part.MoreSequence a e = absurd (none-some a e)
+left_out part.Mask a e = λ xs x. with_nothing is.EventAtom xs (is.OneKind x)
+left_out part.Kind a e = absurd (none-some a e)
+left_out part.AfterWhat a e = absurd (none-some a e)
+left_out part.BeforeWhat a e = absurd (none-some a e)
+left_out part.TimeWhat a e = absurd (none-some a e)
+left_out part.Period a e = absurd (none-some a e)
+left_out part.Args a e = absurd (none-some a e)
+left_out part.MoreArgs a e = absurd (none-some a e)
+left_out part.CallDot a e = absurd (none-some a e)
+left_out part.Chained a e = absurd (none-some a e)
+left_out part.Sets a e = absurd (none-some a e)
+left_out part.MoreSets a e = absurd (none-some a e)
+left_out part.Rhs a e = absurd (none-some a e)
+left_out part.ScriptRhs a e = absurd (none-some a e)
+left_out part.RhsDots a e = absurd (none-some a e)
+left_out part.RhsDot a e = absurd (none-some a e)
+left_out part.RhsName a e = absurd (none-some a e)
+left_out part.Inners a e = says.NoInners
+left_out part.Statement a e = absurd (none-some a e)
+left_out part.ClockText a e = absurd (none-some a e)
+left_out part.InnerName a e = absurd (none-some a e)
+left_out part.ReturnValue a e = absurd (none-some a e)
+left_out part.Else a e = says.NoElse
+left_out part.Class a e = absurd (none-some a e)
+left_out part.Parent a e = says.NoParent
+left_out part.Members a e = says.NoMembers
+left_out part.FieldOrMethod a e = absurd (none-some a e)
+left_out part.MoreKinds a e = absurd (none-some a e)
+left_out part.Initial a e = says.NotInitial
+left_out part.Lasting a e = says.NotLasting
+left_out part.Scope a e = says.NoScope
+left_out part.Mode a e = says.NoMode
+left_out part.Sort a e = absurd (none-some a e)
+left_out part.Params a e = absurd (none-some a e)
+left_out part.SecondParam a e = absurd (none-some a e)
+left_out part.ThirdParam a e = absurd (none-some a e)
+left_out part.FourthParam a e = absurd (none-some a e)
+left_out part.FifthParam a e = absurd (none-some a e)
+left_out part.SixthParam a e = absurd (none-some a e)
+left_out part.SeventhParam a e = absurd (none-some a e)
+left_out part.EighthParam a e = absurd (none-some a e)
+left_out part.NinthParam a e = absurd (none-some a e)
+left_out part.TenthParam a e = absurd (none-some a e)
+left_out part.EleventhParam a e = absurd (none-some a e)
+left_out part.TwelfthParam a e = absurd (none-some a e)
+left_out part.ThirteenthParam a e = absurd (none-some a e)
+left_out part.FourteenthParam a e = absurd (none-some a e)
+left_out part.FifteenthParam a e = absurd (none-some a e)
+left_out part.SixteenthParam a e = absurd (none-some a e)
+
+yields : {items : List Item} {m : Unit {0}} {ts : List Terminal} {out : Unit {0}} → Derives plain items m ts out → Yields items ts
+yields Done = refl
+yields (Next {ts = ts} k e d) = (ts, ap (λ j. j ∷ ts) e, yields d)
+yields (Make a d) = yields d
+yields (Rule {items = items} {t = t} {ts = ts} p row e d) =
+    let x = split row items ts (yields d) in
+    (t ∷ x.a, x.b, ap (λ y. t ∷ y) x.is, subst (IfRow (RowYields p t)) e (all_rows p t) x.a x.first, x.behind)
+yields (Skip {ts = ts} p a e d) = ([], ts, refl, left_out p a e, yields d)
+
+pub expression_is : (tokens : List Terminal) → IsText start.Expr tokens → Is is.Expression tokens
+unfolding items_of
+expression_is tokens d = let l = yields d in subst (Is is.Expression) (sym (ended tokens l.0 l.1 l.2 l.4)) l.3
+
+pub event_is : (tokens : List Terminal) → IsText start.Event tokens → Is is.Event tokens
+unfolding items_of
+event_is tokens d = finish is.Event tokens (event_front [] tokens (yields d))
+
+pub class_is : (tokens : List Terminal) → IsText start.Class tokens → Says AClass tokens
+unfolding items_of
+class_is tokens d = let l = yields d in subst (Says AClass) (sym (ended tokens l.0 l.1 l.2 l.4)) l.3
+
+pub statement_is : (tokens : List Terminal) → IsText start.Statement tokens → Says AStatement tokens
+unfolding items_of
+statement_is tokens d = let l = yields d in subst (Says AStatement) (sym (ended tokens l.0 l.1 l.2 l.4)) l.3
