@@ -1,12 +1,12 @@
 //! How many bytes values and records take.
 ghost use Rattle.std.specs.Prelude.{◌≡◌, ◌<◌, ◌≤◌, nat_le};
-ghost use Rattle.ode_value.specs.Lengths as machine;
 ghost use Rattle.ode_value.specs.Lengths.{value_length, values_length};
 
+use ode_keep::KEY_LEN;
 use ode_value::Value;
 
 /// Bytes of a key.
-pub const KEY: u64 = 17;
+pub const KEY: u64 = KEY_LEN as u64;
 /// Bytes of an object's record.
 pub const OBJECT: u64 = KEY + 8;
 /// Bytes before the fields in the value of a version.

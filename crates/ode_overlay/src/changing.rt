@@ -4,6 +4,7 @@ ghost use Rattle.ode_host.specs.Causes.{RoseIf};
 ghost use Rattle.ode_host.specs.Host.{Looks};
 ghost use Rattle.ode_keep.specs.Entries.{Entries};
 ghost use Rattle.ode_overlay.specs.Answers.{Answers, Gives, Leaves, UnlessFault, from_records, is_usable};
+ghost use Rattle.ode_value.specs.Limits.{number_limit};
 ghost use Rattle.ode_overlay.specs.Changing.{create, denoted_in, derive, derive_with, drop_version, drop_with, fields_with, fresh, next_number, remove, remove_with, touch, touch_with, with_value, write, write_with};
 
 use crate::error::OverlayError;
@@ -284,7 +285,7 @@ impl Overlay {
     /// Whether a number is left for an object or an activation.
     pub(crate) fn next_number(&self) -> Result<u64, OverlayError>
         ensures number { Answers result (next_number self.now) }
-        ensures small { IfOk result (λ n. n < 2 ^ 62) }
+        ensures small { IfOk result (λ n. n < number_limit) }
         ensures usable { is_usable result ≡ true }
         ensures calm { IsErrOf result OverlayError.DiskFault → ⊥ }
     {

@@ -5,7 +5,7 @@ ghost use Rattle.ode_codec.specs.Rules.{IsKeptCounters};
 ghost use Rattle.ode_overlay.specs.Answers.{Answers, Gives, is_usable};
 ghost use Rattle.ode_overlay.specs.Changing.{live, object_of, put_new, put_now, with_now};
 ghost use Rattle.ode_overlay.specs.Layers.{IsGeneration, begun, first_count, generation_of, holding, is_touched, key_count};
-ghost use Rattle.ode_value.specs.Limits.{change_limit, queue_limit};
+ghost use Rattle.ode_value.specs.Limits.{change_limit, queue_limit, transaction_limit};
 ghost use Rattle.std.specs.Option.{option_copied};
 
 use crate::error::OverlayError;
@@ -61,7 +61,7 @@ impl Overlay {
     #[tactic(auto, unfolding(ode_value::specs::Limits::change_limit))]
     pub fn begin(alloc: Global, counters: Counters, queued: u32, origin: Origin) -> Overlay
         requires counters { IsKeptCounters counters }
-        requires transaction { counters.next_transaction < 2 ^ 62 + 65536 }
+        requires transaction { counters.next_transaction < transaction_limit }
         requires queued { queued ≤ queue_limit }
         requires generation { IsGeneration origin }
         ensures { result ≡ begun counters queued origin }

@@ -15,6 +15,7 @@ use Rattle.ode_heights.specs.Heights.{above, leaf}
 use Rattle.ode_terminals.specs.declared.seen.Place.{Place}
 use Rattle.ode_terminals.specs.Seen.{number_terminal}
 use Rattle.ode_terminals.specs.Words.{word_terminal}
+use Rattle.ode_value.specs.Limits.{choose_limit}
 use Rattle.ode_value.specs.Decimal.{digits_of}
 use Rattle.ode_value.specs.Printing.{kind_text, printed_event, printed_event_of, Printed}
 use Rattle.ode_value.specs.Words.{is_free}
@@ -121,7 +122,7 @@ is_fa place = record { seen = refl; adds_nothing = λ b. refl }
 
 -- ---- numbers
 
-count_terminal : (n : ℕ) → 0 < n → n < 65536 → number_terminal (pos n) ≡ terminal.Count
+count_terminal : (n : ℕ) → 0 < n → n ≤ choose_limit → number_terminal (pos n) ≡ terminal.Count
 count_terminal n some small = grind (arith, nat_tests)
 
 pub small_count : (n : ℕ) → n < 2 ^ 32 → count_of (expr.Lit (value.Int (pos n))) ≡ n
@@ -134,7 +135,7 @@ count_kept : (n : ℕ) (k : Terminal) (t : Spelled) → t.terminal ≡ k → k �
 unfolding kept_as
 count_kept n k t e f g v = ap (λ j. kept_as j t.kind t.bytes v) (e ∙ f) ∙ ap (λ j. kept_as terminal.Count j t.bytes v) g
 
-a_count : (place : Place) (n : ℕ) → 0 < n → n < 65536 → IsCount (spell place (kind.Number (pos n)) (digits_of n)) n
+a_count : (place : Place) (n : ℕ) → 0 < n → n ≤ choose_limit → IsCount (spell place (kind.Number (pos n)) (digits_of n)) n
 a_count place n some small =
     let seen = count_terminal n some small in
     record {
@@ -220,12 +221,12 @@ abbrev pub GoodInstants : Place → Type 0
 GoodInstants place = (x : Expr) → GoodKind place (point.TimeAt (second_of x))
 
 period_terminal : (n : ℕ) → 0 < n → n < 2 ^ 32 → (number_terminal (pos n) ≡ terminal.Count) ⊎ (number_terminal (pos n) ≡ terminal.Seconds)
-period_terminal n some small = cases (nat_lt n 65536) refl (not_number n some small)
+period_terminal n some small = cases (nat_le n choose_limit) refl (not_number n some small)
   where
-    not_number : (n : ℕ) → 0 < n → n < 2 ^ 32 → number_terminal (pos n) ≡ cond (nat_lt n 65536) terminal.Count terminal.Seconds
+    not_number : (n : ℕ) → 0 < n → n < 2 ^ 32 → number_terminal (pos n) ≡ cond (nat_le n choose_limit) terminal.Count terminal.Seconds
     not_number n some small = grind (arith, nat_tests)
 
-    cases : (c : Bool) → nat_lt n 65536 ≡ c → number_terminal (pos n) ≡ cond (nat_lt n 65536) terminal.Count terminal.Seconds
+    cases : (c : Bool) → nat_le n choose_limit ≡ c → number_terminal (pos n) ≡ cond (nat_le n choose_limit) terminal.Count terminal.Seconds
         → (number_terminal (pos n) ≡ terminal.Count) ⊎ (number_terminal (pos n) ≡ terminal.Seconds)
     cases true e f = inl (f ∙ ap (λ c. cond c terminal.Count terminal.Seconds) e)
     cases false e f = inr (f ∙ ap (λ c. cond c terminal.Count terminal.Seconds) e)
@@ -436,7 +437,7 @@ event-Choose : (n : ℕ) (x : EventExpr) (p : Printed) → printed_event x ≡ p
 unfolding printed_event
 event-Choose n x p is = ap printed_event (sym (event.rolls-Choose n x)) ∙ (fold-roll-EventExpr Printed printed_event_of (shape.Choose n x) ∙ ap (λ q. printed_event_of (shape.Choose n q)) is)
 
-pub choose_good : (place : Place) (n : ℕ) (e : EventExpr) (h : Height) → 0 < n → n < 65536 → GoodEvent place e h → GoodEvent place (event.Choose n e) (above h.own)
+pub choose_good : (place : Place) (n : ℕ) (e : EventExpr) (h : Height) → 0 < n → n ≤ choose_limit → GoodEvent place e h → GoodEvent place (event.Choose n e) (above h.own)
 choose_good place n e h some small g = let m = g.no_higher in record {
   text = codes "choose " ++ digits_of n ++ codes " " ++ (codes "(" ++ g.text ++ codes ")");
   is_operator = false;
@@ -452,7 +453,7 @@ event-Every : (n : ℕ) (x : EventExpr) (p : Printed) → printed_event x ≡ p 
 unfolding printed_event
 event-Every n x p is = ap printed_event (sym (event.rolls-Every n x)) ∙ (fold-roll-EventExpr Printed printed_event_of (shape.Every n x) ∙ ap (λ q. printed_event_of (shape.Every n q)) is)
 
-pub every_good : (place : Place) (n : ℕ) (e : EventExpr) (h : Height) → 0 < n → n < 65536 → GoodEvent place e h → GoodEvent place (event.Every n e) (above h.own)
+pub every_good : (place : Place) (n : ℕ) (e : EventExpr) (h : Height) → 0 < n → n ≤ choose_limit → GoodEvent place e h → GoodEvent place (event.Every n e) (above h.own)
 every_good place n e h some small g = let m = g.no_higher in record {
   text = codes "every " ++ digits_of n ++ codes " " ++ (codes "(" ++ g.text ++ codes ")");
   is_operator = false;

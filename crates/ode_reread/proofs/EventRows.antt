@@ -25,6 +25,7 @@ use Rattle.ode_terminals.specs.declared.seen.Place.{Place}
 use Rattle.ode_terminals.specs.declared.seen.Place.TheVariants as place_of
 use Rattle.ode_terminals.specs.Seen.{instant_terminal, mark_terminal, number_terminal, reference_terminal, seen, this_terminal}
 use Rattle.ode_terminals.specs.Words.{rows, word_terminal}
+use Rattle.ode_value.specs.Limits.{choose_limit}
 use Rattle.ode_value.specs.declared.event.EventExpr.{EventExpr}
 use Rattle.ode_value.specs.declared.event.EventExpr.TheVariants as event
 use Rattle.ode_value.specs.declared.event.Kind.{Kind}
@@ -283,19 +284,19 @@ seconds_tests false d e = refl
 wide : (n : ℕ) → (n == 0 || nat_le (2 ^ 32) n) ≡ false → (0 < n) × (n < 2 ^ 32)
 wide n e = (grind (arith, nat_tests), grind (arith, nat_tests))
 
-narrow : (n : ℕ) → nat_lt n 65536 ≡ true → n < 65536
+narrow : (n : ℕ) → nat_le n choose_limit ≡ true → n ≤ choose_limit
 narrow n e = grind (arith, nat_tests)
 
 record CountIs (kd : TokenKind) : Type 0 where
   pub n : ℕ
   pub is : kd ≡ kind.Number (pos n)
   pub some : 0 < n
-  pub small : n < 65536
+  pub small : n ≤ choose_limit
 
 count_is : (place : Place) (kd : TokenKind) (bytes : List ℕ) → Sound place (spelt terminal.Count kd bytes) → CountIs kd
 count_is place kd bytes s =
     let m = number_is place terminal.Count kd bytes s.seen_as refl in
-    let t = count_tests (m.0 == 0 || nat_le (2 ^ 32) m.0) (nat_lt m.0 65536) m.2 in
+    let t = count_tests (m.0 == 0 || nat_le (2 ^ 32) m.0) (nat_le m.0 choose_limit) m.2 in
     record { n = m.0; is = m.1; some = (wide m.0 t.0).0; small = narrow m.0 t.1 }
 
 choose_after : (place : Place) → RowIs place part.EventUnary terminal.Choose (counted (item.Build action.Choose))
@@ -329,7 +330,7 @@ record PeriodIs (kd : TokenKind) : Type 0 where
 seconds_is : (place : Place) (kd : TokenKind) (bytes : List ℕ) → Sound place (spelt terminal.Seconds kd bytes) → PeriodIs kd
 seconds_is place kd bytes s =
     let m = number_is place terminal.Seconds kd bytes s.seen_as refl in
-    let t = seconds_tests (m.0 == 0 || nat_le (2 ^ 32) m.0) (nat_lt m.0 65536) m.2 in
+    let t = seconds_tests (m.0 == 0 || nat_le (2 ^ 32) m.0) (nat_le m.0 choose_limit) m.2 in
     let r = wide m.0 t in
     record { n = m.0; is = m.1; some = r.0; small = r.1 }
 

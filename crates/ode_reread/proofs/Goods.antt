@@ -17,6 +17,7 @@ use Rattle.ode_terminals.specs.declared.seen.Place.{Place}
 use Rattle.ode_terminals.specs.Seen.{between_quotes, instant_terminal, number_terminal, reference_terminal, seen, this_terminal}
 use Rattle.ode_terminals.specs.Words.{looked_up, rows, word_terminal}
 use Rattle.ode_timer.specs.Dates.{instant_of}
+use Rattle.ode_value.specs.Limits.{choose_limit}
 use Rattle.ode_value.specs.Decimal.{digits_of}
 use Rattle.ode_value.specs.Text.{is_bad_byte}
 use Rattle.ode_value.specs.Printing.{printed, printed_of, Printed}
@@ -132,8 +133,8 @@ leaf_either false x y e f = f
 
 number_is_leaf : (n : ℕ) → is_leaf (number_terminal (pos n)) ≡ true
 number_is_leaf n =
-    leaf_either (n == 0 || nat_le (2 ^ 32) n) terminal.Number (cond (nat_lt n 65536) terminal.Count terminal.Seconds) refl
-    (leaf_either (nat_lt n 65536) terminal.Count terminal.Seconds refl refl)
+    leaf_either (n == 0 || nat_le (2 ^ 32) n) terminal.Number (cond (nat_le n choose_limit) terminal.Count terminal.Seconds) refl
+    (leaf_either (nat_le n choose_limit) terminal.Count terminal.Seconds refl refl)
 
 pub int_good : (place : Place) (n : ℕ) → n < 2 ^ 63 → Good place (expr.Lit (value.Int (pos n))) leaf
 int_good place n small =

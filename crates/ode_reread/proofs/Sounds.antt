@@ -20,6 +20,7 @@ use Rattle.ode_terminals.specs.declared.seen.Place.{Place}
 use Rattle.ode_terminals.specs.declared.seen.Place.TheVariants as place_of
 use Rattle.ode_terminals.specs.Seen.{instant_terminal, number_terminal, reference_terminal, seen, this_terminal}
 use Rattle.ode_terminals.specs.Words.{looked_up, rows, word_terminal}
+use Rattle.ode_value.specs.Limits.{choose_limit}
 use Rattle.ode_value.specs.References.{IsRef}
 use Rattle.ode_value.specs.Text.{is_name_byte}
 use Rattle.ode_syntax.specs.Kept.{spelled, Spelled}
@@ -219,8 +220,8 @@ reference_no_operator place_of.Anywhere = refl
 
 number_no_operator : (n : ℤ) → is_operator (number_terminal n) ≡ false
 number_no_operator (pos n) =
-    either is_operator (n == 0 || nat_le (2 ^ 32) n) terminal.Number (cond (nat_lt n 65536) terminal.Count terminal.Seconds) refl
-    (either is_operator (nat_lt n 65536) terminal.Count terminal.Seconds refl refl)
+    either is_operator (n == 0 || nat_le (2 ^ 32) n) terminal.Number (cond (nat_le n choose_limit) terminal.Count terminal.Seconds) refl
+    (either is_operator (nat_le n choose_limit) terminal.Count terminal.Seconds refl refl)
 number_no_operator (negsuc n) = refl
 
 text_no_operator : (o : Option ℤ) → is_operator (instant_terminal o) ≡ false
