@@ -120,7 +120,7 @@ module _ {O A : Type 0} where
   same_lasts x id f same h = lasts_now x id f (all_with HasLast id f (λ o last. subst (λ n. n < 2 ^ 32) (sym (same o)) last) x.now.bones.objects h.lasts) h
 
   module _ (past : Past O A) where
-    abbrev Counting : ℕ → Tx O A → Type 0
+    abbrev pub Counting : ℕ → Tx O A → Type 0
     Counting n x = CountsOn x
 
     again : (x y : Tx O A) → CountsOn x → y.first ≡ x.first → y.now ≡ x.now → y.origin ≡ x.origin → y.collected ≡ x.collected → CountsOn y
@@ -135,7 +135,7 @@ module _ {O A : Type 0} where
       collected = subst (AllByRecursion (λ (c : Collected). IsWaiting c.entry)) (sym collected) h.collected;
     }
 
-    counting_keeps : Keeps past Counting
+    pub counting_keeps : Keeps past Counting
     counting_keeps = record {
       less = λ n x h. h;
       statement = λ n x h more. again x (with_statement x) h refl refl refl refl;

@@ -104,7 +104,7 @@ none_there n from less (o ∷ os) rise = let up : from ≤ o.id = rise.0 in by_t
   by_test false rest differs = rest
 
 -- an object is kept where it is live
-abbrev IsKept : Bones → Object → Type 0
+abbrev pub IsKept : Bones → Object → Type 0
 IsKept b o = object_at b o.id ≡ cond o.live (Some (kept_object o)) None
 
 numbered_kept : (low : ℕ) (os : List Object) → RiseFrom low (map id_of os) → AllByRecursion (λ (o : Object). object_numbered o.id (map kept_object (filter is_there os)) ≡ cond o.live (Some (kept_object o)) None) os
@@ -126,7 +126,7 @@ numbered_kept low (o ∷ os) rise = (here o.live (none_there o.id (o.id + 1) (om
       skipped true c differs = ap (λ t. cond t (Some (kept_object o)) (object_numbered c.id (map kept_object (filter is_there os)))) (apart o.id c.id differs)
       skipped false c differs = refl
 
-all_kept : (b : Bones) → RiseFrom 0 (map id_of b.objects) → AllByRecursion (IsKept (kept_bones b)) b.objects
+pub all_kept : (b : Bones) → RiseFrom 0 (map id_of b.objects) → AllByRecursion (IsKept (kept_bones b)) b.objects
 all_kept b rise =
     all-then (λ (o : Object). object_numbered o.id (map kept_object (filter is_there b.objects)) ≡ cond o.live (Some (kept_object o)) None) (IsKept (kept_bones b)) (λ o is. ap (option_and_then if_live) is ∙ live o o.live refl)
     b.objects (numbered_kept 0 b.objects rise)

@@ -32,7 +32,7 @@ use Rattle.ode_laws.proofs.AlikeSettling.{pair_of, itself_stays, Still, commits_
 use Rattle.ode_laws.proofs.Each.{all-append}
 use Rattle.ode_laws.proofs.Rows.{id_of, rows_then}
 
-more_found : (n : ℕ) (cs more : List Declared) (k : Class) → class_numbered n cs ≡ Some k → class_numbered n (cs ++ more) ≡ Some k
+pub more_found : (n : ℕ) (cs more : List Declared) (k : Class) → class_numbered n cs ≡ Some k → class_numbered n (cs ++ more) ≡ Some k
 more_found n [] more k is = absurd (cc)
 more_found n (c ∷ cs) more k is = by_test (c.class.number == n) is (more_found n cs more k) where
   by_test : (b : Bool) → cond b (Some c.class) (class_numbered n cs) ≡ Some k → (class_numbered n cs ≡ Some k → class_numbered n (cs ++ more) ≡ Some k) → cond b (Some c.class) (class_numbered n (cs ++ more)) ≡ Some k
@@ -60,17 +60,17 @@ module _ (tables : ℕ → ℕ → Table) (cs more : List Declared) where
   pasts_more = rows_then id_of (Object3 tables cs) (Object3 tables (cs ++ more))
       (λ o k l rows. rows_then number_of (Stays tables cs l.own) (Stays tables (cs ++ more) l.own) (λ a state start s. stays_more l.own a state start s) o.activations k.activations l.activations rows)
 
-abbrev more_classes : Declared → Bones → Bones
+abbrev pub more_classes : Declared → Bones → Bones
 more_classes c b = record b { classes = b.classes ++ c ∷ [] }
 
-abbrev declared : {O A : Type 0} → Declared → World O A → Tx O A
+abbrev pub declared : {O A : Type 0} → Declared → World O A → Tx O A
 declared c w = record (begun Script w) { now = record w { bones = more_classes c w.bones } }
 
-abbrev printable : {O A : Type 0} → Bool → Tx O A → Outcome O A (Unit {0})
+abbrev pub printable : {O A : Type 0} → Bool → Tx O A → Outcome O A (Unit {0})
 printable b x = cond b (Done tt x) (Aborted Output x)
 
 -- nothing was touched and nothing waits
-completes_weighs : {O A : Type 0} (past : Past O A) (c : Declared) (line : List ℕ) (w : World O A)
+pub completes_weighs : {O A : Type 0} (past : Past O A) (c : Declared) (line : List ℕ) (w : World O A)
     → completes past (with_line line (declared c w)) ≡ cond (nat_le (weight (kept_bones (more_classes c w.bones))) weight_limit) (Done tt (with_line line (declared c w))) (Aborted Space (with_line line (declared c w)))
 unfolding completes goes_round tests_all weighs budget_limit cascade_limit
 completes_weighs past c line w = refl

@@ -37,7 +37,8 @@ use Rattle.ode_laws.proofs.AlikePairs.{all_found}
 use Rattle.ode_laws.proofs.Each.{all-find}
 use Rattle.ode_laws.proofs.Rows.{at_numbered}
 use Rattle.ode_sound_laws.specs.Fits.{alive, all_alive, IsNull, Fits, FitsLiteral, FitsVersion, FitsWorld, AreFit, IsReadable}
-use Rattle.ode_sound_laws.specs.Kept.{Setting, Sorting, where_so, is_int, is_text, literal_class, value_sort, field_sort, sorting_of, sort_in}
+use Rattle.ode_types.specs.Kept.{Setting, Sorting, field_sort, sorting_of, sort_in}
+use Rattle.ode_types.specs.Typing.{where_so, is_int, is_text, literal_class, value_sort}
 use Rattle.ode_sound_laws.specs.Sound.{AreSound, IsKnown, checked_classes}
 use Rattle.ode_sound_laws.proofs.Basics.{if_some_at, if_some_from, some_and, then_some, map_some, so_some, same_some, same_ok, or_ok, value_ok, zip_at, found_same}
 use Rattle.ode_sound_laws.proofs.FitLaws.{alive_of, of_live}
@@ -192,7 +193,7 @@ some_ok : {X : Type 0} (s : X) (o : Option X) → option_map (λ (x : X). Some x
 some_ok s (Some x) e = ap Some (same_some x s (same_some (Some x) (Some s) e))
 some_ok s None e = absurd (cc)
 
-fit_where : (b : Bool) (s : Sort) (t : Sort) → where_fit b s ≡ Some t → (b ≡ true) × (s ≡ t)
+pub fit_where : (b : Bool) (s : Sort) (t : Sort) → where_fit b s ≡ Some t → (b ≡ true) × (s ≡ t)
 fit_where true s t e = (refl, same_some s t e)
 fit_where false s t e = absurd (cc)
 
@@ -285,7 +286,7 @@ sort_class b sound (Some sort.Text) c e = absurd (cc)
 sort_class b sound (Some sort.Void) c e = absurd (cc)
 
 -- the field at a place of the class of a sort
-field_at : (class : Option Class) (place : ℕ) (s : Option Sort) → field_sort class place ≡ Some s → (c : Class) × (f : Field) × (class ≡ Some c) × (slice_get c.fields place ≡ Some f) × (Some f.sort ≡ s)
+pub field_at : (class : Option Class) (place : ℕ) (s : Option Sort) → field_sort class place ≡ Some s → (c : Class) × (f : Field) × (class ≡ Some c) × (slice_get c.fields place ≡ Some f) × (Some f.sort ≡ s)
 field_at class place s e =
     let field = map_some (λ (f : Field). Some f.sort) (option_and_then (λ (c : Class). slice_get c.fields place) class) s e in
     let of = then_some (λ (c : Class). slice_get c.fields place) class field.0 field.1 in

@@ -24,7 +24,7 @@ use Rattle.ode_laws.proofs.AlikePairs.{zip_then}
 use Rattle.ode_laws.proofs.Each.{all-then}
 use Rattle.ode_sound_laws.specs.Fits.{alive, all_alive, Fits, FitSlots, FitsLiteral, FitsFrame, FitsVersion, FitsWorld, FitsEntry, FitsFiring}
 use Rattle.ode_sound_laws.specs.Growing.{Follows}
-use Rattle.ode_sound_laws.specs.Kept.{Setting}
+use Rattle.ode_types.specs.Kept.{Setting}
 use Rattle.ode_sound_laws.specs.Sound.{IsKnown, checked_classes}
 use Rattle.ode_sound_laws.proofs.Basics.{if_some_at, if_some_from, some_and, and_some}
 

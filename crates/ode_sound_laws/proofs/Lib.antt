@@ -14,3 +14,4 @@ pub mod SlotLaws
 pub mod WalkCompleting
 pub mod SettleLaws
 pub mod WorldLaws
+pub mod FaultLaws

@@ -9,7 +9,7 @@ use Rattle.ode_value.specs.declared.value.Value.{Value}
 use Rattle.ode_value.specs.Evaluation.{Frame, set_at}
 use Rattle.ode_value.specs.Worlds.{Bones}
 use Rattle.ode_sound_laws.specs.Fits.{Fits, FitSlots, FitsFrame}
-use Rattle.ode_sound_laws.specs.Kept.{Setting, with_slots}
+use Rattle.ode_types.specs.Kept.{Setting, with_slots}
 use Rattle.ode_sound_laws.proofs.Basics.{some_and, and_some, same_some}
 
 set_same : (n : ℕ) (v : Value) (l : List Value) → slice_get (set_at n v l) n ≡ Some v

@@ -37,7 +37,7 @@ use Rattle.ode_laws.proofs.Rows.{at_numbered}
 use Rattle.ode_sound_laws.specs.Growing.{Grows}
 use Rattle.ode_sound_laws.specs.Typed.{IsTyped}
 use Rattle.ode_sound_laws.specs.Fits.{alive, all_alive, Fits, FitSlots, FitsFrame, AreFit}
-use Rattle.ode_sound_laws.specs.Kept.{member_setting, held}
+use Rattle.ode_types.specs.Kept.{member_setting, held}
 use Rattle.ode_sound_laws.specs.Sound.{IsKnown, IsTypedIn, Redefines, checked_classes}
 use Rattle.ode_sound_laws.proofs.Basics.{if_some_at, same_some, found_same}
 use Rattle.ode_sound_laws.proofs.FitLaws.{alive_of, fits_follows}

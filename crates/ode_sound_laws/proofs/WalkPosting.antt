@@ -34,7 +34,7 @@ use Rattle.ode_laws.proofs.Rows.{at_numbered, numbered_id}
 use Rattle.ode_laws.proofs.Sides.{altered, turned}
 use Rattle.ode_sound_laws.specs.Typed.{IsTyped}
 use Rattle.ode_sound_laws.specs.Fits.{all_alive, Fits, FitSlots, FitsFrame, FitsWorld, FitsEntry, FitsFiring, AreFit}
-use Rattle.ode_sound_laws.specs.Kept.{Setting, member_setting, held, is_body}
+use Rattle.ode_types.specs.Kept.{Setting, member_setting, held, is_body}
 use Rattle.ode_sound_laws.specs.Sound.{AreSound, IsTypedIn, IsSoundTrigger, activation_by, checked_classes}
 use Rattle.ode_sound_laws.proofs.Basics.{some_and, and_some, map_some, same_some, found_same, zip_at}
 use Rattle.ode_sound_laws.proofs.ExprLaws.{sort_fits, find_passes}

@@ -43,7 +43,8 @@ use Rattle.ode_laws.proofs.Rows.{at_numbered}
 use Rattle.ode_sound_laws.specs.Growing.{Grows}
 use Rattle.ode_sound_laws.specs.Typed.{IsTyped}
 use Rattle.ode_sound_laws.specs.Fits.{all_alive, Fits, FitsFrame, AreFit}
-use Rattle.ode_sound_laws.specs.Kept.{Setting, where_so, sort_in, is_fit, is_ref, are_fit, is_set, receiver_class, right_sort}
+use Rattle.ode_types.specs.Kept.{Setting, sort_in, is_fit, is_ref, are_fit, is_set, receiver_class, right_sort}
+use Rattle.ode_types.specs.Typing.{where_so}
 use Rattle.ode_sound_laws.specs.Sound.{IsKnown, IsSoundTrigger, Inherits, checked_classes}
 use Rattle.ode_sound_laws.proofs.Basics.{then_some, so_some, same_some, found_same}
 use Rattle.ode_sound_laws.proofs.FitLaws.{frame_follows}

@@ -33,7 +33,7 @@ use Rattle.ode_types.specs.Sorts.{fits as is_fitting, is_void, starting}
 use Rattle.ode_sound_laws.specs.Growing.{Grows}
 use Rattle.ode_sound_laws.specs.Typed.{IsTyped}
 use Rattle.ode_sound_laws.specs.Fits.{all_alive, Fits, FitSlots, FitsLiteral, FitsFrame}
-use Rattle.ode_sound_laws.specs.Kept.{Setting, with_slots, is_fit, is_ref, right_sort, is_right, Slots, without_inner, slots_through, inner_slots, let_slots, is_assigned, keeps_slots, slots_of, slots_behind, script_setting, IsTypedStatement}
+use Rattle.ode_types.specs.Kept.{Setting, with_slots, is_fit, is_ref, right_sort, is_right, Slots, without_inner, slots_through, inner_slots, let_slots, is_assigned, keeps_slots, slots_of, slots_behind, script_setting, IsTypedStatement}
 use Rattle.ode_sound_laws.specs.Sound.{IsKnown, IsFieldSort, checked_classes}
 use Rattle.ode_sound_laws.proofs.Basics.{if_some_at, then_some, map_some, so_some, same_some}
 use Rattle.ode_sound_laws.proofs.FitLaws.{frame_follows}

@@ -31,7 +31,7 @@ use Rattle.ode_types.specs.Sorts.{inherits, fits as is_fitting, class_of, is_ref
 use Rattle.ode_sound_laws.specs.Growing.{Grows}
 use Rattle.ode_sound_laws.specs.Typed.{IsTyped}
 use Rattle.ode_sound_laws.specs.Fits.{all_alive, IsNull, Fits, FitsFrame, AreFit, IsReadable}
-use Rattle.ode_sound_laws.specs.Kept.{Setting, sort_in, is_fit, is_ref, are_fit, is_set, receiver_class}
+use Rattle.ode_types.specs.Kept.{Setting, sort_in, is_fit, is_ref, are_fit, is_set, receiver_class}
 use Rattle.ode_sound_laws.specs.Sound.{AreSound, IsKnown, IsFieldSort, checked_classes}
 use Rattle.ode_sound_laws.proofs.Basics.{if_some_at, if_some_from, then_some, same_some, found_same}
 use Rattle.ode_sound_laws.proofs.ExprLaws.{sort_same, denoted_ok, sort_class, expr_fits, find_passes}

@@ -1,5 +1,5 @@
 -- Good worlds fit; whole transactions and drains leave worlds that fit.
-use Rattle.std.proofs.Common.{◌≡◌, ℕ, zero, suc, ◌<◌, Bool, true, false, cond, List, [], ◌∷◌, map, Option, Some, None, refl, sym, ap, ◌∙◌, subst}
+use Rattle.std.proofs.Common.{◌≡◌, ℕ, zero, suc, ◌<◌, Bool, true, false, cond, List, [], ◌∷◌, map, Option, Some, None, refl, sym, ap, ◌∙◌, subst, arith}
 use Rattle.std.specs.Prelude.{nat_lt}
 use Rattle.std.specs.List.{AllByRecursion}
 use Rattle.std.specs.Option.{IsSome, IsSomeAnd, option_and_then}
@@ -24,11 +24,11 @@ use Rattle.ode_value.specs.Posting.{posts, runs, touches}
 use Rattle.ode_value.specs.Settling.{Settled, settle, transaction}
 use Rattle.ode_value.specs.Transactions.{Tx, Firing, Origin, Queue, begun}
 use Rattle.ode_value.specs.Versions.{Version}
-use Rattle.ode_value.specs.Worlds.{Entry, Object, Bones, World, class_numbered}
+use Rattle.ode_value.specs.Worlds.{Entry, Object, Bones, World, class_numbered, empty_bones}
 use Rattle.ode_laws.proofs.AlikePairs.{all_found}
 use Rattle.ode_laws.proofs.Each.{all-then}
 use Rattle.ode_sound_laws.specs.Fits.{alive, all_alive, FitsVersion, FitsWorld, FitsEntry, FitsFiring, FitsLiteral}
-use Rattle.ode_sound_laws.specs.Kept.{IsTypedStatement}
+use Rattle.ode_types.specs.Kept.{IsTypedStatement}
 use Rattle.ode_sound_laws.specs.Sound.{AreSound, checked_classes}
 use Rattle.ode_sound_laws.specs.Typed.{IsWhole, IsTypedWorld, AreFromOne, IsTyped, StaysTyped}
 use Rattle.ode_sound_laws.proofs.Basics.{if_some_at}
@@ -41,7 +41,7 @@ use Rattle.ode_sound_laws.proofs.WalkStatements.{first_fits, commands_ends}
 
 -- ---- good worlds
 
-alive_same : (os : List Object) → AllByRecursion (λ (o : Object). o.live ≡ true) os → map alive os ≡ os
+pub alive_same : (os : List Object) → AllByRecursion (λ (o : Object). o.live ≡ true) os → map alive os ≡ os
 alive_same [] all = refl
 alive_same (o ∷ os) all = ap (λ t. record o { live = t } ∷ map alive os) (sym all.0) ∙ ap (λ ps. o ∷ ps) (alive_same os all.1)
 
@@ -99,10 +99,31 @@ good_typed l w good sound ones =
       queue = all-then (IsEntry w.bones) (λ (q : ℕ × Entry). FitsEntry w.bones q.1) (entry_fits w.bones same live) w.bones.queue good.bones.queue;
     }
 
+-- ---- a fresh database
+
+-- no classes are sound
+sound_none : AreSound []
+sound_none = record {
+  inherited = λ number sub name e f. absurd (cc);
+  named = λ name c e. absurd (cc);
+  numbered = λ number c e. absurd (cc);
+  itself = λ c known. let none = known.named in absurd (cc);
+  fields = λ number c d known e. absurd (cc);
+  apart = λ c known. let none = known.named in absurd (cc);
+  sorts = λ c known. let none = known.named in absurd (cc);
+  methods = λ number c known e. absurd (cc);
+  activated = λ number c known e. absurd (cc);
+  triggers = λ number. tt;
+  declared = λ class place t e. absurd (cc);
+}
+
+pub fresh_typed : IsTypedWorld empty_bones
+fresh_typed = record { sound = sound_none; fit = record { next = record { some = omega arith; bounded = omega arith }; rising = tt; objects = tt }; whole = tt; queue = tt }
+
 -- ---- acts
 
 module _ {O A : Type 0} where
-  stays : {X : Type 0} (b : Bones) (post : Bones → X → Type 0) (o : Outcome O A X) → Ends b post o → StaysTyped o
+  pub stays : {X : Type 0} (b : Bones) (post : Bones → X → Type 0) (o : Outcome O A X) → Ends b post o → StaysTyped o
   stays b post (Done r y) h = h.0
   stays b post (Aborted reason y) h = h
 

@@ -20,7 +20,7 @@ use Rattle.ode_value.specs.References.{IsRef}
 use Rattle.ode_value.specs.Transactions.{Firing}
 use Rattle.ode_value.specs.Versions.{Version}
 use Rattle.ode_value.specs.Worlds.{Entry, Object, Bones, class_numbered}
-use Rattle.ode_sound_laws.specs.Kept.{Setting}
+use Rattle.ode_types.specs.Kept.{Setting}
 use Rattle.ode_sound_laws.specs.Sound.{AreSound, IsKnown, checked_classes}
 
 -- an object as if it weren't removed, and bones as if none were

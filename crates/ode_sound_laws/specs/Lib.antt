@@ -1,5 +1,5 @@
 pub mod Fits
 pub mod Growing
-pub mod Kept
+pub mod Nulls
 pub mod Sound
 pub mod Typed

@@ -17,7 +17,7 @@ use Rattle.ode_value.specs.Worlds as worlds
 use Rattle.ode_value.specs.Worlds.{Declared}
 use Rattle.ode_types.specs.Families.{class_named, class_numbered, field_named, line_of, method_named, trigger_named}
 use Rattle.ode_types.specs.Sorts.{inherits}
-use Rattle.ode_sound_laws.specs.Kept.{member_setting, is_body}
+use Rattle.ode_types.specs.Kept.{member_setting, is_body}
 
 -- the classes as they were checked
 abbrev pub checked_classes : List Declared → List Class

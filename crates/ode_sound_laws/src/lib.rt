@@ -5,5 +5,5 @@
 mod expressions;
 mod transactions;
 
-pub use expressions::expressions_fit;
+pub use expressions::{expressions_find_what_they_read, expressions_fit};
 pub use transactions::{transactions_stay_typed, worlds_stay_typed};

@@ -17,16 +17,17 @@ ghost use Rattle.ode_value.specs.Pasts.{lists};
 ghost use Rattle.ode_value.specs.Posting.{posts, runs, touches};
 ghost use Rattle.ode_value.specs.Settling.{Settled, abort, commit, transaction};
 ghost use Rattle.ode_value.specs.Transactions.{Firing, Origin, begun};
-ghost use Rattle.ode_value.specs.Worlds.{Entry};
+ghost use Rattle.ode_value.specs.Worlds.{Entry, empty_bones};
 ghost use Rattle.ode_sound_laws.specs.Fits.{FitsEntry, FitsFiring, FitsLiteral};
-ghost use Rattle.ode_sound_laws.specs.Kept.{IsTypedStatement};
+ghost use Rattle.ode_types.specs.Kept.{IsTypedStatement};
 ghost use Rattle.ode_sound_laws.specs.Sound.{AreSound, checked_classes};
 ghost use Rattle.ode_sound_laws.specs.Typed.{AreFromOne, IsTyped, IsTypedWorld, StaysTyped};
 
-/// From a good world with sound classes, whose versions' numbers begin at 1, a transaction is typed: what its objects, deferred firings
-/// and collected entries hold fits, and its objects keep their classes. So it stays over typed statements whose literals have objects of
-/// their classes, over touches, points, firings that fit, and completion, done or aborted.
+/// A fresh database is typed. From a good world with sound classes, whose versions' numbers begin at 1, a transaction is typed: what its
+/// objects, deferred firings and collected entries hold fits, and its objects keep their classes. So it stays over typed statements whose
+/// literals have objects of their classes, over touches, points, firings that fit, and completion, done or aborted.
 pub fn transactions_stay_typed()
+    ensures fresh { IsTypedWorld empty_bones }
     ensures good { (l : Language) (w : ListWorld) → IsGood l w → AreSound w.bones.classes → AreFromOne w.bones → IsTypedWorld w.bones }
     ensures begun { (origin : Origin) (w : ListWorld) → IsTypedWorld w.bones → IsTyped (begun origin w) }
     ensures statement { (x : ListTx) → IsTyped x → (literals : Items (Ref × ℕ)) → AllByRecursion (FitsLiteral x.now.bones) literals →

@@ -2,6 +2,9 @@ use Rattle.ode_value.specs.Pasts.{lists}
 use Rattle.ode_sound_laws.proofs.WorldLaws as laws
 use Rattle.ode_sound_laws.proofs.transactions.transactions_stay_typed.Goals as goal
 
+pub returns-clause-fresh : goal.returns-clause-fresh
+returns-clause-fresh c = laws.fresh_typed
+
 pub returns-clause-good : goal.returns-clause-good
 returns-clause-good c l w good sound ones = laws.good_typed l w good sound ones
 

@@ -1,0 +1,4 @@
+pub mod DistinctLaws
+pub mod Distincts
+pub mod GoodAgain
+pub mod PastLaws
