@@ -5,7 +5,7 @@ use Rattle.ode_types.specs.Bodies.{body_checked}
 use Rattle.ode_types.specs.Checked.{IsChecked}
 use Rattle.ode_types.specs.Declaring.{begins, declared}
 use Rattle.ode_types.specs.Events.{Listing, listed, listing_of}
-use Rattle.ode_types.specs.Limits.{ancestor_limit, classes_limit, field_limit, trigger_limit}
+use Rattle.ode_types.specs.Limits.{ancestor_limit, classes_limit, field_limit, slot_limit, trigger_limit}
 use Rattle.ode_types.specs.Scopes.{Scope}
 use Rattle.ode_types.specs.Static.{check_class, completed, trigger_checked}
 use Rattle.ode_value.specs.declared.class.Class.{Class}
@@ -18,7 +18,7 @@ unfolding listed
 any_listed scope = ap (λ (l : Listing). l scope) (fold-at listing_of event.Any _ event.outs-Any)
 
 checks : check_class [] watched_tree ≡ Ok watched
-unfolding check_class begins declared completed trigger_checked body_checked classes_limit field_limit trigger_limit ancestor_limit
+unfolding check_class begins declared completed trigger_checked body_checked field_limit trigger_limit ancestor_limit classes_limit slot_limit
 checks = simp any_listed
 
 pub is_watched : (known : List Class) (c : Class) → known ≡ [] → c ≡ watched → IsChecked known c
