@@ -1,5 +1,5 @@
 -- A whole transaction from a good world leaves a good one.
-use Rattle.std.proofs.Common.{◌≡◌, ℕ, zero, suc, ◌<◌, ◌≤◌, Bool, true, false, cond, List, [], ◌∷◌, Option, Some, None, refl, sym, ap, subst, arith}
+use Rattle.std.proofs.Common.{◌≡◌, ◌+◌, ℕ, zero, suc, ◌<◌, ◌≤◌, Bool, true, false, cond, List, [], ◌∷◌, Option, Some, None, refl, sym, ap, subst, arith}
 use Rattle.std.specs.Prelude.{nat_lt}
 use Rattle.std.specs.List.{AllByRecursion, AllZip}
 use Rattle.std.specs.Option.{IfSome, IsSome, IsSomeAnd}
@@ -198,6 +198,11 @@ module _ (l : Language) (w : ListWorld) (h : IsWell l w) (left : w.bones.transac
           ones = ones_again b typed.fit.objects;
         }
 
+    -- its number is the next one
+    pub moves_on : (transaction lists origin (work lists) w).0.bones.transaction ≡ w.bones.transaction + 1
+    unfolding transaction
+    moves_on = left_over.leaves.transaction
+
   pub statement_well : (literals : List (Ref × ℕ)) → AllByRecursion (FitsLiteral w.bones) literals → (s : Stmt) → IsTypedStatement (checked_classes w.bones.classes) literals s
       → IsWell l (transaction lists Script (commands lists s) w).0
   statement_well literals known s typed =
@@ -207,16 +212,22 @@ module _ (l : Language) (w : ListWorld) (h : IsWell l w) (left : w.bones.transac
   pub entry_well : (q : ℕ × Entry) → FitsEntry w.bones q.1 → IsWell l (entry_settled lists w q).0
   entry_well q fits = well_again (Queue q.0 q.1.generation) 1 (λ past. runs_entry past q.1) (λ t. entry_alike t 0 q.1) h.good.bones.clock (entry_typed lists w typed_first q fits)
 
+  pub entry_moves : (q : ℕ × Entry) → (entry_settled lists w q).0.bones.transaction ≡ w.bones.transaction + 1
+  entry_moves q = moves_on (Queue q.0 q.1.generation) 1 (λ past. runs_entry past q.1) (λ t. entry_alike t 0 q.1) h.good.bones.clock
+
   -- a tick of the clock, and the move that ends a clock command
   pub tick_well : (p : Position) → IsPosition p → IsWell l (tick lists p w).0
   tick_well p is = well_again (Clock p) 1 (λ past. ticks past p) (λ t. ticks_alike t p) is (tick_typed p w typed_first)
+
+  pub tick_moves : (p : Position) → IsPosition p → (tick lists p w).0.bones.transaction ≡ w.bones.transaction + 1
+  tick_moves p is = moves_on (Clock p) 1 (λ past. ticks past p) (λ t. ticks_alike t p) is
 
   pub move_well : (p : Position) → IsPosition p → IsWell l (transaction lists (Clock p) nothing w).0
   move_well p is = well_again (Clock p) 0 (λ past. nothing) (λ t. done_alike t 0 tt) is (move_typed p w typed_first)
 
 -- ---- drains
 
-drain_number : (w : ListWorld) → nat_lt w.bones.transaction number_limit ≡ true → w.bones.transaction < transaction_limit
+pub drain_number : (w : ListWorld) → nat_lt w.bones.transaction number_limit ≡ true → w.bones.transaction < transaction_limit
 drain_number w e = let less : w.bones.transaction < number_limit = ltb-true w.bones.transaction number_limit e in omega arith
 
 pub drain_well : (l : Language) (most : ℕ) (w : ListWorld) → IsWell l w → AllByRecursion (λ (s : Settled Histories Starts). IsWell l s.0) (drain lists most w)

@@ -1,3 +1,4 @@
+pub mod ClockRuns
 pub mod DistinctLaws
 pub mod Distincts
 pub mod GoodAgain

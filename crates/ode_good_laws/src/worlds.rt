@@ -1,14 +1,14 @@
 //! What transactions leave.
-ghost use Rattle.std.specs.Prelude.{◌<◌, ℕ, List as Items};
+ghost use Rattle.std.specs.Prelude.{◌+◌, ◌<◌, ℕ, List as Items, length};
 ghost use Rattle.std.specs.List.{AllByRecursion};
 ghost use Rattle.ode_value.specs.declared.statement.Stmt.{Stmt};
 ghost use Rattle.ode_value.specs.declared.value.Ref.{Ref};
-ghost use Rattle.ode_engine.specs.Works.{tick};
+ghost use Rattle.ode_engine.specs.Works.{clock_run, tick};
 ghost use Rattle.ode_value.specs.Acts.{nothing};
 ghost use Rattle.ode_value.specs.Draining.{drain, entry_settled};
 ghost use Rattle.ode_value.specs.Executing.{commands};
 ghost use Rattle.ode_value.specs.Language.{Language, ListWorld};
-ghost use Rattle.ode_value.specs.Limits.{transaction_limit};
+ghost use Rattle.ode_value.specs.Limits.{number_limit, transaction_limit};
 ghost use Rattle.ode_value.specs.Pasts.{lists};
 ghost use Rattle.ode_value.specs.GoodWorlds.{IsPosition};
 ghost use Rattle.ode_value.specs.Objects.{Histories, Starts};
@@ -23,6 +23,7 @@ ghost use Rattle.ode_good_laws.specs.Well.{IsWell};
 /// From a good world of sound classes, whose versions' numbers begin at 1 and which has a number for a transaction, that of a typed
 /// statement whose literals have objects of their classes leaves such a world again, by commit or by abort. So does that of an entry
 /// that fits, a tick of the clock, and the move that ends a clock command; and each transaction of a drain, which tests the number itself.
+/// So does each of a whole run of the clock, over positions in their range, where as many numbers as ticks are left beyond the drains'.
 pub fn transactions_leave_good_worlds()
     ensures statement { (l : Language) (w : ListWorld) → IsWell l w → w.bones.transaction < transaction_limit →
         (literals : Items (Ref × ℕ)) → AllByRecursion (FitsLiteral w.bones) literals → (s : Stmt) → IsTypedStatement (checked_classes w.bones.classes) literals s →
@@ -31,4 +32,6 @@ pub fn transactions_leave_good_worlds()
     ensures tick { (l : Language) (w : ListWorld) → IsWell l w → w.bones.transaction < transaction_limit → (p : Position) → IsPosition p → IsWell l (tick lists p w).0 }
     ensures moved { (l : Language) (w : ListWorld) → IsWell l w → w.bones.transaction < transaction_limit → (p : Position) → IsPosition p → IsWell l (transaction lists (Clock p) nothing w).0 }
     ensures drain { (l : Language) (most : ℕ) (w : ListWorld) → IsWell l w → AllByRecursion (λ (s : Settled Histories Starts). IsWell l s.0) (drain lists most w) }
+    ensures clock { (l : Language) (ps : Items Position) (last : Position) (most : ℕ) (w : ListWorld) → IsWell l w → AllByRecursion IsPosition ps → IsPosition last → number_limit + length ps < transaction_limit →
+        w.bones.transaction + length ps < transaction_limit → AllByRecursion (λ (s : Settled Histories Starts). IsWell l s.0) (clock_run lists ps last most w) }
 {}

@@ -1,3 +1,4 @@
+use Rattle.ode_good_laws.proofs.ClockRuns.{clock_well}
 use Rattle.ode_good_laws.proofs.GoodAgain.{statement_well, entry_well, tick_well, move_well, drain_well}
 use Rattle.ode_good_laws.proofs.worlds.transactions_leave_good_worlds.Goals as goal
 
@@ -15,3 +16,6 @@ returns-clause-moved c l w h left p is = move_well l w h left p is
 
 pub returns-clause-drain : goal.returns-clause-drain
 returns-clause-drain c l most w h = drain_well l most w h
+
+pub returns-clause-clock : goal.returns-clause-clock
+returns-clause-clock c l ps last most w h all is few room = clock_well l ps last all is few most w h room
