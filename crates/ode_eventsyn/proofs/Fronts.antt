@@ -1,5 +1,5 @@
 -- The trees of the longest text in front, and of all tokens.
-use Rattle.std.proofs.Common.{◌≡◌, ◌⊎◌, inl, inr, ◌-◌, ◌≤◌, ◌<◌, ℕ, ◌+◌, suc, Bool, true, false, not, ◌&&◌, nat_le, List, [], ◌∷◌, ◌++◌, length, map, take, drop, take_all, Some, refl, sym, ◌∙◌, ap, subst, arith}
+use Rattle.std.proofs.Common.{◌≡◌, ◌⊎◌, inl, inr, ◌-◌, ◌≤◌, ◌<◌, ℕ, ◌+◌, suc, Bool, true, false, not, ◌&&◌, nat_le, List, [], ◌∷◌, length, map, take, drop, take_all, refl, sym, ◌∙◌, ap, subst, arith}
 use Rattle.std.proofs.lemmas.Bool.{cases_lt, false≢true}
 use Rattle.std.proofs.lemmas.Bool.Decides.{nat_tests}
 use Rattle.std.proofs.lemmas.List.{length-drop, take-map, take-append-drop}
@@ -20,7 +20,7 @@ use Rattle.ode_terminals.specs.declared.seen.Place.{Place}
 use Rattle.ode_syntax.specs.declared.trees.Trees.{Trees}
 use Rattle.ode_syntax.specs.Kept.{spelled, Spelled}
 use Rattle.ode_syntax.specs.Trees.{trees, no_trees, Makes}
-use Rattle.ode_eventsyn.specs.Parsing.{seen, AreTree, IsLongest, IsWrongAt, IsHighAt, IsWrongWhole, IsHighWhole}
+use Rattle.ode_eventsyn.specs.Parsing.{seen, AreTree, IsLongest, IsWrongAt, IsHighAt, IsWrongWhole}
 
 -- ---- a text has trees
 

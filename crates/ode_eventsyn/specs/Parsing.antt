@@ -1,5 +1,5 @@
 -- Which trees tokens have, and where they are wrong or too high.
-use Rattle.std.specs.Prelude.{◌≡◌, ◌≤◌, ◌<◌, ◌+◌, ℕ, List, map, take, drop, length, slice_get, Option, Some, None, true, false}
+use Rattle.std.specs.Prelude.{◌≡◌, ◌≤◌, ◌<◌, ◌+◌, ℕ, List, map, take, length, slice_get, Option, Some, None, true, false}
 use Rattle.ode_lex.specs.declared.token.Token.{Token}
 use Rattle.ode_grammar.specs.declared.terminal.Terminal.{Terminal}
 use Rattle.ode_grammar.specs.declared.reader.Start.{Start}

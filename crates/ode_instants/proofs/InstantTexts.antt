@@ -1,5 +1,5 @@
 -- The text of an instant is that instant.
-use Rattle.std.proofs.Common.{◌≡◌, ◌≤◌, ◌<◌, ◌⊎◌, inl, inr, ℕ, suc, ◌+◌, ◌-◌, ◌*◌, ◌/◌, ◌%◌, ℤ, pos, negsuc, Bool, true, false, ◌&&◌, cond, codes, nat_le, nat_lt, List, [], ◌∷◌, ◌++◌, sum, take, Option, Some, None, option_map, arith, refl, sym, ◌∙◌, ap, subst}
+use Rattle.std.proofs.Common.{◌≡◌, ◌≤◌, ◌<◌, ◌⊎◌, inl, inr, ℕ, ◌+◌, ◌-◌, ◌*◌, ◌/◌, ◌%◌, ℤ, pos, negsuc, Bool, true, false, ◌&&◌, cond, codes, nat_le, nat_lt, List, ◌++◌, Some, None, option_map, arith, refl, sym, ◌∙◌, ap}
 use Rattle.std.specs.Prelude.{slice_index, ◌-ℤ◌}
 use Rattle.std.specs.Str.{bytes_eq}
 use Rattle.std.proofs.lemmas.Bool.{cases_lt}
@@ -7,7 +7,7 @@ use Rattle.std.proofs.lemmas.Bool.Decides.{nat_tests}
 use Rattle.std.proofs.lemmas.Int.{ints}
 use Rattle.std.proofs.lemmas.Option.{same_Some}
 use Rattle.std.proofs.lemmas.Slice.Eq.{bytes_eq-Decides}
-use Rattle.ode_timer.specs.Dates.{date_in, date_of, day_of, days_before, instant_of, is_day, is_real, months, second_of, seconds_before, spelled}
+use Rattle.ode_timer.specs.Dates.{date_in, date_of, days_before, instant_of, is_day, is_real, months, second_of, spelled}
 use Rattle.ode_timer.proofs.DateLaws.{epoch}
 use Rattle.ode_value.specs.Instants.{date_text, elapsed, instant_text, spelled_date, time_text, two_digits}
 use Rattle.ode_instants.proofs.MarchDays.{calendar_date, days_to, IsCalendarDay}

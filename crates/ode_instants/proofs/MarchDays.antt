@@ -1,12 +1,12 @@
 -- A day of the calendar, counted from the first of March of the year -400.
-use Rattle.std.proofs.Common.{◌≡◌, ◌≤◌, ◌<◌, ℕ, zero, suc, ◌+◌, ◌-◌, ◌*◌, ◌/◌, ◌%◌, Bool, true, false, not, ◌&&◌, ◌||◌, ◌==◌, cond, nat_le, nat_lt, List, [], ◌∷◌, ◌++◌, sum, take, arith, refl, sym, ◌∙◌, ap, subst}
+use Rattle.std.proofs.Common.{◌≡◌, ◌≤◌, ◌<◌, ℕ, zero, suc, ◌+◌, ◌-◌, ◌*◌, ◌/◌, ◌%◌, Bool, true, false, not, ◌&&◌, ◌||◌, ◌==◌, cond, nat_lt, List, [], ◌∷◌, sum, take, arith, refl, ◌∙◌, ap}
 use Rattle.std.specs.Prelude.{slice_index}
 use Rattle.std.proofs.lemmas.Bool.{false≢true}
 use Rattle.std.proofs.lemmas.Bool.Decides.{nat_tests}
 use Rattle.ode_timer.specs.Dates.{days_before, is_leap, months}
 use Rattle.ode_timer.proofs.DateLaws.{days_closed}
 use Rattle.ode_value.specs.Instants.{date_by, date_text, month_day, spelled_date}
-use Rattle.ode_instants.proofs.Years.{begins, date_found, year_of, IsDay, IsMarchDate, IsYear}
+use Rattle.ode_instants.proofs.Years.{begins, date_found, year_of, IsYear}
 
 is_zero : (n : ℕ) → (n == 0) ≡ true → n ≡ 0
 is_zero n h = grind (arith, nat_tests)

@@ -1,4 +1,5 @@
 pub mod CheckedClasses
+pub mod CheckedLists
 pub mod ClassLists
 pub mod DeclaringLaws
 pub mod EventLaws

@@ -5,7 +5,7 @@ ghost use Rattle.std.specs.Cmp.Lexicographic.{slice_cmp};
 ghost use Rattle.std.specs.List.{slice_get};
 ghost use Rattle.std.specs.Option.{option_copied};
 ghost use Rattle.std.specs.Ordering.{nat_cmp};
-ghost use Rattle.ode_types.specs.Checked.{IsChecked};
+ghost use Rattle.ode_types.specs.Checked.{AreChecked, IsChecked};
 ghost use Rattle.ode_types.specs.Families.{class_named, class_numbered, upward};
 ghost use Rattle.ode_types.specs.Lines.{headed, parent_in};
 ghost use Rattle.ode_types.specs.Indexed.{place_named};
@@ -27,6 +27,7 @@ pub struct Classes {
 impl Model for Classes {
     ghost use Rattle.std.specs.Prelude.{List as Items};
     ghost use Rattle.ode_value.specs.declared.class.Class.{Class as Declared};
+    ghost use Rattle.ode_types.specs.Checked.{AreChecked};
     ghost use Rattle.ode_types.specs.Indexed.{AreNumbered, ArePlaces};
     ghost use Rattle.ode_value.specs.contracts.class.Class as class;
     ghost use Rattle.std.specs.Coded.{coded_list};
@@ -37,7 +38,7 @@ impl Model for Classes {
 
     ghost view = { λ c. c.list };
 
-    ghost invariant = { λ c. AreNumbered c.list × ArePlaces c.list c.places.entries };
+    ghost invariant = { λ c. AreNumbered c.list × ArePlaces c.list c.places.entries × AreChecked c.list };
 }
 
 impl Classes {
@@ -116,9 +117,10 @@ impl Classes {
         self.places.get(name.as_bytes()).copied()
     }
 
-    /// All of them, in order.
+    /// All of them, in order. Each was checked against those before it.
     pub fn as_slice(&self) -> &[Class]
-        ensures { result.now ≡ self.now }
+        ensures all { result.now ≡ self.now }
+        ensures checked { AreChecked self.now }
     {
         self.list.as_slice()
     }

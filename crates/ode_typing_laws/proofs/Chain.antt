@@ -10,7 +10,7 @@ use Rattle.ode_value.specs.declared.statement.ClassDecl.{ClassDecl}
 use Rattle.ode_value.specs.declared.statement.Member.{Member}
 use Rattle.ode_value.specs.declared.statement.Member.TheVariants as member
 use Rattle.ode_types.specs.Checked.{IsChecked}
-use Rattle.ode_typing_laws.specs.Chains.{AreChecked, AreCheckedBehind}
+use Rattle.ode_types.specs.Checked.{AreChecked, AreCheckedBehind}
 use Rattle.ode_types.specs.Checks.{Check, ◌>>=◌, ◌>>◌, each, found, needs}
 use Rattle.ode_types.specs.Declaring.{begins, declared, numbered, parent_in, with_member, without_members}
 use Rattle.ode_types.specs.Families.{class_named}
