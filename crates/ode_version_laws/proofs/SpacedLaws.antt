@@ -8,15 +8,17 @@ use Rattle.ode_overlay.specs.Answers.{Answer, ◌>>=◌}
 use Rattle.ode_overlay.specs.Changing as calls
 use Rattle.ode_overlay.specs.Layers.{Layer, few, holding, key_count}
 use Rattle.ode_overlay.specs.declared.error.OverlayError.TheVariants.{NoNumber, TooLong, TooManyChanges}
+use Rattle.ode_overlay_laws.proofs.AlteredLaws.{altered}
 use Rattle.ode_overlay_laws.proofs.FollowingLaws.{counts_same, tested}
 use Rattle.ode_overlay_laws.proofs.KeySets.{IsPart}
-use Rattle.ode_overlay_laws.specs.Following.{Follows}
+use Rattle.ode_overlay_laws.specs.Following.{Continues, Follows}
 use Rattle.ode_overlay_laws.specs.Standing.{Stands}
 use Rattle.ode_value.specs.Acts.{Act, Outcome, ◌>>◌, does, go_on, needs}
 use Rattle.ode_value.specs.Changes as machine
 use Rattle.ode_value.specs.Changes.{changes, with_key}
 use Rattle.ode_value.specs.Lengths.{version_size}
 use Rattle.ode_value.specs.Limits.{change_limit, value_limit}
+use Rattle.ode_value.specs.Worlds as worlds
 use Rattle.ode_value.specs.declared.key.Key.{Key}
 use Rattle.ode_value.specs.declared.reason.Reason.TheVariants as reason
 use Rattle.ode_value.specs.declared.value.Value.{Value}
@@ -24,6 +26,10 @@ use Rattle.ode_value.specs.declared.value.Value.{Value}
 -- what goes on as another answer does
 pub answers_well : {R S : Type 0} (y : NumberTx) (go : R → Act (Unit {0}) ℕ S) (a b : Answer (R × Layer)) (m : Outcome (Unit {0}) ℕ S) → a ≡ b → Follows y go b m → Follows y go a m
 answers_well {R} {S} y go a b m same follows = subst (λ (c : Answer (R × Layer)). Follows y go c m) (sym same) follows
+
+-- a change of one object leaves all else as it was
+pub altered_continues : (y : NumberTx) (id : ℕ) (g : worlds.Object → worlds.Object) (ks : List Key) → Continues y (altered id g ks y)
+altered_continues y id g ks = record { first = refl; bones = refl; deferred = refl; text = refl; run = refl }
 
 -- fields whose references can be held fit a record exactly where they aren't too long
 pub fields_fit : (fields : List Value) → are_kept fields ≡ true → are_fields fields ≡ nat_le (version_size fields) value_limit

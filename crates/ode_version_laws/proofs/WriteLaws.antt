@@ -33,7 +33,7 @@ use Rattle.ode_value.specs.declared.key.Key.{Key}
 use Rattle.ode_value.specs.declared.value.Ref.{Ref}
 use Rattle.ode_value.specs.declared.value.Value.{Value}
 use Rattle.ode_version_laws.proofs.PositionLaws.{written_same}
-use Rattle.ode_version_laws.proofs.SpacedLaws.{answers_well, fields_fit, follows_spaced}
+use Rattle.ode_version_laws.proofs.SpacedLaws.{altered_continues, answers_well, fields_fit, follows_spaced}
 use Rattle.ode_version_laws.proofs.VersionLaws.{follows_denoted}
 use Rattle.ode_version_laws.specs.Denoting.{HasSlot, HasVersionsAt, HoldsReferences, IsRead}
 
@@ -102,7 +102,7 @@ module _ (x : Layer) (y : NumberTx) (r : Ref) (slot : ℕ) (value : Value) (new 
       (follows_spaced x y (keys_by v.number) stands (version_part id v.number, tt) (version_size fields) (are_fields fields) true gives
       (λ keys. Ok (tt, with_now id new (written v.number fields o) keys x)) (alters_object id (changed v.number fields)) (fields_fit fields (kept_set (values_of v.fields) slot value (kept (version_as v) denotes) one))
       (altered id (changed v.number fields) (keys_by v.number) y, (altered_stands x y id new o (written v.number fields o) (changed v.number fields) (keys_by v.number) stands at (version_part id v.number, tt)
-      (λ q. refl) (ap (λ (vs : List versions.Version). record (object_as id o) { versions = vs }) (written_same v.number 0 fields o.versions (has (object_as id o) at.object).rising)) refl, refl)))
+      (λ q. refl) (ap (λ (vs : List versions.Version). record (object_as id o) { versions = vs }) (written_same v.number 0 fields o.versions (has (object_as id o) at.object).rising)) refl, (altered_continues y id (changed v.number fields) (keys_by v.number), refl))))
 
 pub writes_law : (classes : List Class) (base : Entries) (x : Layer) (y : NumberTx) (r : Ref) (slot : ℕ) (value : Value) → Stands x y → IsRead classes base x y r.object
     → HasVersionsAt y r.object → HasSlot y r slot → HoldsReferences y r → is_kept value ≡ true → Follows y gives (write classes base r slot value x) (sets_field r slot value y)
