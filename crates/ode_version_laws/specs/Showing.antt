@@ -11,17 +11,16 @@ use Rattle.ode_keep.specs.Entries.{Entries}
 use Rattle.ode_laws.specs.Alike.{NumberWorld}
 use Rattle.ode_objects.specs.Values.{are_args}
 use Rattle.ode_overlay.specs.Answers.{Answer}
-use Rattle.ode_overlay_laws.specs.Following.{reason_as}
+use Rattle.ode_overlay.specs.declared.error.OverlayError.TheVariants as error
 use Rattle.ode_value.specs.Denoting.{object_numbered}
-use Rattle.ode_value.specs.Evaluation.{reason_of}
 use Rattle.ode_value.specs.GoodWorlds.{RiseFrom}
 use Rattle.ode_value.specs.Objects.{Activation}
 use Rattle.ode_value.specs.Pasts.{Kept}
 use Rattle.ode_value.specs.Versions.{Version, version_numbered}
 use Rattle.ode_value.specs.Worlds.{Object, class_numbered, kept_at}
 use Rattle.ode_value.specs.declared.arithmetic.Fault.{Fault}
+use Rattle.ode_value.specs.declared.arithmetic.Fault.TheVariants as fault
 use Rattle.ode_value.specs.declared.class.Class.{Class}
-use Rattle.ode_value.specs.declared.value.Value.{Value}
 
 -- records show a world: its objects without fields, the fields of each version, and activations with their state numbers
 pub record Shows (base : Entries) (w : NumberWorld) : Type 0 where
@@ -53,7 +52,11 @@ AreSettled w = (id : ℕ) → IsSettledAt w id
 abbrev pub HoldsArgs : NumberWorld → ℕ → Type 0
 HoldsArgs w id = (o : Object) → object_numbered id w.bones.objects ≡ Some o → AllByRecursion (λ (a : Activation). are_args a.args ≡ true) o.activations
 
--- the value that is read is that of an expression, and where it is refused, the expression has a fault for the same reason
-abbrev pub ReadsAs : Answer Value → Result Value Fault → Type 0
-ReadsAs (Ok v) outcome = outcome ≡ Ok v
-ReadsAs (Err why) outcome = (f : Fault) × ((reason_as why ≡ Some (reason_of f)) × (outcome ≡ Err f))
+-- A value that is read is that of an expression; where it is refused, the expression has the same fault, or the records are damaged, and
+-- then this is known.
+abbrev pub ReadsUnless : {V : Type 0} → Type 0 → Answer V → Result V Fault → Type 0
+ReadsUnless D (Ok v) outcome = outcome ≡ Ok v
+ReadsUnless D (Err (error.NoObject id)) outcome = outcome ≡ Err (fault.NoObject id)
+ReadsUnless D (Err (error.NoVersion r)) outcome = outcome ≡ Err (fault.NoVersion r)
+ReadsUnless D (Err (error.Damaged key)) outcome = D
+ReadsUnless D (Err why) outcome = ⊥

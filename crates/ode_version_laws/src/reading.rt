@@ -15,8 +15,8 @@ ghost use Rattle.ode_value.specs.Records.{Row};
 ghost use Rattle.ode_value.specs.Versions.{version_of};
 ghost use Rattle.ode_value.specs.Worlds.{Object};
 ghost use Rattle.ode_value.specs.declared.value.Ref.{Ref};
-ghost use Rattle.ode_version_laws.specs.Denoting.{HasSlot, HasVersionsAt, IsRead};
-ghost use Rattle.ode_version_laws.specs.Showing.{AreSettled, HoldsArgs, IsSettledAt, ReadsAs, Shows};
+ghost use Rattle.ode_version_laws.specs.Denoting.{HasVersionsAt, IsRead, LacksSlot};
+ghost use Rattle.ode_version_laws.specs.Showing.{AreSettled, HoldsArgs, IsSettledAt, ReadsUnless, Shows};
 ghost use Rattle.ode_versions.specs.Versions.{found, number_of};
 
 use ode_heap_laws::{heaps_show_held_worlds, held_worlds_can_be_read};
@@ -40,11 +40,13 @@ pub fn objects_are_read()
 {}
 
 /// Over records that show the first world, an object's head is that of the live object of the world now; a reference denotes the version
-/// that is found in the head; and a field that is read is the machine's, with the same fault where there is none.
+/// that is found in the head; and a field that is read is the machine's, with the same fault where there is none, and the records are
+/// damaged only where the version hasn't the slot.
 pub fn reads_follow()
     ensures object { (base : Entries) (x : Layer) (y : NumberTx) (id : ℕ) → Stands x y → Shows base y.first → IsSettledAt y.first id → HasVersionsAt y id
         → object base id x ≡ Ok (option_map head_of_object (object_at y.now.bones id)) }
     ensures denotes { (number : Option ℕ) (o : Object) → found number (head_of_object o).versions ≡ option_map number_of (version_of number o.versions) }
     ensures field { (base : Entries) (x : Layer) (y : NumberTx) (r : Ref) (slot : ℕ) → Stands x y → Shows base y.first → IsSettledAt y.first r.object
-        → HasVersionsAt y r.object → HasSlot y r slot → ReadsAs (read (map class_of y.first.bones.classes) base r slot x) (field_of y.now.bones slot r) }
+        → HasVersionsAt y r.object
+        → ReadsUnless (LacksSlot y.now.bones r slot) (read (map class_of y.first.bones.classes) base r slot x) (field_of y.now.bones slot r) }
 {}
