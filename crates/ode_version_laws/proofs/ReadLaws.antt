@@ -36,7 +36,7 @@ use Rattle.ode_value.specs.declared.value.Value.{Value}
 use Rattle.ode_version_laws.proofs.HeadLaws.{class_same, denoted_found, found_of, head_same, head_shown, head_sound}
 use Rattle.ode_version_laws.proofs.VersionLaws.{gone_denotes, null_denotes, object_denotes, some_object, tracked_denotes}
 use Rattle.ode_version_laws.specs.Denoting.{HasVersionsAt, LacksSlot}
-use Rattle.ode_version_laws.specs.Showing.{IsSettledAt, ReadsUnless, Shows}
+use Rattle.ode_version_laws.specs.Showing.{IsSettledAt, ReadsUnless, Shows, number_in, number_seen}
 use Rattle.ode_versions.specs.Versions.{found, number_of}
 
 -- ---- heads
@@ -67,6 +67,37 @@ module _ (base : Entries) (x : Layer) (y : NumberTx) (id : ℕ) (stands : Stands
     by_tracked None is =
         ap (λ (f : Found (Option ObjectHead)). from_records f >>= shown id) (shows.object id)
         ∙ first_head (object_numbered id y.first.bones.objects) refl (stands.others id is).object
+
+-- ---- the version that a reference denotes
+
+module _ (base : Entries) (x : Layer) (y : NumberTx) (r : Ref) (stands : Stands x y) (shows : Shows base y.first) (settled : IsSettledAt y.first r.object) (has : HasVersionsAt y r.object) where
+  abbrev by_versions : ObjectHead → Answer ℕ
+  by_versions h = or_else (error.NoVersion r) (found r.version h.versions)
+
+  abbrev by_object : Option ObjectHead → Answer ℕ
+  by_object h = or_else (error.NoObject r.object) h >>= by_versions
+
+  abbrev Numbers : Answer ℕ → Type 0
+  Numbers a = ReadsUnless ⊥ a (number_in (denoted y.now.bones r))
+
+  by_version : (o : worlds.Object) → denoted y.now.bones r ≡ ok_or (versions.version_of r.version o.versions) (fault.NoVersion r) → (f : Option versions.Version)
+      → versions.version_of r.version o.versions ≡ f → Numbers (or_else (error.NoVersion r) (option_map number_of f))
+  by_version o denotes None is = ap number_in (denotes ∙ ap (λ (f : Option versions.Version). ok_or f (fault.NoVersion r)) is)
+  by_version o denotes (Some v) is = ap number_in (denotes ∙ ap (λ (f : Option versions.Version). ok_or f (fault.NoVersion r)) is)
+
+  by_live : (f : Option worlds.Object) → (r.object == 0) ≡ false → object_at y.now.bones r.object ≡ f → Numbers (by_object (option_map head_of_object f))
+  by_live None some is = ap number_in (gone_denotes y.now.bones r is)
+  by_live (Some o) some is =
+      subst (λ (n : Option ℕ). Numbers (or_else (error.NoVersion r) n)) (sym (found_of r.version o))
+      (by_version o (object_denotes y.now.bones r o some is) (versions.version_of r.version o.versions) refl)
+
+  pub numbers_law : ReadsUnless ⊥ (number_seen base r x) (number_in (denoted y.now.bones r))
+  numbers_law = by_null (r.object == 0) refl where
+    by_null : (b : Bool) → (r.object == 0) ≡ b → Numbers (some_object b >>= λ _. object base r.object x >>= by_object)
+    by_null true null = ap number_in (null_denotes y.now.bones r null) ∙ ap (λ (n : ℕ). Err (fault.NoObject n)) (eqb-true r.object 0 null)
+    by_null false some =
+        subst (λ (a : Answer (Option ObjectHead)). Numbers (a >>= by_object)) (sym (heads_law base x y r.object stands shows settled has))
+        (by_live (object_at y.now.bones r.object) some refl)
 
 -- ---- fields
 
