@@ -1,0 +1,4 @@
+mod PartLaws
+mod KeptLaws
+mod AnswerLaws
+mod FreshLaws

@@ -1,0 +1,7 @@
+mod KindLaws
+mod ApartLaws
+mod QueueLaws
+mod CounterLaws
+mod KeptLaws
+mod PartLaws
+mod SettledLaws
