@@ -1,7 +1,6 @@
 -- Objects and fields are seen in the overlay as in the machine.
 use Rattle.std.proofs.Common.{◌≡◌, ◌==◌, ℕ, zero, suc, List, [], ◌∷◌, Bool, true, false, cond, length, map, nat_lt, ok_or, option_map, slice_get, Option, Some, None, Result, Ok, Err, refl, sym, ap, subst, ◌∙◌, arith}
 use Rattle.std.proofs.lemmas.Bool.{eqb-true}
-use Rattle.std.proofs.lemmas.Bool.Decides.{nat_tests}
 use Rattle.std.specs.Option.{IsSome, option_and_then}
 use Rattle.ode_heap.specs.Answering.{class_of, head_of_object}
 use Rattle.ode_heap.specs.Answers as heap
@@ -32,13 +31,12 @@ use Rattle.ode_value.specs.declared.arithmetic.Fault.{Fault}
 use Rattle.ode_value.specs.declared.arithmetic.Fault.TheVariants as fault
 use Rattle.ode_value.specs.declared.class.Class.{Class}
 use Rattle.ode_value.specs.declared.key.Key.{Key}
-use Rattle.ode_value.specs.declared.reason.Reason.TheVariants as reason
 use Rattle.ode_value.specs.declared.value.Ref.{Ref}
 use Rattle.ode_value.specs.declared.value.Value.{Value}
 use Rattle.ode_version_laws.proofs.HeadLaws.{class_same, denoted_found, found_of, head_same, head_shown, head_sound}
 use Rattle.ode_version_laws.proofs.VersionLaws.{gone_denotes, null_denotes, object_denotes, some_object, tracked_denotes}
-use Rattle.ode_version_laws.specs.Denoting.{HasSlot, HasVersions, HasVersionsAt}
-use Rattle.ode_version_laws.specs.Showing.{IsSettledAt, ReadsAs, Shows}
+use Rattle.ode_version_laws.specs.Denoting.{HasVersionsAt, LacksSlot}
+use Rattle.ode_version_laws.specs.Showing.{IsSettledAt, ReadsUnless, Shows, number_in, number_seen}
 use Rattle.ode_versions.specs.Versions.{found, number_of}
 
 -- ---- heads
@@ -70,25 +68,41 @@ module _ (base : Entries) (x : Layer) (y : NumberTx) (id : ℕ) (stands : Stands
         ap (λ (f : Found (Option ObjectHead)). from_records f >>= shown id) (shows.object id)
         ∙ first_head (object_numbered id y.first.bones.objects) refl (stands.others id is).object
 
+-- ---- the version that a reference denotes
+
+module _ (base : Entries) (x : Layer) (y : NumberTx) (r : Ref) (stands : Stands x y) (shows : Shows base y.first) (settled : IsSettledAt y.first r.object) (has : HasVersionsAt y r.object) where
+  abbrev by_versions : ObjectHead → Answer ℕ
+  by_versions h = or_else (error.NoVersion r) (found r.version h.versions)
+
+  abbrev by_object : Option ObjectHead → Answer ℕ
+  by_object h = or_else (error.NoObject r.object) h >>= by_versions
+
+  abbrev Numbers : Answer ℕ → Type 0
+  Numbers a = ReadsUnless ⊥ a (number_in (denoted y.now.bones r))
+
+  by_version : (o : worlds.Object) → denoted y.now.bones r ≡ ok_or (versions.version_of r.version o.versions) (fault.NoVersion r) → (f : Option versions.Version)
+      → versions.version_of r.version o.versions ≡ f → Numbers (or_else (error.NoVersion r) (option_map number_of f))
+  by_version o denotes None is = ap number_in (denotes ∙ ap (λ (f : Option versions.Version). ok_or f (fault.NoVersion r)) is)
+  by_version o denotes (Some v) is = ap number_in (denotes ∙ ap (λ (f : Option versions.Version). ok_or f (fault.NoVersion r)) is)
+
+  by_live : (f : Option worlds.Object) → (r.object == 0) ≡ false → object_at y.now.bones r.object ≡ f → Numbers (by_object (option_map head_of_object f))
+  by_live None some is = ap number_in (gone_denotes y.now.bones r is)
+  by_live (Some o) some is =
+      subst (λ (n : Option ℕ). Numbers (or_else (error.NoVersion r) n)) (sym (found_of r.version o))
+      (by_version o (object_denotes y.now.bones r o some is) (versions.version_of r.version o.versions) refl)
+
+  pub numbers_law : ReadsUnless ⊥ (number_seen base r x) (number_in (denoted y.now.bones r))
+  numbers_law = by_null (r.object == 0) refl where
+    by_null : (b : Bool) → (r.object == 0) ≡ b → Numbers (some_object b >>= λ _. object base r.object x >>= by_object)
+    by_null true null = ap number_in (null_denotes y.now.bones r null) ∙ ap (λ (n : ℕ). Err (fault.NoObject n)) (eqb-true r.object 0 null)
+    by_null false some =
+        subst (λ (a : Answer (Option ObjectHead)). Numbers (a >>= by_object)) (sym (heads_law base x y r.object stands shows settled has))
+        (by_live (object_at y.now.bones r.object) some refl)
+
 -- ---- fields
 
-reads_well : (a b : Answer Value) (m n : Result Value Fault) → a ≡ b → m ≡ n → ReadsAs b n → ReadsAs a m
-reads_well a b m n same alike reads = subst (λ (c : Answer Value). ReadsAs c m) (sym same) (subst (λ (o : Result Value Fault). ReadsAs b o) (sym alike) reads)
-
--- a slot that is there
-slot_there : (values : List Value) (slot : ℕ) → nat_lt slot (length values) ≡ true → slice_get values slot ≡ None → ⊥
-slot_there [] slot below none = absurd (grind (arith, nat_tests))
-slot_there (v ∷ values) zero below none = absurd (cc)
-slot_there (v ∷ values) (suc slot) below none = let less : nat_lt slot (length values) ≡ true = grind (arith, nat_tests) in slot_there values slot less none
-
-slot_read : (k : Key) (values : List Value) (slot : ℕ) → nat_lt slot (length values) ≡ true → ReadsAs (seen.field_of k slot values) (value_at values slot)
-slot_read k values slot below = by_value (slice_get values slot) refl where
-  by_value : (f : Option Value) → slice_get values slot ≡ f → ReadsAs (or_else (error.Damaged k) f) (ok_or f (fault.NoObject 0))
-  by_value None is = absurd (slot_there values slot below is)
-  by_value (Some v) is = refl
-
 module _ (base : Entries) (x : Layer) (y : NumberTx) (r : Ref) (slot : ℕ) (stands : Stands x y) (shows : Shows base y.first) (settled : IsSettledAt y.first r.object)
-    (has : HasVersionsAt y r.object) (there : HasSlot y r slot) where
+    (has : HasVersionsAt y r.object) where
   abbrev id : ℕ
   id = r.object
 
@@ -98,29 +112,38 @@ module _ (base : Entries) (x : Layer) (y : NumberTx) (r : Ref) (slot : ℕ) (sta
   abbrev by : Result versions.Version Fault → Result Value Fault
   by d = with_version d (λ v. value_at v.fields slot)
 
-  gone : object_at y.now.bones id ≡ None → ReadsAs (Err (error.NoObject id)) (field_of y.now.bones slot r)
-  gone none = (fault.NoObject id, (refl, ap by (gone_denotes y.now.bones r none)))
+  abbrev Is : Answer Value → Result Value Fault → Type 0
+  Is = ReadsUnless (LacksSlot y.now.bones r slot)
+
+  reads_well : (a b : Answer Value) (m n : Result Value Fault) → a ≡ b → m ≡ n → Is b n → Is a m
+  reads_well a b m n same alike reads = subst (λ (c : Answer Value). Is c m) (sym same) (subst (λ (o : Result Value Fault). Is b o) (sym alike) reads)
+
+  slot_read : (k : Key) (v : versions.Version) → denoted y.now.bones r ≡ Ok v → Is (seen.field_of k slot v.fields) (value_at v.fields slot)
+  slot_read k v denotes = by_value (slice_get v.fields slot) refl where
+    by_value : (f : Option Value) → slice_get v.fields slot ≡ f → Is (or_else (error.Damaged k) f) (ok_or f (fault.NoObject 0))
+    by_value None is = record { version = v; denotes = denotes; lacks = is }
+    by_value (Some w) is = refl
+
+  gone : object_at y.now.bones id ≡ None → Is (Err (error.NoObject id)) (field_of y.now.bones slot r)
+  gone none = ap by (gone_denotes y.now.bones r none)
 
   -- of an object that is tracked
   now_version : (o : Object) → denoted y.now.bones r ≡ ok_or (option_map version_as (objects.version_of r.version o.versions)) (fault.NoVersion r)
-      → ReadsAs (or_else (error.NoVersion r) (objects.version_of r.version o.versions) >>= seen.field_in r slot) (field_of y.now.bones slot r)
+      → Is (or_else (error.NoVersion r) (objects.version_of r.version o.versions) >>= seen.field_in r slot) (field_of y.now.bones slot r)
   now_version o denotes = by_version (objects.version_of r.version o.versions) refl where
-    by_version : (f : Option Version) → objects.version_of r.version o.versions ≡ f → ReadsAs (or_else (error.NoVersion r) f >>= seen.field_in r slot) (field_of y.now.bones slot r)
-    by_version None is = (
-      fault.NoVersion r,
-      (refl, ap by (denotes ∙ ap (λ (v : Option Version). ok_or (option_map version_as v) (fault.NoVersion r)) is)),
-    )
+    by_version : (f : Option Version) → objects.version_of r.version o.versions ≡ f → Is (or_else (error.NoVersion r) f >>= seen.field_in r slot) (field_of y.now.bones slot r)
+    by_version None is = ap by (denotes ∙ ap (λ (v : Option Version). ok_or (option_map version_as v) (fault.NoVersion r)) is)
     by_version (Some v) is =
         let one : denoted y.now.bones r ≡ Ok (version_as v) = denotes ∙ ap (λ (w : Option Version). ok_or (option_map version_as w) (fault.NoVersion r)) is in
         let k = version_key id v.number in
         reads_well (seen.field_of k slot (values_of v.fields)) (seen.field_of k slot (values_of v.fields)) (field_of y.now.bones slot r) (value_at (values_of v.fields) slot) refl (ap by one)
-        (slot_read k (values_of v.fields) slot (there (version_as v) one))
+        (slot_read k (version_as v) one)
 
-  now_object : (t : Tracked) → (r.object == 0) ≡ false → IsIn y.now id t.current → ReadsAs (read_now r slot t.current) (field_of y.now.bones slot r)
+  now_object : (t : Tracked) → (r.object == 0) ≡ false → IsIn y.now id t.current → Is (read_now r slot t.current) (field_of y.now.bones slot r)
   unfolding read_now
   now_object t some at = by_live t.current.live refl where
     by_live : (b : Bool) → t.current.live ≡ b
-        → ReadsAs (or_else (error.NoObject id) (cond b (Some t.current) None) >>= λ o. or_else (error.NoVersion r) (objects.version_of r.version o.versions) >>= seen.field_in r slot) (field_of y.now.bones slot r)
+        → Is (or_else (error.NoObject id) (cond b (Some t.current) None) >>= λ o. or_else (error.NoVersion r) (objects.version_of r.version o.versions) >>= seen.field_in r slot) (field_of y.now.bones slot r)
     by_live true live = now_version t.current (tracked_denotes y r t.current some at live)
     by_live false dead = gone (live_at y id t.current at false dead)
 
@@ -148,43 +171,40 @@ module _ (base : Entries) (x : Layer) (y : NumberTx) (r : Ref) (slot : ℕ) (sta
           (shows.version id v.number o c first is ∙ ap (λ (w : Option versions.Version). There (option_map (λ (u : versions.Version). u.fields) w)) found)
 
   first_object : (o : worlds.Object) → (r.object == 0) ≡ false → object_numbered id y.first.bones.objects ≡ Some o → object_numbered id y.now.bones.objects ≡ Some o
-      → ReadsAs (by_sound (head_of_object o)) (field_of y.now.bones slot r)
+      → Is (by_sound (head_of_object o)) (field_of y.now.bones slot r)
   first_object o some first now =
-      subst (λ (f : Option ℕ). ReadsAs (or_else (error.NoVersion r) f >>= by_number o) (field_of y.now.bones slot r)) (sym (found_of r.version o)) (by_version (versions.version_of r.version o.versions) refl) where
+      subst (λ (f : Option ℕ). Is (or_else (error.NoVersion r) f >>= by_number o) (field_of y.now.bones slot r)) (sym (found_of r.version o)) (by_version (versions.version_of r.version o.versions) refl) where
         is_at : object_at y.now.bones id ≡ Some o
         is_at = ap (option_and_then if_live) now ∙ ap (λ (b : Bool). cond b (Some o) None) (settled o first).live
 
         denotes : denoted y.now.bones r ≡ ok_or (versions.version_of r.version o.versions) (fault.NoVersion r)
         denotes = object_denotes y.now.bones r o some is_at
 
-        by_version : (f : Option versions.Version) → versions.version_of r.version o.versions ≡ f → ReadsAs (or_else (error.NoVersion r) (option_map number_of f) >>= by_number o) (field_of y.now.bones slot r)
-        by_version None is = (fault.NoVersion r, (refl, ap by (denotes ∙ ap (λ (v : Option versions.Version). ok_or v (fault.NoVersion r)) is)))
+        by_version : (f : Option versions.Version) → versions.version_of r.version o.versions ≡ f → Is (or_else (error.NoVersion r) (option_map number_of f) >>= by_number o) (field_of y.now.bones slot r)
+        by_version None is = ap by (denotes ∙ ap (λ (v : Option versions.Version). ok_or v (fault.NoVersion r)) is)
         by_version (Some v) is =
             let one : denoted y.now.bones r ≡ Ok v = denotes ∙ ap (λ (w : Option versions.Version). ok_or w (fault.NoVersion r)) is in
             let k = version_key id v.number in
             reads_well (by_number o v.number) (seen.field_of k slot v.fields) (field_of y.now.bones slot r) (value_at v.fields slot)
-            (first_version o v first (denoted_found r.version o.versions v (has o now).rising is)) (ap by one) (slot_read k v.fields slot (there v one))
+            (first_version o v first (denoted_found r.version o.versions v (has o now).rising is)) (ap by one) (slot_read k v one)
 
   first_read : (f : Option worlds.Object) → (r.object == 0) ≡ false → object_numbered id y.first.bones.objects ≡ f → object_numbered id y.now.bones.objects ≡ f
-      → ReadsAs (by_head (option_map head_of_object f)) (field_of y.now.bones slot r)
+      → Is (by_head (option_map head_of_object f)) (field_of y.now.bones slot r)
   first_read None some first now = gone (ap (option_and_then if_live) now)
   first_read (Some o) some first now =
       reads_well (sound id (head_of_object o) >>= by_sound) (by_sound (head_of_object o)) (field_of y.now.bones slot r) (field_of y.now.bones slot r)
       (ap (λ (a : Answer ObjectHead). a >>= by_sound) (head_sound id o (has o now))) refl (first_object o some first now)
 
-  by_tracked : (f : Option Tracked) → (r.object == 0) ≡ false → tracked_at id x ≡ f → ReadsAs (read_at classes base r slot f) (field_of y.now.bones slot r)
+  by_tracked : (f : Option Tracked) → (r.object == 0) ≡ false → tracked_at id x ≡ f → Is (read_at classes base r slot f) (field_of y.now.bones slot r)
   unfolding read_below
   by_tracked (Some t) some is = now_object t some (stands.tracked id t is)
   by_tracked None some is =
-      subst (λ (f : Found (Option ObjectHead)). ReadsAs (from_records f >>= by_head) (field_of y.now.bones slot r)) (sym (shows.object id))
+      subst (λ (f : Found (Option ObjectHead)). Is (from_records f >>= by_head) (field_of y.now.bones slot r)) (sym (shows.object id))
       (first_read (object_numbered id y.first.bones.objects) some refl (stands.others id is).object)
 
-  pub fields_law : ReadsAs (read classes base r slot x) (field_of y.now.bones slot r)
+  pub fields_law : ReadsUnless (LacksSlot y.now.bones r slot) (read classes base r slot x) (field_of y.now.bones slot r)
   unfolding read
   fields_law = by_null (r.object == 0) refl where
-    by_null : (b : Bool) → (r.object == 0) ≡ b → ReadsAs (some_object b >>= λ _. read_at classes base r slot (tracked_at id x)) (field_of y.now.bones slot r)
-    by_null true null = (
-      fault.NoObject id,
-      (ap (λ (n : ℕ). Some (reason.NoObject n)) (sym (eqb-true r.object 0 null)), ap by (null_denotes y.now.bones r null)),
-    )
+    by_null : (b : Bool) → (r.object == 0) ≡ b → Is (some_object b >>= λ _. read_at classes base r slot (tracked_at id x)) (field_of y.now.bones slot r)
+    by_null true null = ap by (null_denotes y.now.bones r null) ∙ ap (λ (n : ℕ). Err (fault.NoObject n)) (eqb-true r.object 0 null)
     by_null false some = by_tracked (tracked_at id x) some refl

@@ -1,5 +1,5 @@
 -- The version that a reference denotes, in the overlay and in the machine.
-use Rattle.std.proofs.Common.{◌≡◌, ◌-◌, ◌==◌, ℕ, suc, List, [], ◌∷◌, Bool, true, false, cond, map, length, slice_get, find, option_map, ok_or, Option, Some, None, Result, Ok, Err, refl, sym, ap, ◌∙◌, arith}
+use Rattle.std.proofs.Common.{◌≡◌, ◌-◌, ◌==◌, ℕ, suc, List, [], ◌∷◌, Bool, true, false, cond, map, length, slice_get, find, option_map, ok_or, Option, Some, None, Result, Ok, Err, refl, sym, ap, subst, ◌∙◌, arith}
 use Rattle.std.proofs.lemmas.Bool.{eqb-true}
 use Rattle.std.specs.Option.{option_and_then}
 use Rattle.ode_laws.specs.Alike.{NumberTx}
@@ -11,12 +11,13 @@ use Rattle.ode_overlay.specs.Answers.{Answer, ◌>>=◌}
 use Rattle.ode_overlay.specs.Changing.{denoted_in, live_of}
 use Rattle.ode_overlay.specs.Layers.{Layer}
 use Rattle.ode_overlay.specs.Reading.{not_null, or_else}
+use Rattle.ode_overlay.specs.declared.error.OverlayError.{OverlayError}
 use Rattle.ode_overlay.specs.declared.error.OverlayError.TheVariants as error
 use Rattle.ode_overlay_laws.proofs.AlteredLaws.{Has}
-use Rattle.ode_overlay_laws.proofs.FollowingLaws.{as_well, live_at}
-use Rattle.ode_overlay_laws.specs.Following.{Follows}
+use Rattle.ode_overlay_laws.proofs.FollowingLaws.{live_at}
+use Rattle.ode_overlay_laws.specs.Following.{Follows, reason_as}
 use Rattle.ode_overlay_laws.specs.Standing.{IsIn, object_as, version_as}
-use Rattle.ode_value.specs.Acts.{Act, Outcome, go_on, valued}
+use Rattle.ode_value.specs.Acts.{Act, Outcome, Aborted, go_on, valued}
 use Rattle.ode_value.specs.Changes as machine
 use Rattle.ode_value.specs.Denoting.{denoted, if_live, object_at, version_in}
 use Rattle.ode_value.specs.Versions as versions
@@ -24,6 +25,7 @@ use Rattle.ode_value.specs.Worlds as worlds
 use Rattle.ode_value.specs.Worlds.{Bones}
 use Rattle.ode_value.specs.declared.arithmetic.Fault.{Fault}
 use Rattle.ode_value.specs.declared.arithmetic.Fault.TheVariants as fault
+use Rattle.ode_value.specs.declared.reason.Reason.{Reason}
 use Rattle.ode_value.specs.declared.reason.Reason.TheVariants as reason
 use Rattle.ode_value.specs.declared.value.Ref.{Ref}
 
@@ -76,7 +78,10 @@ some_object null = cond null (Err (error.NoObject 0)) (Ok tt)
 
 -- ---- an act on the version that a reference denotes
 
-module _ {R S : Type 0} (y : NumberTx) (r : Ref) (go : R → Act (Unit {0}) ℕ S) (rest : Object → Version → Answer (R × Layer)) (act : versions.Version → Act (Unit {0}) ℕ S) where
+-- J judges an answer beside an outcome: a refusal for a reason beside the abort for it
+module _ {R S : Type 0} (y : NumberTx) (r : Ref) (J : Answer (R × Layer) → Outcome (Unit {0}) ℕ S → Type 0)
+    (refused : (why : OverlayError) (reason : Reason) → reason_as why ≡ Some reason → J (Err why) (Aborted reason y))
+    (rest : Object → Version → Answer (R × Layer)) (act : versions.Version → Act (Unit {0}) ℕ S) where
   abbrev on_object : Object → Answer (R × Layer)
   on_object o = denoted_in r o >>= rest o
 
@@ -86,41 +91,47 @@ module _ {R S : Type 0} (y : NumberTx) (r : Ref) (go : R → Act (Unit {0}) ℕ 
   -- what follows where it denotes one
   abbrev pub Next : Option Tracked → Type 0
   Next f = (t : Tracked) (v : Version) → f ≡ Some t → IsIn y.now r.object t.current → t.current.live ≡ true → denoted y.now.bones r ≡ Ok (version_as v)
-      → Follows y go (rest t.current v) (act (version_as v) y)
+      → J (rest t.current v) (act (version_as v) y)
 
-  gone : object_at y.now.bones r.object ≡ None → Follows y go (Err (error.NoObject r.object)) (by (denoted y.now.bones r))
-  gone none = (reason.NoObject r.object, (refl, ap by (gone_denotes y.now.bones r none)))
+  -- by what is denoted
+  judged : (a : Answer (R × Layer)) (d : Result versions.Version Fault) → denoted y.now.bones r ≡ d → J a (by d) → J a (by (denoted y.now.bones r))
+  judged a d is judgement = subst (λ (e : Result versions.Version Fault). J a (by e)) (sym is) judgement
+
+  gone : object_at y.now.bones r.object ≡ None → J (Err (error.NoObject r.object)) (by (denoted y.now.bones r))
+  gone none =
+      judged (Err (error.NoObject r.object)) (Err (fault.NoObject r.object)) (gone_denotes y.now.bones r none) (refused (error.NoObject r.object) (reason.NoObject r.object) refl)
 
   here : (t : Tracked) → (r.object == 0) ≡ false → IsIn y.now r.object t.current → t.current.live ≡ true
-      → ((v : Version) → denoted y.now.bones r ≡ Ok (version_as v) → Follows y go (rest t.current v) (act (version_as v) y))
-      → Follows y go (on_object t.current) (by (denoted y.now.bones r))
+      → ((v : Version) → denoted y.now.bones r ≡ Ok (version_as v) → J (rest t.current v) (act (version_as v) y))
+      → J (on_object t.current) (by (denoted y.now.bones r))
   here t some at live next = by_version (version_of r.version t.current.versions) refl where
     denotes : denoted y.now.bones r ≡ ok_or (option_map version_as (version_of r.version t.current.versions)) (fault.NoVersion r)
     denotes = tracked_denotes y r t.current some at live
 
-    by_version : (f : Option Version) → version_of r.version t.current.versions ≡ f → Follows y go (or_else (error.NoVersion r) f >>= rest t.current) (by (denoted y.now.bones r))
-    by_version None is = (
-      reason.NoVersion r,
-      (refl, ap by (denotes ∙ ap (λ (v : Option Version). ok_or (option_map version_as v) (fault.NoVersion r)) is)),
-    )
+    by_version : (f : Option Version) → version_of r.version t.current.versions ≡ f → J (or_else (error.NoVersion r) f >>= rest t.current) (by (denoted y.now.bones r))
+    by_version None is =
+        judged (Err (error.NoVersion r)) (Err (fault.NoVersion r)) (denotes ∙ ap (λ (v : Option Version). ok_or (option_map version_as v) (fault.NoVersion r)) is)
+        (refused (error.NoVersion r) (reason.NoVersion r) refl)
     by_version (Some v) is =
         let one : denoted y.now.bones r ≡ Ok (version_as v) = denotes ∙ ap (λ (w : Option Version). ok_or (option_map version_as w) (fault.NoVersion r)) is in
-        as_well y go (rest t.current v) (by (denoted y.now.bones r)) (act (version_as v) y) (ap by one) (next v one)
+        judged (rest t.current v) (Ok (version_as v)) one (next v one)
 
-  found : (f : Option Tracked) → Has y r.object f → (r.object == 0) ≡ false → Next f → Follows y go (live_of r.object f >>= on_object) (by (denoted y.now.bones r))
+  found : (f : Option Tracked) → Has y r.object f → (r.object == 0) ≡ false → Next f → J (live_of r.object f >>= on_object) (by (denoted y.now.bones r))
   found None has some next = gone (ap (λ (o : Option worlds.Object). option_and_then if_live o) has)
   found (Some t) has some next = by_live t.current.live refl where
-    by_live : (b : Bool) → t.current.live ≡ b → Follows y go (cond b (Ok t.current) (Err (error.NoObject r.object)) >>= on_object) (by (denoted y.now.bones r))
+    by_live : (b : Bool) → t.current.live ≡ b → J (cond b (Ok t.current) (Err (error.NoObject r.object)) >>= on_object) (by (denoted y.now.bones r))
     by_live true live = here t some has live (λ v one. next t v refl has live one)
     by_live false dead = gone (live_at y r.object t.current has false dead)
 
-  pub follows_denoted : (f : Option Tracked) → Has y r.object f → Next f
-      → Follows y go (not_null r >>= λ _. live_of r.object f >>= on_object) (go_on (machine.version r y) act)
-  follows_denoted f has next = by_null (r.object == 0) refl where
-    by_null : (b : Bool) → (r.object == 0) ≡ b
-        → Follows y go (some_object b >>= λ _. live_of r.object f >>= on_object) (by (denoted y.now.bones r))
-    by_null true null = (
-      reason.NoObject r.object,
-      (ap (λ (n : ℕ). Some (reason.NoObject n)) (sym (eqb-true r.object 0 null)), ap by (null_denotes y.now.bones r null)),
-    )
+  pub on_denoted : (f : Option Tracked) → Has y r.object f → Next f → J (not_null r >>= λ _. live_of r.object f >>= on_object) (go_on (machine.version r y) act)
+  on_denoted f has next = by_null (r.object == 0) refl where
+    by_null : (b : Bool) → (r.object == 0) ≡ b → J (some_object b >>= λ _. live_of r.object f >>= on_object) (by (denoted y.now.bones r))
+    by_null true null =
+        judged (Err (error.NoObject 0)) (Err (fault.NoObject r.object)) (null_denotes y.now.bones r null)
+        (refused (error.NoObject 0) (reason.NoObject r.object) (ap (λ (n : ℕ). Some (reason.NoObject n)) (sym (eqb-true r.object 0 null))))
     by_null false some = found f has some next
+
+pub follows_denoted : {R S : Type 0} (y : NumberTx) (r : Ref) (go : R → Act (Unit {0}) ℕ S) (rest : Object → Version → Answer (R × Layer)) (act : versions.Version → Act (Unit {0}) ℕ S)
+    (f : Option Tracked) → Has y r.object f → Next y r (Follows y go) (λ why reason is. (reason, (is, refl))) rest act f
+    → Follows y go (not_null r >>= λ _. live_of r.object f >>= λ o. denoted_in r o >>= rest o) (go_on (machine.version r y) act)
+follows_denoted y r go rest act f has next = on_denoted y r (Follows y go) (λ why reason is. (reason, (is, refl))) rest act f has next

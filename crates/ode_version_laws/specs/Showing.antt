@@ -10,18 +10,21 @@ use Rattle.ode_heap.specs.Objects.{object_in}
 use Rattle.ode_keep.specs.Entries.{Entries}
 use Rattle.ode_laws.specs.Alike.{NumberWorld}
 use Rattle.ode_objects.specs.Values.{are_args}
-use Rattle.ode_overlay.specs.Answers.{Answer}
-use Rattle.ode_overlay_laws.specs.Following.{reason_as}
+use Rattle.ode_overlay.specs.Answers.{Answer, ◌>>=◌}
+use Rattle.ode_overlay.specs.Layers.{Layer}
+use Rattle.ode_overlay.specs.Reading.{not_null, object, or_else}
+use Rattle.ode_overlay.specs.declared.error.OverlayError.TheVariants as error
 use Rattle.ode_value.specs.Denoting.{object_numbered}
-use Rattle.ode_value.specs.Evaluation.{reason_of}
 use Rattle.ode_value.specs.GoodWorlds.{RiseFrom}
 use Rattle.ode_value.specs.Objects.{Activation}
 use Rattle.ode_value.specs.Pasts.{Kept}
 use Rattle.ode_value.specs.Versions.{Version, version_numbered}
 use Rattle.ode_value.specs.Worlds.{Object, class_numbered, kept_at}
 use Rattle.ode_value.specs.declared.arithmetic.Fault.{Fault}
+use Rattle.ode_value.specs.declared.arithmetic.Fault.TheVariants as fault
 use Rattle.ode_value.specs.declared.class.Class.{Class}
-use Rattle.ode_value.specs.declared.value.Value.{Value}
+use Rattle.ode_value.specs.declared.value.Ref.{Ref}
+use Rattle.ode_versions.specs.Versions.{found}
 
 -- records show a world: its objects without fields, the fields of each version, and activations with their state numbers
 pub record Shows (base : Entries) (w : NumberWorld) : Type 0 where
@@ -53,7 +56,24 @@ AreSettled w = (id : ℕ) → IsSettledAt w id
 abbrev pub HoldsArgs : NumberWorld → ℕ → Type 0
 HoldsArgs w id = (o : Object) → object_numbered id w.bones.objects ≡ Some o → AllByRecursion (λ (a : Activation). are_args a.args ≡ true) o.activations
 
--- the value that is read is that of an expression, and where it is refused, the expression has a fault for the same reason
-abbrev pub ReadsAs : Answer Value → Result Value Fault → Type 0
-ReadsAs (Ok v) outcome = outcome ≡ Ok v
-ReadsAs (Err why) outcome = (f : Fault) × ((reason_as why ≡ Some (reason_of f)) × (outcome ≡ Err f))
+-- the number of the version that a reference denotes, by the object's head
+abbrev pub number_seen : Entries → Ref → Layer → Answer ℕ
+number_seen base r x = do
+  _ ← not_null r
+  head ← object base r.object x
+  head ← or_else (error.NoObject r.object) head
+  or_else (error.NoVersion r) (found r.version head.versions)
+
+-- and by the version
+abbrev pub number_in : Result Version Fault → Result ℕ Fault
+number_in (Ok v) = Ok v.number
+number_in (Err why) = Err why
+
+-- A value that is read is that of an expression; where it is refused, the expression has the same fault, or the records are damaged, and
+-- then this is known.
+abbrev pub ReadsUnless : {V : Type 0} → Type 0 → Answer V → Result V Fault → Type 0
+ReadsUnless D (Ok v) outcome = outcome ≡ Ok v
+ReadsUnless D (Err (error.NoObject id)) outcome = outcome ≡ Err (fault.NoObject id)
+ReadsUnless D (Err (error.NoVersion r)) outcome = outcome ≡ Err (fault.NoVersion r)
+ReadsUnless D (Err (error.Damaged key)) outcome = D
+ReadsUnless D (Err why) outcome = ⊥

@@ -12,7 +12,7 @@ ghost use Rattle.ode_value.specs.Making.{derives, drops, sets_field};
 ghost use Rattle.ode_value.specs.declared.class.Class.{Class};
 ghost use Rattle.ode_value.specs.declared.value.Ref.{Ref};
 ghost use Rattle.ode_value.specs.declared.value.Value.{Value};
-ghost use Rattle.ode_version_laws.specs.Denoting.{HasSlot, HasVersionsAt, HoldsReferences, IsRead, tells_version};
+ghost use Rattle.ode_version_laws.specs.Denoting.{FollowsUnless, HasVersionsAt, HoldsReferences, IsRead, LacksSlot, tells_version};
 
 /// A version is derived in the overlay as in the machine, up to its line, where a record can hold each reference among the fields.
 pub fn derivations_follow()
@@ -26,10 +26,10 @@ pub fn version_removals_follow()
         → Follows y gives (drop_version classes base r x) (drops r y) }
 {}
 
-/// A field is set in the overlay as in the machine, where the version has the slot, a record can hold each reference, and the numbers of
-/// the object's versions rise.
+/// A field is set in the overlay as in the machine, where a record can hold each reference and the numbers of the object's versions rise;
+/// the records are damaged only where the version hasn't the slot.
 pub fn writes_follow()
     ensures { (classes : Items Class) (base : Entries) (x : Layer) (y : NumberTx) (r : Ref) (slot : ℕ) (value : Value) → Stands x y
-        → IsRead classes base x y r.object → HasVersionsAt y r.object → HasSlot y r slot → HoldsReferences y r → is_kept value ≡ true
-        → Follows y gives (write classes base r slot value x) (sets_field r slot value y) }
+        → IsRead classes base x y r.object → HasVersionsAt y r.object → HoldsReferences y r → is_kept value ≡ true
+        → FollowsUnless (LacksSlot y.now.bones r slot) y gives (write classes base r slot value x) (sets_field r slot value y) }
 {}
