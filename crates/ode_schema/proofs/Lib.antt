@@ -6,3 +6,4 @@ pub mod OwnTriggers
 pub mod Longest
 pub mod Names
 pub mod Ready
+pub mod TablePlaces

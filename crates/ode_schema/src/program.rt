@@ -1,12 +1,13 @@
 //! The declared classes of a running transaction.
-ghost use Rattle.std.specs.Prelude.{◌≡◌, [], ◌∷◌, IfSome, List as Items, Some, reverse};
+ghost use Rattle.std.specs.Prelude.{◌≡◌, [], ◌∷◌, IfSome, List as Items, Some, reverse, slice_get};
 ghost use Rattle.std.specs.List.{list_any};
-ghost use Rattle.std.specs.Option.{IsSome, option_copied, option_map};
+ghost use Rattle.std.specs.Option.{IsSome, option_and_then, option_copied, option_map};
 ghost use Rattle.std.specs.Str.{bytes_eq};
 ghost use Rattle.ode_value.specs.declared.class.Class.{Class as Checked};
 ghost use Rattle.ode_value.specs.Classes as machine;
 ghost use Rattle.ode_value.specs.Same.{same_kind};
 ghost use Rattle.ode_value.specs.Worlds.{Declared, class_numbered};
+ghost use Rattle.ode_types.specs.Checked.{AreChecked};
 ghost use Rattle.ode_types.specs.Families.{method_named, upward};
 ghost use Rattle.ode_states.specs.Machine.{checked};
 ghost use Rattle.ode_interpreter.specs.Seen.{trigger as seen};
@@ -83,6 +84,13 @@ fn has_name(line: &mut Line, name: &Name) -> bool
     false
 }
 
+// The trigger at a place of a class, where the class is there.
+fn own_trigger(class: Option<&Class>, place: u16) -> Option<&TriggerDecl>
+    ensures { option_copied result ≡ option_and_then (λ (c : Checked). slice_get c.triggers place) (option_copied class.entry) }
+{
+    class?.triggers.as_slice().get(usize::from(place))
+}
+
 fn has_kind(kinds: &[Kind], kind: &Kind) -> bool
     ensures { result ≡ list_any (same_kind kind.now) kinds.now }
 {
@@ -152,7 +160,7 @@ impl<'a> Program<'a> {
         has_name(&mut Line::new(self.classes, class), name)
     }
 
-    // The nearest method of a name.
+    /// The nearest method of a name, by the line of a class.
     pub(crate) fn nearest(&self, class: u32, name: &Name) -> Option<&'a Method>
         ensures { option_copied result ≡ method_named (upward class (reverse self.now.classes)) name.now }
     {
@@ -166,9 +174,10 @@ impl<'a> Program<'a> {
         Constraints::new(Family::new(self.classes, class), soft)
     }
 
-    // A class with its ancestors.
+    /// A class with its ancestors.
     pub(crate) fn family(&self, class: u32) -> Family<'a>
-        ensures { result ≡ family_in self.now.classes class }
+        ensures is { result ≡ family_in self.now.classes class }
+        ensures checked { AreChecked self.now.classes }
     {
         Family::new(self.classes, class)
     }
@@ -186,8 +195,7 @@ impl<'a> Program<'a> {
         ensures is { (classes : Items Declared) → checked classes ≡ self.now.classes → option_map (λ d. machine.trigger_of t.class (t.place, d)) (option_copied result) ≡ machine.trigger_at classes t.class t.place }
         ensures under { option_copied result ≡ trigger_under self.now.classes t.class t.place }
     {
-        let class = self.classes.class(t.class)?;
-        class.triggers.as_slice().get(usize::from(t.place))
+        own_trigger(self.classes.class(t.class), t.place)
     }
 
     /// Whether a class or an ancestor lists a kind.
@@ -205,7 +213,8 @@ impl<'a> Program<'a> {
         requires { IsSome (trigger_under self.now.classes t.class t.place) }
         ensures { Some result ≡ table_place self.now.maps t.class t.place }
     {
-        let first = self.maps.as_slice()[t.class as usize - 1];
+        let _fit = self.tables();
+        let first = self.maps().as_slice()[t.class as usize - 1];
         first + u32::from(t.place)
     }
 
@@ -214,6 +223,6 @@ impl<'a> Program<'a> {
         requires { IsSome (trigger_under self.now.classes t.class t.place) }
         ensures { result.now ≡ table_by self.now.tables self.now.maps t.class t.place }
     {
-        &self.tables.as_slice()[self.place(t) as usize]
+        &self.tables().as_slice()[self.place(t) as usize]
     }
 }
