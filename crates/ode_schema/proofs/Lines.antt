@@ -102,4 +102,5 @@ module _ {X : Type 0} (xs ys : List X) where
       sym (head_at o zs) ∙ ap (λ (l : List X). slice_get l 0) (sym is) ∙ sym (rest 0) ∙ ap (slice_get xs) whole
 
 pub ruleset lines = (line_ends, line_goes, few_triggers)
+
 pub ruleset families = (down_by)

@@ -46,9 +46,10 @@ module _ (cs : List Class) (checks : AreChecked cs) where
       let behind = at_place cs checks p c at.2 in
       let within : p < length cs = slice_get_within cs p c at.2 in
       let low : unwrap_or c.parent 0 ≤ p = omega (arith, behind.parent, before cs checks p c at.2) in
-      subst Apart (sym (line_goes cs checks n c found))
-      (are_new (take p cs) c (upward (unwrap_or c.parent 0) (reverse cs)) (line_below cs checks (unwrap_or c.parent 0) p low (omega arith)) (names_of c.triggers) behind.triggers.fresh,
-        below (unwrap_or c.parent 0) (omega (arith, low, at.1)))
+      subst Apart (sym (line_goes cs checks n c found)) (
+        are_new (take p cs) c (upward (unwrap_or c.parent 0) (reverse cs)) (line_below cs checks (unwrap_or c.parent 0) p low (omega arith)) (names_of c.triggers) behind.triggers.fresh,
+        below (unwrap_or c.parent 0) (omega (arith, low, at.1)),
+      )
 
   apart_within : (k n : ℕ) → n < k → Apart (upward n (reverse cs))
   apart_within zero n less = absurd (omega arith)

@@ -23,7 +23,6 @@ impl<'a> Model for Every<'a> {
     ghost use Rattle.std.specs.List.{flat_map};
     ghost use Rattle.ode_value.specs.declared.class.Class.{Class as Declared};
     ghost use Rattle.ode_value.specs.declared.member.Constraint.{Constraint as Rule};
-
     ghost use Rattle.ode_value.specs.contracts.statement.Expr as expr;
     ghost use Rattle.std.specs.Coded.{codes};
 
@@ -45,7 +44,6 @@ impl<'a> Model for Constraints<'a> {
     ghost use Rattle.std.specs.Prelude.{List as Items, cond, not};
     ghost use Rattle.std.specs.List.{filter};
     ghost use Rattle.ode_value.specs.declared.member.Constraint.{Constraint as Rule};
-
     ghost use Rattle.ode_value.specs.contracts.statement.Expr as expr;
     ghost use Rattle.std.specs.Coded.{codes};
 

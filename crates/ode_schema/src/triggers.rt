@@ -50,10 +50,7 @@ fn own_named(class: &Class, name: &Name) -> Option<Trigger>
 
 /// The initial triggers of a class with its ancestors, in order.
 #[tactic(auto, using(crate::proofs::OwnTriggers::along))]
-pub(crate) fn initial_of(
-    alloc: Global,
-    family: &mut Family,
-) -> Result<List<Trigger>, AllocError>
+pub(crate) fn initial_of(alloc: Global, family: &mut Family) -> Result<List<Trigger>, AllocError>
     ensures { IfOk result (λ found. found ≡ map named_by_place (filter (λ (t : Declared). t.decl.initial) (flat_map own_triggers family.old))) }
 {
     let mut found = List::new(alloc);

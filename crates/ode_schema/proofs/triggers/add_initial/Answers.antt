@@ -13,8 +13,8 @@ loop-place-preserved c =
     let read = slice_get-get_or c.as_slice-triggers.result.now place c.index-triggers-place.result c.loop-place-test.true in
     let at = sym (ap (λ (l : List TriggerDecl). slice_get l place) c.as_slice-triggers.ensures) ∙ read in
     elim c.if-triggers-place.branch [
-      then-triggers-place+in_ok-push w ↦ initial_in c.args.class.now place t at c.loop-place.found c.if-triggers-place.found _ w.if-triggers-place.true (w.found-is ∙ w.in_ok-push.ensures.ok) c.loop-place.invariant
-    | else-triggers-place w ↦ initial_out c.args.class.now place t at c.loop-place.found c.if-triggers-place.found _ w.if-triggers-place.false w.found-is c.loop-place.invariant
+      | then-triggers-place+in_ok-push w ↦ initial_in c.args.class.now place t at c.loop-place.found c.if-triggers-place.found _ w.if-triggers-place.true (w.found-is ∙ w.in_ok-push.ensures.ok) c.loop-place.invariant
+      | else-triggers-place w ↦ initial_out c.args.class.now place t at c.loop-place.found c.if-triggers-place.found _ w.if-triggers-place.false w.found-is c.loop-place.invariant
     ]
 
 pub returns : goal.returns

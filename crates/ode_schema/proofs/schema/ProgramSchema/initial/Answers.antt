@@ -17,12 +17,12 @@ pub returns-clause-is : goal.returns-clause-is
 returns-clause-is c = λ classes are.
     if_ok (λ (ts : List code.Trigger). ts ≡ map named_by_place (filter (λ (t : Trigger). t.decl.initial) (flat_map own_triggers c.family.result))) _
     (λ ts is. initial_seen c.args.self.now.classes c.family.ensures.checked classes are c.args.class ts
-      (is ∙ ap (λ (family : List Class). map named_by_place (filter (λ (t : Trigger). t.decl.initial) (flat_map own_triggers family))) c.family.ensures.is))
+    (is ∙ ap (λ (family : List Class). map named_by_place (filter (λ (t : Trigger). t.decl.initial) (flat_map own_triggers family))) c.family.ensures.is))
     c.initial_of.result c.initial_of.ensures
 
 pub returns-clause-declared : goal.returns-clause-declared
 returns-clause-declared c =
     if_ok (λ (ts : List code.Trigger). ts ≡ map named_by_place (filter (λ (t : Trigger). t.decl.initial) (flat_map own_triggers c.family.result))) _
     (λ ts is. initial_declared c.args.self.now.classes c.family.ensures.checked c.args.class ts
-      (is ∙ ap (λ (family : List Class). map named_by_place (filter (λ (t : Trigger). t.decl.initial) (flat_map own_triggers family))) c.family.ensures.is))
+    (is ∙ ap (λ (family : List Class). map named_by_place (filter (λ (t : Trigger). t.decl.initial) (flat_map own_triggers family))) c.family.ensures.is))
     c.initial_of.result c.initial_of.ensures
