@@ -1,5 +1,5 @@
 -- No body of the classes is longer than the longest.
-use Rattle.std.proofs.Common.{◌≡◌, ◌≤◌, ◌<◌, ℕ, zero, suc, List, [], ◌∷◌, ◌++◌, reverse, max, Bool, true, false, cond, Option, Some, None, refl, ap, sym, ◌∙◌, subst, arith}
+use Rattle.std.proofs.Common.{◌≡◌, ◌≤◌, ℕ, zero, suc, List, [], ◌∷◌, reverse, max, Bool, true, false, cond, Option, Some, None, refl, ap, sym, ◌∙◌, subst, arith}
 use Rattle.std.specs.Prelude.{◌==◌, slice_get}
 use Rattle.std.specs.List.{find, flat_map}
 use Rattle.std.specs.Borrow.{Bor}
@@ -12,7 +12,7 @@ use Rattle.ode_value.specs.declared.member.Method.{Method}
 use Rattle.ode_value.specs.declared.member.TriggerDecl.{TriggerDecl}
 use Rattle.ode_value.specs.declared.statement.Stmt.{Stmt}
 use Rattle.ode_types.specs.Families.{class_numbered, method_named, upward}
-use Rattle.ode_schema.specs.Parts.{longest, tallest, trigger_of, trigger_under}
+use Rattle.ode_schema.specs.Parts.{longest, tallest, trigger_under}
 
 -- what is found in a list, and what stands at a place of it
 found_most : {X : Type 0} (μ : X → ℕ) (p : X → Bool) (xs : List X) (x : X) → find p xs ≡ Some x → μ x ≤ most μ xs

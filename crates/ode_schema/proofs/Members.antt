@@ -2,16 +2,13 @@
 use Rattle.std.proofs.Common.{◌≡◌, ◌≤◌, ℕ, List, [], ◌∷◌, ◌++◌, fold, map, length, Bool, true, Option, Some, None, Ok, refl, ap, sym, ◌∙◌, subst, arith, append-nil, append_assoc}
 use Rattle.std.specs.Prelude.{◌&&◌, not, nat_le, is_none}
 use Rattle.std.specs.List.{AllByRecursion, find, flat_map, list_any}
-use Rattle.std.specs.Option.{option_map_or, option_or, unwrap_or}
+use Rattle.std.specs.Option.{option_map_or, option_or}
 use Rattle.std.specs.Str.{bytes_eq}
-use Rattle.std.proofs.lemmas.Bool.{and_parts}
 use Rattle.std.proofs.lemmas.Bool.Decides.{nat_tests}
 use Rattle.std.proofs.lemmas.List.{length-map, map-append}
 use Rattle.std.proofs.lemmas.List.Folds.{find-append}
 use Rattle.ode_value.specs.declared.class.Class.{Class}
 use Rattle.ode_value.specs.declared.event.Kind.{Kind}
-use Rattle.ode_value.specs.declared.member.Constraint.{Constraint}
-use Rattle.ode_value.specs.declared.member.Method.{Method}
 use Rattle.ode_value.specs.declared.member.TriggerDecl.{TriggerDecl}
 use Rattle.ode_value.specs.declared.reason.CheckError.TheVariants.{Duplicate, TooMany, UnknownName, WrongSort}
 use Rattle.ode_value.specs.declared.statement.ClassDecl.{ClassDecl}

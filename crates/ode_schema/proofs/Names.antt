@@ -1,6 +1,5 @@
 -- A trigger's name is one in the line of a class, so it is found from either end.
 use Rattle.std.proofs.Common.{◌≡◌, ◌≤◌, ◌<◌, ℕ, zero, suc, ◌+◌, List, [], ◌∷◌, ◌++◌, map, length, reverse, take, Bool, true, false, cond, Option, Some, None, refl, ap, sym, ◌∙◌, subst, arith, append-nil}
-use Rattle.std.specs.Prelude.{slice_get}
 use Rattle.std.specs.List.{AllByRecursion, enumerate_from, find, flat_map}
 use Rattle.std.specs.Option.{option_map, option_or, unwrap_or}
 use Rattle.std.specs.Str.{bytes_eq}
@@ -17,7 +16,6 @@ use Rattle.ode_value.specs.Worlds.{Declared}
 use Rattle.ode_types.specs.Checked.{AreChecked}
 use Rattle.ode_types.specs.Families.{ancestors_of, class_numbered, line_of, trigger_named, upward}
 use Rattle.ode_states.specs.Machine.{checked}
-use Rattle.ode_schema.specs.Parts.{triggers_in}
 use Rattle.ode_schema.proofs.Agree.{triggers_by}
 use Rattle.ode_schema.proofs.Lines.{line_below, line_ends, line_goes}
 use Rattle.ode_schema.proofs.Members.{IsFresh, names_of}

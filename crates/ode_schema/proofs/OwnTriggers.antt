@@ -1,5 +1,5 @@
 -- The triggers that a class has stand at their places.
-use Rattle.std.proofs.Common.{◌≡◌, ◌≤◌, ◌<◌, ℕ, zero, suc, ◌+◌, List, [], ◌∷◌, ◌++◌, map, length, drop, Bool, true, false, cond, Option, Some, None, refl, ap, sym, ◌∙◌, subst, arith, append-nil, append_assoc}
+use Rattle.std.proofs.Common.{◌≡◌, ◌≤◌, ℕ, zero, suc, ◌+◌, List, [], ◌∷◌, ◌++◌, map, length, drop, Bool, true, false, cond, Option, Some, None, refl, ap, sym, ◌∙◌, subst, arith, append-nil, append_assoc}
 use Rattle.std.specs.Prelude.{slice_get}
 use Rattle.std.specs.List.{All, AllByRecursion, enumerate_from, filter, find, flat_map}
 use Rattle.std.specs.Option.{IfSome, IsSome, option_map, option_or, unwrap_or}
@@ -9,7 +9,7 @@ use Rattle.std.proofs.lemmas.List.Elements.{All-from_recursion, filter-append}
 use Rattle.std.proofs.lemmas.List.Folds.{find-append}
 use Rattle.ode_value.specs.declared.class.Class.{Class}
 use Rattle.ode_value.specs.declared.member.TriggerDecl.{TriggerDecl}
-use Rattle.ode_value.specs.Classes.{Trigger, trigger_of, own_triggers, triggers_of, initial_triggers, trigger_at, trigger_named}
+use Rattle.ode_value.specs.Classes.{Trigger, trigger_of, own_triggers, triggers_of, initial_triggers, trigger_named}
 use Rattle.ode_value.specs.Worlds.{Declared}
 use Rattle.ode_types.specs.Checked.{AreChecked}
 use Rattle.ode_interpreter.specs.declared.firing.Trigger as code

@@ -1,5 +1,5 @@
 -- An activation whose table stands at its trigger's place goes on by that table.
-use Rattle.std.proofs.Common.{◌≡◌, ◌<◌, ℕ, List, [], length, Some, refl, ap, sym, ◌∙◌, subst}
+use Rattle.std.proofs.Common.{◌≡◌, ◌<◌, [], Some, ap, sym, ◌∙◌}
 use Rattle.std.specs.Prelude.{slice_get, slice_index_or}
 use Rattle.std.specs.Option.{option_map_or}
 use Rattle.std.proofs.lemmas.Option.{get_or_from_slice_get, slice_get_within}

@@ -1,4 +1,4 @@
-use Rattle.std.proofs.Common.{Option, Some, None, ap, false, sym, ◌∙◌}
+use Rattle.std.proofs.Common.{Option, ap, false, sym, ◌∙◌}
 use Rattle.std.specs.List.{list_any}
 use Rattle.std.specs.Option.{option_map_or}
 use Rattle.ode_value.specs.declared.class.Class.{Class}

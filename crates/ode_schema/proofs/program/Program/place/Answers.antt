@@ -1,5 +1,4 @@
 use Rattle.std.proofs.Common.{◌≡◌, List, ap, sym, ◌∙◌, ◌+◌, ◌-◌, ℕ, Some, arith, length, get_or}
-use Rattle.ode_schema.specs.Parts.{Parts, table_place}
 use Rattle.ode_schema.proofs.TablePlaces.{place_at}
 use Rattle.ode_schema.proofs.program.Program.place.Goals as goal
 

@@ -1,4 +1,4 @@
-use Rattle.std.proofs.Common.{List, ap, sym, ◌∙◌, arith, length, get_or}
+use Rattle.std.proofs.Common.{List, ap, ◌∙◌, arith, length, get_or}
 use Rattle.ode_value.specs.Tables.{Table}
 use Rattle.ode_schema.proofs.TablePlaces.{table_found, table_within}
 use Rattle.ode_schema.proofs.program.Program.table.Goals as goal

@@ -1,10 +1,10 @@
-use Rattle.std.proofs.Common.{List, Option, ap, sym, ◌∙◌}
+use Rattle.std.proofs.Common.{ap, sym, ◌∙◌}
 use Rattle.std.specs.Prelude.{slice_get}
 use Rattle.std.specs.Option.{option_and_then, option_map}
 use Rattle.ode_value.specs.declared.class.Class.{Class}
 use Rattle.ode_value.specs.declared.member.TriggerDecl.{TriggerDecl}
 use Rattle.ode_value.specs.Classes.{trigger_of}
-use Rattle.ode_schema.specs.Parts.{Parts, trigger_under}
+use Rattle.ode_schema.specs.Parts.{Parts}
 use Rattle.ode_schema.proofs.Agree.{trigger_by}
 use Rattle.ode_schema.proofs.program.Program.trigger_at.Goals as goal
 

@@ -3,7 +3,7 @@ use Rattle.std.specs.List.{find, flat_map}
 use Rattle.std.specs.Option.{IfSome, IsSome, option_map}
 use Rattle.std.specs.Str.{bytes_eq}
 use Rattle.ode_value.specs.declared.class.Class.{Class}
-use Rattle.ode_value.specs.Classes.{Trigger, own_triggers, trigger_named}
+use Rattle.ode_value.specs.Classes.{Trigger, own_triggers}
 use Rattle.ode_interpreter.specs.declared.firing.Trigger as code
 use Rattle.ode_interpreter.specs.Seen.{trigger as seen}
 use Rattle.ode_schema.specs.Parts.{Parts, named_by_place, trigger_of, trigger_under}

@@ -1,6 +1,6 @@
 use Rattle.std.proofs.Common.{◌≡◌, List, Result, Ok, Err, ap, map, ◌∙◌}
 use Rattle.std.specs.Prelude.{IfOk}
-use Rattle.std.specs.List.{All, filter, flat_map}
+use Rattle.std.specs.List.{filter, flat_map}
 use Rattle.ode_value.specs.declared.class.Class.{Class}
 use Rattle.ode_value.specs.Classes.{Trigger, own_triggers}
 use Rattle.ode_interpreter.specs.declared.firing.Trigger as code
