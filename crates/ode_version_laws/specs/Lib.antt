@@ -1,0 +1,4 @@
+pub mod Denoting
+pub mod Showing
+pub mod Remembering
+pub mod Growing
