@@ -9,7 +9,7 @@ use Rattle.std.specs.List.{AllByRecursion, fold}
 use Rattle.std.specs.Ordering.{nat_cmp}
 use Rattle.ode_formed_laws.proofs.AmongLaws.{IsOf, all_more, among_all, not_among}
 use Rattle.ode_formed_laws.proofs.SpelledLaws.{Bytes, spells_again}
-use Rattle.ode_formed_laws.specs.Staying.{IsRead, StaysFormed}
+use Rattle.ode_formed_laws.specs.Staying.{IsStored, StaysFormed}
 use Rattle.ode_keep.proofs.Maps.{lookup_put}
 use Rattle.ode_keep.specs.Entries.{Entries, value_under}
 use Rattle.ode_objects.specs.Records.{object_becomes}
@@ -129,7 +129,7 @@ put_others x id new o keys n out =
 
 -- ---- as it was
 
-module _ (base : Entries) (x : Layer) (id : ℕ) (new : Option Tracked) (formed : IsFormed base x) (read : IsRead base id new) where
+module _ (base : Entries) (x : Layer) (id : ℕ) (new : Option Tracked) (formed : IsFormed base x) (read : IsStored base id new) where
   either : (q : Key) (o : Object) (b : Bool) → IsOwn q → value_under base q ≡ value_in q o → cond b (value_after (object_becomes q o) (value_under base q)) (value_under base q) ≡ value_in q o
   either q o true own is = spells_again q o (value_under base q) own is
   either q o false own is = is
@@ -141,7 +141,7 @@ module _ (base : Entries) (x : Layer) (id : ℕ) (new : Option Tracked) (formed 
   unfolding becomes
   held_of q = refl
 
-  by_new : (f : Option Tracked) → new ≡ f → IsRead base id f → (t : Tracked) → object_of f id x ≡ Some t → (q : Key) → IsOwn q → q.a ≡ id → after_by x q t.current (value_under base q) ≡ value_in q t.current
+  by_new : (f : Option Tracked) → new ≡ f → IsStored base id f → (t : Tracked) → object_of f id x ≡ Some t → (q : Key) → IsOwn q → q.a ≡ id → after_by x q t.current (value_under base q) ≡ value_in q t.current
   by_new None is read t found q own at =
       sym (held_of q ∙ ap (λ m. after_of q (tracked_at m x)) at ∙ ap (after_of q) found) ∙ formed.each id t q found own at
   by_new (Some u) is read t found q own at =
