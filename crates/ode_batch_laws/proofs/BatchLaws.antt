@@ -1,5 +1,5 @@
 -- The records behind a batch hold the world that is left.
-use Rattle.std.proofs.Common.{◌≡◌, List, ◌∷◌, refl, sym, ap, subst, ◌∙◌}
+use Rattle.std.proofs.Common.{◌≡◌, List, ◌∷◌, sym, ap, subst, ◌∙◌}
 use Rattle.ode_areas.proofs.Splitting.{same_map}
 use Rattle.ode_batch_laws.proofs.ClimbLaws.{Climb}
 use Rattle.ode_batch_laws.proofs.RowLaws.{front_climbs, rows_rise}

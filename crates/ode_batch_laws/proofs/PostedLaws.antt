@@ -1,6 +1,5 @@
 -- What the last points of a transaction leave as it was.
 use Rattle.std.proofs.Common.{◌≡◌, ℕ, ◌<◌, ◌≤◌, true, List, [], ◌∷◌, map, Option, Some, None, refl, sym, ap, subst, ◌∙◌, arith}
-use Rattle.std.specs.List.{AllByRecursion}
 use Rattle.ode_batch_laws.proofs.BatchLaws.{batch_holds}
 use Rattle.ode_codec.specs.Standing.{HoldsWorld, StandsAs}
 use Rattle.ode_commit_laws.proofs.CleanLast.{posted_same}
@@ -21,7 +20,7 @@ use Rattle.ode_value.specs.Changes.{alters_object}
 use Rattle.ode_value.specs.Denoting.{object_at}
 use Rattle.ode_value.specs.Firings.{Place, arises, both_lists, fired, new_point, object_after, whole_list, with_point}
 use Rattle.ode_value.specs.GoodWorlds.{IsGood, RiseFrom}
-use Rattle.ode_value.specs.Keeping.{rewound_world, with_last}
+use Rattle.ode_value.specs.Keeping.{with_last}
 use Rattle.ode_value.specs.Language.{Language, ListTx, ListWorld}
 use Rattle.ode_value.specs.Objects.{Activation}
 use Rattle.ode_value.specs.Pasts.{Past, lists, numbers}

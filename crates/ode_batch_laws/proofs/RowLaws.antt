@@ -1,16 +1,16 @@
 -- The records of a stored database stand in rising order of their keys.
-use Rattle.std.proofs.Common.{◌≡◌, ℕ, ◌<◌, ◌≤◌, List, [], ◌∷◌, ◌++◌, map, refl, sym, ap, subst, arith}
+use Rattle.std.proofs.Common.{◌≡◌, ℕ, ◌<◌, ◌≤◌, List, ◌∷◌, ◌++◌, map, sym, subst, arith}
 use Rattle.std.proofs.lemmas.Bool.Decides.{nat_tests}
 use Rattle.std.specs.List.{AllByRecursion, flat_map}
 use Rattle.std.specs.declared.cmp.Ordering.TheVariants.{Less}
 use Rattle.ode_batch_laws.proofs.ClimbLaws.{AllBefore, AreBelow, AreFrom, Climb, all_before, all_flat, all_map, climb_flat, climb_front, climb_join, climb_map, climb_rises, rising_climbs}
 use Rattle.ode_codec.specs.StoredRows.{Stored, activation_row, activation_rows, counters_row, entry_row, head_row, object_row, pieces_of, places_of, rows, state_of, table_bytes, table_head, table_heads, table_pieces, table_row, table_rows, text_row, text_rows, version_rows}
-use Rattle.ode_keep.specs.Entries.{Entries, HasRisingKeys}
+use Rattle.ode_keep.specs.Entries.{HasRisingKeys}
 use Rattle.ode_laws.proofs.Each.{all-append, all-then}
 use Rattle.ode_laws.proofs.Rows.{id_of}
 use Rattle.ode_settling_laws.proofs.KindLaws.{class_rows, five}
 use Rattle.ode_value.specs.GoodWorlds.{AreBones, IsObject}
-use Rattle.ode_value.specs.Keys.{activation_key, counters_key, entry_key, key_cmp, object_key, version_key}
+use Rattle.ode_value.specs.Keys.{activation_key, entry_key, key_cmp, object_key, version_key}
 use Rattle.ode_value.specs.Language.{Language}
 use Rattle.ode_value.specs.Objects.{Activation}
 use Rattle.ode_value.specs.PrintedClasses.{decl_text}

@@ -1,10 +1,8 @@
 -- Activations go on and off, and take over states.
-use Rattle.std.proofs.Common.{◌≡◌, ◌==◌, ℕ, List, [], ◌∷◌, ◌++◌, map, Bool, true, false, cond, Option, Some, None, Ok, refl, sym, ap, subst, ◌∙◌, arith}
+use Rattle.std.proofs.Common.{◌≡◌, ◌==◌, ℕ, List, [], ◌∷◌, ◌++◌, map, Bool, true, false, cond, Option, Some, None, Ok, refl, sym, ap, ◌∙◌}
 use Rattle.std.proofs.lemmas.Bool.{eqb-true, false≢true}
-use Rattle.std.proofs.lemmas.Bool.Decides.{nat_tests}
-use Rattle.std.specs.Prelude.{◌||◌}
 use Rattle.std.specs.List.{find, fold, list_any}
-use Rattle.ode_formed_laws.proofs.AmongLaws.{IsOf, active_at, first_out, no_version, none_active}
+use Rattle.ode_formed_laws.proofs.AmongLaws.{active_at, first_out, none_active}
 use Rattle.ode_formed_laws.proofs.FormedLaws.{after_by, by_few, by_live, by_need, by_number, formed_then, put_here, put_others, was_formed}
 use Rattle.ode_formed_laws.proofs.ObjectLaws.{by_form, held_actives, own_active, own_actives}
 use Rattle.ode_formed_laws.proofs.SpelledLaws.{same_active, same_object, same_version}

@@ -1,6 +1,6 @@
 -- An object is changed, and the keys of the records that differ are held.
 use Rattle.std.proofs.Common.{◌≡◌, ◌==◌, ℕ, List, [], ◌∷◌, Bool, true, false, cond, Option, Some, None, Ok, Err, refl, sym, ap, subst, ◌∙◌, arith}
-use Rattle.std.proofs.lemmas.Bool.{eq-eqb, eqb-true}
+use Rattle.std.proofs.lemmas.Bool.{eqb-true}
 use Rattle.std.proofs.lemmas.Bool.Decides.{nat_tests}
 use Rattle.std.proofs.lemmas.Cmp.{nat_cmp_total}
 use Rattle.std.specs.Prelude.{◌||◌, nat_le, nat_lt}
@@ -18,13 +18,13 @@ use Rattle.ode_objects.specs.declared.tracked.Tracked.{Tracked}
 use Rattle.ode_overlay.specs.After.{held_after, is_among, value_after}
 use Rattle.ode_overlay.specs.Answers.{Answer, ◌>>=◌}
 use Rattle.ode_overlay.specs.Changing.{live_of, needs, next_number, now_tracked, object_of, with_now}
-use Rattle.ode_overlay.specs.Layers.{Layer, begun, few, holding, key_count, tracked_at}
+use Rattle.ode_overlay.specs.Layers.{Layer, begun, holding, key_count, tracked_at}
 use Rattle.ode_overlay.specs.Records.{becomes, becomes_of}
 use Rattle.ode_codec.specs.declared.record.Counters.{Counters}
 use Rattle.ode_overlay.specs.declared.error.OverlayError.{OverlayError}
 use Rattle.ode_overlay.specs.declared.error.OverlayError.TheVariants.{NoNumber, NoObject, TooManyChanges}
 use Rattle.ode_overlay.specs.declared.origin.Origin.{Origin}
-use Rattle.ode_overlay_laws.proofs.AlteredLaws.{at_same, now_current}
+use Rattle.ode_overlay_laws.proofs.AlteredLaws.{now_current}
 use Rattle.ode_settling_laws.specs.Formed.{IsFormed, IsOwn, value_in}
 use Rattle.ode_value.specs.Changes.{with_key}
 use Rattle.ode_value.specs.Limits.{change_limit, number_limit}

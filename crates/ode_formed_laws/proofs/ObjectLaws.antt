@@ -15,7 +15,7 @@ use Rattle.ode_formed_laws.proofs.SpelledLaws.{IsWritten, spells_active, spells_
 use Rattle.ode_formed_laws.specs.Staying.{IsStored, IsUnused, StaysFormed}
 use Rattle.ode_keep.proofs.Maps.{lookup_put}
 use Rattle.ode_keep.specs.Entries.{Entries, value_under}
-use Rattle.ode_objects.specs.Objects.{activation_keys, dead, has_number, is_numbered, made, object_keys, version_keys}
+use Rattle.ode_objects.specs.Objects.{activation_keys, dead, is_numbered, made, object_keys, version_keys}
 use Rattle.ode_objects.specs.Records.{object_becomes}
 use Rattle.ode_objects.specs.Values.{are_fields}
 use Rattle.ode_objects.specs.declared.object.Active.{Active}

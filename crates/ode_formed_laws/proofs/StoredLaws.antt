@@ -1,5 +1,5 @@
 -- What was read of an object stands under its keys.
-use Rattle.std.proofs.Common.{◌≡◌, ◌==◌, ℕ, List, [], ◌∷◌, map, Bool, cond, Option, Some, None, Ok, refl, sym, ap, subst, ◌∙◌}
+use Rattle.std.proofs.Common.{◌≡◌, ℕ, List, map, Option, Some, None, Ok, refl, sym, ap, subst, ◌∙◌}
 use Rattle.std.specs.List.{find}
 use Rattle.std.specs.Option.{option_and_then, option_map}
 use Rattle.ode_codec.specs.StoredRows.{Stored, activation_row, activation_rows, object_row, rows, state_of, version_rows}
@@ -7,7 +7,6 @@ use Rattle.ode_formed_laws.proofs.ObjectLaws.{by_form}
 use Rattle.ode_formed_laws.specs.Staying.{IsStored}
 use Rattle.ode_heap.specs.Activations.{activations_in}
 use Rattle.ode_heap.specs.Answering.{IsReadable, activations_of, class_of, head_of_object}
-use Rattle.ode_heap.specs.Answers.{Found}
 use Rattle.ode_heap.specs.Answers.{There}
 use Rattle.ode_heap.specs.Looking.{version_in}
 use Rattle.ode_heap.specs.Objects.{object_in}
@@ -18,18 +17,15 @@ use Rattle.ode_held_laws.proofs.PartLaws.{read_active, read_version, versions_ag
 use Rattle.ode_keep.specs.Entries.{Entries, value_under}
 use Rattle.ode_laws.proofs.Rows.{find-map, id_of, numbered_id}
 use Rattle.ode_objects.specs.Loading.{whole_in}
-use Rattle.ode_objects.specs.Objects.{has_number, is_numbered}
+use Rattle.ode_objects.specs.Objects.{has_number}
 use Rattle.ode_objects.specs.Tracked.{read_object}
-use Rattle.ode_objects.specs.declared.object.Active.{Active}
 use Rattle.ode_objects.specs.declared.object.Object as whole
 use Rattle.ode_objects.specs.declared.tracked.Tracked.{Tracked}
-use Rattle.ode_overlay.specs.Answers.{Answer}
 use Rattle.ode_overlay.specs.Changing.{fresh, fresh_at}
 use Rattle.ode_overlay.specs.Layers.{Layer, tracked_at}
-use Rattle.ode_overlay_laws.specs.Standing.{version_as}
 use Rattle.ode_settling_laws.proofs.KindLaws.{activation_stands, object_stands, version_stands}
 use Rattle.ode_settling_laws.proofs.PartLaws.{activations_stand, of_number, versions_stand}
-use Rattle.ode_settling_laws.specs.Formed.{IsOwn, active_value, value_in, version_value}
+use Rattle.ode_settling_laws.specs.Formed.{IsOwn, active_value, value_in}
 use Rattle.ode_value.specs.Denoting.{object_numbered}
 use Rattle.ode_value.specs.GoodWorlds.{RiseFrom}
 use Rattle.ode_value.specs.Keys.{activation_key, object_key, version_key}
