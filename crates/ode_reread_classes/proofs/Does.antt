@@ -15,6 +15,7 @@ use Rattle.ode_value.specs.declared.binding.Param.{Param}
 use Rattle.ode_value.specs.declared.statement.Expr.{Expr}
 use Rattle.ode_value.specs.declared.statement.Member.{Member}
 use Rattle.ode_value.specs.declared.statement.Sort.{Sort}
+use Rattle.ode_reread.proofs.AllRows.{row_does}
 use Rattle.ode_reread.proofs.Both.{Both, keep, make}
 use Rattle.ode_reread.proofs.Effects.{spelt, Adds, Effect, Leads, Replaces, RowIs}
 use Rattle.ode_reread.proofs.Goods.{Good}
@@ -132,10 +133,7 @@ Does place (item.Part p ∷ items) b w = (c : Both) × (Effect place p b c × Ne
 abbrev pub RowDoes : Place → Part → Terminal → List Item → Type 0
 RowDoes place p k row = (kd : TokenKind) (bytes : List ℕ) → Sound place (spelt k kd bytes) → (b w : Both) → Does place row (keep (spelt k kd bytes) b) w → News place p b w
 
--- what was known of the rows before
-abbrev pub Olds : Place → Type 0
-Olds place = (p : Part) (k : Terminal) (row : List Item) → after p k ≡ Some row → RowIs place p k row
-
+-- what was known before
 pub old : (place : Place) (items : List Item) (b w : Both) → Does place items b w → Leads place items b w
 old place [] b w l = l
 old place (item.Token k ∷ items) b w l = (l.0, l.1, l.2, old place items (keep (spelt k l.0 l.1) b) w l.3)
@@ -164,9 +162,9 @@ then_leads place (item.Build a ∷ xs) ys b mid w l m = then_leads place xs ys (
 then_leads place (item.Part p ∷ xs) ys b mid w l m = (l.0, l.1, then_leads place xs ys l.0 mid w l.2 m)
 
 -- what begins an operand adds a good expression, before any dots
-pub fronted : (place : Place) → Olds place → (k : Terminal) (pre : List Item) → after part.Unary k ≡ Some (pre ++ item.Part part.Dots ∷ [])
+pub fronted : (place : Place) → (k : Terminal) (pre : List Item) → after part.Unary k ≡ Some (pre ++ item.Part part.Dots ∷ [])
     → (kd : TokenKind) (bytes : List ℕ) → Sound place (spelt k kd bytes) → (b mid : Both) → Does place pre (keep (spelt k kd bytes) b) mid → Adds place b mid
-fronted place olds k pre e kd bytes s b mid l =
+fronted place k pre e kd bytes s b mid l =
     let no_dots : Replaces place mid mid = λ x h c is good. record { e = x; h = h; good = good; is = is } in
-    olds part.Unary k (pre ++ item.Part part.Dots ∷ []) e kd bytes s b mid
+    row_does place part.Unary k (pre ++ item.Part part.Dots ∷ []) e kd bytes s b mid
     (then_leads place pre (item.Part part.Dots ∷ []) (keep (spelt k kd bytes) b) mid mid (old place pre (keep (spelt k kd bytes) b) mid l) (mid, no_dots, refl))

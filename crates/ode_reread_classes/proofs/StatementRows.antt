@@ -22,12 +22,13 @@ use Rattle.ode_value.specs.declared.statement.Stmt.{Stmt}
 use Rattle.ode_value.specs.declared.statement.Stmt.TheVariants as stmt
 use Rattle.ode_syntax.specs.Built.{built, built_right_side, built_statement}
 use Rattle.ode_syntax.specs.Kept.{kept_as, name_of}
+use Rattle.ode_reread.proofs.AllRows.{row_does}
 use Rattle.ode_reread.proofs.Both.{Both, keep, make}
 use Rattle.ode_reread.proofs.Effects.{name_free, spelt}
 use Rattle.ode_reread.proofs.Goods.{name_good}
 use Rattle.ode_reread.proofs.Marked.{with_expr, with_name}
 use Rattle.ode_reread_classes.proofs.Chains.{appended, leaf_front, pair_front, version_front}
-use Rattle.ode_reread_classes.proofs.Does.{old, parted, raised_by, AddsCall, AddsRight, AddsStmt, Changes, Does, Olds, Raises, RowDoes}
+use Rattle.ode_reread_classes.proofs.Does.{old, parted, raised_by, AddsCall, AddsRight, AddsStmt, Changes, Does, Raises, RowDoes}
 use Rattle.ode_reread_classes.proofs.Parts.{args_up, expr_up, is_do, is_do as is_do_of, GoodExpr, GoodOf, GoodRight}
 use Rattle.ode_reread_classes.proofs.Puts.{with_args, with_body, with_right, with_stmt}
 use Rattle.ode_reread_classes.proofs.SideForms.{done}
@@ -178,9 +179,9 @@ called_alone place b w c =
 abbrev called_done : List Item
 called_done = item.Build action.Call ∷ done appended
 
-call_after : (place : Place) → Olds place → (k : Terminal) (pre : List Item) → after part.Unary k ≡ Some (pre ++ item.Part part.Dots ∷ [])
+call_after : (place : Place) → (k : Terminal) (pre : List Item) → after part.Unary k ≡ Some (pre ++ item.Part part.Dots ∷ [])
     → RowDoes place part.Inners k (pre ++ (dotted_call ++ called_done))
-call_after place olds k pre e kd bytes s b w l = called_alone place b w (atom_called place olds k pre called_done e kd bytes s b w l)
+call_after place k pre e kd bytes s b w l = called_alone place b w (atom_called place k pre called_done e kd bytes s b w l)
 
 name_after : (place : Place) → RowDoes place part.Inners terminal.Name (item.Part part.InnerName ∷ appended)
 unfolding kept_as
@@ -224,32 +225,32 @@ inner_name_rows place other = tt
 abbrev return_items : List Item
 return_items = item.Token terminal.Semi ∷ item.Build action.Return ∷ []
 
-value_after : (place : Place) → Olds place → (k : Terminal) (row : List Item) → after part.Expr k ≡ Some row → RowDoes place part.ReturnValue k (row ++ return_items)
+value_after : (place : Place) → (k : Terminal) (row : List Item) → after part.Expr k ≡ Some row → RowDoes place part.ReturnValue k (row ++ return_items)
 unfolding kept_as built built_right_side built_statement raised
-value_after place olds k row e kd bytes s b w l =
+value_after place k row e kd bytes s b w l =
     let r = parted place row return_items (keep (spelt k kd bytes) b) w l in
-    let a = olds part.Expr k row e kd bytes s b r.mid (old place row _ r.mid r.first) in
+    let a = row_does place part.Expr k row e kd bytes s b r.mid (old place row _ r.mid r.first) in
     raised_by (record { x = stmt.Return (Some a.e); n = a.h.own; good = return_good place a.h.own a.e (expr_up place a.e a.h a.h.own (omega arith) a.good); is = ap (make action.Return) a.is }) r.behind.3
 
 no_value_after : (place : Place) → RowDoes place part.ReturnValue terminal.Semi (item.Build action.ReturnNothing ∷ [])
 unfolding kept_as built built_right_side built_statement raised
 no_value_after place kd bytes s b w l = raised_by (record { x = stmt.Return None; n = 0; good = return_nothing_good place 0; is = refl }) l
 
-pub return_value_rows : (place : Place) → Olds place → (k : Terminal) → IfRow (RowDoes place part.ReturnValue k) (after part.ReturnValue k)
+pub return_value_rows : (place : Place) → (k : Terminal) → IfRow (RowDoes place part.ReturnValue k) (after part.ReturnValue k)
 unfolding after
-return_value_rows place olds terminal.Semi = no_value_after place
-return_value_rows place olds terminal.Leaf = value_after place olds terminal.Leaf leaf_row refl
-return_value_rows place olds terminal.Number = value_after place olds terminal.Number leaf_row refl
-return_value_rows place olds terminal.Seconds = value_after place olds terminal.Seconds leaf_row refl
-return_value_rows place olds terminal.Count = value_after place olds terminal.Count leaf_row refl
-return_value_rows place olds terminal.Text = value_after place olds terminal.Text leaf_row refl
-return_value_rows place olds terminal.Instant = value_after place olds terminal.Instant leaf_row refl
-return_value_rows place olds terminal.OpenParen = value_after place olds terminal.OpenParen pair_row refl
-return_value_rows place olds terminal.Version = value_after place olds terminal.Version version_row refl
-return_value_rows place olds terminal.Name = value_after place olds terminal.Name variable_row refl
-return_value_rows place olds terminal.Minus = value_after place olds terminal.Minus sign_row refl
-return_value_rows place olds terminal.Not = value_after place olds terminal.Not sign_row refl
-return_value_rows place olds other = tt
+return_value_rows place terminal.Semi = no_value_after place
+return_value_rows place terminal.Leaf = value_after place terminal.Leaf leaf_row refl
+return_value_rows place terminal.Number = value_after place terminal.Number leaf_row refl
+return_value_rows place terminal.Seconds = value_after place terminal.Seconds leaf_row refl
+return_value_rows place terminal.Count = value_after place terminal.Count leaf_row refl
+return_value_rows place terminal.Text = value_after place terminal.Text leaf_row refl
+return_value_rows place terminal.Instant = value_after place terminal.Instant leaf_row refl
+return_value_rows place terminal.OpenParen = value_after place terminal.OpenParen pair_row refl
+return_value_rows place terminal.Version = value_after place terminal.Version version_row refl
+return_value_rows place terminal.Name = value_after place terminal.Name variable_row refl
+return_value_rows place terminal.Minus = value_after place terminal.Minus sign_row refl
+return_value_rows place terminal.Not = value_after place terminal.Not sign_row refl
+return_value_rows place other = tt
 
 return_after : (place : Place) → RowDoes place part.Inners terminal.Return (item.Part part.ReturnValue ∷ appended)
 unfolding kept_as
@@ -275,27 +276,27 @@ if_after place kd bytes s b w l =
 
 -- ---- all statements of a body
 
-pub inners_rows : (place : Place) → Olds place → (k : Terminal) → IfRow (RowDoes place part.Inners k) (after part.Inners k)
+pub inners_rows : (place : Place) → (k : Terminal) → IfRow (RowDoes place part.Inners k) (after part.Inners k)
 unfolding after kept_as
-inners_rows place olds terminal.Let = let_after place
-inners_rows place olds terminal.Name = name_after place
-inners_rows place olds terminal.If = if_after place
-inners_rows place olds terminal.Return = return_after place
-inners_rows place olds terminal.TAbort = tabort_after place
-inners_rows place olds terminal.Show = show_after place
-inners_rows place olds terminal.Say = said_after place
-inners_rows place olds terminal.PDelete = deleted_after place
-inners_rows place olds terminal.DropVersion = dropped_after place
-inners_rows place olds terminal.Deactivate = deactivated_after place
-inners_rows place olds terminal.PNew = λ kd bytes s b w l. changed_alone place b w (pnew_changes place (done appended) kd bytes b w l)
-inners_rows place olds terminal.NewVersion = λ kd bytes s b w l. changed_alone place b w (newversion_changes place (done appended) kd bytes b w l)
-inners_rows place olds terminal.Activate = λ kd bytes s b w l. changed_alone place b w (activate_changes place (done appended) kd bytes b w l)
-inners_rows place olds terminal.Leaf = call_after place olds terminal.Leaf leaf_front refl
-inners_rows place olds terminal.Number = call_after place olds terminal.Number leaf_front refl
-inners_rows place olds terminal.Seconds = call_after place olds terminal.Seconds leaf_front refl
-inners_rows place olds terminal.Count = call_after place olds terminal.Count leaf_front refl
-inners_rows place olds terminal.Text = call_after place olds terminal.Text leaf_front refl
-inners_rows place olds terminal.Instant = call_after place olds terminal.Instant leaf_front refl
-inners_rows place olds terminal.OpenParen = call_after place olds terminal.OpenParen pair_front refl
-inners_rows place olds terminal.Version = call_after place olds terminal.Version version_front refl
-inners_rows place olds other = tt
+inners_rows place terminal.Let = let_after place
+inners_rows place terminal.Name = name_after place
+inners_rows place terminal.If = if_after place
+inners_rows place terminal.Return = return_after place
+inners_rows place terminal.TAbort = tabort_after place
+inners_rows place terminal.Show = show_after place
+inners_rows place terminal.Say = said_after place
+inners_rows place terminal.PDelete = deleted_after place
+inners_rows place terminal.DropVersion = dropped_after place
+inners_rows place terminal.Deactivate = deactivated_after place
+inners_rows place terminal.PNew = λ kd bytes s b w l. changed_alone place b w (pnew_changes place (done appended) kd bytes b w l)
+inners_rows place terminal.NewVersion = λ kd bytes s b w l. changed_alone place b w (newversion_changes place (done appended) kd bytes b w l)
+inners_rows place terminal.Activate = λ kd bytes s b w l. changed_alone place b w (activate_changes place (done appended) kd bytes b w l)
+inners_rows place terminal.Leaf = call_after place terminal.Leaf leaf_front refl
+inners_rows place terminal.Number = call_after place terminal.Number leaf_front refl
+inners_rows place terminal.Seconds = call_after place terminal.Seconds leaf_front refl
+inners_rows place terminal.Count = call_after place terminal.Count leaf_front refl
+inners_rows place terminal.Text = call_after place terminal.Text leaf_front refl
+inners_rows place terminal.Instant = call_after place terminal.Instant leaf_front refl
+inners_rows place terminal.OpenParen = call_after place terminal.OpenParen pair_front refl
+inners_rows place terminal.Version = call_after place terminal.Version version_front refl
+inners_rows place other = tt
