@@ -20,7 +20,8 @@ use Rattle.ode_reread.proofs.Sounds.{Sound, Sounds}
 use Rattle.ode_reread_classes.proofs.Does.{old, parted, Changes, Does, GoodMembers, News, RowDoes}
 use Rattle.ode_reread_classes.proofs.MemberRows.{class_rows, second_param_rows, third_param_rows, fourth_param_rows, fifth_param_rows, sixth_param_rows, seventh_param_rows, eighth_param_rows, ninth_param_rows, tenth_param_rows, eleventh_param_rows, twelfth_param_rows, thirteenth_param_rows, fourteenth_param_rows, fifteenth_param_rows, sixteenth_param_rows, field_or_method_rows, initial_rows, lasting_rows, members_rows, mode_rows, more_kinds_rows, no_initial, no_lasting, no_mode, no_parent, no_scope, params_rows, parent_rows, scope_rows, sort_rows}
 use Rattle.ode_reread_classes.proofs.Puts.{with_body, with_members}
-use Rattle.ode_reread_classes.proofs.SideRows.{args_rows, call_dot_rows, chained_rows, more_args_rows, more_sets_rows, rhs_dot_rows, rhs_dots_rows, rhs_name_rows, rhs_rows, sets_rows}
+use Rattle.ode_reread_classes.proofs.ScriptRows.{clock_text_rows, statement_rows}
+use Rattle.ode_reread_classes.proofs.SideRows.{args_rows, call_dot_rows, chained_rows, more_args_rows, more_sets_rows, rhs_dot_rows, rhs_dots_rows, rhs_name_rows, rhs_rows, script_rhs_rows, sets_rows}
 use Rattle.ode_reread_classes.proofs.StatementRows.{else_rows, inner_name_rows, inners_rows, no_else, return_value_rows}
 use Rattle.ode_reread_classes.proofs.Statements.{GoodBody}
 
@@ -71,6 +72,9 @@ all_rows place part.Parent k = parent_rows place k
 all_rows place part.Members k = members_rows place k
 all_rows place part.FieldOrMethod k = field_or_method_rows place k
 all_rows place part.Class k = class_rows place k
+all_rows place part.ScriptRhs k = script_rhs_rows place k
+all_rows place part.ClockText k = clock_text_rows place k
+all_rows place part.Statement k = statement_rows place k
 all_rows place other k = any_row place other k (after other k) (λ b w. tt)
 
 news_does : (place : Place) (p : Part) (k : Terminal) (row : List Item) → after p k ≡ Some row → RowDoes place p k row
@@ -126,6 +130,9 @@ left place part.SixteenthParam a b e = absurd (none-some a e)
 left place part.MoreKinds a b e = absurd (none-some a e)
 left place part.FieldOrMethod a b e = absurd (none-some a e)
 left place part.Class a b e = absurd (none-some a e)
+left place part.ScriptRhs a b e = absurd (none-some a e)
+left place part.ClockText a b e = absurd (none-some a e)
+left place part.Statement a b e = absurd (none-some a e)
 left place other a b e = tt
 
 -- ---- whole texts

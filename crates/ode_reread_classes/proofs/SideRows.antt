@@ -29,15 +29,13 @@ use Rattle.ode_reread.proofs.Goods.{field_good, name_good, Good}
 use Rattle.ode_reread.proofs.Marked.{with_expr, with_name}
 use Rattle.ode_reread.proofs.Sounds.{Sound}
 use Rattle.ode_reread_classes.proofs.Chains.{acted, early, leaf_front, name_row, pair_front, version_front}
-use Rattle.ode_reread_classes.proofs.Does.{fronted, old, parted, raised_by, AddsCall, AddsRight, Changes, Does, News, Raises, RowDoes}
+use Rattle.ode_reread_classes.proofs.Does.{fronted, old, parted, raised_by, unowned, AddsCall, AddsOwned, Changes, Does, News, Raises, RowDoes}
 use Rattle.ode_reread_classes.proofs.Parts.{args_up, is_do as is_do_of, expr_up, more_args, more_sets, GoodArgs, GoodOf, GoodSets}
 use Rattle.ode_reread_classes.proofs.Puts.{with_args, with_sets}
 use Rattle.ode_reread_classes.proofs.Rights.{after_ands, after_compare, after_factors, after_sums, dot_stand, dots_stand, is_held, name_stand, plain_items, Commutes}
+use Rattle.ode_reread_classes.proofs.Sides.{args_items}
 
 -- ---- arguments
-
-abbrev args_items : List Item
-args_items = item.Build action.Argument ∷ item.Part part.MoreArgs ∷ []
 
 args_end : (place : Place) (p : Part) → ((b w : Both) → Changes with_args (GoodArgs place) b w → News place p b w) → RowDoes place p terminal.CloseParen []
 unfolding kept_as
@@ -204,10 +202,10 @@ chained_rows place other = tt
 -- ---- expressions as right sides
 
 -- an expression, and its semicolon
-made_right : (place : Place) (b d w : Both) → Adds place b d → Does place plain_items d w → AddsRight place b w
+made_right : (place : Place) (b d w : Both) → Adds place b d → Does place plain_items d w → AddsOwned place b w
 unfolding kept_as built built_right_side raised
 made_right place b d w a l =
-    raised_by (record { x = rhs.Plain a.e; n = a.h.own; good = expr_up place a.e a.h a.h.own (omega arith) a.good; is = ap (make action.Plain) a.is }) l.3
+    raised_by (record { x = rhs.Plain a.e; n = a.h.own; good = (expr_up place a.e a.h a.h.own (omega arith) a.good, refl); is = ap (make action.Plain) a.is }) l.3
 
 -- the parts between an operator's row and the end of its expression
 abbrev AllReplace : Place → List Item → Type 0
@@ -230,7 +228,7 @@ sums_replace place c b w a l = compare_replaces place c l.0 w (replaced place c 
 
 -- what was put off gives a good expression, and so a right side
 abbrev Stands : Place → Option Action → Both → Both → Type 0
-Stands place o b w = (e : Expr) (h : Height) (c : Both) → acted o b ≡ with_expr e h c → Good place e h → AddsRight place c w
+Stands place o b w = (e : Expr) (h : Height) (c : Both) → acted o b ≡ with_expr e h c → Good place e h → AddsOwned place c w
 
 undone : (place : Place) (o : Option Action) (items : List Item) (b w : Both) → Does place (early o ++ items) b w → Does place items (acted o b) w
 undone place None items b w l = l
@@ -255,7 +253,7 @@ semi_stands : (place : Place) (o : Option Action) → (b w : Both) → Does plac
 unfolding built built_right_side raised
 semi_stands place o b w l = λ e h c is good.
     let y = undone place o (item.Build action.Plain ∷ []) b w l in
-    record { x = rhs.Plain e; n = h.own; good = expr_up place e h h.own (omega arith) good; is = sym y ∙ ap (make action.Plain) is }
+    record { x = rhs.Plain e; n = h.own; good = (expr_up place e h h.own (omega arith) good, refl); is = sym y ∙ ap (make action.Plain) is }
 
 -- at each of the three parts
 dots_news : (place : Place) (b w : Both) → Stands place None b w → News place part.RhsDots b w
@@ -267,7 +265,7 @@ dot_news place b w f = λ m e h c is free good. f (expr.Field e m) (above h.own)
 
 name_news : (place : Place) (b w : Both) → Stands place (Some action.Variable) b w → News place part.RhsName b w
 unfolding built raised
-name_news place b w f = λ m c is free. f (expr.Name m) leaf c (ap (make action.Variable) is) (name_good place m free)
+name_news place b w f = λ m c is free. unowned (f (expr.Name m) leaf c (ap (make action.Variable) is) (name_good place m free))
 
 abbrev factors_row : List Item
 factors_row = item.Part part.Unary ∷ item.Build action.Binary ∷ item.Part part.Factors ∷ []
@@ -302,7 +300,7 @@ field_right place kd bytes s b w l = λ m e h c is f good.
     raised_by (record {
       x = rhs.Call (record { of = Some e; method = m; args = a.x });
       n = n;
-      good = (of, f, args_up place a.n n a.x (omega arith) a.good);
+      good = ((of, f, args_up place a.n n a.x (omega arith) a.good), refl);
       is = ap (make action.Call) (a.is ∙ ap (with_args a.x a.n) is);
     })
     r.behind.3
@@ -378,17 +376,25 @@ rhs_name_rows place other = tt
 
 -- ---- whole right sides
 
-chain_right : (place : Place) → (k : Terminal) (pre : List Item) → after part.Unary k ≡ Some (pre ++ item.Part part.Dots ∷ [])
-    → RowDoes place part.Rhs k (pre ++ item.Part part.RhsDots ∷ [])
-chain_right place k pre e kd bytes s b w l =
+chain_owned : (place : Place) (k : Terminal) (pre : List Item) → after part.Unary k ≡ Some (pre ++ item.Part part.Dots ∷ []) → (kd : TokenKind) (bytes : List ℕ)
+    → Sound place (spelt k kd bytes) → (b w : Both) → Does place (pre ++ item.Part part.RhsDots ∷ []) (keep (spelt k kd bytes) b) w → AddsOwned place b w
+chain_owned place k pre e kd bytes s b w l =
     let r = parted place pre (item.Part part.RhsDots ∷ []) (keep (spelt k kd bytes) b) w l in
     let a = fronted place k pre e kd bytes s b r.mid r.first in
     raised_by (r.behind.1.1 a.e a.h b a.is a.good) r.behind.2
 
-sign_right : (place : Place) → (k : Terminal) → after part.Expr k ≡ Some sign_row → RowDoes place part.Rhs k (sign_row ++ plain_items)
-sign_right place k e kd bytes s b w l =
+chain_right : (place : Place) (k : Terminal) (pre : List Item) → after part.Unary k ≡ Some (pre ++ item.Part part.Dots ∷ [])
+    → RowDoes place part.Rhs k (pre ++ item.Part part.RhsDots ∷ [])
+chain_right place k pre e kd bytes s b w l = unowned (chain_owned place k pre e kd bytes s b w l)
+
+sign_owned : (place : Place) (k : Terminal) → after part.Expr k ≡ Some sign_row → (kd : TokenKind) (bytes : List ℕ) → Sound place (spelt k kd bytes) → (b w : Both)
+    → Does place (sign_row ++ plain_items) (keep (spelt k kd bytes) b) w → AddsOwned place b w
+sign_owned place k e kd bytes s b w l =
     let r = parted place sign_row plain_items (keep (spelt k kd bytes) b) w l in
     made_right place b r.mid w (row_does place part.Expr k sign_row e kd bytes s b r.mid (old place sign_row _ r.mid r.first)) r.behind
+
+sign_right : (place : Place) (k : Terminal) → after part.Expr k ≡ Some sign_row → RowDoes place part.Rhs k (sign_row ++ plain_items)
+sign_right place k e kd bytes s b w l = unowned (sign_owned place k e kd bytes s b w l)
 
 name_right : (place : Place) → RowDoes place part.Rhs terminal.Name (item.Part part.RhsName ∷ [])
 unfolding kept_as
@@ -397,7 +403,7 @@ name_right place kd bytes s b w l = raised_by (l.1.1 (name_of bytes) b refl (nam
 -- a change, and what follows it
 pub record Changed (place : Place) (more : List Item) (b w : Both) : Type 0 where
   pub mid : Both
-  pub right : AddsRight place b mid
+  pub right : AddsOwned place b mid
   pub is_do : is_do_of right.x ≡ true
   pub behind : Does place more mid w
 
@@ -410,7 +416,7 @@ pnew_changes place more kd bytes b w l =
     let f = p.1.1 [] 0 (with_name name b) refl tt in
     record {
       mid = make action.New p.0;
-      right = record { x = rhs.New name f.x; n = f.n; good = (name_free l.1, f.good); is = ap (make action.New) f.is };
+      right = record { x = rhs.New name f.x; n = f.n; good = ((name_free l.1, f.good), refl); is = ap (make action.New) f.is };
       is_do = refl;
       behind = p.2;
     }
@@ -422,7 +428,7 @@ newversion_changes place more kd bytes b w l =
     let a = l.1.0 in
     record {
       mid = make action.NewVersion l.0;
-      right = record { x = rhs.NewVersion a.e; n = a.h.own; good = expr_up place a.e a.h a.h.own (omega arith) a.good; is = ap (make action.NewVersion) a.is };
+      right = record { x = rhs.NewVersion a.e; n = a.h.own; good = (expr_up place a.e a.h a.h.own (omega arith) a.good, refl); is = ap (make action.NewVersion) a.is };
       is_do = refl;
       behind = l.2;
     }
@@ -436,13 +442,13 @@ activate_changes place more kd bytes b w l =
     let of : GoodOf place n a.e = record { h = a.h; good = a.good; below = omega arith } in
     record {
       mid = make action.Activate l.0;
-      right = record { x = rhs.Activate a.e a.name a.args; n = n; good = (of, a.free, args_up place a.n n a.args (omega arith) a.goods); is = ap (make action.Activate) a.is };
+      right = record { x = rhs.Activate a.e a.name a.args; n = n; good = ((of, a.free, args_up place a.n n a.args (omega arith) a.goods), refl); is = ap (make action.Activate) a.is };
       is_do = refl;
       behind = l.2;
     }
 
 -- a change and its semicolon
-change_right : (place : Place) (b w : Both) → Changed place ending b w → AddsRight place b w
+change_right : (place : Place) (b w : Both) → Changed place ending b w → AddsOwned place b w
 unfolding kept_as
 change_right place b w c = raised_by c.right c.behind.3
 
@@ -459,7 +465,25 @@ rhs_rows place terminal.Version = chain_right place terminal.Version version_fro
 rhs_rows place terminal.Name = name_right place
 rhs_rows place terminal.Minus = sign_right place terminal.Minus refl
 rhs_rows place terminal.Not = sign_right place terminal.Not refl
-rhs_rows place terminal.PNew = λ kd bytes s b w l. change_right place b w (pnew_changes place ending kd bytes b w l)
-rhs_rows place terminal.NewVersion = λ kd bytes s b w l. change_right place b w (newversion_changes place ending kd bytes b w l)
-rhs_rows place terminal.Activate = λ kd bytes s b w l. change_right place b w (activate_changes place ending kd bytes b w l)
+rhs_rows place terminal.PNew = λ kd bytes s b w l. unowned (change_right place b w (pnew_changes place ending kd bytes b w l))
+rhs_rows place terminal.NewVersion = λ kd bytes s b w l. unowned (change_right place b w (newversion_changes place ending kd bytes b w l))
+rhs_rows place terminal.Activate = λ kd bytes s b w l. unowned (change_right place b w (activate_changes place ending kd bytes b w l))
 rhs_rows place other = tt
+
+pub script_rhs_rows : (place : Place) (k : Terminal) → IfRow (RowDoes place part.ScriptRhs k) (after part.ScriptRhs k)
+unfolding after
+script_rhs_rows place terminal.Leaf = chain_owned place terminal.Leaf leaf_front refl
+script_rhs_rows place terminal.Number = chain_owned place terminal.Number leaf_front refl
+script_rhs_rows place terminal.Seconds = chain_owned place terminal.Seconds leaf_front refl
+script_rhs_rows place terminal.Count = chain_owned place terminal.Count leaf_front refl
+script_rhs_rows place terminal.Text = chain_owned place terminal.Text leaf_front refl
+script_rhs_rows place terminal.Instant = chain_owned place terminal.Instant leaf_front refl
+script_rhs_rows place terminal.OpenParen = chain_owned place terminal.OpenParen pair_front refl
+script_rhs_rows place terminal.Version = chain_owned place terminal.Version version_front refl
+script_rhs_rows place terminal.Name = chain_owned place terminal.Name name_front refl
+script_rhs_rows place terminal.Minus = sign_owned place terminal.Minus refl
+script_rhs_rows place terminal.Not = sign_owned place terminal.Not refl
+script_rhs_rows place terminal.PNew = λ kd bytes s b w l. change_right place b w (pnew_changes place ending kd bytes b w l)
+script_rhs_rows place terminal.NewVersion = λ kd bytes s b w l. change_right place b w (newversion_changes place ending kd bytes b w l)
+script_rhs_rows place terminal.Activate = λ kd bytes s b w l. change_right place b w (activate_changes place ending kd bytes b w l)
+script_rhs_rows place other = tt

@@ -28,10 +28,10 @@ use Rattle.ode_reread.proofs.Effects.{name_free, spelt}
 use Rattle.ode_reread.proofs.Goods.{name_good}
 use Rattle.ode_reread.proofs.Marked.{with_expr, with_name}
 use Rattle.ode_reread_classes.proofs.Chains.{appended, leaf_front, pair_front, version_front}
-use Rattle.ode_reread_classes.proofs.Does.{old, parted, raised_by, AddsCall, AddsRight, AddsStmt, Changes, Does, Raises, RowDoes}
+use Rattle.ode_reread_classes.proofs.Does.{old, parted, raised_by, unowned, AddsCall, AddsOwned, AddsRight, AddsStmt, Changes, Does, Raises, RowDoes}
 use Rattle.ode_reread_classes.proofs.Parts.{args_up, expr_up, is_do, is_do as is_do_of, GoodExpr, GoodOf, GoodRight}
 use Rattle.ode_reread_classes.proofs.Puts.{with_args, with_body, with_right, with_stmt}
-use Rattle.ode_reread_classes.proofs.SideForms.{done}
+use Rattle.ode_reread_classes.proofs.SideForms.{done, inner_simple}
 use Rattle.ode_reread_classes.proofs.SideRows.{activate_changes, argued_call, atom_called, leaf_row, newversion_changes, pair_row, pnew_changes, sign_row, variable_row, version_row, Called, Changed}
 use Rattle.ode_reread_classes.proofs.Statements.{body_up, deactivate_good, delete_good, do_good, drop_version_good, if_good, let_good, more_body, no_body, return_good, return_nothing_good, say_good, set_good, show_good, tabort_good, GoodBody, GoodElse, GoodStmt}
 
@@ -82,44 +82,51 @@ else_up place n m (s ∷ xs) l g = body_up place n m (s ∷ xs) l g
 -- ---- a word and an expression
 
 -- what is said, deleted and dropped, with its semicolon
-expression_said : (place : Place) (a : Action) (of : Expr → Stmt) → ((e : Expr) (h : Height) (c : Both) → make a (with_expr e h c) ≡ with_stmt (of e) h.own c)
-    → ((n : ℕ) (e : Expr) → GoodExpr place n e → GoodStmt place n (of e)) → (more : List Item) (b w : Both)
-    → Does place (item.Part part.Expr ∷ item.Token terminal.Semi ∷ item.Build a ∷ more) b w → (d : Both) × AddsStmt place b d × Does place more d w
+pub expression_said : (place : Place) (a : Action) (of : Expr → Stmt) → ((e : Expr) (h : Height) (c : Both) → make a (with_expr e h c) ≡ with_stmt (of e) h.own c)
+    → (P : ℕ → Stmt → Type 0) → ((n : ℕ) (e : Expr) → GoodExpr place n e → P n (of e)) → (more : List Item) (b w : Both)
+    → Does place (item.Part part.Expr ∷ item.Token terminal.Semi ∷ item.Build a ∷ more) b w → (d : Both) × Raises with_stmt P b d × Does place more d w
 unfolding kept_as
-expression_said place a of made good more b w l =
+expression_said place a of made P good more b w l =
     let x = l.1.0 in
     (make a l.0, record { x = of x.e; n = x.h.own; good = good x.h.own x.e (expr_up place x.e x.h x.h.own (omega arith) x.good); is = ap (make a) x.is ∙ made x.e x.h b }, l.2.3)
 
 said_after : (place : Place) → RowDoes place part.Inners terminal.Say (item.Part part.Expr ∷ item.Token terminal.Semi ∷ item.Build action.Say ∷ appended)
 unfolding kept_as built built_right_side built_statement raised
 said_after place kd bytes s b w l =
-    let r = expression_said place action.Say stmt.Say (λ e h c. refl) (say_good place) appended b w l in
+    let r = expression_said place action.Say stmt.Say (λ e h c. refl) (GoodStmt place) (say_good inner_simple place) appended b w l in
     appending place b r.0 w r.1 r.2
 
 deleted_after : (place : Place) → RowDoes place part.Inners terminal.PDelete (item.Part part.Expr ∷ item.Token terminal.Semi ∷ item.Build action.Delete ∷ appended)
 unfolding kept_as built built_right_side built_statement raised
 deleted_after place kd bytes s b w l =
-    let r = expression_said place action.Delete stmt.Delete (λ e h c. refl) (delete_good place) appended b w l in
+    let r = expression_said place action.Delete stmt.Delete (λ e h c. refl) (GoodStmt place) (delete_good inner_simple place) appended b w l in
     appending place b r.0 w r.1 r.2
 
 dropped_after : (place : Place) → RowDoes place part.Inners terminal.DropVersion (item.Part part.Expr ∷ item.Token terminal.Semi ∷ item.Build action.DropVersion ∷ appended)
 unfolding kept_as built built_right_side built_statement raised
 dropped_after place kd bytes s b w l =
-    let r = expression_said place action.DropVersion stmt.DropVersion (λ e h c. refl) (drop_version_good place) appended b w l in
+    let r = expression_said place action.DropVersion stmt.DropVersion (λ e h c. refl) (GoodStmt place) (drop_version_good inner_simple place) appended b w l in
     appending place b r.0 w r.1 r.2
 
-deactivated_after : (place : Place)
-    → RowDoes place part.Inners terminal.Deactivate
-    (item.Part part.Expr ∷ item.Token terminal.Comma ∷ item.Part part.Expr ∷ item.Token terminal.Semi ∷ item.Build action.Deactivate ∷ appended)
+pub deactivation : (place : Place) (P : ℕ → Stmt → Type 0) → ((n : ℕ) (e f : Expr) → GoodExpr place n e → GoodExpr place n f → P n (stmt.Deactivate e f)) → (more : List Item) (b w : Both)
+    → Does place (item.Part part.Expr ∷ item.Token terminal.Comma ∷ item.Part part.Expr ∷ item.Token terminal.Semi ∷ item.Build action.Deactivate ∷ more) b w
+    → (d : Both) × Raises with_stmt P b d × Does place more d w
 unfolding kept_as built built_right_side built_statement raised
-deactivated_after place kd bytes s b w l =
+deactivation place P good more b w l =
     let x = l.1.0 in
     let p = l.2.3 in
     let y = p.1.0 in
     let n = max x.h.own y.h.own in
-    let d = make action.Deactivate p.0 in
-    let good = deactivate_good place n x.e y.e (expr_up place x.e x.h n (omega arith) x.good) (expr_up place y.e y.h n (omega arith) y.good) in
-    appending place b d w (record { x = stmt.Deactivate x.e y.e; n = n; good = good; is = ap (make action.Deactivate) (y.is ∙ ap (with_expr y.e y.h) x.is) }) p.2.3
+    let both = good n x.e y.e (expr_up place x.e x.h n (omega arith) x.good) (expr_up place y.e y.h n (omega arith) y.good) in
+    (make action.Deactivate p.0, record { x = stmt.Deactivate x.e y.e; n = n; good = both; is = ap (make action.Deactivate) (y.is ∙ ap (with_expr y.e y.h) x.is) }, p.2.3)
+
+deactivated_after : (place : Place)
+    → RowDoes place part.Inners terminal.Deactivate
+    (item.Part part.Expr ∷ item.Token terminal.Comma ∷ item.Part part.Expr ∷ item.Token terminal.Semi ∷ item.Build action.Deactivate ∷ appended)
+unfolding kept_as
+deactivated_after place kd bytes s b w l =
+    let r = deactivation place (GoodStmt place) (deactivate_good inner_simple place) appended b w l in
+    appending place b r.0 w r.1 r.2
 
 tabort_after : (place : Place) → RowDoes place part.Inners terminal.TAbort (item.Token terminal.Semi ∷ item.Build action.TAbort ∷ appended)
 unfolding kept_as built built_right_side built_statement raised
@@ -149,11 +156,11 @@ done_by place b d w r o l =
     appending place b (make action.Do d) w (record { x = stmt.Do r.x; n = r.n; good = do_good place r.n r.x o r.good; is = ap (make action.Do) r.is }) l.3
 
 changed_alone : (place : Place) (b w : Both) → Changed place (done appended) b w → Changes with_body (GoodBody place) b w
-changed_alone place b w c = done_by place b c.mid w c.right c.is_do c.behind
+changed_alone place b w c = done_by place b c.mid w (unowned c.right) c.is_do c.behind
 
 -- a call by a reference as a right side
 pub record CallRight (place : Place) (b d : Both) : Type 0 where
-  pub right : AddsRight place b d
+  pub right : AddsOwned place b d
   pub is_do : is_do_of right.x ≡ true
 
 pub call_right : (place : Place) (b d : Both) → AddsCall place b d → CallRight place b (make action.Call d)
@@ -165,7 +172,7 @@ call_right place b d a =
       right = record {
         x = rhs.Call (record { of = Some a.e; method = a.name; args = a.args });
         n = n;
-        good = (of, a.free, args_up place a.n n a.args (omega arith) a.goods);
+        good = ((of, a.free, args_up place a.n n a.args (omega arith) a.goods), refl);
         is = ap (make action.Call) a.is;
       };
       is_do = refl;
@@ -174,7 +181,7 @@ call_right place b d a =
 called_alone : (place : Place) (b w : Both) → Called place (item.Build action.Call ∷ done appended) b w → Changes with_body (GoodBody place) b w
 called_alone place b w c =
     let r = call_right place b c.mid c.call in
-    done_by place b (make action.Call c.mid) w r.right r.is_do c.behind
+    done_by place b (make action.Call c.mid) w (unowned r.right) r.is_do c.behind
 
 abbrev called_done : List Item
 called_done = item.Build action.Call ∷ done appended
@@ -211,7 +218,7 @@ dot_after place kd bytes s b w l = λ m c is f.
     let p = l.3 in
     let a = p.1.1 name (expr.Name m) leaf c (ap (λ x. with_name name (make action.Variable x)) is) (name_free l.1) (name_good place m f) in
     let r = call_right place c p.0 a in
-    raised_by (record { x = stmt.Do r.right.x; n = r.right.n; good = do_good place r.right.n r.right.x r.is_do r.right.good; is = ap (make action.Do) r.right.is }) p.2.3
+    raised_by (record { x = stmt.Do r.right.x; n = r.right.n; good = do_good place r.right.n r.right.x r.is_do r.right.good.0; is = ap (make action.Do) r.right.is }) p.2.3
 
 pub inner_name_rows : (place : Place) (k : Terminal) → IfRow (RowDoes place part.InnerName k) (after part.InnerName k)
 unfolding after
