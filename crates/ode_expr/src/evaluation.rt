@@ -3,7 +3,6 @@ ghost use Rattle.std.specs.Prelude.{◌≡◌, None};
 ghost use Rattle.ode_value.specs.Evaluation.{at_ref, evaluate, field_of, version_reference};
 ghost use Rattle.ode_value.specs.Masks.{value_at};
 ghost use Rattle.ode_value.specs.Operators.{unary_value};
-ghost use Rattle.ode_value.specs.Worlds.{Bones};
 ghost use Rattle.ode_expr.specs.Answers.{Answers, side_of, stopped_by};
 
 use crate::frame::Frame;
@@ -29,9 +28,9 @@ fn local<F: Frame>(alloc: Global, slot: u16, frame: &F) -> Result<Value, EvalSto
 }
 
 fn field<F: Frame>(of: &Value, slot: u16, frame: &mut F) -> Result<Value, EvalStop<F::Stop>>
-    ensures value { (b : Bones) → F.shows frame.old b → Answers (at_ref (field_of b slot) of.now) result }
+    ensures value { (k : F.Known) → F.shows frame.old k → Answers (at_ref (field_of (F.bones k) slot) of.now) result }
     ensures stopped { F.stopped frame.new ≡ stopped_by result (F.stopped frame.old) }
-    ensures shows { (b : Bones) → F.shows frame.old b → F.shows frame.new b }
+    ensures shows { (k : F.Known) → F.shows frame.old k → F.shows frame.new k }
     ensures scene { F.scene frame.new ≡ F.scene frame.old }
 {
     match of {
@@ -41,9 +40,9 @@ fn field<F: Frame>(of: &Value, slot: u16, frame: &mut F) -> Result<Value, EvalSt
 }
 
 fn current<F: Frame>(of: Ref, frame: &mut F) -> Result<Value, EvalStop<F::Stop>>
-    ensures value { (b : Bones) → F.shows frame.old b → Answers (version_reference b of) result }
+    ensures value { (k : F.Known) → F.shows frame.old k → Answers (version_reference (F.bones k) of) result }
     ensures stopped { F.stopped frame.new ≡ stopped_by result (F.stopped frame.old) }
-    ensures shows { (b : Bones) → F.shows frame.old b → F.shows frame.new b }
+    ensures shows { (k : F.Known) → F.shows frame.old k → F.shows frame.new k }
     ensures scene { F.scene frame.new ≡ F.scene frame.old }
 {
     match frame.current(of) {
@@ -56,9 +55,9 @@ fn current<F: Frame>(of: Ref, frame: &mut F) -> Result<Value, EvalStop<F::Stop>>
 }
 
 fn version<F: Frame>(of: &Value, frame: &mut F) -> Result<Value, EvalStop<F::Stop>>
-    ensures value { (b : Bones) → F.shows frame.old b → Answers (at_ref (version_reference b) of.now) result }
+    ensures value { (k : F.Known) → F.shows frame.old k → Answers (at_ref (version_reference (F.bones k)) of.now) result }
     ensures stopped { F.stopped frame.new ≡ stopped_by result (F.stopped frame.old) }
-    ensures shows { (b : Bones) → F.shows frame.old b → F.shows frame.new b }
+    ensures shows { (k : F.Known) → F.shows frame.old k → F.shows frame.new k }
     ensures scene { F.scene frame.new ≡ F.scene frame.old }
 {
     match of {
@@ -80,9 +79,9 @@ fn of_one<S>(op: UnOp, v: &Value) -> Result<Value, EvalStop<S>>
 #[tactic(auto, using(crate::proofs::EvaluationLaws::evaluations, crate::proofs::EvaluationLaws::stops_through))]
 pub fn eval<F: Frame>(alloc: Global, e: &Expr, frame: &mut F) -> Result<Value, EvalStop<F::Stop>>
     requires { F.stopped frame.old ≡ None }
-    ensures value { (b : Bones) → F.shows frame.old b → Answers (evaluate e.now b (F.scene frame.old)) result }
+    ensures value { (k : F.Known) → F.shows frame.old k → Answers (evaluate e.now (F.bones k) (F.scene frame.old)) result }
     ensures stopped { F.stopped frame.new ≡ stopped_by result None }
-    ensures shows { (b : Bones) → F.shows frame.old b → F.shows frame.new b }
+    ensures shows { (k : F.Known) → F.shows frame.old k → F.shows frame.new k }
     ensures scene { F.scene frame.new ≡ F.scene frame.old }
 {
     match e {
@@ -124,9 +123,9 @@ fn eval_right<F: Frame>(
     frame: &mut F,
 ) -> Result<Value, EvalStop<F::Stop>>
     requires { F.stopped frame.old ≡ None }
-    ensures value { (b : Bones) → F.shows frame.old b → Answers (side_of op v.now (evaluate f.now b (F.scene frame.old))) result }
+    ensures value { (k : F.Known) → F.shows frame.old k → Answers (side_of op v.now (evaluate f.now (F.bones k) (F.scene frame.old))) result }
     ensures stopped { F.stopped frame.new ≡ stopped_by result None }
-    ensures shows { (b : Bones) → F.shows frame.old b → F.shows frame.new b }
+    ensures shows { (k : F.Known) → F.shows frame.old k → F.shows frame.new k }
     ensures scene { F.scene frame.new ≡ F.scene frame.old }
 {
     match op {

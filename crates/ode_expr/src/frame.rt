@@ -13,8 +13,14 @@ pub trait Frame {
     /// What a read of it may stop by besides a fault.
     type Stop: Copy;
 
-    /// It shows this world: what is read of it is what the world has.
-    ghost shows: { Self → Bones → Type 0 };
+    /// What can be known of it: the world that it shows, and what else its reads keep.
+    ghost Known: { Type 0 };
+
+    /// The world.
+    ghost bones: { Known → Bones };
+
+    /// This is known of it: what is read of it is what the world has.
+    ghost shows: { Self → Known → Type 0 };
 
     /// The reference, and the parameters and locals.
     ghost scene: { Self → Scene };
@@ -32,15 +38,15 @@ pub trait Frame {
 
     /// A field of the version that a reference denotes.
     fn read_field(&mut self, of: Ref, slot: u16) -> Result<Value, EvalStop<Self::Stop>>
-        ensures value { (b : Bones) → shows self.old b → Answers (field_of b slot of) result }
+        ensures value { (k : Known) → shows self.old k → Answers (field_of (bones k) slot of) result }
         ensures stopped { stopped self.new ≡ stopped_by result (stopped self.old) }
-        ensures shows { (b : Bones) → shows self.old b → shows self.new b }
+        ensures shows { (k : Known) → shows self.old k → shows self.new k }
         ensures scene { scene self.new ≡ scene self.old };
 
     /// The number of the version that a reference denotes.
     fn current(&mut self, of: Ref) -> Result<u32, EvalStop<Self::Stop>>
-        ensures value { (b : Bones) → shows self.old b → Answers (number_of b of) result }
+        ensures value { (k : Known) → shows self.old k → Answers (number_of (bones k) of) result }
         ensures stopped { stopped self.new ≡ stopped_by result (stopped self.old) }
-        ensures shows { (b : Bones) → shows self.old b → shows self.new b }
+        ensures shows { (k : Known) → shows self.old k → shows self.new k }
         ensures scene { scene self.new ≡ scene self.old };
 }

@@ -11,12 +11,13 @@ ghost use Rattle.ode_value.specs.Expressions.{evaluates, stands, text_in};
 ghost use Rattle.ode_value.specs.Firings.{arises, both_lists, whole_list};
 ghost use Rattle.ode_value.specs.Making.{derives, drops, makes, removes, sets_field};
 ghost use Rattle.ode_value.specs.Pasts.{numbers};
-ghost use Rattle.ode_value.specs.Posting.{collects, defers, fired_text, is_listed, is_touched, joins};
+ghost use Rattle.ode_value.specs.Posting.{collects, defers, fired_text, is_listed};
 ghost use Rattle.ode_value.specs.Settling.{says};
 ghost use Rattle.ode_value.specs.Statements.{activates_initial, switches_off_numbered, switches_on_named};
 ghost use Rattle.ode_value.specs.Texts.{said_line, value_line};
 ghost use Rattle.ode_value.specs.Worlds.{Declared};
 ghost use Rattle.ode_interpreter.specs.Seen.{Ends, EndsBy, IsFault, Leaves, NumberTx, firing, scene, trigger, with_classes};
+ghost use Rattle.ode_interpreter.specs.Touching.{joins_first};
 
 use crate::firing::{Firing, Trigger};
 use crate::scene::Scene;
@@ -88,15 +89,9 @@ pub trait Acts<S: Schema> {
         ensures acts { (classes : Items Declared) (g : Known) → S.declares schema.now classes → knows self.old g → Ends result (with_classes classes (view self.new g)) (class_of id (with_classes classes (view self.old g))) }
         ensures kept { (g : Known) → knows self.old g → Leaves result (knows self.new g) (failed self.new g) };
 
-    /// Whether an object was touched.
-    fn is_touched(&mut self, schema: &S, id: u64) -> Result<bool, Stop>
-        ensures acts { (classes : Items Declared) (g : Known) → S.declares schema.now classes → knows self.old g → Ends result (with_classes classes (view self.new g)) (reads (is_touched id) (with_classes classes (view self.old g))) }
-        ensures kept { (g : Known) → knows self.old g → Leaves result (knows self.new g) (failed self.new g) }
-        ensures fault { IfErr result IsFault };
-
-    /// An object joins the touched ones.
-    fn join(&mut self, schema: &S, id: u64) -> Result<(), Stop>
-        ensures acts { (classes : Items Declared) (g : Known) → S.declares schema.now classes → knows self.old g → Ends result (with_classes classes (view self.new g)) (joins id (with_classes classes (view self.old g))) }
+    /// An object that is there joins the touched ones, where it isn't among them; whether it does.
+    fn join(&mut self, schema: &S, id: u64) -> Result<bool, Stop>
+        ensures acts { (classes : Items Declared) (g : Known) → S.declares schema.now classes → knows self.old g → Ends result (with_classes classes (view self.new g)) (joins_first id (with_classes classes (view self.old g))) }
         ensures kept { (g : Known) → knows self.old g → Leaves result (knows self.new g) (failed self.new g) };
 
     /// Whether an object's class lists a kind.

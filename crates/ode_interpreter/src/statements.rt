@@ -4,7 +4,7 @@ ghost use Rattle.std.specs.List.{All};
 ghost use Rattle.ode_value.specs.Acts.{each};
 ghost use Rattle.ode_value.specs.Executing.{actions_of, deeper, execute, executes, in_turn, level, right};
 ghost use Rattle.ode_value.specs.Pasts.{numbers};
-ghost use Rattle.ode_value.specs.Posting.{enters, posts, runs, touches, touches_first, treats};
+ghost use Rattle.ode_value.specs.Posting.{enters, posts, runs, touches, treats};
 ghost use Rattle.ode_value.specs.Statements.{activates, calls_behind, calls_deeper, calls_inside, copies, creates, deactivates, deletes, drops_version};
 ghost use Rattle.ode_value.specs.Worlds.{Declared};
 ghost use Rattle.ode_interpreter.specs.Seen.{Ends, EndsBy, Leaves, firing, flow_of, scene, with_classes};
@@ -388,9 +388,9 @@ pub(crate) fn call_after<S: Schema, T: Acts<S>>(
     Ok(())
 }
 
-/// An object is touched.
+/// An object is touched. The first touch posts a point.
 #[cycle(go)]
-#[tactic(auto, unfolding(ode_value::specs::Posting::touches))]
+#[tactic(auto, using(crate::proofs::Touches::touched_anew, crate::proofs::Touches::touched_again, crate::proofs::Touches::not_touched))]
 pub(crate) fn touch<S: Schema, T: Acts<S>>(
     alloc: Global,
     schema: &S,
@@ -401,27 +401,10 @@ pub(crate) fn touch<S: Schema, T: Acts<S>>(
     ensures acts { (classes : Items Declared) (g : T.Known) → S.declares schema.now classes → T.knows tx.old g → Ends result (with_classes classes (T.view tx.new g)) (touches (numbers (S.tables schema.now)) (actions_of (deeper (numbers (S.tables schema.now)) levels)) id (with_classes classes (T.view tx.old g))) }
     ensures kept { (g : T.Known) → T.knows tx.old g → Leaves result (T.knows tx.new g) (T.failed tx.new g) }
 {
-    tx.live(schema, id)?;
-    if tx.is_touched(schema, id)? {
-        return Ok(());
+    if tx.join(schema, id)? {
+        return post(alloc, schema, tx, levels, id, &Kind::TBegin, &[]);
     }
-    touch_first(alloc, schema, tx, levels, id)
-}
-
-/// The first touch of an object.
-#[cycle(go)]
-pub(crate) fn touch_first<S: Schema, T: Acts<S>>(
-    alloc: Global,
-    schema: &S,
-    tx: &mut T,
-    levels: u8,
-    id: u64,
-) -> Result<(), Stop>
-    ensures acts { (classes : Items Declared) (g : T.Known) → S.declares schema.now classes → T.knows tx.old g → Ends result (with_classes classes (T.view tx.new g)) (touches_first (numbers (S.tables schema.now)) (actions_of (deeper (numbers (S.tables schema.now)) levels)) id (with_classes classes (T.view tx.old g))) }
-    ensures kept { (g : T.Known) → T.knows tx.old g → Leaves result (T.knows tx.new g) (T.failed tx.new g) }
-{
-    tx.join(schema, id)?;
-    post(alloc, schema, tx, levels, id, &Kind::TBegin, &[])
+    Ok(())
 }
 
 /// A point is posted.

@@ -1,8 +1,8 @@
-mod KeySets
-mod BeginLaws
-mod AlteredLaws
-mod FollowingLaws
-mod ObjectLaws
-mod TouchLaws
-mod MakingLaws
-mod CollectLaws
+pub mod KeySets
+pub mod BeginLaws
+pub mod AlteredLaws
+pub mod FollowingLaws
+pub mod ObjectLaws
+pub mod TouchLaws
+pub mod MakingLaws
+pub mod CollectLaws

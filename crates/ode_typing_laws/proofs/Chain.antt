@@ -24,9 +24,9 @@ use Rattle.ode_typing_laws.proofs.Longer.{stays_typed}
 use Rattle.ode_typing_laws.proofs.More.{IsNotBelow, find_in}
 
 -- neither the class's number nor its parent's is above this one
-record IsLow (n : ℕ) (c : Class) : Type 0 where
-  number : c.number ≤ n
-  parent : unwrap_or c.parent 0 ≤ n
+pub record IsLow (n : ℕ) (c : Class) : Type 0 where
+  pub number : c.number ≤ n
+  pub parent : unwrap_or c.parent 0 ≤ n
 
 -- members change no parent
 same_parent : (c : Class) (m : Member) → (with_member c m).parent ≡ c.parent
@@ -61,7 +61,7 @@ begins_low known n low d start h =
     let is : without_members third.0 d.name second.0 ≡ start = cc (third.2) in
     subst (λ (x : Class). unwrap_or x.parent 0 ≤ n) is (low_parent known n low d.parent second.0 second.1)
 
-checked_low : (known : List Class) (n : ℕ) → AllByRecursion (IsLow n) known → (c : Class) → IsChecked known c → unwrap_or c.parent 0 ≤ n
+pub checked_low : (known : List Class) (n : ℕ) → AllByRecursion (IsLow n) known → (c : Class) → IsChecked known c → unwrap_or c.parent 0 ≤ n
 unfolding check_class completed
 checked_low known n low c is =
     let first = bind-ok (begins known is.tree) (λ start. declared known is.tree start >>= (λ draft. completed (known ++ draft ∷ []) draft is.tree start)) c is.checks in
@@ -71,7 +71,7 @@ checked_low known n low c is =
     subst (λ (x : Class). unwrap_or x.parent 0 ≤ n) made (subst (λ o. unwrap_or o 0 ≤ n) (sym (same_parents third.0 first.0)) (begins_low known n low is.tree first.0 first.1))
 
 -- the same with a greater number
-all_low : (m n : ℕ) → m ≤ n → (cs : List Class) → AllByRecursion (IsLow m) cs → AllByRecursion (IsLow n) cs
+pub all_low : (m n : ℕ) → m ≤ n → (cs : List Class) → AllByRecursion (IsLow m) cs → AllByRecursion (IsLow n) cs
 all_low m n less [] all = tt
 all_low m n less (c ∷ cs) all = (record { number = omega (arith, all.0.number); parent = omega (arith, all.0.parent) }, all_low m n less cs all.1)
 

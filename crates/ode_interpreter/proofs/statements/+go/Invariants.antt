@@ -29,9 +29,6 @@ decreases-post g l = let t = g.S.Schema.longest l.schema.now the_size in l.level
 abbrev pub decreases-touch : goal.decreases-touch
 decreases-touch g l = let t = g.S.Schema.longest l.schema.now the_size in l.levels * room t + 2 * t + 8
 
-abbrev pub decreases-touch_first : goal.decreases-touch_first
-decreases-touch_first g l = let t = g.S.Schema.longest l.schema.now the_size in l.levels * room t + 2 * t + 7
-
 abbrev pub decreases-new_version : goal.decreases-new_version
 decreases-new_version g l = let t = g.S.Schema.longest l.schema.now the_size in l.levels * room t + 2 * t + 9
 

@@ -1,0 +1,6 @@
+pub mod Accepted
+pub mod Along
+pub mod Lines
+pub mod Lists
+pub mod Members
+pub mod Rules

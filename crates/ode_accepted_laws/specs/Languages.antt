@@ -1,0 +1,27 @@
+-- Languages whose static rules are sound.
+use Rattle.std.specs.Prelude.{◌≡◌, ◌<◌, ◌+◌, ◌^◌, ℕ, List, [], ◌∷◌, ◌++◌, length, Ok}
+use Rattle.ode_value.specs.declared.class.Class.{Class}
+use Rattle.ode_value.specs.declared.statement.ClassDecl.{ClassDecl}
+use Rattle.ode_value.specs.declared.statement.Stmt.{Stmt}
+use Rattle.ode_value.specs.declared.value.Ref.{Ref}
+use Rattle.ode_value.specs.Language.{Language}
+use Rattle.ode_value.specs.Worlds.{Declared}
+use Rattle.ode_types.specs.Kept.{IsTypedStatement}
+use Rattle.ode_types.specs.Static.{check_class, check_statement}
+use Rattle.ode_sound_laws.specs.Sound.{AreSound}
+
+-- each class is what a language makes of its tree behind the earlier ones
+abbrev pub AreAccepted : Language → List Class → List Declared → Type 0
+AreAccepted l earlier [] = Unit {0}
+AreAccepted l earlier (c ∷ cs) = (l.class_of earlier c.tree ≡ Ok c.class) × AreAccepted l (earlier ++ c.class ∷ []) cs
+
+-- a language checks classes and statements by the static rules
+pub record HasStaticRules (l : Language) : Type 0 where
+  pub class_of : l.class_of ≡ check_class
+  pub checked : l.checked ≡ check_statement
+
+-- checked statements are typed, accepted classes are sound, and each has the next number, of 32 bits
+pub record HasSoundRules (l : Language) : Type 0 where
+  pub checked : (cs : List Class) (literals : List (Ref × ℕ)) (s t : Stmt) → l.checked cs literals s ≡ Ok t → IsTypedStatement cs literals t
+  pub accepted : (cs : List Declared) → AreAccepted l [] cs → AreSound cs
+  pub numbered : (cs : List Class) (d : ClassDecl) (c : Class) → l.class_of cs d ≡ Ok c → (c.number ≡ length cs + 1) × (c.number < 2 ^ 32)

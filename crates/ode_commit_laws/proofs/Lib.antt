@@ -1,0 +1,5 @@
+mod CleanLists
+mod CleanRows
+mod CleanPoints
+mod CleanWorlds
+mod CleanLast

@@ -1,0 +1,2 @@
+pub mod DeepLaws
+pub mod ReadingLaws

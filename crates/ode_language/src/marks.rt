@@ -1,0 +1,75 @@
+//! What isn't carried out yet, told by the tokens of a piece.
+ghost use Rattle.std.specs.Prelude.{◌≡◌, false, map};
+ghost use Rattle.std.specs.List.{list_any};
+ghost use Rattle.std.specs.Str.{bytes_eq};
+ghost use Rattle.ode_terminals.specs.Seen as seen;
+ghost use Rattle.ode_language.specs.Marks.{has_parent, has_unbuilt_word, is_unbuilt, is_unbuilt_word, is_word};
+
+use ode_lex::{Token, TokenKind, slice_of};
+
+// The words of events, triggers and the clock.
+const UNBUILT_WORDS: [&[u8]; 10] = [
+    b"event",
+    b"trigger",
+    b"activate",
+    b"deactivate",
+    b"deferred",
+    b"dependent",
+    b"independent",
+    b"tcommit",
+    b"clock",
+    b"time",
+];
+
+fn is_among(words: &[&[u8]], word: &[u8]) -> bool
+    ensures { result ≡ list_any (λ one. bytes_eq one.now word.now) words.now }
+{
+    words.iter().any(|one| *one == word)
+}
+
+#[tactic(auto, unfolding(crate::specs::Marks::unbuilt_words))]
+fn is_unbuilt_word(word: &[u8]) -> bool
+    ensures { result ≡ is_unbuilt_word word.now }
+{
+    is_among(&UNBUILT_WORDS, word)
+}
+
+fn has_unbuilt_word(text: &[u8], tokens: &[Token]) -> bool
+    ensures { result ≡ has_unbuilt_word false (map (seen.slice_of text.now) tokens.now) }
+{
+    let mut left = tokens;
+    let mut behind_after = false;
+    while let [token, rest @ ..] = left {
+        let word = slice_of(text, *token);
+        if is_unbuilt_word(word) || behind_after && word == b"tabort".as_slice() {
+            return true;
+        }
+        behind_after = word == b"after".as_slice();
+        left = rest;
+    }
+    false
+}
+
+fn is_word(kind: TokenKind) -> bool
+    ensures { result ≡ is_word kind }
+{
+    matches!(kind, TokenKind::Word)
+}
+
+fn has_parent(text: &[u8], tokens: &[Token]) -> bool
+    ensures { result ≡ has_parent text.now tokens.now }
+{
+    match tokens {
+        [first, name, mark, ..] => slice_of(text, *first) == b"class".as_slice()
+            && is_word(name.kind)
+            && slice_of(text, *mark) == b":".as_slice(),
+        _ => false,
+    }
+}
+
+/// Whether the tokens have the mark of something that isn't built.
+pub(crate) fn is_unbuilt(text: &[u8], tokens: &[Token]) -> bool
+    ensures { result ≡ is_unbuilt text.now tokens.now }
+{
+    has_unbuilt_word(text, tokens) || has_parent(text, tokens)
+}

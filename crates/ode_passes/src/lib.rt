@@ -1,0 +1,14 @@
+//! Passes over the records of a database in the order of their keys, and whether the records of its classes are complete.
+#![tactic(auto)]
+
+mod cause;
+mod completeness;
+mod error;
+mod records;
+mod walking;
+
+pub use cause::Cause;
+pub use completeness::{class_count, complete, of_head};
+pub use error::OpenError;
+pub use records::Found;
+pub use walking::{Pass, walk};
