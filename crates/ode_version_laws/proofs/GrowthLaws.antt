@@ -119,7 +119,7 @@ module _ (x : Layer) (y : NumberTx) (stands : Stands x y) (remembers : Remembers
       → seen.changed_weight now f + weighs_by object_weight (first_at id) ≡ seen.first_weight f + weighs_by kept_weight (now_at id)
   tracked_weighs id now Same at was = ap (λ (w : ℕ). 0 + w) (first_weighs id now was ∙ sym (now_weighs id now at))
   tracked_weighs id now (Other o) at was =
-      balanced (seen.object_weight now) (seen.object_weight o) (weighs_by object_weight (first_at id)) (weighs_by kept_weight (now_at id)) (first_weighs id o was) (now_weighs id now at)
+      balanced (seen.object_weight now) (seen.object_weight o) (weighs_by object_weight (first_at id)) (weighs_by kept_weight (now_at id)) (first_weighs id o was.is) (now_weighs id now at)
   tracked_weighs id now Absent at was =
       balanced (seen.object_weight now) 0 (weighs_by object_weight (first_at id)) (weighs_by kept_weight (now_at id)) (ap (weighs_by object_weight) was.object) (now_weighs id now at)
 

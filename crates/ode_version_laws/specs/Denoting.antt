@@ -43,12 +43,12 @@ pub record HasVersions (o : Object) : Type 0 where
   pub last : AllByRecursion (λ (v : Version). v.number ≤ o.last) o.versions
 
 -- the object of a number has such versions, where there is one
-abbrev pub HasVersionsAt : NumberTx → ℕ → Type 0
-HasVersionsAt y id = (o : Object) → object_numbered id y.now.bones.objects ≡ Some o → HasVersions o
+abbrev pub HasVersionsAt : Bones → ℕ → Type 0
+HasVersionsAt b id = (o : Object) → object_numbered id b.objects ≡ Some o → HasVersions o
 
--- so does each object
-abbrev pub HaveVersions : NumberTx → Type 0
-HaveVersions y = (id : ℕ) → HasVersionsAt y id
+-- each object has
+abbrev pub HaveVersions : Bones → Type 0
+HaveVersions b = (id : ℕ) → HasVersionsAt b id
 
 -- the line of a new version, and its reference
 abbrev pub tells_version : Ref → Act (Unit {0}) ℕ Ref
