@@ -126,10 +126,14 @@ module _ (x : Layer) (y : NumberTx) (r : Ref) (slot : ℕ) (value : Value) (new 
       answers_well y gives (rest o v) (calls.needs TooLong (are_fields fields) >>= λ _. held_by o v fields) (acts (version_as v) y)
       (ap (λ (a : Answer (List Value)). a >>= held_by o v) (fields_set r slot value v there) ∙ asks_first TooLong (are_fields fields) fields (held_by o v))
       (follows_spaced x y (keys_by v.number) stands (version_part id v.number, tt) (version_size fields) (are_fields fields) true gives
-      (λ keys. Ok (tt, with_now id new (written v.number fields o) keys x)) (alters_object id (changed v.number fields)) (fields_fit fields (kept_set (values_of v.fields) slot value (kept (version_as v) denotes) one))
-      (altered id (changed v.number fields) (keys_by v.number) y, (altered_stands x y id new o (written v.number fields o) (changed v.number fields) (keys_by v.number) stands at (version_part id v.number, tt)
-      (λ q. refl) (ap (λ (vs : List versions.Version). record (object_as id o) { versions = vs }) (written_same v.number 0 fields o.versions (has (object_as id o) at.object).rising)) refl,
-      (altered_continues y id (changed v.number fields) (keys_by v.number), refl))))
+      (λ keys. Ok (tt, with_now id new (written v.number fields o) keys x)) (alters_object id (changed v.number fields)) (fields_fit fields (kept_set (values_of v.fields) slot value (kept (version_as v) denotes) one)) (
+        altered id (changed v.number fields) (keys_by v.number) y,
+        (
+          altered_stands x y id new o (written v.number fields o) (changed v.number fields) (keys_by v.number) stands at (version_part id v.number, tt)
+              (λ q. refl) (ap (λ (vs : List versions.Version). record (object_as id o) { versions = vs }) (written_same v.number 0 fields o.versions (has (object_as id o) at.object).rising)) refl,
+          (altered_continues y id (changed v.number fields) (keys_by v.number), refl),
+        ),
+      ))
 
   next : (t : Tracked) (v : Version) → object_of new id x ≡ Some t → IsIn y.now id t.current → t.current.live ≡ true → denoted y.now.bones r ≡ Ok (version_as v)
       → Is (rest t.current v) (acts (version_as v) y)
