@@ -143,7 +143,7 @@ module _ (tables : ℕ → ℕ → Table) (x : Layer) (y : NumberTx) (r : Ref) (
           altered_stands x y id new o (switched_off number o) off ks stands at parts (λ q. refl)
               (ap (λ (acts : List objects.Activation). record (object_as id o) { activations = acts }) (all_off number o.activations))
               (ap (λ (rows : List (ℕ × ℕ)). record { own = tt; activations = rows }) (same_rows number o.activations)),
-          refl,
+          (record { first = refl; bones = refl; deferred = refl; text = refl; run = refl }, refl),
         ),
       )
 
@@ -154,7 +154,7 @@ module _ (tables : ℕ → ℕ → Table) (x : Layer) (y : NumberTx) (r : Ref) (
       (as_well y gives (switch_off new id number o x) (off_found (first_on number o.activations)) (off_at number) (ap off_found found.is ∙ ap off_at found.number) (goes_off o at))
   by_found o at (inr none) =
       subst (λ b. Follows y gives (cond b (switch_off new id number o x) (Ok (tt, x))) (off_found (first_on number o.activations))) (sym none.none)
-      (y, (stands, ap off_found none.is))
+      (y, (stands, (record { first = refl; bones = refl; deferred = refl; text = refl; run = refl }, ap off_found none.is)))
 
   next : (t : Tracked) → object_of new id x ≡ Some t → IsIn y.now id t.current → t.current.live ≡ true → Follows y gives (rest t.current) (switches_off_numbered (numbers tables) r (value.Int (pos number)) y)
   unfolding switches_off_numbered

@@ -1,8 +1,5 @@
 use Rattle.ode_sound_runs.proofs.TypedRuns as laws
-use Rattle.ode_sound_runs.proofs.runs.runs_stay_typed.Goals as goal
-
-pub returns-clause-run : goal.returns-clause-run
-returns-clause-run c l sound w h script = laws.run_typed l sound w h script
+use Rattle.ode_sound_runs.proofs.runs.clocks_and_classes_stay_typed.Goals as goal
 
 pub returns-clause-tick : goal.returns-clause-tick
 returns-clause-tick c p w h = laws.tick_typed p w h
