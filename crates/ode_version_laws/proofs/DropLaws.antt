@@ -36,7 +36,7 @@ use Rattle.ode_version_laws.proofs.SpacedLaws.{altered_continues, answers_well}
 use Rattle.ode_version_laws.proofs.VersionLaws.{follows_denoted}
 use Rattle.ode_version_laws.specs.Denoting.{HasVersionsAt, IsRead}
 
-module _ (x : Layer) (y : NumberTx) (r : Ref) (new : Option Tracked) (stands : Stands x y) (has : HasVersionsAt y.now.bones r.object) where
+module _ (x : Layer) (y : NumberTx) (r : Ref) (new : Option Tracked) (stands : Stands x y) (has : HasVersionsAt y r.object) where
   abbrev id : ℕ
   id = r.object
 
@@ -92,7 +92,7 @@ module _ (x : Layer) (y : NumberTx) (r : Ref) (new : Option Tracked) (stands : S
       (as_well y gives (rest o v) (acts_on (version_as v) (object_as id o) y) (tested_by v.number (nat_lt 1 (length o.versions)))
       (ap (λ (n : ℕ). tested_by v.number (nat_lt 1 n)) (length-map o.versions version_as)) (by_more t v is at (nat_lt 1 (length o.versions))))
 
-pub drops_law : (classes : List Class) (base : Entries) (x : Layer) (y : NumberTx) (r : Ref) → Stands x y → IsRead classes base x y r.object → HasVersionsAt y.now.bones r.object
+pub drops_law : (classes : List Class) (base : Entries) (x : Layer) (y : NumberTx) (r : Ref) → Stands x y → IsRead classes base x y r.object → HasVersionsAt y r.object
     → Follows y gives (drop_version classes base r x) (drops r y)
 unfolding drop_version drop_with
 drops_law classes base x y r stands found has =

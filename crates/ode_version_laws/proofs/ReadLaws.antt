@@ -41,7 +41,7 @@ use Rattle.ode_versions.specs.Versions.{found, number_of}
 
 -- ---- heads
 
-module _ (base : Entries) (x : Layer) (y : NumberTx) (id : ℕ) (stands : Stands x y) (shows : Shows base y.first) (settled : IsSettledAt y.first id) (has : HasVersionsAt y.now.bones id) where
+module _ (base : Entries) (x : Layer) (y : NumberTx) (id : ℕ) (stands : Stands x y) (shows : Shows base y.first) (settled : IsSettledAt y.first id) (has : HasVersionsAt y id) where
   abbrev seen_now : Option worlds.Object → Answer (Option ObjectHead)
   seen_now o = Ok (option_map head_of_object o)
 
@@ -70,7 +70,7 @@ module _ (base : Entries) (x : Layer) (y : NumberTx) (id : ℕ) (stands : Stands
 
 -- ---- the version that a reference denotes
 
-module _ (base : Entries) (x : Layer) (y : NumberTx) (r : Ref) (stands : Stands x y) (shows : Shows base y.first) (settled : IsSettledAt y.first r.object) (has : HasVersionsAt y.now.bones r.object) where
+module _ (base : Entries) (x : Layer) (y : NumberTx) (r : Ref) (stands : Stands x y) (shows : Shows base y.first) (settled : IsSettledAt y.first r.object) (has : HasVersionsAt y r.object) where
   abbrev by_versions : ObjectHead → Answer ℕ
   by_versions h = or_else (error.NoVersion r) (found r.version h.versions)
 
@@ -102,7 +102,7 @@ module _ (base : Entries) (x : Layer) (y : NumberTx) (r : Ref) (stands : Stands 
 -- ---- fields
 
 module _ (base : Entries) (x : Layer) (y : NumberTx) (r : Ref) (slot : ℕ) (stands : Stands x y) (shows : Shows base y.first) (settled : IsSettledAt y.first r.object)
-    (has : HasVersionsAt y.now.bones r.object) where
+    (has : HasVersionsAt y r.object) where
   abbrev id : ℕ
   id = r.object
 

@@ -89,7 +89,7 @@ unless_follows D y go (Ok done) m follows = follows
 unless_follows D y go (Err (Damaged key)) m follows = absurd (cc (follows.1.0))
 unless_follows D y go (Err why) m follows = follows
 
-module _ (x : Layer) (y : NumberTx) (r : Ref) (slot : ℕ) (value : Value) (new : Option Tracked) (stands : Stands x y) (has : HasVersionsAt y.now.bones r.object)
+module _ (x : Layer) (y : NumberTx) (r : Ref) (slot : ℕ) (value : Value) (new : Option Tracked) (stands : Stands x y) (has : HasVersionsAt y r.object)
     (kept : HoldsReferences y r) (one : is_kept value ≡ true) where
   abbrev id : ℕ
   id = r.object
@@ -145,7 +145,7 @@ module _ (x : Layer) (y : NumberTx) (r : Ref) (slot : ℕ) (value : Value) (new 
         (record { version = version_as v; denotes = denotes; lacks = slot_missing (values_of v.fields) slot missing })
 
 pub writes_law : (classes : List Class) (base : Entries) (x : Layer) (y : NumberTx) (r : Ref) (slot : ℕ) (value : Value) → Stands x y → IsRead classes base x y r.object
-    → HasVersionsAt y.now.bones r.object → HoldsReferences y r → is_kept value ≡ true → FollowsUnless (LacksSlot y.now.bones r slot) y gives (write classes base r slot value x) (sets_field r slot value y)
+    → HasVersionsAt y r.object → HoldsReferences y r → is_kept value ≡ true → FollowsUnless (LacksSlot y.now.bones r slot) y gives (write classes base r slot value x) (sets_field r slot value y)
 unfolding write write_with
 writes_law classes base x y r slot value stands found has kept one =
     subst (λ (a : Answer (Option Tracked)). FollowsUnless (LacksSlot y.now.bones r slot) y gives (not_null r >>= λ _. a >>= λ new. write_with new r slot value x) (sets_field r slot value y)) (sym found.read)

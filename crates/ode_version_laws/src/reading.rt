@@ -31,11 +31,11 @@ pub fn held_worlds_are_shown()
 /// that is found in the head, or there is none for the same reason; and a field that is read is the machine's, with the same fault where there is none, and the records are
 /// damaged only where the version hasn't the slot.
 pub fn reads_follow()
-    ensures object { (base : Entries) (x : Layer) (y : NumberTx) (id : ℕ) → Stands x y → Shows base y.first → IsSettledAt y.first id → HasVersionsAt y.now.bones id
+    ensures object { (base : Entries) (x : Layer) (y : NumberTx) (id : ℕ) → Stands x y → Shows base y.first → IsSettledAt y.first id → HasVersionsAt y id
         → object base id x ≡ Ok (option_map head_of_object (object_at y.now.bones id)) }
     ensures number { (base : Entries) (x : Layer) (y : NumberTx) (r : Ref) → Stands x y → Shows base y.first → IsSettledAt y.first r.object
-        → HasVersionsAt y.now.bones r.object → ReadsUnless ⊥ (number_seen base r x) (number_in (denoted y.now.bones r)) }
+        → HasVersionsAt y r.object → ReadsUnless ⊥ (number_seen base r x) (number_in (denoted y.now.bones r)) }
     ensures field { (base : Entries) (x : Layer) (y : NumberTx) (r : Ref) (slot : ℕ) → Stands x y → Shows base y.first → IsSettledAt y.first r.object
-        → HasVersionsAt y.now.bones r.object
+        → HasVersionsAt y r.object
         → ReadsUnless (LacksSlot y.now.bones r slot) (read (map class_of y.first.bones.classes) base r slot x) (field_of y.now.bones slot r) }
 {}

@@ -24,7 +24,7 @@ pub fn derivations_follow()
 
 /// A version is removed in the overlay as in the machine, where the numbers of its object's versions rise.
 pub fn version_removals_follow()
-    ensures { (classes : Items Class) (base : Entries) (x : Layer) (y : NumberTx) (r : Ref) → Stands x y → IsRead classes base x y r.object → HasVersionsAt y.now.bones r.object
+    ensures { (classes : Items Class) (base : Entries) (x : Layer) (y : NumberTx) (r : Ref) → Stands x y → IsRead classes base x y r.object → HasVersionsAt y r.object
         → Follows y gives (drop_version classes base r x) (drops r y) }
 {}
 
@@ -32,7 +32,7 @@ pub fn version_removals_follow()
 /// the records are damaged only where the version hasn't the slot.
 pub fn writes_follow()
     ensures { (classes : Items Class) (base : Entries) (x : Layer) (y : NumberTx) (r : Ref) (slot : ℕ) (value : Value) → Stands x y
-        → IsRead classes base x y r.object → HasVersionsAt y.now.bones r.object → HoldsReferences y r → is_kept value ≡ true
+        → IsRead classes base x y r.object → HasVersionsAt y r.object → HoldsReferences y r → is_kept value ≡ true
         → FollowsUnless (LacksSlot y.now.bones r slot) y gives (write classes base r slot value x) (sets_field r slot value y) }
 {}
 
