@@ -1,5 +1,5 @@
-//! What the overlay does with versions, what it shows, and what it takes back are what the machine does, shows and takes back. Each law is
-//! carried by the contract of a function that does nothing.
+//! What the overlay does with versions, what it shows, what it takes back and how much it grows are what the machine does, shows, takes back
+//! and weighs. Each law is carried by the contract of a function that does nothing.
 #![tactic(auto)]
 
 mod growing;
