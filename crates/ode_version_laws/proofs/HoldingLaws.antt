@@ -1,5 +1,5 @@
 -- A record can hold values that fit.
-use Rattle.std.proofs.Common.{◌≡◌, ◌<◌, ◌≤◌, ◌^◌, ◌==◌, ℕ, List, [], ◌∷◌, Bool, true, false, cond, length, ok_or, Option, Some, None, Result, Ok, Err, refl, sym, ap, subst, ◌∙◌, arith}
+use Rattle.std.proofs.Common.{◌≡◌, ◌<◌, ◌^◌, ◌==◌, ℕ, List, [], ◌∷◌, Bool, true, false, cond, length, ok_or, Option, Some, None, Ok, refl, ap, subst, ◌∙◌, arith}
 use Rattle.std.proofs.lemmas.Bool.Decides.{nat_tests}
 use Rattle.std.specs.Prelude.{◌&&◌, nat_le, nat_lt}
 use Rattle.std.specs.Cmp.Derive.{both_true}
@@ -13,9 +13,8 @@ use Rattle.ode_value.specs.Denoting.{denoted, object_at, version_in}
 use Rattle.ode_value.specs.Fitting.{FitFields, FitsSort}
 use Rattle.ode_value.specs.Lengths.{values_length, version_size}
 use Rattle.ode_value.specs.Limits.{args_limit, value_limit}
-use Rattle.ode_value.specs.Versions.{Version, newest, version_numbered, version_of}
+use Rattle.ode_value.specs.Versions.{Version, version_numbered, version_of}
 use Rattle.ode_value.specs.Worlds.{Bones, Object}
-use Rattle.ode_value.specs.declared.arithmetic.Fault.{Fault}
 use Rattle.ode_value.specs.declared.arithmetic.Fault.TheVariants as fault
 use Rattle.ode_value.specs.declared.binding.Param.{Param}
 use Rattle.ode_value.specs.declared.class.Field.{Field}
@@ -24,6 +23,7 @@ use Rattle.ode_value.specs.declared.statement.Sort.TheVariants as sort
 use Rattle.ode_value.specs.declared.value.Ref.{Ref}
 use Rattle.ode_value.specs.declared.value.Value.{Value}
 use Rattle.ode_value.specs.declared.value.Value.TheVariants as value
+use Rattle.ode_version_laws.proofs.HeadLaws.{newest_of_all}
 use Rattle.ode_version_laws.proofs.SpacedLaws.{fields_fit}
 use Rattle.ode_version_laws.proofs.SumLaws.{all_numbered}
 use Rattle.ode_version_laws.specs.Denoting.{HoldsReferences}
@@ -78,11 +78,6 @@ all_numbered_versions P n (w ∷ vs) v all is = by_test (w.number == n) is (all_
   by_test : (b : Bool) → cond b (Some w) (version_numbered n vs) ≡ Some v → (version_numbered n vs ≡ Some v → P v) → P v
   by_test true e more = let same : w ≡ v = cc in subst P same all.0
   by_test false e more = more e
-
-newest_of_all : (P : Version → Type 0) (vs : List Version) (v : Version) → AllByRecursion P vs → newest vs ≡ Some v → P v
-newest_of_all P [] v all is = absurd (cc)
-newest_of_all P (w ∷ []) v all is = let same : w ≡ v = cc in subst P same all.0
-newest_of_all P (w ∷ u ∷ vs) v all is = newest_of_all P (u ∷ vs) v all.1 is
 
 version_of_all : (P : Version → Type 0) (number : Option ℕ) (vs : List Version) (v : Version) → AllByRecursion P vs → version_of number vs ≡ Some v → P v
 version_of_all P None vs v all is = newest_of_all P vs v all is
