@@ -16,5 +16,7 @@ mod KeepLaws
 mod HaveLaws
 mod RewoundRows
 mod RewindLaws
+mod RewoundVersions
 mod WeightLaws
 mod GrowthLaws
+mod HoldingLaws
