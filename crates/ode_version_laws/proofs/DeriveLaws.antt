@@ -1,5 +1,5 @@
 -- Versions are derived, in the overlay and in the machine.
-use Rattle.std.proofs.Common.{◌≡◌, ◌+◌, ℕ, List, [], ◌∷◌, map, nat_lt, true, Option, Some, Ok, refl, sym, ap, ◌∙◌}
+use Rattle.std.proofs.Common.{◌≡◌, ◌+◌, ℕ, List, [], ◌∷◌, nat_lt, true, Option, Some, Ok, refl, sym, ap}
 use Rattle.std.proofs.lemmas.List.{map-append}
 use Rattle.ode_keep.specs.Entries.{Entries}
 use Rattle.ode_laws.specs.Alike.{NumberTx}
@@ -20,7 +20,7 @@ use Rattle.ode_overlay_laws.proofs.FollowingLaws.{as_well, finds_object, live_at
 use Rattle.ode_overlay_laws.proofs.KeySets.{object_part, version_part}
 use Rattle.ode_overlay_laws.specs.Following.{Follows}
 use Rattle.ode_overlay_laws.specs.Standing.{IsIn, Stands, object_as, version_as}
-use Rattle.ode_value.specs.Acts.{Act, Outcome, ◌>>◌, gives, go_on, prints}
+use Rattle.ode_value.specs.Acts.{Act, ◌>>◌, gives, go_on, prints}
 use Rattle.ode_value.specs.Changes as machine
 use Rattle.ode_value.specs.Changes.{alters_object, changes}
 use Rattle.ode_value.specs.Denoting.{denoted}
@@ -39,7 +39,7 @@ use Rattle.ode_version_laws.proofs.VersionLaws.{follows_denoted}
 use Rattle.ode_version_laws.specs.Denoting.{HoldsReferences, IsRead, tells_version}
 
 -- one more version
-derived_same : (id : ℕ) (v : Version) (o : Object) → derived_from (version_as v) (object_as id o) ≡ object_as id (derived v.number (values_of v.fields) o)
+pub derived_same : (id : ℕ) (v : Version) (o : Object) → derived_from (version_as v) (object_as id o) ≡ object_as id (derived v.number (values_of v.fields) o)
 derived_same id v o =
     ap (λ (vs : List versions.Version). record (object_as id o) { last = o.last + 1; versions = vs })
     (sym (map-append version_as o.versions (record { number = o.last + 1; parent = Some v.number; fields = Written (values_of v.fields) } ∷ [])))

@@ -11,7 +11,7 @@ use Rattle.std.specs.Option.{option_map, option_map_or}
 use Rattle.std.specs.Ordering.{nat_cmp}
 use Rattle.std.specs.declared.cmp.Ordering.TheVariants.{Less}
 use Rattle.ode_laws.proofs.Each.{all-then}
-use Rattle.ode_laws.proofs.Rows.{numbered_find, numbered_id}
+use Rattle.ode_laws.proofs.Rows.{numbered_find}
 use Rattle.ode_laws.specs.Alike.{NumberTx}
 use Rattle.ode_laws.specs.Numbered.{HasNumbers}
 use Rattle.ode_objects.specs.Weights as seen

@@ -1,5 +1,5 @@
 -- What was changed is taken back, in the overlay and in the machine.
-use Rattle.std.proofs.Common.{◌≡◌, ◌==◌, ℕ, List, [], ◌∷◌, Bool, true, false, cond, map, option_map, Option, Some, None, refl, sym, ap, subst, ◌∙◌}
+use Rattle.std.proofs.Common.{◌≡◌, ℕ, List, [], ◌∷◌, Bool, true, false, cond, map, option_map, Option, Some, None, refl, sym, ap, subst, ◌∙◌}
 use Rattle.std.specs.BTreeMap.{is_at}
 use Rattle.std.specs.List.{AllByRecursion, filter}
 use Rattle.std.specs.Map.{lookup}
@@ -17,7 +17,7 @@ use Rattle.ode_objects.specs.declared.tracked.Tracked.{Tracked}
 use Rattle.ode_overlay.specs.Layers.{Layer, tracked_at}
 use Rattle.ode_overlay.specs.Rewinding.{put_rewound, rewind, rewound_from, stays}
 use Rattle.ode_overlay.specs.declared.overlay.Collected.{Collected}
-use Rattle.ode_overlay_laws.specs.Standing.{IsAsAtFirst, IsIn, Stands, active_as, collected_as, kept_as, object_as}
+use Rattle.ode_overlay_laws.specs.Standing.{IsAsAtFirst, IsIn, Stands, collected_as, kept_as, object_as}
 use Rattle.ode_value.specs.Denoting.{if_live, object_at, object_numbered}
 use Rattle.ode_value.specs.GoodWorlds.{RiseFrom}
 use Rattle.ode_value.specs.Keeping.{rewound_by, rewound_past, rewound_world, with_last}

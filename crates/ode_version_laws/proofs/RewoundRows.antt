@@ -4,19 +4,18 @@ use Rattle.std.proofs.lemmas.Bool.{eqb-true}
 use Rattle.std.specs.List.{AllByRecursion, AllZip}
 use Rattle.std.specs.Option.{option_and_then, option_map_or}
 use Rattle.ode_heap.specs.Answering.{class_of}
-use Rattle.ode_laws.proofs.Rows.{find_rising, numbered_id}
+use Rattle.ode_laws.proofs.Rows.{find_rising}
 use Rattle.ode_laws.specs.Alike.{NumberWorld}
 use Rattle.ode_objects.specs.Objects.{has_number}
 use Rattle.ode_objects.specs.Rewinding.{is_whole, rewound_active, rewound_object, sees_in, sees_whole, state_in}
 use Rattle.ode_objects.specs.declared.object.Active.{Active}
 use Rattle.ode_objects.specs.declared.object.Object.{Object}
-use Rattle.ode_overlay_laws.specs.Standing.{IsIn, active_as, kept_as, object_as}
-use Rattle.ode_types.specs.Families as families
+use Rattle.ode_overlay_laws.specs.Standing.{active_as, kept_as, object_as}
 use Rattle.ode_value.specs.Classes.{trigger_of, watch_of}
-use Rattle.ode_value.specs.Denoting.{if_live, object_at, object_numbered}
+use Rattle.ode_value.specs.Denoting.{object_numbered}
 use Rattle.ode_value.specs.Firings.{changed_row, changed_rows, watch_at, watch_by}
 use Rattle.ode_value.specs.GoodWorlds.{RiseFrom}
-use Rattle.ode_value.specs.Keeping.{back, rewound_by, rewound_past, rewound_row, rewound_world, with_last}
+use Rattle.ode_value.specs.Keeping.{back, rewound_by, rewound_past, rewound_row, with_last}
 use Rattle.ode_value.specs.Objects.{Activation}
 use Rattle.ode_value.specs.Pasts.{Kept, Watch, numbers}
 use Rattle.ode_value.specs.Tables.{Table}

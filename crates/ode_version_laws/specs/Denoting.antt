@@ -46,6 +46,10 @@ pub record HasVersions (o : Object) : Type 0 where
 abbrev pub HasVersionsAt : NumberTx → ℕ → Type 0
 HasVersionsAt y id = (o : Object) → object_numbered id y.now.bones.objects ≡ Some o → HasVersions o
 
+-- so does each object
+abbrev pub HaveVersions : NumberTx → Type 0
+HaveVersions y = (id : ℕ) → HasVersionsAt y id
+
 -- the line of a new version, and its reference
 abbrev pub tells_version : Ref → Act (Unit {0}) ℕ Ref
 tells_version r = prints (version_line r) >> gives r

@@ -1,5 +1,5 @@
 -- What an overlay keeps of the world that its transaction began with.
-use Rattle.std.specs.Prelude.{◌≡◌, ℕ, List, Option, Some, None, Ok, Err}
+use Rattle.std.specs.Prelude.{◌≡◌, ℕ, List, Option, Some, None}
 use Rattle.std.specs.BTreeMap.{is_at}
 use Rattle.std.specs.List.Sorted.{IsStrictlySortedBy}
 use Rattle.std.specs.Map.{keys_of, lookup}
@@ -9,8 +9,6 @@ use Rattle.ode_objects.specs.declared.object.Object.{Object}
 use Rattle.ode_objects.specs.declared.tracked.First.{First}
 use Rattle.ode_objects.specs.declared.tracked.First.TheVariants.{Same, Other, Absent}
 use Rattle.ode_objects.specs.declared.tracked.Tracked.{Tracked}
-use Rattle.ode_overlay.specs.Answers.{Answer}
-use Rattle.ode_overlay.specs.Layers.{Layer}
 use Rattle.ode_overlay_laws.specs.Standing.{IsIn}
 use Rattle.ode_value.specs.Denoting.{object_numbered}
 use Rattle.ode_value.specs.Worlds.{kept_at}
@@ -35,8 +33,3 @@ IsKnown w id (Some t) = WasFirst w id t.current t.first
 pub record Remembers (objects : List (ℕ × Tracked)) (w : NumberWorld) : Type 0 where
   pub rising : IsStrictlySortedBy nat_cmp (keys_of objects)
   pub first : (id : ℕ) (t : Tracked) → lookup (is_at (nat_cmp id)) objects ≡ Some t → WasFirst w id t.current t.first
-
--- so does the overlay that a call leaves
-abbrev pub StillRemembers : {R : Type 0} → NumberWorld → Answer (R × Layer) → Type 0
-StillRemembers w (Ok done) = Remembers done.1.objects w
-StillRemembers w (Err why) = Unit {0}

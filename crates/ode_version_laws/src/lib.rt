@@ -8,6 +8,6 @@ mod rewinding;
 mod versions;
 
 pub use growing::growths_are_the_worlds;
-pub use reading::{held_worlds_are_shown, objects_are_read, reads_follow};
+pub use reading::{held_worlds_are_shown, reads_follow};
 pub use rewinding::{calls_remember_firsts, firsts_are_remembered, good_worlds_are_settled, rewinds_follow};
-pub use versions::{derivations_follow, version_removals_follow, writes_follow};
+pub use versions::{calls_keep_versions, derivations_follow, version_removals_follow, writes_follow};

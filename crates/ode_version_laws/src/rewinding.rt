@@ -24,7 +24,8 @@ ghost use Rattle.ode_value.specs.declared.class.Class.{Class};
 ghost use Rattle.ode_value.specs.declared.value.Ref.{Ref};
 ghost use Rattle.ode_value.specs.declared.value.Value.{Value};
 ghost use Rattle.ode_version_laws.specs.Denoting.{IsRead};
-ghost use Rattle.ode_version_laws.specs.Remembering.{IsKnown, Remembers, StillRemembers};
+ghost use Rattle.ode_version_laws.specs.Leaving.{StillRemembers};
+ghost use Rattle.ode_version_laws.specs.Remembering.{IsKnown, Remembers};
 ghost use Rattle.ode_version_laws.specs.Showing.{AreSettled};
 
 /// With no tracked object nothing is to be remembered. Whatever an object becomes, and where it is read, the overlay goes on remembering
