@@ -3,6 +3,7 @@ use Rattle.std.proofs.Common.{◌≡◌, ◌+◌, ◌<◌, ◌≤◌, ◌==◌, 
 use Rattle.std.proofs.lemmas.Bool.{eqb-true}
 use Rattle.std.proofs.lemmas.Bool.Decides.{nat_tests}
 use Rattle.std.specs.Prelude.{◌&&◌, nat_le, nat_lt}
+use Rattle.std.specs.Cmp.Derive.{both_true}
 use Rattle.std.specs.List.{AllByRecursion}
 use Rattle.ode_heap.specs.Answering.{class_of, head_of_object}
 use Rattle.ode_heap.specs.declared.object.ObjectHead.{ObjectHead}
@@ -37,25 +38,23 @@ head_same id o = ap (λ (ls : List Listed). record { class = o.class; versions =
 
 -- ---- their versions rise
 
-both : (a b : Bool) → a ≡ true → b ≡ true → (a && b) ≡ true
-both true b p q = q
-both false b p q = absurd (cc)
-
 rise_more : (last low : ℕ) (vs : List versions.Version) → RiseFrom (low + 1) (map (λ (v : versions.Version). v.number) vs) → AllByRecursion (λ (v : versions.Version). v.number ≤ last) vs
     → rise_above last low (map listed vs) ≡ true
 rise_more last low [] rise below = refl
 rise_more last low (v ∷ vs) rise below =
     let up : low + 1 ≤ v.number = rise.0 in
     let down : v.number ≤ last = below.0 in
-    both (nat_lt low v.number) (nat_le v.number last && rise_above last v.number (map listed vs)) (grind (arith, nat_tests))
-    (both (nat_le v.number last) (rise_above last v.number (map listed vs)) (grind (arith, nat_tests)) (rise_more last v.number vs rise.1 below.1))
+    let above : nat_lt low v.number ≡ true = grind (arith, nat_tests) in
+    let within : nat_le v.number last ≡ true = grind (arith, nat_tests) in
+    both_true above (both_true within (rise_more last v.number vs rise.1 below.1))
 
 rises : (last : ℕ) (vs : List versions.Version) → 0 < length vs → RiseFrom 0 (map (λ (v : versions.Version). v.number) vs) → AllByRecursion (λ (v : versions.Version). v.number ≤ last) vs
     → is_rising last (map listed vs) ≡ true
 rises last [] some rise below = absurd (omega (arith, some))
 rises last (v ∷ vs) some rise below =
     let down : v.number ≤ last = below.0 in
-    both (nat_le v.number last) (rise_above last v.number (map listed vs)) (grind (arith, nat_tests)) (rise_more last v.number vs rise.1 below.1)
+    let within : nat_le v.number last ≡ true = grind (arith, nat_tests) in
+    both_true within (rise_more last v.number vs rise.1 below.1)
 
 pub head_sound : (id : ℕ) (o : worlds.Object) → HasVersions o → sound id (head_of_object o) ≡ Ok (head_of_object o)
 head_sound id o has = ap (λ (b : Bool). cond b (Ok (head_of_object o)) (Err (Damaged (object_key id)))) (rises o.last o.versions has.some has.rising has.last)

@@ -16,5 +16,6 @@ mod KeepLaws
 mod HaveLaws
 mod RewoundRows
 mod RewindLaws
+mod RewoundVersions
 mod WeightLaws
 mod GrowthLaws
