@@ -1,0 +1,18 @@
+//! What an opening reads of records is what they hold: laws of definitions, each carried by the contract of a function that does nothing.
+#![tactic(auto)]
+
+ghost use Rattle.std.specs.Prelude.{◌≡◌, List as Items, Ok, map};
+ghost use Rattle.ode_keep.specs.Entries.{Entries};
+ghost use Rattle.ode_language.specs.Languages.{ode};
+ghost use Rattle.ode_opening.specs.Classes.{classes_in};
+ghost use Rattle.ode_opening_laws.specs.Holding.{HoldClasses, class_of};
+ghost use Rattle.ode_value.specs.Worlds.{Declared};
+
+use ode_codec::one_spelling;
+
+/// Records that hold classes without triggers are read as these classes.
+pub fn held_classes_are_read()
+    ensures { (entries : Entries) (ds : Items Declared) → HoldClasses entries ds → classes_in ode entries ≡ Ok (map class_of ds) }
+{
+    one_spelling();
+}
