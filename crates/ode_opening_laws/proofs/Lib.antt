@@ -4,3 +4,4 @@ pub mod Founds
 pub mod Expecting
 pub mod Accepting
 pub mod Reading
+pub mod Sections
