@@ -6,14 +6,17 @@ mod DropLaws
 mod WriteLaws
 mod HeadLaws
 mod ReadLaws
-mod TrackedMaps
+mod SumLaws
+mod SettledLaws
+mod HeldLaws
+pub mod TrackedMaps
 mod RememberLaws
+mod CallLaws
+mod KeepLaws
+mod HaveLaws
 mod RewoundRows
 mod RewindLaws
-mod SumLaws
+mod RewoundVersions
 mod WeightLaws
 mod GrowthLaws
-mod SettledLaws
-mod WholeLaws
-mod KeepLaws
-mod HeldLaws
+mod HoldingLaws
