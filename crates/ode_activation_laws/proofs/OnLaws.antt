@@ -1,9 +1,9 @@
 -- Activations go on, in the overlay and in the machine.
-use Rattle.std.proofs.Common.{◌≡◌, ℕ, ◌+◌, List, [], ◌∷◌, ◌++◌, Bool, true, false, cond, map, pos, Option, Some, None, Ok, Err, refl, sym, ap, subst, ◌∙◌}
+use Rattle.std.proofs.Common.{◌≡◌, ℕ, ◌+◌, List, [], ◌∷◌, Bool, true, false, cond, pos, Option, Some, Ok, Err, refl, sym, ap, ◌∙◌}
 use Rattle.std.proofs.lemmas.List.{map-append}
 use Rattle.std.specs.Prelude.{nat_le, is_some}
 use Rattle.std.specs.List.{AllByRecursion, fold}
-use Rattle.ode_activation_laws.proofs.ChangedLaws.{NumberKept, others_now, tracked_now}
+use Rattle.ode_activation_laws.proofs.ChangedLaws.{others_now, tracked_now}
 use Rattle.ode_activation_laws.specs.Switching.{tells_active, tells_line, tells_value}
 use Rattle.ode_laws.specs.Alike.{NumberTx}
 use Rattle.ode_objects.specs.Objects.{activated, new_active}
@@ -105,7 +105,7 @@ module _ (tables : ℕ → ℕ → Table) (t : Trigger) (args : List Value) (x :
   by_short : (o : Object) → IsIn y.now id o → (b : Bool) → Follows y tells_active (drawn o b) (machine_at x.next b)
   by_short o at true =
       follows_drawing x y ks stands parts 0 true tells_active (λ keys number. Ok (number, next_drawn (with_now id new (activated (new_active number t.class t.place args) o) keys x)))
-      (act_at x.next) (sym none_is_short) (then_y, (then_stands o at, refl))
+      (act_at x.next) (sym none_is_short) (then_y, (then_stands o at, (record { first = refl; bones = refl; deferred = refl; text = refl; run = refl }, refl)))
   by_short o at false = (reason.Size, (refl, refl))
 
   pub switched_on : are_args args ≡ nat_le (values_length args) args_limit
@@ -121,13 +121,13 @@ module _ (tables : ℕ → ℕ → Table) (t : Trigger) (args : List Value) (x :
 
 follows_on : {R S T : Type 0} (y : NumberTx) (next : R → Act (Unit {0}) ℕ S) (answer : Answer (R × Layer)) (m : Outcome (Unit {0}) ℕ S) (f : S → Act (Unit {0}) ℕ T)
     → Follows y next answer m → Follows y (λ r z. go_on (next r z) f) answer (go_on m f)
-follows_on {R} {S} {T} y next (Ok done) m f follows = (follows.0, (follows.1.0, ap (λ (o : Outcome (Unit {0}) ℕ S). go_on o f) follows.1.1))
+follows_on {R} {S} {T} y next (Ok done) m f follows = (follows.0, (follows.1.0, (follows.1.1.0, ap (λ (o : Outcome (Unit {0}) ℕ S). go_on o f) follows.1.1.1)))
 follows_on {R} {S} {T} y next (Err why) m f follows = (follows.0, (follows.1.0, ap (λ (o : Outcome (Unit {0}) ℕ S). go_on o f) follows.1.1))
 
 -- the same acts go on behind it
 follows_as : {R S : Type 0} (y : NumberTx) (next more : R → Act (Unit {0}) ℕ S) (answer : Answer (R × Layer)) (m n : Outcome (Unit {0}) ℕ S) → ((r : R) (z : NumberTx) → next r z ≡ more r z) → n ≡ m
     → Follows y next answer m → Follows y more answer n
-follows_as y next more (Ok done) m n same is follows = (follows.0, (follows.1.0, is ∙ follows.1.1 ∙ same done.0 follows.0))
+follows_as y next more (Ok done) m n same is follows = (follows.0, (follows.1.0, (follows.1.1.0, is ∙ follows.1.1.1 ∙ same done.0 follows.0)))
 follows_as y next more (Err why) m n same is follows = (follows.0, (follows.1.0, is ∙ follows.1.1))
 
 in_turn : {R S T : Type 0} (m : Outcome (Unit {0}) ℕ R) (f : R → Act (Unit {0}) ℕ S) (g : S → Act (Unit {0}) ℕ T) → go_on (go_on m f) g ≡ go_on m (λ r z. go_on (f r z) g)

@@ -1,4 +1,4 @@
-mod PartLaws
-mod KeptLaws
-mod AnswerLaws
-mod FreshLaws
+pub mod PartLaws
+pub mod KeptLaws
+pub mod AnswerLaws
+pub mod FreshLaws

@@ -1,7 +1,7 @@
-mod KindLaws
-mod ApartLaws
-mod QueueLaws
-mod CounterLaws
-mod KeptLaws
-mod PartLaws
-mod SettledLaws
+pub mod KindLaws
+pub mod ApartLaws
+pub mod QueueLaws
+pub mod CounterLaws
+pub mod KeptLaws
+pub mod PartLaws
+pub mod SettledLaws

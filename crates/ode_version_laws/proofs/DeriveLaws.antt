@@ -1,5 +1,5 @@
 -- Versions are derived, in the overlay and in the machine.
-use Rattle.std.proofs.Common.{◌≡◌, ◌+◌, ℕ, List, [], ◌∷◌, map, nat_lt, true, Option, Some, Ok, refl, sym, ap, ◌∙◌}
+use Rattle.std.proofs.Common.{◌≡◌, ◌+◌, ℕ, List, [], ◌∷◌, nat_lt, true, Option, Some, Ok, refl, sym, ap}
 use Rattle.std.proofs.lemmas.List.{map-append}
 use Rattle.ode_keep.specs.Entries.{Entries}
 use Rattle.ode_laws.specs.Alike.{NumberTx}
@@ -20,7 +20,7 @@ use Rattle.ode_overlay_laws.proofs.FollowingLaws.{as_well, finds_object, live_at
 use Rattle.ode_overlay_laws.proofs.KeySets.{object_part, version_part}
 use Rattle.ode_overlay_laws.specs.Following.{Follows}
 use Rattle.ode_overlay_laws.specs.Standing.{IsIn, Stands, object_as, version_as}
-use Rattle.ode_value.specs.Acts.{Act, Outcome, ◌>>◌, gives, go_on, prints}
+use Rattle.ode_value.specs.Acts.{Act, ◌>>◌, gives, go_on, prints}
 use Rattle.ode_value.specs.Changes as machine
 use Rattle.ode_value.specs.Changes.{alters_object, changes}
 use Rattle.ode_value.specs.Denoting.{denoted}
@@ -39,7 +39,7 @@ use Rattle.ode_version_laws.proofs.VersionLaws.{follows_denoted}
 use Rattle.ode_version_laws.specs.Denoting.{HoldsReferences, IsRead, tells_version}
 
 -- one more version
-derived_same : (id : ℕ) (v : Version) (o : Object) → derived_from (version_as v) (object_as id o) ≡ object_as id (derived v.number (values_of v.fields) o)
+pub derived_same : (id : ℕ) (v : Version) (o : Object) → derived_from (version_as v) (object_as id o) ≡ object_as id (derived v.number (values_of v.fields) o)
 derived_same id v o =
     ap (λ (vs : List versions.Version). record (object_as id o) { last = o.last + 1; versions = vs })
     (sym (map-append version_as o.versions (record { number = o.last + 1; parent = Some v.number; fields = Written (values_of v.fields) } ∷ [])))
@@ -76,9 +76,14 @@ module _ (x : Layer) (y : NumberTx) (r : Ref) (new : Option Tracked) (stands : S
       let o = t.current in
       as_well y tells_version (rest o v) (acts (version_as v) y) (acts_on (version_as v) (object_as id o) y) (finds_object y id (object_as id o) (acts_on (version_as v)) (live_at y id o at true live))
       (follows_spaced x y (keys_by o) stands (object_part id, (version_part id (o.last + 1), tt)) (version_size (values_of v.fields)) (are_fields (values_of v.fields)) (nat_lt o.last version_limit)
-      tells_version (λ keys. Ok (new_version r o, then_x o v keys)) (change_by (version_as v) (object_as id o)) (fields_fit (values_of v.fields) (kept (version_as v) one))
-      (altered id (derived_from (version_as v)) (keys_by o) y, (altered_stands x y id new o (derived v.number (values_of v.fields) o) (derived_from (version_as v)) (keys_by o) stands at
-      (object_part id, (version_part id (o.last + 1), tt)) (λ q. refl) (derived_same id v o) refl, (altered_continues y id (derived_from (version_as v)) (keys_by o), refl))))
+      tells_version (λ keys. Ok (new_version r o, then_x o v keys)) (change_by (version_as v) (object_as id o)) (fields_fit (values_of v.fields) (kept (version_as v) one)) (
+        altered id (derived_from (version_as v)) (keys_by o) y,
+        (
+          altered_stands x y id new o (derived v.number (values_of v.fields) o) (derived_from (version_as v)) (keys_by o) stands at
+              (object_part id, (version_part id (o.last + 1), tt)) (λ q. refl) (derived_same id v o) refl,
+          (altered_continues y id (derived_from (version_as v)) (keys_by o), refl),
+        ),
+      ))
 
 pub derives_law : (classes : List Class) (base : Entries) (x : Layer) (y : NumberTx) (r : Ref) → Stands x y → IsRead classes base x y r.object → HoldsReferences y r
     → Follows y tells_version (derive classes base r x) (derives r y)

@@ -2,7 +2,7 @@
 use Rattle.std.proofs.Common.{◌≡◌, ◌+◌, ◌<◌, ◌≤◌, ◌==◌, ℕ, suc, List, [], ◌∷◌, Bool, true, false, cond, not, nat_lt, map, length, option_map, position, Option, Some, None, refl, sym, ap, ◌∙◌, arith}
 use Rattle.std.proofs.lemmas.Bool.{eqb-true}
 use Rattle.std.proofs.lemmas.Bool.Decides.{nat_tests}
-use Rattle.std.specs.List.{filter, position_or_len, slice_set}
+use Rattle.std.specs.List.{position_or_len}
 use Rattle.ode_objects.specs.Objects.{is_numbered, without_at, written_at}
 use Rattle.ode_objects.specs.declared.object.Version.{Version}
 use Rattle.ode_overlay_laws.specs.Standing.{version_as}

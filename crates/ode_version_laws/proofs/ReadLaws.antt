@@ -1,5 +1,5 @@
 -- Objects and fields are seen in the overlay as in the machine.
-use Rattle.std.proofs.Common.{◌≡◌, ◌==◌, ℕ, zero, suc, List, [], ◌∷◌, Bool, true, false, cond, length, map, nat_lt, ok_or, option_map, slice_get, Option, Some, None, Result, Ok, Err, refl, sym, ap, subst, ◌∙◌, arith}
+use Rattle.std.proofs.Common.{◌≡◌, ◌==◌, ℕ, List, Bool, true, false, cond, map, ok_or, option_map, slice_get, Option, Some, None, Result, Ok, Err, refl, sym, ap, subst, ◌∙◌}
 use Rattle.std.proofs.lemmas.Bool.{eqb-true}
 use Rattle.std.specs.Option.{IsSome, option_and_then}
 use Rattle.ode_heap.specs.Answering.{class_of, head_of_object}
@@ -168,7 +168,7 @@ module _ (base : Entries) (x : Layer) (y : NumberTx) (r : Ref) (slot : ℕ) (sta
     by_declared (Some c) is some =
         ap (λ (f : Option Class). from_records (there_at (object_key id) f) >>= by_class v.number) (class_same o.class y.first.bones.classes ∙ is)
         ∙ ap (λ (f : Found (Option (List Value))). from_records (heap.◌>>=◌ f (there_at (version_key id v.number))) >>= seen.field_of (version_key id v.number) slot)
-          (shows.version id v.number o c first is ∙ ap (λ (w : Option versions.Version). There (option_map (λ (u : versions.Version). u.fields) w)) found)
+        (shows.version id v.number o c first is ∙ ap (λ (w : Option versions.Version). There (option_map (λ (u : versions.Version). u.fields) w)) found)
 
   first_object : (o : worlds.Object) → (r.object == 0) ≡ false → object_numbered id y.first.bones.objects ≡ Some o → object_numbered id y.now.bones.objects ≡ Some o
       → Is (by_sound (head_of_object o)) (field_of y.now.bones slot r)

@@ -1,5 +1,5 @@
 -- What was changed is taken back, in the overlay and in the machine.
-use Rattle.std.proofs.Common.{◌≡◌, ◌==◌, ℕ, List, [], ◌∷◌, Bool, true, false, cond, map, option_map, Option, Some, None, refl, sym, ap, subst, ◌∙◌}
+use Rattle.std.proofs.Common.{◌≡◌, ℕ, List, [], ◌∷◌, Bool, true, false, cond, map, option_map, Option, Some, None, refl, sym, ap, subst, ◌∙◌}
 use Rattle.std.specs.BTreeMap.{is_at}
 use Rattle.std.specs.List.{AllByRecursion, filter}
 use Rattle.std.specs.Map.{lookup}
@@ -17,7 +17,7 @@ use Rattle.ode_objects.specs.declared.tracked.Tracked.{Tracked}
 use Rattle.ode_overlay.specs.Layers.{Layer, tracked_at}
 use Rattle.ode_overlay.specs.Rewinding.{put_rewound, rewind, rewound_from, stays}
 use Rattle.ode_overlay.specs.declared.overlay.Collected.{Collected}
-use Rattle.ode_overlay_laws.specs.Standing.{IsAsAtFirst, IsIn, Stands, active_as, collected_as, kept_as, object_as}
+use Rattle.ode_overlay_laws.specs.Standing.{IsAsAtFirst, IsIn, Stands, collected_as, kept_as, object_as}
 use Rattle.ode_value.specs.Denoting.{if_live, object_at, object_numbered}
 use Rattle.ode_value.specs.GoodWorlds.{RiseFrom}
 use Rattle.ode_value.specs.Keeping.{rewound_by, rewound_past, rewound_world, with_last}
@@ -86,7 +86,7 @@ module _ (tables : ℕ → ℕ → Table) (x : Layer) (y : NumberTx) (stands : S
       subst (λ (u : Tracked). IsIn left id u.current) one (subst (IsIn left id) same (left_in id now now was at))
   tracked_left id now (Other o) at was t is =
       let one : record { first = Other o; current = rewound_object classes o now } ≡ t = cc in
-      subst (λ (u : Tracked). IsIn left id u.current) one (left_in id o now was at)
+      subst (λ (u : Tracked). IsIn left id u.current) one (left_in id o now was.is at)
   tracked_left id now Absent at was t is = absurd (cc)
 
   -- one that isn't
@@ -161,7 +161,7 @@ module _ (classes : List Class) (w : NumberWorld) where
     by_first : (now : Object) (f : First) → WasFirst w id now f → rewound classes (record { first = f; current = now }) ≡ Some u → WasFirst w id u.current u.first
     by_first now Same was is = let one : record { first = Same; current = now } ≡ u = cc in subst (λ (v : Tracked). WasFirst w id v.current v.first) one was
     by_first now (Other o) was is =
-        let one : record { first = Other o; current = rewound_object classes o now } ≡ u = cc in subst (λ (v : Tracked). WasFirst w id v.current v.first) one was
+        let one : record { first = Other o; current = rewound_object classes o now } ≡ u = cc in subst (λ (v : Tracked). WasFirst w id v.current v.first) one (record { is = was.is; last = was.last })
     by_first now Absent was is = absurd (cc)
 
   -- each of these was in the first world

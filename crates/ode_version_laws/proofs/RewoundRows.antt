@@ -4,19 +4,18 @@ use Rattle.std.proofs.lemmas.Bool.{eqb-true}
 use Rattle.std.specs.List.{AllByRecursion, AllZip}
 use Rattle.std.specs.Option.{option_and_then, option_map_or}
 use Rattle.ode_heap.specs.Answering.{class_of}
-use Rattle.ode_laws.proofs.Rows.{find_rising, numbered_id}
+use Rattle.ode_laws.proofs.Rows.{find_rising}
 use Rattle.ode_laws.specs.Alike.{NumberWorld}
 use Rattle.ode_objects.specs.Objects.{has_number}
 use Rattle.ode_objects.specs.Rewinding.{is_whole, rewound_active, rewound_object, sees_in, sees_whole, state_in}
 use Rattle.ode_objects.specs.declared.object.Active.{Active}
 use Rattle.ode_objects.specs.declared.object.Object.{Object}
-use Rattle.ode_overlay_laws.specs.Standing.{IsIn, active_as, kept_as, object_as}
-use Rattle.ode_types.specs.Families as families
+use Rattle.ode_overlay_laws.specs.Standing.{active_as, kept_as, object_as}
 use Rattle.ode_value.specs.Classes.{trigger_of, watch_of}
-use Rattle.ode_value.specs.Denoting.{if_live, object_at, object_numbered}
+use Rattle.ode_value.specs.Denoting.{object_numbered}
 use Rattle.ode_value.specs.Firings.{changed_row, changed_rows, watch_at, watch_by}
 use Rattle.ode_value.specs.GoodWorlds.{RiseFrom}
-use Rattle.ode_value.specs.Keeping.{back, rewound_by, rewound_past, rewound_row, rewound_world, with_last}
+use Rattle.ode_value.specs.Keeping.{back, rewound_by, rewound_past, rewound_row, with_last}
 use Rattle.ode_value.specs.Objects.{Activation}
 use Rattle.ode_value.specs.Pasts.{Kept, Watch, numbers}
 use Rattle.ode_value.specs.Tables.{Table}
@@ -87,7 +86,7 @@ module _ (tables : ℕ → ℕ → Table) (declared : List Declared) (now : List
 
     by_class : (c : Option Class)
         → option_map_or (λ w. states a.number w a.state)
-          (option_map (λ t. watch_of t a.args) (option_map (λ t. trigger_of a.class (a.trigger, t)) (option_and_then (λ (c : Class). slice_get c.triggers a.trigger) c))) a.state
+        (option_map (λ t. watch_of t a.args) (option_map (λ t. trigger_of a.class (a.trigger, t)) (option_and_then (λ (c : Class). slice_get c.triggers a.trigger) c))) a.state
         ≡ cond (sees_in c a.trigger) (state_in now a) a.state
     by_class None = refl
     by_class (Some c) = by_trigger (slice_get c.triggers a.trigger)
@@ -98,8 +97,8 @@ module _ (tables : ℕ → ℕ → Table) (declared : List Declared) (now : List
   rows_left o [] each = refl
   rows_left o (a ∷ more) each =
       let row : changed_row states (watch_at declared o) (row_of a) ≡ row_of (rewound_active classes now a) =
-        ap (λ (f : Option Activation). (a.number, option_map_or (λ w. states a.number w a.state) (option_and_then (watch_by declared) f) a.state)) each.0
-        ∙ ap (λ (s : ℕ). (a.number, s)) (state_left a)
+      ap (λ (f : Option Activation). (a.number, option_map_or (λ w. states a.number w a.state) (option_and_then (watch_by declared) f) a.state)) each.0
+      ∙ ap (λ (s : ℕ). (a.number, s)) (state_left a)
       in
       ap (λ (r : ℕ × ℕ). r ∷ changed_rows states declared o (rows_of more)) row
       ∙ ap (λ (rs : List (ℕ × ℕ)). row_of (rewound_active classes now a) ∷ rs) (rows_left o more each.1)
@@ -129,7 +128,7 @@ module _ (classes : List Class) where
   unchanged all [] each = refl
   unchanged all (a ∷ more) each =
       let state : (rewound_active classes all a).state ≡ a.state =
-        ap (λ (f : Option Active). cond (is_whole classes a) (option_map_or (λ (b : Active). b.state) f a.state) a.state) each.0 ∙ whole_or_not (is_whole classes a) a.state
+      ap (λ (f : Option Active). cond (is_whole classes a) (option_map_or (λ (b : Active). b.state) f a.state) a.state) each.0 ∙ whole_or_not (is_whole classes a) a.state
       in
       ap (λ (s : ℕ). record a { state = s } ∷ map (rewound_active classes all) more) state ∙ ap (λ (acts : List Active). a ∷ acts) (unchanged all more each.1)
 
@@ -153,10 +152,10 @@ module _ (tables : ℕ → ℕ → Table) (declared : List Declared) where
   rows_unchanged o all [] each = refl
   rows_unchanged o all (row ∷ rows) each =
       let now : unwrap_or (kept_at row.0 all) row.1 ≡ row.1 =
-        ap (λ (f : Option ℕ). unwrap_or f row.1) (kept_find row.0 all ∙ ap (option_map (λ (r : ℕ × ℕ). r.1)) each.0)
+      ap (λ (f : Option ℕ). unwrap_or f row.1) (kept_find row.0 all ∙ ap (option_map (λ (r : ℕ × ℕ). r.1)) each.0)
       in
       let one : changed_row (back (numbers tables) all) (watch_at declared o) row ≡ row =
-        ap (λ (s : ℕ). (row.0, option_map_or (λ (w : Watch). cond w.whole s row.1) (watch_at declared o row.0) row.1)) now ∙ ap (λ (s : ℕ). (row.0, s)) (by_watch row.1 (watch_at declared o row.0))
+      ap (λ (s : ℕ). (row.0, option_map_or (λ (w : Watch). cond w.whole s row.1) (watch_at declared o row.0) row.1)) now ∙ ap (λ (s : ℕ). (row.0, s)) (by_watch row.1 (watch_at declared o row.0))
       in
       ap (λ (r : ℕ × ℕ). r ∷ changed_rows (back (numbers tables) all) declared o rows) one ∙ ap (λ (rs : List (ℕ × ℕ)). row ∷ rs) (rows_unchanged o all rows each.1)
     where

@@ -14,7 +14,6 @@ use Rattle.ode_objects.specs.Rewinding.{rewound}
 use Rattle.ode_objects.specs.declared.tracked.Tracked.{Tracked}
 use Rattle.ode_overlay.specs.Changing.{either}
 use Rattle.ode_overlay.specs.Rewinding.{put_rewound, rewound_from}
-use Rattle.ode_overlay_laws.proofs.AlteredLaws.{at_same}
 use Rattle.ode_value.specs.declared.class.Class.{Class}
 
 abbrev Entries : Type 0

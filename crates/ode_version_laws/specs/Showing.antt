@@ -1,15 +1,13 @@
 -- What is seen of objects, in the overlay and in the machine.
-use Rattle.std.specs.Prelude.{◌≡◌, ℕ, map, true, Option, Some, Result, Ok, Err}
+use Rattle.std.specs.Prelude.{◌≡◌, ℕ, map, true, Some, Result, Ok, Err}
 use Rattle.std.specs.List.{AllByRecursion, AllZip}
 use Rattle.std.specs.Option.{IsSome, option_map}
-use Rattle.ode_heap.specs.Activations.{activations_in}
-use Rattle.ode_heap.specs.Answering.{activations_with_states, class_of, head_of_object}
+use Rattle.ode_heap.specs.Answering.{head_of_object}
 use Rattle.ode_heap.specs.Answers.{There}
 use Rattle.ode_heap.specs.Looking.{version_in}
 use Rattle.ode_heap.specs.Objects.{object_in}
 use Rattle.ode_keep.specs.Entries.{Entries}
 use Rattle.ode_laws.specs.Alike.{NumberWorld}
-use Rattle.ode_objects.specs.Values.{are_args}
 use Rattle.ode_overlay.specs.Answers.{Answer, ◌>>=◌}
 use Rattle.ode_overlay.specs.Layers.{Layer}
 use Rattle.ode_overlay.specs.Reading.{not_null, object, or_else}
@@ -26,12 +24,11 @@ use Rattle.ode_value.specs.declared.class.Class.{Class}
 use Rattle.ode_value.specs.declared.value.Ref.{Ref}
 use Rattle.ode_versions.specs.Versions.{found}
 
--- records show a world: its objects without fields, the fields of each version, and activations with their state numbers
+-- records show a world: its objects without fields, and the fields of each version
 pub record Shows (base : Entries) (w : NumberWorld) : Type 0 where
   pub object : (id : ℕ) → object_in base id ≡ There (option_map head_of_object (object_numbered id w.bones.objects))
   pub version : (id number : ℕ) (o : Object) (class : Class) → object_numbered id w.bones.objects ≡ Some o → class_numbered o.class w.bones.classes ≡ Some class
       → version_in base id number class ≡ There (option_map (λ (v : Version). v.fields) (version_numbered number o.versions))
-  pub activations : (id : ℕ) (o : Object) → object_numbered id w.bones.objects ≡ Some o → activations_in base id (map class_of w.bones.classes) ≡ There (activations_with_states w o)
 
 -- An object as it is between transactions: it is live, its class is declared, its activations are on and have rising numbers, and what is
 -- kept of it is kept of these.
@@ -51,10 +48,6 @@ IsSettledAt w id = (o : Object) → object_numbered id w.bones.objects ≡ Some 
 -- so is each object
 abbrev pub AreSettled : NumberWorld → Type 0
 AreSettled w = (id : ℕ) → IsSettledAt w id
-
--- a record can hold the arguments of its activations
-abbrev pub HoldsArgs : NumberWorld → ℕ → Type 0
-HoldsArgs w id = (o : Object) → object_numbered id w.bones.objects ≡ Some o → AllByRecursion (λ (a : Activation). are_args a.args ≡ true) o.activations
 
 -- the number of the version that a reference denotes, by the object's head
 abbrev pub number_seen : Entries → Ref → Layer → Answer ℕ

@@ -13,32 +13,23 @@ ghost use Rattle.ode_value.specs.Evaluation.{field_of};
 ghost use Rattle.ode_value.specs.Language.{Language, ListWorld};
 ghost use Rattle.ode_value.specs.Records.{Row};
 ghost use Rattle.ode_value.specs.declared.value.Ref.{Ref};
-ghost use Rattle.ode_version_laws.specs.Denoting.{HasVersionsAt, IsRead, LacksSlot};
-ghost use Rattle.ode_version_laws.specs.Showing.{AreSettled, HoldsArgs, IsSettledAt, ReadsUnless, Shows, number_in, number_seen};
+ghost use Rattle.ode_version_laws.specs.Denoting.{HasVersionsAt, LacksSlot};
+ghost use Rattle.ode_version_laws.specs.Showing.{AreSettled, IsSettledAt, ReadsUnless, Shows, number_in, number_seen};
 
-use ode_heap_laws::{heaps_show_held_worlds, held_worlds_can_be_read};
+use ode_heap_laws::heaps_show_held_worlds;
 
-/// Records that hold a world show it [`shows`], it is settled [`settled`], and a record can hold the arguments of its activations [`args`],
-/// where its classes have no more fields and their triggers no more parameters than a record counts.
+/// Records that hold a world show it, and it is settled, where its classes have no more fields and their triggers no more parameters than a
+/// record counts.
 pub fn held_worlds_are_shown()
     ensures shows { (l : Language) (records : Items Row) (w : ListWorld) (held : HoldsCounted l records w) → Shows records held.world.stored.world }
     ensures settled { (l : Language) (records : Items Row) (w : ListWorld) (held : HoldsCounted l records w) → AreSettled held.world.stored.world }
-    ensures args { (l : Language) (records : Items Row) (w : ListWorld) (id : ℕ) (held : HoldsCounted l records w) → HoldsArgs held.world.stored.world id }
 {
     heaps_show_held_worlds();
-    held_worlds_can_be_read();
 }
 
-/// Over records that show the first world, an object that isn't tracked is read as the world now has it, where the world is settled and a
-/// record can hold the arguments of its activations.
-pub fn objects_are_read()
-    ensures { (base : Entries) (x : Layer) (y : NumberTx) (id : ℕ) → Stands x y → Shows base y.first → IsSettledAt y.first id → HasVersionsAt y id → HoldsArgs y.first id
-        → IsRead (map class_of y.first.bones.classes) base x y id }
-{}
-
 /// Over records that show the first world, an object's head is that of the live object of the world now; a reference denotes the version
-/// that is found in the head, or there is none for the same reason; and a field that is read is the machine's, with the same fault where there is none, and the records are
-/// damaged only where the version hasn't the slot.
+/// that is found in the head, or there is none for the same reason; and a field that is read is the machine's, with the same fault where
+/// there is none, and the records are damaged only where the version hasn't the slot.
 pub fn reads_follow()
     ensures object { (base : Entries) (x : Layer) (y : NumberTx) (id : ℕ) → Stands x y → Shows base y.first → IsSettledAt y.first id → HasVersionsAt y id
         → object base id x ≡ Ok (option_map head_of_object (object_at y.now.bones id)) }

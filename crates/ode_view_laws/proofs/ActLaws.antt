@@ -62,7 +62,7 @@ line_quiet {S} line answer z = by_room (nat_le (length z.text + length line) _) 
 
 -- ---- the order of what is on a live object
 
-live_tidy : {R : Type 0} (id : ℕ) (act : Act (Unit {0}) ℕ R) → ((y : NumberTx) → IsOrdered y.now → IsOrdered (reached (act y)).now)
+pub live_tidy : {R : Type 0} (id : ℕ) (act : Act (Unit {0}) ℕ R) → ((y : NumberTx) → IsOrdered y.now → IsOrdered (reached (act y)).now)
     → (y : NumberTx) → IsOrdered y.now → IsOrdered (reached (on_live id act y)).now
 live_tidy {R} id act tidy y h = by_live (is_live id y) where
   by_live : (b : Bool) → IsOrdered (reached (go_on (tested (NoObject id) y b) (λ _. act))).now

@@ -19,11 +19,11 @@ abbrev pub Leaves : {R : Type 0} → Answer (R × Layer) → Type 0
 Leaves (Ok done) = AreDrawn done.1
 Leaves (Err why) = Unit {0}
 
-leaves_then : {A R : Type 0} (m : Answer A) (f : A → Answer (R × Layer)) → ((a : A) → Leaves (f a)) → Leaves (m >>= f)
+pub leaves_then : {A R : Type 0} (m : Answer A) (f : A → Answer (R × Layer)) → ((a : A) → Leaves (f a)) → Leaves (m >>= f)
 leaves_then (Ok a) f h = h a
 leaves_then (Err why) f h = tt
 
-one_more : (x : Layer) → AreDrawn x → AllByRecursion (λ id. id < x.next + 1) x.touched
+pub one_more : (x : Layer) → AreDrawn x → AllByRecursion (λ id. id < x.next + 1) x.touched
 one_more x drawn = all-then (λ id. id < x.next) (λ id. id < x.next + 1) (λ id less. let below : id < x.next = less in omega (arith, below)) x.touched drawn
 
 joined : (next id : ℕ) (touched : List ℕ) (b : Bool) → id < next → AllByRecursion (λ n. n < next) touched → AllByRecursion (λ n. n < next) (cond b touched (touched ++ id ∷ []))
