@@ -19,3 +19,4 @@ mod RewindLaws
 mod RewoundVersions
 mod WeightLaws
 mod GrowthLaws
+mod HoldingLaws
