@@ -1,3 +1,1 @@
-pub mod BegunLaws
 pub mod KnownLaws
-pub mod VersionedLaws

@@ -18,31 +18,34 @@ ghost use Rattle.ode_value.specs.declared.value.Value.{Value};
 ghost use Rattle.ode_view_laws.specs.Showing.{Shows};
 ghost use Rattle.ode_view_laws.specs.Viewing.{Beside, running};
 
-use ode_version_laws::{calls_remember_firsts, objects_are_read};
+use ode_held_laws::objects_are_read_fresh;
+use ode_version_laws::{calls_keep_versions, calls_remember_firsts};
 use ode_view_laws::{makings_show, overlays_have_views, removals_show, touches_show};
 
 /// A touch, up to the point that the first one posts.
 pub fn touches_known()
     ensures { (classes : Items Declared) (first : NumberWorld) (beside : Beside) (base : Entries) (x : Layer) → IsKnown base first x → (id : ℕ)
         → Shows (λ now. running classes first now beside) gives x (touch (declared_in first) base id x) (on_live id (joins_first id) (running classes first x beside))
-            × StaysKnown base first (touch (declared_in first) base id x) }
+        × StaysKnown base first (touch (declared_in first) base id x) }
 {
     overlays_have_views();
-    objects_are_read();
+    objects_are_read_fresh();
     touches_show();
     calls_remember_firsts();
+    calls_keep_versions();
 }
 
 /// The removal of an object.
 pub fn removals_known()
     ensures { (classes : Items Declared) (first : NumberWorld) (beside : Beside) (base : Entries) (x : Layer) → IsKnown base first x → (id : ℕ)
         → Shows (λ now. running classes first now beside) gives x (remove (declared_in first) base id x) (on_live id (removes id) (running classes first x beside))
-            × StaysKnown base first (remove (declared_in first) base id x) }
+        × StaysKnown base first (remove (declared_in first) base id x) }
 {
     overlays_have_views();
-    objects_are_read();
+    objects_are_read_fresh();
     removals_show();
     calls_remember_firsts();
+    calls_keep_versions();
 }
 
 /// The making of an object, up to its line, where a record can hold every reference among the fields.
@@ -50,9 +53,10 @@ pub fn makings_known()
     ensures { (classes : Items Declared) (first : NumberWorld) (beside : Beside) (base : Entries) (x : Layer) → IsKnown base first x
         → (tables : ℕ → ℕ → Table) (class : ℕ) (fields : Items Value) → are_fields fields ≡ nat_le (version_size fields) value_limit
         → Shows (λ now. running classes first now beside) tells_new x (create class fields x) (makes (numbers tables) class fields (running classes first x beside))
-            × StaysKnown base first (create class fields x) }
+        × StaysKnown base first (create class fields x) }
 {
     overlays_have_views();
     makings_show();
     calls_remember_firsts();
+    calls_keep_versions();
 }

@@ -17,7 +17,8 @@ ghost use Rattle.ode_view_laws.specs.Showing.{Shows};
 ghost use Rattle.ode_view_laws.specs.Viewing.{Beside, running};
 
 use ode_act_laws::{derivations_show, version_removals_show, writes_show};
-use ode_version_laws::{calls_remember_firsts, objects_are_read};
+use ode_held_laws::objects_are_read_fresh;
+use ode_version_laws::{calls_keep_versions, calls_remember_firsts};
 use ode_view_laws::overlays_have_views;
 
 /// A new version, up to its line, where a record can hold each reference among the fields.
@@ -25,24 +26,26 @@ pub fn derivations_known()
     ensures { (classes : Items Declared) (first : NumberWorld) (beside : Beside) (base : Entries) (x : Layer) → IsKnown base first x → (r : Ref)
         → HoldsReferences (running classes first x beside) r
         → Shows (λ now. running classes first now beside) tells_version x (derive (declared_in first) base r x) (derives r (running classes first x beside))
-            × StaysKnown base first (derive (declared_in first) base r x) }
+        × StaysKnown base first (derive (declared_in first) base r x) }
 {
     overlays_have_views();
-    objects_are_read();
+    objects_are_read_fresh();
     derivations_show();
     calls_remember_firsts();
+    calls_keep_versions();
 }
 
 /// The removal of a version.
 pub fn version_removals_known()
     ensures { (classes : Items Declared) (first : NumberWorld) (beside : Beside) (base : Entries) (x : Layer) → IsKnown base first x → (r : Ref)
         → Shows (λ now. running classes first now beside) gives x (drop_version (declared_in first) base r x) (drops r (running classes first x beside))
-            × StaysKnown base first (drop_version (declared_in first) base r x) }
+        × StaysKnown base first (drop_version (declared_in first) base r x) }
 {
     overlays_have_views();
-    objects_are_read();
+    objects_are_read_fresh();
     version_removals_show();
     calls_remember_firsts();
+    calls_keep_versions();
 }
 
 /// A field that is set, where a record can hold each reference; the records are damaged only where the version hasn't the slot.
@@ -50,11 +53,12 @@ pub fn writes_known()
     ensures { (classes : Items Declared) (first : NumberWorld) (beside : Beside) (base : Entries) (x : Layer) → IsKnown base first x → (r : Ref) (slot : ℕ) (v : Value)
         → HoldsReferences (running classes first x beside) r → is_kept v ≡ true
         → ShowsUnless (LacksSlot (running classes first x beside).now.bones r slot) (λ now. running classes first now beside) gives x (write (declared_in first) base r slot v x)
-            (sets_field r slot v (running classes first x beside))
-            × StaysKnown base first (write (declared_in first) base r slot v x) }
+        (sets_field r slot v (running classes first x beside))
+        × StaysKnown base first (write (declared_in first) base r slot v x) }
 {
     overlays_have_views();
-    objects_are_read();
+    objects_are_read_fresh();
     writes_show();
     calls_remember_firsts();
+    calls_keep_versions();
 }

@@ -9,7 +9,7 @@ mod ReadLaws
 mod SumLaws
 mod SettledLaws
 mod HeldLaws
-mod TrackedMaps
+pub mod TrackedMaps
 mod RememberLaws
 mod CallLaws
 mod KeepLaws
