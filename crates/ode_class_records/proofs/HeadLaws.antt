@@ -1,5 +1,5 @@
 -- The spelling of a class's head.
-use Rattle.std.proofs.Common.{◌≡◌, ℕ, List, ◌++◌, length, refl, ap, sym, ◌∙◌, append_assoc}
+use Rattle.std.proofs.Common.{◌≡◌, ℕ, List, ◌++◌, length, ap, sym, ◌∙◌, append_assoc}
 use Rattle.std.specs.Option.{unwrap_or}
 use Rattle.ode_codec.specs.declared.record.Record.TheVariants as of
 use Rattle.ode_codec.specs.Spelling.{key_of, spelled, value_of}

@@ -1,16 +1,14 @@
 -- Pieces of some bytes, and the bytes of tables.
-use Rattle.std.proofs.Common.{◌≡◌, ◌<◌, ◌≤◌, ℕ, ◌+◌, ◌-◌, ◌*◌, ◌/◌, ◌^◌, List, [], ◌∷◌, ◌++◌, Bool, length, map, drop, take, refl, ap, sym, ◌∙◌, arith, length-append, subst}
-use Rattle.std.specs.Prelude.{min}
-use Rattle.std.specs.Int.{w16, to_be_bytes}
+use Rattle.std.proofs.Common.{◌≡◌, ◌<◌, ◌≤◌, ℕ, ◌+◌, ◌-◌, ◌*◌, ◌/◌, ◌^◌, List, [], ◌∷◌, ◌++◌, length, map, refl, ap, sym, ◌∙◌, arith, length-append, subst}
 use Rattle.std.specs.List.{AllByRecursion, flat_map, sum_by}
 use Rattle.std.proofs.Math.Nat.{le-div_iff_mul-le, div-le_of_le-mul, lt_of_not-le}
-use Rattle.std.proofs.lemmas.List.{length-take, length-map}
+use Rattle.std.proofs.lemmas.List.{length-map}
 use Rattle.std.proofs.lemmas.List.Sums.{sum_by-cons}
 use Rattle.std.proofs.lemmas.Nat.{mul-le}
 use Rattle.ode_value.specs.Lengths.{class_records, piece_count, table_length, table_records}
 use Rattle.ode_value.specs.Limits.{class_limit, value_limit}
 use Rattle.ode_value.specs.Tables.{Table}
-use Rattle.ode_codec.specs.StoredRows.{bit, piece_of, table_bytes, u16}
+use Rattle.ode_codec.specs.StoredRows.{bit, table_bytes, u16}
 use Rattle.ode_table.specs.Whole.{IsWhole}
 use Rattle.ode_compile.specs.Compiling.{size_of_table}
 use Rattle.ode_class_records.specs.ClassRows.{IsSized}

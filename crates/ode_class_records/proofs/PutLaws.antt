@@ -1,16 +1,14 @@
 -- Rows that are put one behind the other.
-use Rattle.std.proofs.Common.{◌≡◌, ℕ, ◌+◌, List, [], ◌∷◌, ◌++◌, map, drop, Option, Some, None, refl, ap, sym, ◌∙◌, subst, append_assoc}
-use Rattle.std.proofs.lemmas.List.{append-nil, map-append}
+use Rattle.std.proofs.Common.{◌≡◌, ℕ, ◌+◌, List, [], ◌∷◌, ◌++◌, map, Some, refl, ap, sym, ◌∙◌, subst, append_assoc}
+use Rattle.std.proofs.lemmas.List.{append-nil}
 use Rattle.std.specs.BTreeMap.{insert_entry}
-use Rattle.std.specs.List.{AllByRecursion, enumerate_from, flat_map}
-use Rattle.std.specs.Map.{keys_of}
+use Rattle.std.specs.List.{enumerate_from, flat_map}
 use Rattle.ode_keep.specs.Entries.{Changes, HasRisingKeys}
 use Rattle.ode_keep.specs.Rising.{above_all, follows, inserted_last, rising_front}
 use Rattle.ode_keep.proofs.Keys.{key_total}
 use Rattle.ode_value.specs.Keys.{key_cmp}
 use Rattle.ode_value.specs.Records.{Row}
 use Rattle.ode_value.specs.Tables.{Table}
-use Rattle.ode_value.specs.declared.key.Key.{Key}
 use Rattle.ode_class_records.specs.ClassRows.{head_at, pieces_at}
 use Rattle.ode_class_records.specs.Puts.{put_of, puts, with_rows}
 

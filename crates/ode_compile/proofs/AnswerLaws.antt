@@ -1,5 +1,5 @@
 -- Answers that follow one another, and those of a declaration.
-use Rattle.std.proofs.Common.{◌≡◌, ℕ, List, Result, Ok, Err, refl, ap, sym, ◌∙◌, subst}
+use Rattle.std.proofs.Common.{◌≡◌, ℕ, List, Result, Ok, Err, ap, sym, ◌∙◌, subst}
 use Rattle.ode_value.specs.Answers.{Answer, ◌>>=◌, ◌>>◌, checks}
 use Rattle.ode_value.specs.ClassLimits.{limits_class, limits_triggers}
 use Rattle.ode_value.specs.Weights.{record_count}

@@ -1,16 +1,14 @@
 -- The limits of a trigger, as what is found tells them.
-use Rattle.std.proofs.Common.{◌≡◌, ◌<◌, ◌≤◌, ℕ, Bool, true, false, List, Ok, Err, refl, ap, sym, ◌∙◌, arith, subst}
+use Rattle.std.proofs.Common.{◌≡◌, ◌<◌, ◌≤◌, ℕ, List, Ok, Err, ap, sym, ◌∙◌, subst}
 use Rattle.std.specs.Prelude.{min, nat_lt}
 use Rattle.std.proofs.lemmas.Bool.{lt-ltb, le-ltb}
 use Rattle.ode_value.specs.Answers.{refuses}
 use Rattle.ode_value.specs.Limits.{class_limit, counted_symbols, state_limit, symbol_limit}
-use Rattle.ode_value.specs.Symbols.{MaskedKind, symbol_count}
-use Rattle.ode_value.specs.Tables.{Means, Table}
+use Rattle.ode_value.specs.Symbols.{symbol_count}
 use Rattle.ode_value.specs.TreeCount.{tree_count}
 use Rattle.ode_value.specs.declared.member.TriggerDecl.{TriggerDecl}
 use Rattle.ode_value.specs.declared.reason.Refusal.{Refusal}
 use Rattle.ode_value.specs.declared.reason.Refusal.TheVariants as refusal
-use Rattle.ode_symbols.specs.Alphabets.{alphabet}
 use Rattle.ode_compile.specs.Compiling.{few_records, few_states, few_symbols}
 
 -- a number within a limit passes, and one above it is refused

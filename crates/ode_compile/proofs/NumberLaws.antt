@@ -1,16 +1,14 @@
 -- The second pass over a class keeps the numbers of its events.
-use Rattle.std.proofs.Common.{◌≡◌, ℕ, List, [], ◌∷◌, ◌++◌, fold, Bool, true, Option, Some, None, Ok, refl, ap, sym, ◌∙◌, subst}
-use Rattle.std.specs.Prelude.{◌&&◌, is_none, nat_lt}
+use Rattle.std.proofs.Common.{◌≡◌, ℕ, List, [], ◌∷◌, ◌++◌, fold, Bool, true, Option, Ok, ap, sym, ◌∙◌, subst}
+use Rattle.std.specs.Prelude.{◌&&◌, is_none}
 use Rattle.std.specs.List.{AllByRecursion}
 use Rattle.ode_value.specs.Numbers.{has_numbers, in_range, numbers_of}
 use Rattle.ode_value.specs.declared.class.Class.{Class}
-use Rattle.ode_value.specs.declared.event.EventExpr.{EventExpr, out-EventExpr, roll-EventExpr, map-EventExpr, fold-roll-EventExpr, fold_out-EventExpr, ind-EventExpr, the_lemmas}
+use Rattle.ode_value.specs.declared.event.EventExpr.{EventExpr, roll-EventExpr, map-EventExpr, fold-roll-EventExpr, ind-EventExpr, the_lemmas}
 use Rattle.ode_value.specs.declared.event.EventExpr.TheOpen as event
 use Rattle.ode_value.specs.declared.event.EventExpr.TheVariants as checked
 use Rattle.ode_value.specs.declared.event.Kind.{Kind}
 use Rattle.ode_value.specs.declared.member.TriggerDecl.{TriggerDecl}
-use Rattle.ode_value.specs.declared.member.Method.{Method}
-use Rattle.ode_value.specs.declared.member.Constraint.{Constraint}
 use Rattle.ode_value.specs.declared.reason.CheckError.TheVariants.{Duplicate}
 use Rattle.ode_value.specs.declared.statement.ClassDecl.{ClassDecl}
 use Rattle.ode_value.specs.declared.statement.Expr.{Expr}
@@ -19,7 +17,7 @@ use Rattle.ode_value.specs.declared.statement.Member.TheVariants as member
 use Rattle.ode_value.specs.declared.statement.Sort.TheVariants as sort
 use Rattle.ode_value.proofs.LeafLaws.{numbers_out}
 use Rattle.ode_types.specs.Bodies.{body}
-use Rattle.ode_types.specs.Checks.{◌>>=◌, ◌>>◌, each, needs}
+use Rattle.ode_types.specs.Checks.{◌>>=◌, each, needs}
 use Rattle.ode_types.specs.Declaring.{begins, declared, numbered, parent_in, with_member, without_members}
 use Rattle.ode_types.specs.Events.{Listing, is_listed, leaf_listed, listed, listing_of, mask}
 use Rattle.ode_types.specs.Families.{class_named}

@@ -1,7 +1,7 @@
 -- Triggers compiled one behind the other.
-use Rattle.std.proofs.Common.{◌≡◌, ◌<◌, ℕ, zero, suc, ◌+◌, List, [], ◌∷◌, ◌++◌, drop, get_or, length, map, Ok, refl, ap, sym, ◌∙◌, arith, subst}
+use Rattle.std.proofs.Common.{◌≡◌, ◌<◌, ℕ, zero, suc, List, [], ◌∷◌, ◌++◌, get_or, length, map, Ok, refl, ap, ◌∙◌, arith}
 use Rattle.std.specs.List.{AllByRecursion}
-use Rattle.ode_value.specs.Answers.{◌>>=◌, ◌>>◌}
+use Rattle.ode_value.specs.Answers.{◌>>◌}
 use Rattle.ode_value.specs.ClassLimits.{limits_trigger, limits_triggers}
 use Rattle.ode_value.specs.Lengths.{class_records}
 use Rattle.ode_value.specs.PrintedClasses.{decl_text}
@@ -9,7 +9,6 @@ use Rattle.ode_value.specs.Symbols.{MaskedKind}
 use Rattle.ode_value.specs.Tables.{Table}
 use Rattle.ode_value.specs.TreeCount.{tree_count}
 use Rattle.ode_value.specs.Weights.{record_count, table_size}
-use Rattle.ode_value.specs.Worlds.{Declared}
 use Rattle.ode_value.specs.declared.class.Class.{Class}
 use Rattle.ode_value.specs.declared.member.TriggerDecl.{TriggerDecl}
 use Rattle.ode_value.specs.declared.statement.ClassDecl.{ClassDecl}

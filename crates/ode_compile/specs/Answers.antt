@@ -2,7 +2,6 @@
 use Rattle.std.specs.Prelude.{◌≡◌, Result, Ok, Err}
 use Rattle.ode_value.specs.Answers.{Answer}
 use Rattle.ode_value.specs.Worlds.{Declared}
-use Rattle.ode_value.specs.declared.class.Class.{Class}
 use Rattle.ode_value.specs.declared.statement.ClassDecl.{ClassDecl}
 use Rattle.ode_compile.specs.declared.compiling.Compiled.{Compiled}
 use Rattle.ode_compile.specs.declared.stop.CompileStop.{CompileStop}

@@ -1,7 +1,6 @@
-use Rattle.std.proofs.Common.{◌≡◌, ℕ, List, [], ◌∷◌, length, map, ap, sym, ◌∙◌, subst, arith}
+use Rattle.std.proofs.Common.{[], ◌∷◌, length, ap, sym, ◌∙◌, subst, arith}
 use Rattle.std.proofs.lemmas.List.{length-map}
 use Rattle.ode_keep.specs.ShortValues.{HasShortValues}
-use Rattle.ode_value.specs.Records.{Row}
 use Rattle.ode_class_records.specs.ClassRows.{class_head, own_rows}
 use Rattle.ode_class_records.specs.Puts.{put_of, puts, with_rows}
 use Rattle.ode_class_records.proofs.PieceLaws.{few_parts}

@@ -1,4 +1,4 @@
-use Rattle.std.proofs.Common.{◌≡◌, ◌*◌, drop, take, ap, ◌∙◌}
+use Rattle.std.proofs.Common.{◌*◌, drop, take, ap, ◌∙◌}
 use Rattle.std.proofs.lemmas.List.{take_min}
 use Rattle.ode_value.specs.Limits.{value_limit}
 use Rattle.ode_class_records.proofs.pieces.piece.Goals as goal

@@ -1,4 +1,4 @@
-use Rattle.std.proofs.Common.{◌≡◌, ◌≤◌, drop, length, map}
+use Rattle.std.proofs.Common.{◌≡◌, drop, map}
 use Rattle.std.specs.List.{enumerate_from}
 use Rattle.ode_class_records.specs.ClassRows.{head_at}
 use Rattle.ode_class_records.specs.Puts.{with_rows}

@@ -1,4 +1,4 @@
-use Rattle.std.proofs.Common.{◌≡◌, ap, subst}
+use Rattle.std.proofs.Common.{subst}
 use Rattle.ode_table.specs.Built.{IsRefused}
 use Rattle.ode_table.proofs.BuiltLaws.{over-own}
 use Rattle.ode_compile.proofs.LimitLaws.{states_pass, states_stop}
