@@ -1,11 +1,13 @@
 //! Answers what the static rules say of each text on standard input: `ok`, or the first rule that it breaks. A line is a class, which the ones
 //! below it know where it is accepted, or a statement; `== WORDS` is a heading, and `object REFERENCE CLASS` says what a reference's object is.
+//! A line `value EXPRESSION` is answered with what the expression comes to where no object is there.
 #![tactic(auto)]
 
 ghost use Rattle.std.specs.Prelude.{◌<◌, ◌^◌, length};
 
 mod literal;
 mod ruling;
+mod valuing;
 
 use literal::literal_of;
 use ode_classyn::{parse_class, parse_statement};
@@ -14,6 +16,7 @@ use ode_value::{ClassDecl, List, Ref, Statement, Stmt};
 use ruling::{Ruling, print_ruling};
 use std::alloc::{AllocError, Global};
 use std::io;
+use valuing::{print_valuing, shown_value};
 
 /// What has been declared so far.
 #[derive(Drop)]
@@ -111,6 +114,35 @@ fn rule(alloc: Global, known: &mut Known, text: &[u8]) -> Ruling {
     }
 }
 
+// A text that shows what an expression comes to, as a statement.
+fn print_shown<R: Print + AllocGlobal>(
+    rt: &R,
+    known: &Known,
+    text: &str,
+    statement: &Stmt,
+) -> io::Result<()> {
+    match check_statement(rt.alloc(), &known.classes, &known.literals, statement) {
+        Ok(checked) => match shown_value(rt.alloc(), &checked) {
+            Some(answer) => print_valuing(rt, text, &answer),
+            None => print_ruling(rt, text, &Ruling::Unread),
+        },
+        Err(stop) => print_ruling(rt, text, &Ruling::Stopped(stop)),
+    }
+}
+
+fn print_expression<R: Print + AllocGlobal>(rt: &R, known: &Known, text: &str) -> io::Result<()> {
+    let alloc = rt.alloc();
+    let statement = format!(in alloc; "show {text};")?;
+    let mut read = List::new(alloc);
+    if statement.len() < 4_294_967_296 {
+        put(&mut read, read_statement(alloc, statement.as_bytes()))?;
+    }
+    match read.as_slice() {
+        [statement] => print_shown(rt, known, text, statement),
+        _ => print_ruling(rt, text, &Ruling::Unread),
+    }
+}
+
 fn main(rt: HostRuntime) -> io::Result<()> {
     let alloc = rt.alloc();
     let lines = io::read_to_string(alloc, rt.reader())?;
@@ -125,6 +157,8 @@ fn main(rt: HostRuntime) -> io::Result<()> {
             if let Some(literal) = literal_of(alloc, &known.classes, words) {
                 known.literals.push(literal)?;
             }
+        } else if let Some(expression) = line.strip_prefix("value ") {
+            print_expression(&rt, &known, expression)?;
         } else {
             print_ruling(&rt, line, &rule(alloc, &mut known, line.as_bytes()))?;
         }

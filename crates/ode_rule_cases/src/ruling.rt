@@ -26,9 +26,14 @@ fn words(error: &CheckError) -> (&str, &Name) {
     }
 }
 
+/// The front of a long text.
+pub fn shown(text: &str) -> &str {
+    text.get(..SHOWN).unwrap_or(text)
+}
+
 /// Prints it before the text, of which a long one is cut.
 pub fn print_ruling<R: Print>(rt: &R, text: &str, ruling: &Ruling) -> io::Result<()> {
-    let shown = text.get(..SHOWN).unwrap_or(text);
+    let shown = shown(text);
     match ruling {
         Ruling::Accepted => println!(rt; "ok: {shown}"),
         Ruling::Unread => println!(rt; "unread: {shown}"),

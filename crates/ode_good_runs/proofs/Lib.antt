@@ -1,0 +1,5 @@
+pub mod Declaring
+pub mod DueLaws
+pub mod Going
+pub mod GoodRuns
+pub mod Literals

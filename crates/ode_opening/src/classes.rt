@@ -1,0 +1,46 @@
+//! The classes of a database.
+ghost use Rattle.std.specs.Prelude.{IsErrOf, IsTrue};
+ghost use Rattle.ode_host.specs.Causes.{RoseIf};
+ghost use Rattle.ode_host.specs.Host.{Looks};
+ghost use Rattle.ode_keep.specs.Entries.{Entries};
+ghost use Rattle.ode_language.specs.Languages.{ode};
+ghost use Rattle.ode_passes.specs.Answers.{Answers, UnlessFault, is_usable};
+ghost use Rattle.ode_opening.specs.Classes.{classes_in};
+ghost use Rattle.std.specs.Prelude.{◌≡◌};
+
+use crate::declaring::declare_all;
+use ode_host::Host;
+use ode_keep::Keep;
+use ode_passes::{Found, OpenError, complete, walk};
+use ode_types::Classes;
+use ode_value::{Key, List};
+use std::alloc::Global;
+
+/// The classes of the records of a keeper, or the first rule that their records break. Nothing is written.
+#[tactic(auto, unfolding(crate::specs::Classes::classes_in))]
+pub fn read_classes<H: Host, K: Keep<H>>(
+    alloc: Global,
+    keeper: &mut K,
+    host: &mut H,
+) -> Result<Classes, OpenError>
+    requires live { IsTrue (K.live keeper.old) }
+    ensures meant { (entries : Entries) → K.holds keeper.old (H.view host.old) entries
+        → Answers (classes_in ode entries) result }
+    ensures holds { UnlessFault result ((entries : Entries) → K.holds keeper.old (H.view host.old) entries
+        → K.holds keeper.new (H.view host.new) entries) }
+    ensures looks { Looks (H.view host.old) (H.view host.new) }
+    ensures usable { K.live keeper.new ≡ is_usable result }
+    ensures cause { RoseIf (IsErrOf result OpenError.DiskFault) (H.view host.old).disk_faults (H.view host.new).disk_faults }
+{
+    let mut records: Found = List::new(alloc);
+    walk(
+        alloc,
+        keeper,
+        host,
+        Key::CLASS_HEAD,
+        Key::TABLE_PIECE,
+        &mut records,
+    )?;
+    complete(records.as_slice())?;
+    declare_all(alloc, records.as_slice())
+}

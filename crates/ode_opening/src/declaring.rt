@@ -1,0 +1,255 @@
+//! The classes that records declare.
+ghost use Rattle.std.specs.Prelude.{◌≡◌, ◌<◌, ◌≤◌, ◌^◌, ◌+◌, drop, length, slice_get, true, Ok, Some, IfOk, IfSome, IsErrOf};
+ghost use Rattle.std.specs.Option.{option_and_then, option_copied};
+ghost use Rattle.ode_types.specs.Checked.{IsChecked};
+ghost use Rattle.ode_types.specs.Static.{check_class};
+ghost use Rattle.ode_language.specs.Languages.{ode, statement_of};
+ghost use Rattle.ode_passes.specs.Answers.{Answers, Leaves, is_usable};
+ghost use Rattle.ode_opening.specs.Declaring.{accepted_in, adds, agrees, class_among, class_in, declared_in, declares_as, declares_by, is_short, piece_in, read_in, text_in};
+ghost use Rattle.ode_passes.specs.Complete.{of_head};
+ghost use Rattle.ode_opening.specs.Cutting.{Cuts, Declares};
+
+use ode_codec::Record;
+use ode_language::{ReadStop, read_statement};
+use ode_passes::{Cause, OpenError, class_count, of_head};
+use ode_print::print_class;
+use ode_types::{CheckStop, Classes, check_class};
+use ode_value::limits::{CLASS_LIMIT, VALUE_LIMIT};
+use ode_value::{Class, ClassDecl, Key, List, Statement};
+use std::alloc::{AllocError, Global};
+
+// ---- the text of a class
+
+// A piece of a text of which so many bytes are left.
+#[tactic(auto, unfolding(ode_value::specs::Limits::value_limit))]
+fn piece_in(left: usize, row: &Record) -> Option<&[u8]>
+    ensures { option_copied result ≡ piece_in left row.now }
+{
+    match row {
+        Record::ClassPiece { bytes, .. } => {
+            let bytes = bytes.as_slice();
+            if bytes.len() == left.min(VALUE_LIMIT) {
+                Some(bytes)
+            } else {
+                None
+            }
+        }
+        _ => None,
+    }
+}
+
+// The next piece of a text of which so many bytes are left.
+fn next_piece(records: &[(Key, Record)], at: usize, left: usize) -> Option<&[u8]>
+    ensures piece { option_copied result ≡ option_and_then (λ f. piece_in left f.1) (slice_get records.now at) }
+    ensures inside { IfSome result (λ _. at < length records.now) }
+    ensures short { IfSome result (λ piece. length piece.now ≤ left) }
+{
+    let found = records.get(at)?;
+    piece_in(left, &found.1)
+}
+
+// A text of so many bytes whose pieces stand from a place on, and the place behind them.
+fn text_in(
+    alloc: Global,
+    records: &[(Key, Record)],
+    at: usize,
+    class: u32,
+    length: u32,
+) -> Result<(List<u8>, usize), OpenError>
+    ensures meant { Cuts (text_in class length (drop at records.now)) records.now result }
+    ensures calm { IsErrOf result OpenError.DiskFault → ⊥ }
+{
+    let mut text = Vec::new(alloc);
+    let mut left = length as usize;
+    let mut at = at;
+    while left > 0 {
+        let Some(piece) = next_piece(records, at, left) else {
+            return Err(OpenError::BadFile(Cause::Class(class)));
+        };
+        text.extend_from_slice(piece)?;
+        left -= piece.len();
+        at += 1;
+    }
+    Ok((List::from_vec(text), at))
+}
+
+// ---- the class of a text
+
+// The class that a statement is.
+fn class_among(statement: &Option<Statement>) -> Option<&ClassDecl>
+    ensures { option_copied result ≡ class_among statement.now }
+{
+    match statement {
+        Some(Statement::Class(decl)) => Some(decl),
+        _ => None,
+    }
+}
+
+// Whether a class of this text has few enough records.
+#[tactic(auto, unfolding(ode_value::specs::Limits::value_limit, ode_value::specs::Limits::class_limit))]
+fn is_short(text: &[u8]) -> bool
+    ensures test { result ≡ is_short text.now }
+    ensures small { result ≡ true → length text.now + 1 < 2 ^ 32 }
+{
+    text.len() <= (CLASS_LIMIT as usize - 1) * VALUE_LIMIT
+}
+
+// The statement that this text is read as, where it is read as one.
+fn parsed(alloc: Global, text: &[u8]) -> Result<Option<Statement>, AllocError>
+    requires { length text.now < 2 ^ 32 }
+    ensures { IfOk result (λ read. class_among read ≡ class_in (statement_of text.now)) }
+{
+    match read_statement(alloc, text) {
+        Ok(statement) => Ok(Some(statement)),
+        Err(ReadStop::Memory) => Err(AllocError),
+        Err(ReadStop::Refused(_)) => Ok(None),
+    }
+}
+
+// How a class's text is read, which is a statement's but for its semicolon.
+fn read_in(alloc: Global, text: &[u8]) -> Result<Option<Statement>, AllocError>
+    ensures { IfOk result (λ read. class_among read ≡ read_in ode text.now) }
+{
+    if !is_short(text) {
+        return Ok(None);
+    }
+    let mut statement = Vec::from_slice(alloc, text)?;
+    statement.push(b';')?;
+    parsed(alloc, statement.as_slice())
+}
+
+// The class, where it is accepted after these.
+fn accepted(alloc: Global, known: &Classes, decl: &ClassDecl) -> Result<Option<Class>, AllocError>
+    ensures { IfOk result (λ class. class ≡ accepted_in (check_class known.now decl.now)) }
+{
+    match check_class(alloc, known, decl) {
+        Ok(class) => Ok(Some(class)),
+        Err(CheckStop::Memory) => Err(AllocError),
+        Err(CheckStop::Broken(_)) => Ok(None),
+    }
+}
+
+fn agrees(head: &Record, class: &Class) -> bool
+    ensures { result ≡ agrees head.now class.now }
+{
+    match head {
+        Record::ClassHead {
+            class: number,
+            name,
+            parent,
+            triggers,
+            ..
+        } => {
+            *number == class.number
+                && name.same(&class.name)
+                && *parent == class.parent.unwrap_or(0)
+                && usize::from(*triggers) == class.triggers.len()
+        }
+        _ => false,
+    }
+}
+
+fn broken<T>(number: u32) -> Result<T, OpenError>
+    ensures { result ≡ Err (OpenError.BadFile (Cause.Class number)) }
+{
+    Err(OpenError::BadFile(Cause::Class(number)))
+}
+
+// The class that a text declares which is read so.
+fn declare_as(
+    alloc: Global,
+    known: &Classes,
+    number: u32,
+    head: &Record,
+    text: &[u8],
+    read: Option<&ClassDecl>,
+) -> Result<Class, OpenError>
+    ensures meant { Answers (declares_as (option_copied read.entry) known.now number head.now text.now) result }
+    ensures checked { IfOk result (λ class. IsChecked known.now class) }
+    ensures calm { IsErrOf result OpenError.DiskFault → ⊥ }
+{
+    let Some(decl) = read else {
+        return broken(number);
+    };
+    let printed = print_class(alloc, decl)?;
+    if printed.as_slice() != text {
+        return broken(number);
+    }
+    let Some(class) = accepted(alloc, known, decl)? else {
+        return broken(number);
+    };
+    if !agrees(head, &class) {
+        return broken(number);
+    }
+    Ok(class)
+}
+
+// One more class, which this text declares.
+#[tactic(auto, using(crate::proofs::Declared::adds_stop))]
+fn add(
+    alloc: Global,
+    classes: &mut Classes,
+    number: u32,
+    head: &Record,
+    text: &[u8],
+) -> Result<(), OpenError>
+    ensures meant { Leaves (adds ode classes.old number head.now text.now) classes.new result }
+    ensures calm { IsErrOf result OpenError.DiskFault → ⊥ }
+{
+    let read = read_in(alloc, text)?;
+    let class = declare_as(alloc, classes, number, head, text, class_among(&read))?;
+    classes.add(class)?;
+    Ok(())
+}
+
+// One more class, and the place behind the pieces of its text.
+#[tactic(auto, using(crate::proofs::Declared::cut_stops_it, crate::proofs::Declared::add_stops_it, crate::proofs::Declared::declared_one))]
+fn declare(
+    alloc: Global,
+    classes: &mut Classes,
+    records: &[(Key, Record)],
+    at: usize,
+    head: &Record,
+    number: u32,
+    length: u32,
+) -> Result<usize, OpenError>
+    ensures meant { Declares (declares_by ode (Some (number, length)) head.now (classes.old, drop at records.now)) classes.new records.now result }
+    ensures calm { IsErrOf result OpenError.DiskFault → ⊥ }
+{
+    let cut = text_in(alloc, records, at, number, length)?;
+    let (text, next) = cut;
+    add(alloc, classes, number, head, text.as_slice())?;
+    Ok(next)
+}
+
+// The same where a record is a head.
+fn declare_next(
+    alloc: Global,
+    classes: &mut Classes,
+    records: &[(Key, Record)],
+    at: usize,
+    row: &Record,
+) -> Result<usize, OpenError>
+    ensures meant { Declares (declares_by ode (of_head row.now) row.now (classes.old, drop at records.now)) classes.new records.now result }
+    ensures calm { IsErrOf result OpenError.DiskFault → ⊥ }
+{
+    match of_head(row) {
+        Some((number, length)) => declare(alloc, classes, records, at, row, number, length),
+        None => Ok(at),
+    }
+}
+
+/// The classes that the records of classes declare. Each was checked against those before it.
+#[tactic(auto, unfolding(crate::specs::Declaring::declared_in))]
+pub fn declare_all(alloc: Global, records: &[(Key, Record)]) -> Result<Classes, OpenError>
+    ensures meant { Answers (declared_in ode records.now) result }
+    ensures calm { IsErrOf result OpenError.DiskFault → ⊥ }
+    ensures usable { is_usable result ≡ true }
+{
+    let mut classes = Classes::new(alloc);
+    let mut at = class_count(records);
+    for found in records {
+        at = declare_next(alloc, &mut classes, records, at, &found.1)?;
+    }
+    Ok(classes)
+}
