@@ -7,6 +7,7 @@ ghost use Rattle.ode_value.specs.declared.statement.Stmt.{Stmt};
 ghost use Rattle.ode_value.specs.GoodWorlds.{IsGood};
 ghost use Rattle.ode_value.specs.Language.{ListWorld};
 ghost use Rattle.ode_value.specs.References.{IsRef};
+ghost use Rattle.ode_value.specs.Worlds.{empty_world};
 ghost use Rattle.ode_timer.specs.Dates.{instant_of};
 ghost use Rattle.ode_top.specs.Runs.{trace, worlds};
 ghost use Rattle.ode_types.specs.Literals.{literals};
@@ -27,8 +28,9 @@ pub fn what_is_read_is_in_range()
     ensures instants { (text : Items ℕ) (t : ℤ) → instant_of text ≡ Some t → FitsSigned w64 t }
 {}
 
-/// Where each class that is read is read from its printed text too, a run of any script from a good world, whose versions' numbers begin at
-/// 1, has good worlds alone, of sound classes.
+/// Where each class that is read is read from its printed text too, a run of any script from a fresh database, or from a good world whose
+/// versions' numbers begin at 1, has good worlds alone, of sound classes.
 pub fn runs_of_the_language_stay_good()
-    ensures { AreReadAgain → (w : ListWorld) → IsGood ode w → AreFromOne w.bones → (script : Items ℕ) → AllByRecursion (IsWell ode) (worlds (trace ode w script)) }
+    ensures fresh { AreReadAgain → (script : Items ℕ) → AllByRecursion (IsWell ode) (worlds (trace ode empty_world script)) }
+    ensures good { AreReadAgain → (w : ListWorld) → IsGood ode w → AreFromOne w.bones → (script : Items ℕ) → AllByRecursion (IsWell ode) (worlds (trace ode w script)) }
 {}
