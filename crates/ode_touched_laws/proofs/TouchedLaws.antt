@@ -4,19 +4,20 @@ use Rattle.std.proofs.lemmas.Bool.{eqb-true, false≢true}
 use Rattle.std.proofs.lemmas.Bool.Decides.{nat_tests}
 use Rattle.std.proofs.lemmas.Cmp.{nat_cmp_total}
 use Rattle.std.proofs.lemmas.List.Folds.{list_any-append}
-use Rattle.std.specs.Prelude.{◌||◌, nat_eq, nat_le}
+use Rattle.std.specs.Prelude.{◌&&◌, ◌||◌, nat_eq, nat_le}
 use Rattle.std.specs.BTreeMap.{is_at}
 use Rattle.std.specs.List.{AllByRecursion, fold, list_any}
 use Rattle.std.specs.Map.{lookup}
 use Rattle.std.specs.Option.{option_and_then}
 use Rattle.std.specs.Ordering.{nat_cmp}
 use Rattle.ode_codec.specs.declared.record.Counters.{Counters}
+use Rattle.ode_codec.specs.declared.record.Entry.{Entry}
 use Rattle.ode_formed_laws.proofs.FormedLaws.{at_itself, at_other, put_others}
 use Rattle.ode_keep.proofs.Maps.{lookup_put}
 use Rattle.ode_laws.specs.Alike.{NumberWorld}
 use Rattle.ode_objects.specs.Objects.{activation_keys, made}
 use Rattle.ode_objects.specs.Rewinding.{rewound, rewound_active, rewound_by, rewound_object}
-use Rattle.ode_objects.specs.Values.{are_fields}
+use Rattle.ode_objects.specs.Values.{are_args, are_fields}
 use Rattle.ode_objects.specs.declared.object.Active.{Active}
 use Rattle.ode_objects.specs.declared.object.Object.{Object}
 use Rattle.ode_objects.specs.declared.tracked.First.{First}
@@ -26,6 +27,7 @@ use Rattle.ode_overlay.specs.Answers.{Answer, ◌>>=◌}
 use Rattle.ode_overlay.specs.Changing.{create, created, live_of, needs, next_number, now_tracked, object_of, put_new, touch_first, touch_with, touched_with}
 use Rattle.ode_overlay.specs.Layers.{Layer, begun, few, holding, is_touched, key_count, tracked_at}
 use Rattle.ode_overlay.specs.Rewinding.{rewind, rewound_from}
+use Rattle.ode_overlay.specs.Settling.{collect, has_room, with_entry}
 use Rattle.ode_overlay.specs.declared.error.OverlayError.TheVariants.{NoObject, TooLong, TooManyChanges}
 use Rattle.ode_overlay.specs.declared.origin.Origin.{Origin}
 use Rattle.ode_point_laws.specs.Points.{HoldsActivations}
@@ -80,6 +82,16 @@ begun_touched counters queued origin = record {
   first = λ id touched t is o other. absurd (cc is);
   untouched = λ id untouched t is. absurd (cc is);
 }
+
+-- ---- a firing is collected
+
+collected_stays : (e : Entry) (independent : Bool) (x : Layer) → HoldsTouched x → (b : Bool) → HoldsTouched (cond {A = Bool × Layer} b (true, with_entry e independent x) (false, x)).1
+collected_stays e independent x holds true = record { now = holds.now; first = holds.first; untouched = holds.untouched }
+collected_stays e independent x holds false = holds
+
+pub collect_stays : (e : Entry) (independent : Bool) (x : Layer) → HoldsTouched x → HoldsTouched (collect e independent x).1
+unfolding collect
+collect_stays e independent x holds = collected_stays e independent x holds (has_room x && are_args e.args)
 
 -- ---- one object more is touched
 

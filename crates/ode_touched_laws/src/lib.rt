@@ -1,12 +1,14 @@
 //! The keys of all activations of touched objects are held: laws of definitions, each carried by the contract of a function that does nothing.
 #![tactic(auto)]
 
-ghost use Rattle.std.specs.Prelude.{◌≡◌, ◌≤◌, ℕ, List as Items, Option, Some, None, true};
+ghost use Rattle.std.specs.Prelude.{◌≡◌, ◌≤◌, ℕ, List as Items, Bool, Option, Some, None, true};
 ghost use Rattle.ode_codec.specs.declared.record.Counters.{Counters};
+ghost use Rattle.ode_codec.specs.declared.record.Entry.{Entry};
 ghost use Rattle.ode_objects.specs.declared.tracked.Tracked.{Tracked};
 ghost use Rattle.ode_overlay.specs.Changing.{activate_with, create, deactivate_with, derive_with, drop_with, put_with, remove_with, touch_with, write_with};
 ghost use Rattle.ode_overlay.specs.Layers.{Layer, begun, is_touched, key_count, tracked_at};
 ghost use Rattle.ode_overlay.specs.Rewinding.{rewind};
+ghost use Rattle.ode_overlay.specs.Settling.{collect};
 ghost use Rattle.ode_overlay.specs.declared.origin.Origin.{Origin};
 ghost use Rattle.ode_point_laws.specs.Points.{HoldsActivations};
 ghost use Rattle.ode_touched_laws.specs.Touched.{HoldsTouched, IsUnchanged, StaysTouched};
@@ -24,7 +26,7 @@ pub fn touched_objects_have_their_keys()
 {}
 
 /// So it is in an overlay that begins, and behind each of its calls: a touch of an object that isn't touched yet, and is as it was read; a
-/// making, where the next number isn't tracked; and a change of a touched object that is tracked. So it is behind `rewind` too.
+/// making, where the next number isn't tracked; and a change of a touched object that is tracked. So it is behind `collect` and `rewind` too.
 pub fn touched_objects_keep_their_keys()
     ensures begun { (counters : Counters) (queued : ℕ) (origin : Origin) → HoldsTouched (begun counters queued origin) }
     ensures touch { (x : Layer) (id : ℕ) (new : Option Tracked) → HoldsTouched x → IsUnchanged x id new → StaysTouched (touch_with new id x) }
@@ -36,5 +38,6 @@ pub fn touched_objects_keep_their_keys()
     ensures activate { (x : Layer) (id class trigger : ℕ) (args : Items Value) → HoldsTouched x → is_touched id x ≡ true → StaysTouched (activate_with None id class trigger args x) }
     ensures deactivate { (x : Layer) (id number : ℕ) → HoldsTouched x → is_touched id x ≡ true → StaysTouched (deactivate_with None id number x) }
     ensures put { (x : Layer) (id : ℕ) (acts : Items Running) → HoldsTouched x → is_touched id x ≡ true → StaysTouched (put_with None id acts x) }
+    ensures collect { (x : Layer) (e : Entry) (independent : Bool) → HoldsTouched x → HoldsTouched (collect e independent x).1 }
     ensures rewind { (w : NumberWorld) (classes : Items Class) (x : Layer) → Remembers x.objects w → HoldsTouched x → HoldsTouched (rewind classes x) }
 {}

@@ -1,5 +1,5 @@
 use Rattle.ode_touched_laws.proofs.ChangeLaws.{activate_stays, deactivate_stays, derive_stays, drop_stays, put_stays, remove_stays, write_stays}
-use Rattle.ode_touched_laws.proofs.TouchedLaws.{begun_touched, create_stays, rewind_stays, touch_stays}
+use Rattle.ode_touched_laws.proofs.TouchedLaws.{begun_touched, collect_stays, create_stays, rewind_stays, touch_stays}
 use Rattle.ode_touched_laws.proofs.touched_objects_keep_their_keys.Goals as goal
 
 pub returns-clause-begun : goal.returns-clause-begun
@@ -31,6 +31,9 @@ returns-clause-deactivate c = λ x id number holds touched. deactivate_stays x i
 
 pub returns-clause-put : goal.returns-clause-put
 returns-clause-put c = λ x id acts holds touched. put_stays x id holds touched acts
+
+pub returns-clause-collect : goal.returns-clause-collect
+returns-clause-collect c = λ x e independent. collect_stays e independent x
 
 pub returns-clause-rewind : goal.returns-clause-rewind
 returns-clause-rewind c = rewind_stays
