@@ -26,7 +26,7 @@ use Rattle.ode_value.specs.Versions.{Version}
 use Rattle.ode_value.specs.Weights.{weight}
 use Rattle.ode_value.specs.Worlds.{Entry, Position, Object, Bones, class_numbered}
 use Rattle.ode_engine.specs.Works.{ticks, tick}
-use Rattle.ode_laws.specs.Counted.{IsQueued, AreCounted, StaysCounted}
+use Rattle.ode_laws.specs.Counted.{IsQueued, AreCounted, CountsOn}
 use Rattle.ode_laws.specs.Numbered.{HasNumbers}
 use Rattle.ode_laws.proofs.Alone.{Keeps, Alone, alone}
 use Rattle.ode_laws.proofs.CountLaws.{Counting, counting_keeps, begun_counted, commit_counted, abort_counted}
@@ -50,8 +50,8 @@ use Rattle.ode_sound_laws.proofs.SettleLaws.{both}
 use Rattle.ode_sound_laws.proofs.WorldLaws.{alive_same, good_typed, begun_typed, statement_typed, whole_typed, entry_typed}
 use Rattle.ode_sound_runs.proofs.TypedRuns.{tick_typed, move_typed}
 use Rattle.ode_good_laws.specs.Well.{IsWell}
-use Rattle.ode_good_laws.proofs.PastLaws.{Pastings, pasts_keep, begun_pasts, commit_pasts, abort_pasts}
-use Rattle.ode_good_laws.proofs.DistinctLaws.{begun_distinct, Withins, within_keeps, Leaves, commit_leaves, abort_leaves, good_distinct}
+use Rattle.ode_good_laws.proofs.PastLaws.{KeepsPasts, Pastings, pasts_keep, begun_pasts, commit_pasts, abort_pasts}
+use Rattle.ode_good_laws.proofs.DistinctLaws.{begun_distinct, Within, Withins, within_keeps, Leaves, commit_leaves, abort_leaves, good_distinct}
 
 -- ---- from all that is kept, good again
 
@@ -126,82 +126,107 @@ light_of : (p : Outcome Histories Starts (Unit {0})) (x : ListTx) → go_on p (�
 light_of (Done r y) x e = completion_light lists y x e
 light_of (Aborted r y) x e = absurd (cc)
 
-settle_counted : (p : Outcome Histories Starts (Unit {0})) → StaysCounted p → AreCounted (settle lists p).0.bones
-settle_counted (Done r x) h = commit_counted lists x h
-settle_counted (Aborted r x) h = abort_counted lists r x h
+-- ---- what a transaction leaves, by what it has kept
+
+module _ (w : ListWorld) (origin : Origin) where
+  -- a transaction from a world has kept its classes, its numbers, its bounds and its pasts
+  pub record HasKept (x : ListTx) : Type 0 where
+    pub classes : x.now.bones.classes ≡ w.bones.classes
+    pub within : Within lists w origin x
+    pub counts : CountsOn x
+    pub pasts : KeepsPasts x
+
+  -- and its weight: of what it did, or of the world that it goes back to
+  abbrev pub KeepsAll : Outcome Histories Starts (Unit {0}) → Type 0
+  KeepsAll (Done r x) = HasKept x × (weight (kept_bones x.now.bones) ≤ weight_limit)
+  KeepsAll (Aborted r x) = HasKept x × (weight w.bones ≤ weight_limit)
+
+  -- what a settled transaction leaves
+  record Left (s : Settled Histories Starts) : Type 0 where
+    leaves : Leaves lists w origin s.0.bones
+    counted : AreCounted s.0.bones
+    light : weight s.0.bones ≤ weight_limit
+    pasts : AllZip IsPast s.0.bones.objects s.0.pasts
+
+  left_over : (p : Outcome Histories Starts (Unit {0})) → KeepsAll p → Left (settle lists p)
+  left_over (Done r x) kept = record {
+    leaves = commit_leaves lists w origin x kept.0.classes kept.0.within;
+    counted = commit_counted lists x kept.0.counts;
+    light = commit_light lists x kept.1;
+    pasts = commit_pasts x kept.0.pasts;
+  }
+  left_over (Aborted r x) kept = record {
+    leaves = abort_leaves lists w origin r x kept.0.within;
+    counted = abort_counted lists r x kept.0.counts;
+    light = abort_light lists r x (subst (λ (u : ListWorld). weight u.bones ≤ weight_limit) (sym kept.0.within.first) kept.1);
+    pasts = abort_pasts r x kept.0.pasts kept.0.within.distinct.next;
+  }
+
+  module _ (l : Language) (classes : AreClasses l [] w.bones.classes) (left : w.bones.transaction < transaction_limit) (clock : IfSome (clock_after origin w.bones.clock) IsPosition) where
+    pub settled_again : (p : Outcome Histories Starts (Unit {0})) → KeepsAll p → IsOrdered (settle lists p).0.bones → IsTypedWorld (settle lists p).0.bones → IsWell l (settle lists p).0
+    settled_again p kept ordered typed =
+        let b = (settle lists p).0.bones in
+        let rest = left_over p kept in
+        let leaves = rest.leaves in
+        record {
+          good = record {
+            bones = record {
+              classes = subst (AreClasses l []) (sym leaves.classes) classes;
+              rising = typed.fit.rising;
+              objects = objects_good b typed ordered rest.counted;
+              numbers = leaves.distinct.distinct;
+              next = typed.fit.next;
+              transaction = record { some = omega (arith, leaves.transaction); bounded = omega (arith, leaves.transaction, left) };
+              next_entry = rest.counted.next_entry;
+              few = rest.counted.few;
+              rising_queue = rest.counted.rising;
+              queue = queue_good b typed ordered rest.counted;
+              clock = subst (λ c. IfSome c IsPosition) (sym leaves.clock) clock;
+              light = rest.light;
+            };
+            pasts = rest.pasts;
+          };
+          sound = typed.sound;
+          ones = ones_again b typed.fit.objects;
+        }
 
 module _ (l : Language) (w : ListWorld) (h : IsWell l w) (left : w.bones.transaction < transaction_limit) where
   typed_first : IsTypedWorld w.bones
   typed_first = good_typed l w h.good h.sound h.ones
 
   module _ (origin : Origin) (n : ℕ) (work : Past Histories Starts → Deed Histories Starts) (each : (s : Sides Histories Starts Histories Starts) → Alike s n 0 (work s.past) (work s.other)) (clock : IfSome (clock_after origin w.bones.clock) IsPosition) where
-    -- what a settled transaction leaves
-    record Left (s : Settled Histories Starts) : Type 0 where
-      leaves : Leaves lists w origin s.0.bones
-      light : weight s.0.bones ≤ weight_limit
-      pasts : AllZip IsPast s.0.bones.objects s.0.pasts
-
     abbrev outcome : Outcome Histories Starts (Unit {0})
     outcome = go_on (work lists (begun origin w)) (λ u. completes lists)
 
-    over : (Holds : ℕ → ListTx → Type 0) (k : Keeps lists Holds) → Holds n (begun origin w) → EndsBy (Alone lists Holds k w.bones.classes 0) (Alone lists Holds k w.bones.classes 0) outcome outcome
+    abbrev Kept : (Holds : ℕ → ListTx → Type 0) → Keeps lists Holds → Outcome Histories Starts (Unit {0}) → Type 0
+    Kept Holds k p = EndsBy (Alone lists Holds k w.bones.classes 0) (Alone lists Holds k w.bones.classes 0) p p
+
+    over : (Holds : ℕ → ListTx → Type 0) (k : Keeps lists Holds) → Holds n (begun origin w) → Kept Holds k outcome
     over Holds k holds =
         let s = alone lists Holds k w.bones.classes in
         next_alike s n 0 0 (work lists) (work lists) (each s) (completes lists) (completes lists) (completes_alike s 0) (begun origin w) (begun origin w) (refl, refl, holds)
 
-    counted : AreCounted (settle lists outcome).0.bones
-    counted = settle_counted outcome (by_outcome outcome (over (Counting lists) (counting_keeps lists) (begun_counted origin w (good_counted l w h.good)))) where
-      by_outcome : (p : Outcome Histories Starts (Unit {0})) → EndsBy (Alone lists (Counting lists) (counting_keeps lists) w.bones.classes 0) (Alone lists (Counting lists) (counting_keeps lists) w.bones.classes 0) p p → StaysCounted p
-      by_outcome (Done r x) ends = ends.1.2
-      by_outcome (Aborted r x) ends = ends.1.2
-
-    -- what is left of the first world, and its weight
-    left_over : Left (settle lists outcome)
-    left_over =
-        by_outcome outcome (over (Withins lists w origin) (within_keeps lists w origin) (record { first = refl; origin = refl; distinct = begun_distinct origin w (good_distinct l w h.good) }))
+    kept_all : KeepsAll w origin outcome
+    kept_all =
+        by_outcome outcome (over (Counting lists) (counting_keeps lists) (begun_counted origin w (good_counted l w h.good)))
+        (over (Withins lists w origin) (within_keeps lists w origin) (record { first = refl; origin = refl; distinct = begun_distinct origin w (good_distinct l w h.good) }))
         (over Pastings pasts_keep (begun_pasts origin w (good_numbered l w h.good) h.good.pasts)) (light_of (work lists (begun origin w)))
       where
-        by_outcome : (p : Outcome Histories Starts (Unit {0})) → EndsBy (Alone lists (Withins lists w origin) (within_keeps lists w origin) w.bones.classes 0) (Alone lists (Withins lists w origin) (within_keeps lists w origin) w.bones.classes 0) p p
-            → EndsBy (Alone lists Pastings pasts_keep w.bones.classes 0) (Alone lists Pastings pasts_keep w.bones.classes 0) p p → ((x : ListTx) → p ≡ Done tt x → weight (kept_bones x.now.bones) ≤ weight_limit) → Left (settle lists p)
-        by_outcome (Done r x) ends pasts light = record { leaves = commit_leaves lists w origin x ends.1.1 ends.1.2; light = commit_light lists x (light x refl); pasts = commit_pasts x pasts.1.2 }
-        by_outcome (Aborted r x) ends pasts light = record {
-          leaves = abort_leaves lists w origin r x ends.1.2;
-          light = abort_light lists r x (subst (λ (u : ListWorld). weight u.bones ≤ weight_limit) (sym ends.1.2.first) h.good.bones.light);
-          pasts = abort_pasts r x pasts.1.2 ends.1.2.distinct.next;
-        }
+        by_outcome : (p : Outcome Histories Starts (Unit {0})) → Kept (Counting lists) (counting_keeps lists) p → Kept (Withins lists w origin) (within_keeps lists w origin) p → Kept Pastings pasts_keep p
+            → ((x : ListTx) → p ≡ Done tt x → weight (kept_bones x.now.bones) ≤ weight_limit) → KeepsAll w origin p
+        by_outcome (Done r x) counts within pasts light = (record { classes = within.1.1; within = within.1.2; counts = counts.1.2; pasts = pasts.1.2 }, light x refl)
+        by_outcome (Aborted r x) counts within pasts light = (record { classes = within.1.1; within = within.1.2; counts = counts.1.2; pasts = pasts.1.2 }, h.good.bones.light)
 
     pub well_again : IsTypedWorld (transaction lists origin (work lists) w).0.bones → IsWell l (transaction lists origin (work lists) w).0
     unfolding transaction
     well_again typed =
-        let b = (settle lists outcome).0.bones in
-        let ordered : IsOrdered b = (transaction_follows lists w.bones (good_ordered l w h.good) origin n (work lists) w refl (λ cs. each (followed lists w.bones (good_ordered l w h.good) cs))).ordered in
-        let leaves = left_over.leaves in
-        record {
-          good = record {
-            bones = record {
-              classes = subst (AreClasses l []) (sym leaves.classes) h.good.bones.classes;
-              rising = typed.fit.rising;
-              objects = objects_good b typed ordered counted;
-              numbers = leaves.distinct.distinct;
-              next = typed.fit.next;
-              transaction = record { some = omega (arith, leaves.transaction); bounded = omega (arith, leaves.transaction, left) };
-              next_entry = counted.next_entry;
-              few = counted.few;
-              rising_queue = counted.rising;
-              queue = queue_good b typed ordered counted;
-              clock = subst (λ c. IfSome c IsPosition) (sym leaves.clock) clock;
-              light = left_over.light;
-            };
-            pasts = left_over.pasts;
-          };
-          sound = typed.sound;
-          ones = ones_again b typed.fit.objects;
-        }
+        settled_again w origin l h.good.bones.classes left clock outcome kept_all
+        (transaction_follows lists w.bones (good_ordered l w h.good) origin n (work lists) w refl (λ cs. each (followed lists w.bones (good_ordered l w h.good) cs))).ordered typed
 
     -- its number is the next one
     pub moves_on : (transaction lists origin (work lists) w).0.bones.transaction ≡ w.bones.transaction + 1
     unfolding transaction
-    moves_on = left_over.leaves.transaction
+    moves_on = (left_over w origin outcome kept_all).leaves.transaction
 
   pub statement_well : (literals : List (Ref × ℕ)) → AllByRecursion (FitsLiteral w.bones) literals → (s : Stmt) → IsTypedStatement (checked_classes w.bones.classes) literals s
       → IsWell l (transaction lists Script (commands lists s) w).0

@@ -1,4 +1,5 @@
 mod Levels
 mod Locals
 mod Rounds
+mod Touches
 mod Values

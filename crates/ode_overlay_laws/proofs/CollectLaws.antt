@@ -95,7 +95,7 @@ module _ (x : Layer) (y : NumberTx) (stands : Stands x y) where
   by_room says f independent kept true =
       subst (λ (c : Bool). let m : Bool × Layer = cond c (true, with_entry (entry_by (generation_of x.origin + 1) f) independent x) (false, x) in
       Collects m.0 m.1 y (says (dropped_text f) y) (Done tt (posting.with_entry independent f y))) (sym kept)
-      (posting.with_entry independent f y, (then_stands f independent, refl))
+      (posting.with_entry independent f y, (then_stands f independent, (record { first = refl; bones = refl; deferred = refl; text = refl; run = refl }, refl)))
   by_room says f independent kept false = (stands, refl)
 
   pub collects_law : (says : List ℕ → Deed (Unit {0}) ℕ) (independent : Bool) (f : Firing) → are_args f.args ≡ true

@@ -192,4 +192,4 @@ module _ (tables : ℕ → ℕ → Table) (class : ℕ) (fields : List Value) (x
   made_law kept =
       as_well y (λ n. prints (new_line n) >> gives n) (create class fields x) (makes (numbers tables) class fields y) (made_at id) (ap made_at stands.next)
       (follows_drawing x y ks stands (object_part id, (version_part id 1, tt)) (version_size fields) (are_fields fields) (λ n. prints (new_line n) >> gives n)
-      (λ keys n. Ok (n, created class fields keys x)) (act_at id) kept (then_y, (made_stands, refl)))
+      (λ keys n. Ok (n, created class fields keys x)) (act_at id) kept (then_y, (made_stands, (record { first = refl; bones = refl; deferred = refl; text = refl; run = refl }, refl))))

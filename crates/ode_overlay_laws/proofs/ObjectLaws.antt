@@ -60,7 +60,7 @@ module _ (x : Layer) (y : NumberTx) (id : ℕ) (new : Option Tracked) (stands : 
       let machines : removes id y ≡ acts_by (object_keys id o) = finds_object y id (object_as id o) acts_on (live_at y id o at true live) ∙ ap acts_by (same_keys id o) in
       as_well y gives (rest o) (removes id y) (acts_by (object_keys id o)) machines
       (follows_changes x y (object_keys id o) stands (object_parts id o) 0 gives (λ keys. Ok (tt, with_now id new (dead o) keys x)) (alters_object id die) none_is_short
-      (altered id die (object_keys id o) y, (altered_stands x y id new o (dead o) die (object_keys id o) stands at (object_parts id o) (λ q. refl) refl refl, refl)))
+      (altered id die (object_keys id o) y, (altered_stands x y id new o (dead o) die (object_keys id o) stands at (object_parts id o) (λ q. refl) refl refl, (record { first = refl; bones = refl; deferred = refl; text = refl; run = refl }, refl))))
 
   pub removed : Follows y gives (remove_with new id x) (on_live id (removes id) y)
   unfolding remove_with

@@ -96,11 +96,11 @@ module _ (x : Layer) (y : NumberTx) (id : ℕ) (new : Option Tracked) (stands : 
 
   by_touched : (o : Object) → IsIn y.now id o → o.live ≡ true → (b : Bool) → is_touched id x ≡ b
       → Follows y gives (cond b (Ok (false, x)) (touch_first new id o x)) (cond b (gives false) (joins id >> gives true) y)
-  by_touched o at live true is = (y, (stands, refl))
+  by_touched o at live true is = (y, (stands, (record { first = refl; bones = refl; deferred = refl; text = refl; run = refl }, refl)))
   by_touched o at live false is =
       as_well y gives (touch_first new id o x) (go_on (joins id y) (λ _. gives true)) (acts_by (activation_keys id o.activations)) (joined o at live)
       (follows_changes x y (activation_keys id o.activations) stands (activation_parts id o.activations) 0 gives (λ keys. Ok (true, touched_with new keys id x)) (does (touching id) >> gives true) none_is_short
-      (touching id (machine.holding (activation_keys id o.activations) y), (then_stands o is, refl)))
+      (touching id (machine.holding (activation_keys id o.activations) y), (then_stands o is, (record { first = refl; bones = refl; deferred = refl; text = refl; run = refl }, refl))))
 
   next : (t : Tracked) → object_of new id x ≡ Some t → IsIn y.now id t.current → t.current.live ≡ true → Follows y gives (rest t.current) (joins_first id y)
   next t is at live =

@@ -29,10 +29,19 @@ reason_as error.Memory = None
 reason_as error.DiskFault = None
 reason_as (error.Damaged key) = None
 
--- where the call is done, the act goes on as the next one from a transaction for which the overlay then stands; where it is refused, the
--- act aborts with the reason, and nothing changed
+-- what an act leaves as it was: the first world, of the world now all but its objects, their pasts and the next number, the deferred
+-- firings, the text and how many statements ran
+pub record Continues (y z : NumberTx) : Type 0 where
+  pub first : z.first ≡ y.first
+  pub bones : record z.now.bones { objects = y.now.bones.objects; next = y.now.bones.next } ≡ y.now.bones
+  pub deferred : z.deferred ≡ y.deferred
+  pub text : z.text ≡ y.text
+  pub run : z.run ≡ y.run
+
+-- where the call is done, the act goes on as the next one from a transaction for which the overlay then stands, and which continues the
+-- one before; where it is refused, the act aborts with the reason, and nothing changed
 abbrev pub Follows : {R S : Type 0} → NumberTx → (R → Act (Unit {0}) ℕ S) → Answer (R × Layer) → Outcome (Unit {0}) ℕ S → Type 0
-Follows y next (Ok done) outcome = (z : NumberTx) × (Stands done.1 z × (outcome ≡ next done.0 z))
+Follows y next (Ok done) outcome = (z : NumberTx) × (Stands done.1 z × (Continues y z × (outcome ≡ next done.0 z)))
 Follows y next (Err why) outcome = (r : Reason) × ((reason_as why ≡ Some r) × (outcome ≡ Aborted r y))
 
 -- an act on an object that is there
@@ -45,7 +54,7 @@ entry_by generation f = record { object = f.object; class = f.trigger.class; tri
 
 -- where it is collected, so it is in the machine; where it isn't, the machine drops it
 abbrev pub Collects : Bool → Layer → NumberTx → Outcome (Unit {0}) ℕ (Unit {0}) → Outcome (Unit {0}) ℕ (Unit {0}) → Type 0
-Collects true x y dropped outcome = (z : NumberTx) × (Stands x z × (outcome ≡ Done tt z))
+Collects true x y dropped outcome = (z : NumberTx) × (Stands x z × (Continues y z × (outcome ≡ Done tt z)))
 Collects false x y dropped outcome = Stands x y × (outcome ≡ dropped)
 
 -- the first touch of an object, before its point is posted: whether it is the first

@@ -1,7 +1,7 @@
-//! Type soundness of runs: all worlds of a run from a typed world are typed. Each law is carried by the contract of a function that does
-//! nothing.
+//! Type soundness of the clock and of declarations: the worlds that they leave are typed. Each law is carried by the contract of a
+//! function that does nothing.
 #![tactic(auto)]
 
 mod runs;
 
-pub use runs::runs_stay_typed;
+pub use runs::clocks_and_classes_stay_typed;

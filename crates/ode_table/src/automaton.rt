@@ -83,6 +83,21 @@ impl Table {
         self.symbols
     }
 
+    /// The state after each state in turn, by each symbol in turn.
+    pub fn rows(&self) -> &[u16]
+        ensures rows { result.now ≡ self.now.next }
+        ensures whole { IsWhole self.now }
+    {
+        self.next.as_slice()
+    }
+
+    /// The answer of each state in turn.
+    pub fn answers(&self) -> &[bool]
+        ensures { result.now ≡ self.now.yes }
+    {
+        self.yes.as_slice()
+    }
+
     /// The state after one, by a symbol.
     pub fn next(&self, q: u16, s: u8) -> u16
         requires state { q < self.now.states }

@@ -75,6 +75,7 @@ pub fn build(alloc: Global, e: &EventExpr, a: &Alphabet) -> Result<Table, BuildE
     ensures means { IfOk result (λ t. a.now ≡ alphabet e.now → Means t e.now) }
     ensures count { IfOk result (λ t. a.now ≡ alphabet e.now → t.states ≡ tree_count e.now) }
     ensures few { IfOk result (λ t. t.states ≤ state_limit) }
+    ensures whole { IfOk result IsWhole }
     ensures refused { IfErr result (λ error. (of : EventExpr) → IsOver e.now of a.now → IsRefused e.now of error) }
 {
     let marks = marks_of(alloc, e, a)?;

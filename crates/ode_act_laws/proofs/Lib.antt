@@ -1,0 +1,2 @@
+pub mod ReadsLaws
+pub mod ShownLaws

@@ -1,0 +1,3 @@
+pub mod ChangedLaws
+mod OnLaws
+mod OffLaws

@@ -1,0 +1,4 @@
+pub mod PartLaws
+pub mod KeptLaws
+pub mod AnswerLaws
+pub mod FreshLaws

@@ -1,0 +1,3 @@
+mod RunningLaws
+mod WholeLaws
+mod PointLaws

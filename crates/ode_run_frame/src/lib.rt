@@ -1,0 +1,9 @@
+//! Expressions, over a heap and an overlay.
+#![tactic(auto)]
+
+mod evaluation;
+mod reading;
+mod unread;
+
+pub use evaluation::evaluate;
+pub use unread::Unread;

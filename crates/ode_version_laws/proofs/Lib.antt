@@ -1,0 +1,22 @@
+mod VersionLaws
+mod SpacedLaws
+mod PositionLaws
+mod DeriveLaws
+mod DropLaws
+mod WriteLaws
+mod HeadLaws
+mod ReadLaws
+mod SumLaws
+mod SettledLaws
+mod HeldLaws
+pub mod TrackedMaps
+mod RememberLaws
+mod CallLaws
+mod KeepLaws
+mod HaveLaws
+mod RewoundRows
+mod RewindLaws
+mod RewoundVersions
+mod WeightLaws
+mod GrowthLaws
+mod HoldingLaws

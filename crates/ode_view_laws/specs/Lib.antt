@@ -1,0 +1,4 @@
+pub mod Ordering
+pub mod Putting
+pub mod Showing
+pub mod Viewing
