@@ -27,10 +27,11 @@ use Rattle.ode_typing_laws.proofs.Chain.{checked_typed}
 use Rattle.ode_sound_laws.specs.Sound.{AreSound, Inherits, IsKnown, IsSoundTrigger, IsTypedIn, Redefines, checked_classes}
 use Rattle.ode_sound_laws.proofs.Basics.{map_some}
 use Rattle.ode_sound_laws.proofs.ExprLaws.{find_passes}
+use Rattle.ode_sound_laws.proofs.SettleLaws.{both}
 use Rattle.ode_sound_laws.proofs.WalkPosting.{all-flat}
 use Rattle.ode_accepted_laws.proofs.Along.{IsOwn, IsFoundIn, Reaches, all_own, all_trees, fields_along, found_each, methods_along, reach, same_found, triggers_along, triggers_from}
 use Rattle.ode_accepted_laws.proofs.Lines.{AreKept, IsLine, IsPlaced, all-upward, kept_all, line_from}
-use Rattle.ode_accepted_laws.proofs.Lists.{all-any, all-both, all-reverse, all-right, all-tested, find-flat, flat-next, map-reverse, name_itself, names_same}
+use Rattle.ode_accepted_laws.proofs.Lists.{all-any, all-reverse, all-right, all-tested, find-flat, flat-next, map-reverse, name_itself, names_same}
 use Rattle.ode_accepted_laws.proofs.Members.{AreFields, IsFresh}
 
 -- ---- the words of the machine
@@ -91,9 +92,9 @@ module _ (cs : List Declared) (checked : AreChecked (checked_classes cs)) where
       let P : Class → Type 0 = λ c. IsPlaced classes c × IsTypedClass classes c in
       let F : Class → Type 0 = λ c. AreFields c.fields × (length c.fields ≤ field_limit) in
       all-then (λ (c : Class). P c × F c) IsThere (λ c h. record { placed = h.0.0; typed = h.0.1; fields = h.1.0; few = h.1.1 }) classes
-      (all-both P F classes
-      (all-both (IsPlaced classes) (IsTypedClass classes) classes kept.placed (checked_typed classes checked))
-      (all-both (λ (c : Class). AreFields c.fields) (λ (c : Class). length c.fields ≤ field_limit) classes kept.fields kept.few))
+      (both P F classes
+      (both (IsPlaced classes) (IsTypedClass classes) classes kept.placed (checked_typed classes checked))
+      (both (λ (c : Class). AreFields c.fields) (λ (c : Class). length c.fields ≤ field_limit) classes kept.fields kept.few))
 
   there_above : (n : ℕ) → AllByRecursion IsThere (line n)
   there_above n = all-upward IsThere n (reverse classes) (all-reverse IsThere classes all_there)
@@ -186,7 +187,7 @@ module _ (cs : List Declared) (checked : AreChecked (checked_classes cs)) where
   all_above : (n : ℕ) → AllByRecursion (IsAbove n) (line n)
   all_above n =
       all-then (λ (c : Class). IsThere c × IsIn n c.name) (IsAbove n) (λ c h. record { there = h.0; named = h.1 }) (line n)
-      (all-both IsThere (λ (c : Class). IsIn n c.name) (line n) (there_above n) (all-any (λ (c e : Class). bytes_eq e.name c.name) (λ c. name_itself c.name) (line n)))
+      (both IsThere (λ (c : Class). IsIn n c.name) (line n) (there_above n) (all-any (λ (c e : Class). bytes_eq e.name c.name) (λ c. name_itself c.name) (line n)))
 
   typed_method : (n : ℕ) (name : List ℕ) (m : Method) → method_named (line n) name ≡ Some m → IsTypedIn cs n m.params m.result m.body
   typed_method n name m h =
@@ -250,7 +251,7 @@ module _ (cs : List Declared) (checked : AreChecked (checked_classes cs)) where
   all_have : (n : ℕ) → AllByRecursion (HasTriggers n) (line n)
   all_have n =
       all-then (λ (c : Class). IsAbove n c × AllByRecursion (IsFresh []) c.triggers) (HasTriggers n) (λ c h. record { here = h.0; fresh = h.1 }) (line n)
-      (all-both (IsAbove n) (λ (c : Class). AllByRecursion (IsFresh []) c.triggers) (line n) (all_above n) (all_fresh (line n) (is_line n)))
+      (both (IsAbove n) (λ (c : Class). AllByRecursion (IsFresh []) c.triggers) (line n) (all_above n) (all_fresh (line n) (is_line n)))
 
   own_sound : (n : ℕ) (c : Class) → HasTriggers n c → AllByRecursion (IsSoundBut n) (own_triggers c)
   own_sound n c has =
@@ -267,8 +268,8 @@ module _ (cs : List Declared) (checked : AreChecked (checked_classes cs)) where
         };
         fresh = h.1.1;
       }) (own_triggers c)
-      (all-both (IsOwn c) (λ (t : Trigger). T t × F t) (own_triggers c) (all_own c)
-      (all-both T F (own_triggers c)
+      (both (IsOwn c) (λ (t : Trigger). T t × F t) (own_triggers c) (all_own c)
+      (both T F (own_triggers c)
       (all_trees (λ (t : TriggerDecl). is_trigger classes c t ≡ true) c (all_tests (is_trigger classes c) c.triggers has.here.there.typed.triggers))
       (all_trees (IsFresh []) c has.fresh)))
 
@@ -281,7 +282,7 @@ module _ (cs : List Declared) (checked : AreChecked (checked_classes cs)) where
         sorts = h.1.fresh.sorts;
         initial = h.1.fresh.initial;
       }) (triggers_from (line n))
-      (all-both (IsFoundIn (triggers_from (line n))) (IsSoundBut n) (triggers_from (line n)) (found_each (line n) (is_line n))
+      (both (IsFoundIn (triggers_from (line n))) (IsSoundBut n) (triggers_from (line n)) (found_each (line n) (is_line n))
       (all-flat (HasTriggers n) (IsSoundBut n) own_triggers (own_sound n) (reverse (line n)) (all-reverse (HasTriggers n) (line n) (all_have n)))))
 
   -- a class's own triggers are sound by its number
@@ -292,7 +293,7 @@ module _ (cs : List Declared) (checked : AreChecked (checked_classes cs)) where
       let own : AllByRecursion (IsSoundTrigger cs c.number) (own_triggers c) =
       all-right (IsSoundTrigger cs c.number) (triggers_from (upward (unwrap_or c.parent 0) (reverse classes))) (own_triggers c) (subst (AllByRecursion (IsSoundTrigger cs c.number)) from (triggers c.number)) in
       all-then (λ (t : Trigger). IsOwn c t × IsSoundTrigger cs c.number t) (λ (t : Trigger). IsSoundTrigger cs t.class t) (λ t h. subst (λ n. IsSoundTrigger cs n t) (sym h.0.class) h.1) (own_triggers c)
-      (all-both (IsOwn c) (IsSoundTrigger cs c.number) (own_triggers c) (all_own c) own)
+      (both (IsOwn c) (IsSoundTrigger cs c.number) (own_triggers c) (all_own c) own)
 
   of_declared : (P : Class → Type 0) (ds : List Declared) → AllByRecursion P (checked_classes ds) → AllByRecursion (λ (d : Declared). P d.class) ds
   of_declared P [] all = tt

@@ -25,8 +25,9 @@ use Rattle.ode_laws.proofs.Rows as rows
 use Rattle.ode_sound_laws.specs.Sound.{activation_by}
 use Rattle.ode_sound_laws.proofs.Basics.{found_same}
 use Rattle.ode_sound_laws.proofs.ExprLaws.{find_passes, sort_same}
+use Rattle.ode_sound_laws.proofs.SettleLaws.{both}
 use Rattle.ode_sound_laws.proofs.WalkPosting.{all-flat}
-use Rattle.ode_accepted_laws.proofs.Lists.{all-both, all-reverse, find-none, flat-next, names_same}
+use Rattle.ode_accepted_laws.proofs.Lists.{all-reverse, find-none, flat-next, names_same}
 use Rattle.ode_accepted_laws.proofs.Lines.{Continues, IsLine, IsPlaced, upward_number}
 use Rattle.ode_accepted_laws.proofs.Members.{Begins, IsFresh, IsShaped}
 
@@ -235,20 +236,20 @@ found_from class n (t ∷ ts) =
       ap (λ b. cond b (Some here) (find (λ (u : Trigger). is_of u (activation_by here)) rest)) (of_itself here),
       all-then (λ (u : Trigger). IsFoundIn rest u × (n < u.place)) (IsFoundIn (here ∷ rest))
           (λ u h. ap (λ b. cond b (Some here) (find (λ (v : Trigger). is_of v (activation_by u)) rest)) (other_place u here h.1) ∙ h.0) rest
-          (all-both (IsFoundIn rest) (λ (u : Trigger). n < u.place) rest (found_from class (n + 1) ts) (places_from class n (n + 1) (omega arith) ts)),
+          (both (IsFoundIn rest) (λ (u : Trigger). n < u.place) rest (found_from class (n + 1) ts) (places_from class n (n + 1) (omega arith) ts)),
     )
 
 pub found_each : (line : List Class) → IsLine line → AllByRecursion (IsFoundIn (triggers_from line)) (triggers_from line)
 found_each [] all = tt
-found_each (c ∷ line) all = subst (λ ts. AllByRecursion (IsFoundIn ts) ts) (sym (flat-next own_triggers c line)) (all-append (IsFoundIn both) old (own_triggers c) (left (found_each line all.1)) right) where
+found_each (c ∷ line) all = subst (λ ts. AllByRecursion (IsFoundIn ts) ts) (sym (flat-next own_triggers c line)) (all-append (IsFoundIn whole) old (own_triggers c) (left (found_each line all.1)) right) where
   old : List Trigger
   old = triggers_from line
 
-  both : List Trigger
-  both = triggers_from line ++ own_triggers c
+  whole : List Trigger
+  whole = triggers_from line ++ own_triggers c
 
-  left : AllByRecursion (IsFoundIn old) old → AllByRecursion (IsFoundIn both) old
-  left found = all-then (IsFoundIn old) (IsFoundIn both) (λ t h. rows.find-append (λ (u : Trigger). is_of u (activation_by t)) old (own_triggers c) t h) old found
+  left : AllByRecursion (IsFoundIn old) old → AllByRecursion (IsFoundIn whole) old
+  left found = all-then (IsFoundIn old) (IsFoundIn whole) (λ t h. rows.find-append (λ (u : Trigger). is_of u (activation_by t)) old (own_triggers c) t h) old found
 
   lower : AllByRecursion (λ (u : Trigger). u.class < c.number) old
   lower =
@@ -256,14 +257,14 @@ found_each (c ∷ line) all = subst (λ ts. AllByRecursion (IsFoundIn ts) ts) (s
       (λ e less. all-then (IsOwn e) (λ (u : Trigger). u.class < c.number) (λ u own. subst (λ n. n < c.number) (sym own.class) less) (own_triggers e) (all_own e))
       (reverse line) (all-reverse (λ (e : Class). e.number < c.number) line all.0.numbers)
 
-  here : (t : Trigger) → IsOwn c t × IsFoundIn (own_triggers c) t → IsFoundIn both t
+  here : (t : Trigger) → IsOwn c t × IsFoundIn (own_triggers c) t → IsFoundIn whole t
   here t h =
       let p : Trigger → Bool = λ u. is_of u (activation_by t) in
       let none : find p old ≡ None =
       find-none p old (all-then (λ (u : Trigger). u.class < c.number) (λ (u : Trigger). p u ≡ false) (λ u less. other_class t u (subst (λ n. u.class < n) (sym h.0.class) less)) old lower) in
       find-append p old (own_triggers c) ∙ ap (λ o. option_or o (find p (own_triggers c))) none ∙ h.1
 
-  right : AllByRecursion (IsFoundIn both) (own_triggers c)
+  right : AllByRecursion (IsFoundIn whole) (own_triggers c)
   right =
-      all-then (λ (t : Trigger). IsOwn c t × IsFoundIn (own_triggers c) t) (IsFoundIn both) here (own_triggers c)
-      (all-both (IsOwn c) (IsFoundIn (own_triggers c)) (own_triggers c) (all_own c) (found_from c.number 0 c.triggers))
+      all-then (λ (t : Trigger). IsOwn c t × IsFoundIn (own_triggers c) t) (IsFoundIn whole) here (own_triggers c)
+      (both (IsOwn c) (IsFoundIn (own_triggers c)) (own_triggers c) (all_own c) (found_from c.number 0 c.triggers))

@@ -1,6 +1,7 @@
 pub mod Accepted
 pub mod Along
 pub mod Lines
+pub mod Listing
 pub mod Lists
 pub mod Members
 pub mod Rules

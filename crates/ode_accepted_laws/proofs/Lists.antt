@@ -70,10 +70,6 @@ pub all-right : {X : Type 0} (P : X → Type 0) (xs ys : List X) → AllByRecurs
 all-right P [] ys all = all
 all-right P (x ∷ xs) ys all = all-right P xs ys all.1
 
-pub all-both : {X : Type 0} (P Q : X → Type 0) (xs : List X) → AllByRecursion P xs → AllByRecursion Q xs → AllByRecursion (λ x. P x × Q x) xs
-all-both P Q [] ps qs = tt
-all-both P Q (x ∷ xs) ps qs = ((ps.0, qs.0), all-both P Q xs ps.1 qs.1)
-
 -- a test of all passes the one that is found
 pub all-tested : {X : Type 0} (p q : X → Bool) (xs : List X) → list_all p xs ≡ true → (x : X) → find q xs ≡ Some x → p x ≡ true
 all-tested p q [] all x h = absurd (cc)

@@ -318,6 +318,9 @@ IsParent known p = (name : List ℕ) × (class_named known name ≡ Some p)
 abbrev pub fields_of : Option Class → List Field
 fields_of parent = option_map_or (λ (p : Class). p.fields) parent []
 
+abbrev pub kinds_of : Option Class → List Kind
+kinds_of parent = option_map_or (λ (p : Class). p.kinds) parent []
+
 -- a class that was checked, by its parent
 pub record IsAccepted (known : List Class) (c : Class) : Type 0 where
   pub parent : Option Class
@@ -340,23 +343,24 @@ parent_fields : (known : List Class) → AllByRecursion (λ (c : Class). AreFiel
 parent_fields known all None there = no_fields
 parent_fields known all (Some p) there = all-find (λ (c : Class). AreFields c.fields) (λ (c : Class). bytes_eq c.name there.0) known all p there.1
 
--- a class begins with its parent's fields
-record IsBegun (known : List Class) (start : Class) : Type 0 where
-  parent : Option Class
-  there : IfSome parent (IsParent known)
-  number : start.parent ≡ option_map (λ (p : Class). p.number) parent
-  fields : start.fields ≡ fields_of parent
-  methods : start.methods ≡ []
-  triggers : start.triggers ≡ []
+-- a class begins with its parent's fields and kinds
+pub record IsBegun (known : List Class) (start : Class) : Type 0 where
+  pub parent : Option Class
+  pub there : IfSome parent (IsParent known)
+  pub number : start.parent ≡ option_map (λ (p : Class). p.number) parent
+  pub fields : start.fields ≡ fields_of parent
+  pub kinds : start.kinds ≡ kinds_of parent
+  pub methods : start.methods ≡ []
+  pub triggers : start.triggers ≡ []
 
-begun : (known : List Class) (d : ClassDecl) (start : Class) → begins known d ≡ Ok start → IsBegun known start
+pub begun : (known : List Class) (d : ClassDecl) (start : Class) → begins known d ≡ Ok start → IsBegun known start
 unfolding begins
 begun known d start h =
     let first = bind-ok (needs (Duplicate d.name) (is_none (class_named known d.name))) (λ _. parent_in known d.parent >>= (λ parent. numbered known d.name >>= (λ number. Ok (without_members number d.name parent)))) start h in
     let second = bind-ok (parent_in known d.parent) (λ parent. numbered known d.name >>= (λ number. Ok (without_members number d.name parent))) start first.2 in
     let third = bind-ok (numbered known d.name) (λ number. Ok (without_members number d.name second.0)) start second.2 in
     let is : without_members third.0 d.name second.0 ≡ start = cc (third.2) in
-    subst (IsBegun known) is (record { parent = second.0; there = parent_there known d.parent second.0 second.1; number = refl; fields = refl; methods = refl; triggers = refl })
+    subst (IsBegun known) is (record { parent = second.0; there = parent_there known d.parent second.0 second.1; number = refl; fields = refl; kinds = refl; methods = refl; triggers = refl })
 
 small_fields : (known : List Class) (c : Class) → is_small known c ≡ true → length c.fields ≤ field_limit
 small_fields known c h =

@@ -18,6 +18,7 @@ use Rattle.ode_types.proofs.KeptStatements.{typed_statement}
 use Rattle.ode_sound_laws.specs.Sound.{checked_classes}
 use Rattle.ode_accepted_laws.specs.Languages.{AreAccepted, HasSoundRules, HasStaticRules}
 use Rattle.ode_accepted_laws.proofs.Accepted.{accepted_sound}
+use Rattle.ode_accepted_laws.proofs.Listing.{kinds_few}
 
 -- a number is left for a class that is checked
 begins_room : (known : List Class) (d : ClassDecl) (start : Class) → begins known d ≡ Ok start → length known < classes_limit
@@ -57,5 +58,6 @@ module _ (l : Language) (rules : HasStaticRules l) where
   rules_sound = record {
     checked = λ cs literals s t h. typed_statement cs literals s t (ap (λ f. f cs literals s) (sym rules.checked) ∙ h);
     accepted = λ cs all. accepted_sound cs (all_checked [] cs all);
+    kinds = λ cs all. kinds_few l rules [] cs tt all;
     numbered = number_is;
   }

@@ -15,7 +15,7 @@ pub fn accepted_classes_are_sound()
 {}
 
 /// A language that checks classes and statements by the static rules has sound rules: what it checks is typed, what it accepts is sound,
-/// and each class has the next number, of 32 bits.
+/// its classes list no more kinds than their texts have bytes together, and each has the next number, of 32 bits.
 #[tactic(auto, using(crate::proofs::Rules::rules_sound))]
 pub fn static_rules_are_sound()
     ensures { (l : Language) → HasStaticRules l → HasSoundRules l }

@@ -37,7 +37,7 @@ use Rattle.ode_view_laws.specs.Viewing.{Beside, running}
 abbrev tested : NumberTx → Bool → Outcome (Unit {0}) ℕ (Unit {0})
 tested z b = cond b (Done tt z) (Aborted Output z)
 
-line_alone : (line : List ℕ) (z : NumberTx) → (reached (prints line z)).now ≡ z.now
+pub line_alone : (line : List ℕ) (z : NumberTx) → (reached (prints line z)).now ≡ z.now
 line_alone line z = by_room (nat_le (length z.text + length line) _) where
   by_room : (b : Bool) → (reached (go_on (tested z b) (λ _. does (with_line line)))).now ≡ z.now
   by_room true = refl

@@ -1,5 +1,5 @@
 -- Activations go off, in the overlay and in the machine.
-use Rattle.std.proofs.Common.{◌≡◌, ◌==◌, ◌⊎◌, inl, inr, ℕ, ℤ, List, [], ◌∷◌, Bool, true, false, cond, map, pos, Option, Some, None, Ok, refl, sym, ap, subst, ◌∙◌, arith}
+use Rattle.std.proofs.Common.{◌≡◌, ◌==◌, ◌⊎◌, inl, inr, ℕ, List, [], ◌∷◌, Bool, true, false, cond, map, pos, Option, Some, None, Ok, refl, sym, ap, subst, ◌∙◌, arith}
 use Rattle.std.proofs.lemmas.Bool.{and_parts, eqb-true}
 use Rattle.std.proofs.lemmas.Bool.Decides.{nat_tests}
 use Rattle.std.specs.Prelude.{◌&&◌, ◌||◌}
@@ -33,7 +33,6 @@ use Rattle.ode_value.specs.Tables.{Table}
 use Rattle.ode_value.specs.Worlds as worlds
 use Rattle.ode_value.specs.declared.key.Key.{Key}
 use Rattle.ode_value.specs.declared.value.Ref.{Ref}
-use Rattle.ode_value.specs.declared.value.Value.{Value}
 use Rattle.ode_value.specs.declared.value.Value.TheVariants as value
 
 -- ---- which one goes off
@@ -137,15 +136,11 @@ module _ (tables : ℕ → ℕ → Table) (x : Layer) (y : NumberTx) (r : Ref) (
 
   goes_off : (o : Object) → IsIn y.now id o → Follows y gives (switch_off new id number o x) (off_at number)
   goes_off o at =
-      follows_changes x y ks stands parts 0 gives (λ keys. Ok (tt, with_now id new (switched_off number o) keys x)) (alters_object id off) none_is_short (
-        altered id off ks y,
-        (
-          altered_stands x y id new o (switched_off number o) off ks stands at parts (λ q. refl)
-              (ap (λ (acts : List objects.Activation). record (object_as id o) { activations = acts }) (all_off number o.activations))
-              (ap (λ (rows : List (ℕ × ℕ)). record { own = tt; activations = rows }) (same_rows number o.activations)),
-          (record { first = refl; bones = refl; deferred = refl; text = refl; run = refl }, refl),
-        ),
-      )
+      let then_stands = altered_stands x y id new o (switched_off number o) off ks stands at parts (λ q. refl)
+      (ap (λ (acts : List objects.Activation). record (object_as id o) { activations = acts }) (all_off number o.activations))
+      (ap (λ (rows : List (ℕ × ℕ)). record { own = tt; activations = rows }) (same_rows number o.activations)) in
+      follows_changes x y ks stands parts 0 gives (λ keys. Ok (tt, with_now id new (switched_off number o) keys x)) (alters_object id off) none_is_short
+      (altered id off ks y, (then_stands, (record { first = refl; bones = refl; deferred = refl; text = refl; run = refl }, refl)))
 
   by_found : (o : Object) → IsIn y.now id o → IsTurned number o.activations (first_on number o.activations) ⊎ IsUnturned number o.activations (first_on number o.activations)
       → Follows y gives (rest o) (off_found (first_on number o.activations))

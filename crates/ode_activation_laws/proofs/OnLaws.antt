@@ -1,9 +1,9 @@
 -- Activations go on, in the overlay and in the machine.
-use Rattle.std.proofs.Common.{◌≡◌, ℕ, ◌+◌, List, [], ◌∷◌, ◌++◌, Bool, true, false, cond, map, pos, Option, Some, None, Ok, Err, refl, sym, ap, subst, ◌∙◌}
+use Rattle.std.proofs.Common.{◌≡◌, ℕ, ◌+◌, List, [], ◌∷◌, Bool, true, false, cond, pos, Option, Some, Ok, Err, refl, sym, ap, ◌∙◌}
 use Rattle.std.proofs.lemmas.List.{map-append}
 use Rattle.std.specs.Prelude.{nat_le, is_some}
 use Rattle.std.specs.List.{AllByRecursion, fold}
-use Rattle.ode_activation_laws.proofs.ChangedLaws.{NumberKept, others_now, tracked_now}
+use Rattle.ode_activation_laws.proofs.ChangedLaws.{others_now, tracked_now}
 use Rattle.ode_activation_laws.specs.Switching.{tells_active, tells_line, tells_value}
 use Rattle.ode_laws.specs.Alike.{NumberTx}
 use Rattle.ode_objects.specs.Objects.{activated, new_active}

@@ -156,7 +156,7 @@ module _ {O A : Type 0} (past : Past O A) where
     reached_same (Done r y) (Aborted t x) h = absurd h
     reached_same (Aborted r y) (Done t x) h = absurd h
 
-    posted_same : (y x : Tx O A) → IsSame y x → IsSame (posted past place kind y) (posted past place kind x)
+    pub posted_same : (y x : Tx O A) → IsSame y x → IsSame (posted past place kind y) (posted past place kind x)
     unfolding posted
     posted_same y x r =
         subst (λ ids. IsSame (reached (each (posts_last past place kind) y.touched y)) (reached (each (posts_last past place kind) ids x))) (ap (λ (z : Tx O A). z.touched) r.same)

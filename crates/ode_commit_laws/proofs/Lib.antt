@@ -1,5 +1,5 @@
-mod CleanLists
-mod CleanRows
-mod CleanPoints
-mod CleanWorlds
-mod CleanLast
+pub mod CleanLists
+pub mod CleanRows
+pub mod CleanPoints
+pub mod CleanWorlds
+pub mod CleanLast

@@ -1,14 +1,12 @@
 -- Activations go on and off, and take over states.
-use Rattle.std.proofs.Common.{◌≡◌, ◌==◌, ℕ, List, [], ◌∷◌, ◌++◌, map, Bool, true, false, cond, Option, Some, None, Ok, refl, sym, ap, subst, ◌∙◌, arith}
+use Rattle.std.proofs.Common.{◌≡◌, ◌==◌, ℕ, List, [], ◌∷◌, ◌++◌, map, Bool, true, false, cond, Option, Some, None, Ok, refl, sym, ap, ◌∙◌}
 use Rattle.std.proofs.lemmas.Bool.{eqb-true, false≢true}
-use Rattle.std.proofs.lemmas.Bool.Decides.{nat_tests}
-use Rattle.std.specs.Prelude.{◌||◌}
 use Rattle.std.specs.List.{find, fold, list_any}
-use Rattle.ode_formed_laws.proofs.AmongLaws.{IsOf, active_at, first_out, no_version, none_active}
+use Rattle.ode_formed_laws.proofs.AmongLaws.{active_at, first_out, none_active}
 use Rattle.ode_formed_laws.proofs.FormedLaws.{after_by, by_few, by_live, by_need, by_number, formed_then, put_here, put_others, was_formed}
 use Rattle.ode_formed_laws.proofs.ObjectLaws.{by_form, held_actives, own_active, own_actives}
 use Rattle.ode_formed_laws.proofs.SpelledLaws.{same_active, same_object, same_version}
-use Rattle.ode_formed_laws.specs.Staying.{IsRead, StaysFormed}
+use Rattle.ode_formed_laws.specs.Staying.{IsStored, StaysFormed}
 use Rattle.ode_keep.specs.Entries.{Entries, value_under}
 use Rattle.ode_objects.specs.Objects.{activated, activation_keys, has_number, is_on, new_active, switched_off, taken_over, turned_off, with_states}
 use Rattle.ode_objects.specs.Records.{object_becomes}
@@ -53,7 +51,7 @@ found_taken n (r ∷ rs) (a ∷ acts) none = by_test (a.number == n) refl none (
   by_test true is e more = absurd (cc)
   by_test false is e more = more e
 
-module _ (base : Entries) (x : Layer) (id : ℕ) (new : Option Tracked) (formed : IsFormed base x) (read : IsRead base id new) where
+module _ (base : Entries) (x : Layer) (id : ℕ) (new : Option Tracked) (formed : IsFormed base x) (read : IsStored base id new) where
   -- only activations change, and the keys of these are held
   module _ (t : Tracked) (found : object_of new id x ≡ Some t) (acts : List Active) (ks : List Key)
       (others : (n : ℕ) → is_among (activation_key id n) ks ≡ false → find (has_number n) acts ≡ find (has_number n) t.current.activations) where

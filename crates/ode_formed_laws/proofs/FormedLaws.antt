@@ -1,6 +1,6 @@
 -- An object is changed, and the keys of the records that differ are held.
 use Rattle.std.proofs.Common.{◌≡◌, ◌==◌, ℕ, List, [], ◌∷◌, Bool, true, false, cond, Option, Some, None, Ok, Err, refl, sym, ap, subst, ◌∙◌, arith}
-use Rattle.std.proofs.lemmas.Bool.{eq-eqb, eqb-true}
+use Rattle.std.proofs.lemmas.Bool.{eqb-true}
 use Rattle.std.proofs.lemmas.Bool.Decides.{nat_tests}
 use Rattle.std.proofs.lemmas.Cmp.{nat_cmp_total}
 use Rattle.std.specs.Prelude.{◌||◌, nat_le, nat_lt}
@@ -9,7 +9,7 @@ use Rattle.std.specs.List.{AllByRecursion, fold}
 use Rattle.std.specs.Ordering.{nat_cmp}
 use Rattle.ode_formed_laws.proofs.AmongLaws.{IsOf, all_more, among_all, not_among}
 use Rattle.ode_formed_laws.proofs.SpelledLaws.{Bytes, spells_again}
-use Rattle.ode_formed_laws.specs.Staying.{IsRead, StaysFormed}
+use Rattle.ode_formed_laws.specs.Staying.{IsStored, StaysFormed}
 use Rattle.ode_keep.proofs.Maps.{lookup_put}
 use Rattle.ode_keep.specs.Entries.{Entries, value_under}
 use Rattle.ode_objects.specs.Records.{object_becomes}
@@ -18,13 +18,13 @@ use Rattle.ode_objects.specs.declared.tracked.Tracked.{Tracked}
 use Rattle.ode_overlay.specs.After.{held_after, is_among, value_after}
 use Rattle.ode_overlay.specs.Answers.{Answer, ◌>>=◌}
 use Rattle.ode_overlay.specs.Changing.{live_of, needs, next_number, now_tracked, object_of, with_now}
-use Rattle.ode_overlay.specs.Layers.{Layer, begun, few, holding, key_count, tracked_at}
+use Rattle.ode_overlay.specs.Layers.{Layer, begun, holding, key_count, tracked_at}
 use Rattle.ode_overlay.specs.Records.{becomes, becomes_of}
 use Rattle.ode_codec.specs.declared.record.Counters.{Counters}
 use Rattle.ode_overlay.specs.declared.error.OverlayError.{OverlayError}
 use Rattle.ode_overlay.specs.declared.error.OverlayError.TheVariants.{NoNumber, NoObject, TooManyChanges}
 use Rattle.ode_overlay.specs.declared.origin.Origin.{Origin}
-use Rattle.ode_overlay_laws.proofs.AlteredLaws.{at_same, now_current}
+use Rattle.ode_overlay_laws.proofs.AlteredLaws.{now_current}
 use Rattle.ode_settling_laws.specs.Formed.{IsFormed, IsOwn, value_in}
 use Rattle.ode_value.specs.Changes.{with_key}
 use Rattle.ode_value.specs.Limits.{change_limit, number_limit}
@@ -129,7 +129,7 @@ put_others x id new o keys n out =
 
 -- ---- as it was
 
-module _ (base : Entries) (x : Layer) (id : ℕ) (new : Option Tracked) (formed : IsFormed base x) (read : IsRead base id new) where
+module _ (base : Entries) (x : Layer) (id : ℕ) (new : Option Tracked) (formed : IsFormed base x) (read : IsStored base id new) where
   either : (q : Key) (o : Object) (b : Bool) → IsOwn q → value_under base q ≡ value_in q o → cond b (value_after (object_becomes q o) (value_under base q)) (value_under base q) ≡ value_in q o
   either q o true own is = spells_again q o (value_under base q) own is
   either q o false own is = is
@@ -141,7 +141,7 @@ module _ (base : Entries) (x : Layer) (id : ℕ) (new : Option Tracked) (formed 
   unfolding becomes
   held_of q = refl
 
-  by_new : (f : Option Tracked) → new ≡ f → IsRead base id f → (t : Tracked) → object_of f id x ≡ Some t → (q : Key) → IsOwn q → q.a ≡ id → after_by x q t.current (value_under base q) ≡ value_in q t.current
+  by_new : (f : Option Tracked) → new ≡ f → IsStored base id f → (t : Tracked) → object_of f id x ≡ Some t → (q : Key) → IsOwn q → q.a ≡ id → after_by x q t.current (value_under base q) ≡ value_in q t.current
   by_new None is read t found q own at =
       sym (held_of q ∙ ap (λ m. after_of q (tracked_at m x)) at ∙ ap (after_of q) found) ∙ formed.each id t q found own at
   by_new (Some u) is read t found q own at =

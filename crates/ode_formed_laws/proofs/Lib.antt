@@ -3,3 +3,4 @@ pub mod AmongLaws
 pub mod FormedLaws
 pub mod ObjectLaws
 pub mod ActiveLaws
+pub mod StoredLaws

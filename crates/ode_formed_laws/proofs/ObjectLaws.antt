@@ -12,10 +12,10 @@ use Rattle.std.specs.Ordering.{nat_cmp}
 use Rattle.ode_formed_laws.proofs.AmongLaws.{IsOf, among_append, first_out, no_version, none_active, none_version, second_out, version_at}
 use Rattle.ode_formed_laws.proofs.FormedLaws.{at_itself, at_other, by_few, by_live, by_need, by_number, formed_then, put_here, put_others, was_formed}
 use Rattle.ode_formed_laws.proofs.SpelledLaws.{IsWritten, spells_active, spells_object, spells_written}
-use Rattle.ode_formed_laws.specs.Staying.{IsRead, IsUnused, StaysFormed}
+use Rattle.ode_formed_laws.specs.Staying.{IsStored, IsUnused, StaysFormed}
 use Rattle.ode_keep.proofs.Maps.{lookup_put}
 use Rattle.ode_keep.specs.Entries.{Entries, value_under}
-use Rattle.ode_objects.specs.Objects.{activation_keys, dead, has_number, is_numbered, made, object_keys, version_keys}
+use Rattle.ode_objects.specs.Objects.{activation_keys, dead, is_numbered, made, object_keys, version_keys}
 use Rattle.ode_objects.specs.Records.{object_becomes}
 use Rattle.ode_objects.specs.Values.{are_fields}
 use Rattle.ode_objects.specs.declared.object.Active.{Active}
@@ -71,7 +71,7 @@ held_actives base id o acts q own at among =
     (λ n is. absurd (false≢true (sym (no_version id n acts) ∙ is)))
     (λ n is. spells_active id n o (value_under base (activation_key id n))) q own at among
 
-module _ (base : Entries) (x : Layer) (id : ℕ) (new : Option Tracked) (formed : IsFormed base x) (read : IsRead base id new) where
+module _ (base : Entries) (x : Layer) (id : ℕ) (new : Option Tracked) (formed : IsFormed base x) (read : IsStored base id new) where
   abbrev touched_then : Object → Layer
   touched_then o = touched_with new (fold with_key x.keys (activation_keys id o.activations)) id x
 

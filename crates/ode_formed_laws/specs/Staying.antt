@@ -8,9 +8,9 @@ use Rattle.ode_settling_laws.specs.Formed.{IsFormed, IsOwn, value_in}
 use Rattle.ode_value.specs.declared.key.Key.{Key}
 
 -- what was read of an object stands under its keys
-abbrev pub IsRead : Entries → ℕ → Option Tracked → Type 0
-IsRead base id None = Unit {0}
-IsRead base id (Some t) = (q : Key) → IsOwn q → q.a ≡ id → value_under base q ≡ value_in q t.current
+abbrev pub IsStored : Entries → ℕ → Option Tracked → Type 0
+IsStored base id None = Unit {0}
+IsStored base id (Some t) = (q : Key) → IsOwn q → q.a ≡ id → value_under base q ≡ value_in q t.current
 
 -- nothing stands under the keys of a number
 abbrev pub IsUnused : Entries → ℕ → Type 0

@@ -122,7 +122,7 @@ ones_again b all = all-then (FitsWorld b) (λ (o : Object). AllByRecursion (λ (
 
 -- ---- a whole transaction
 
-pub light_of : (p : Outcome Histories Starts (Unit {0})) (x : ListTx) → go_on p (λ u. completes lists) ≡ Done tt x → weight (kept_bones x.now.bones) ≤ weight_limit
+light_of : (p : Outcome Histories Starts (Unit {0})) (x : ListTx) → go_on p (λ u. completes lists) ≡ Done tt x → weight (kept_bones x.now.bones) ≤ weight_limit
 light_of (Done r y) x e = completion_light lists y x e
 light_of (Aborted r y) x e = absurd (cc)
 

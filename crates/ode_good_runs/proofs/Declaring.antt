@@ -32,7 +32,7 @@ use Rattle.ode_laws.proofs.Numbers.{apart}
 use Rattle.ode_run_laws.proofs.AlikeClasses.{more_classes, declared, printable, completes_weighs}
 use Rattle.ode_sound_laws.specs.Sound.{AreSound, checked_classes}
 use Rattle.ode_sound_laws.specs.Typed.{AreFromOne}
-use Rattle.ode_sound_runs.specs.Languages.{AddsSoundly}
+use Rattle.ode_sound_runs.specs.Adding.{AddsSoundly}
 use Rattle.ode_sound_runs.proofs.AddLaws.{class_added}
 use Rattle.ode_good_laws.specs.Well.{IsWell}
 use Rattle.ode_good_runs.specs.Reading.{ReadsWell}

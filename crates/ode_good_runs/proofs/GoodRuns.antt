@@ -1,8 +1,9 @@
 -- Each world of a run is good.
-use Rattle.std.proofs.Common.{◌≡◌, ℕ, ◌+◌, ◌^◌, Bool, true, false, cond, List, [], ◌∷◌, ◌++◌, map, length, Option, Some, None, Result, Ok, Err, refl, sym, ap, ◌∙◌, subst, ◌<◌, ◌≤◌, arith}
+use Rattle.std.proofs.Common.{◌≡◌, ◌*◌, ℕ, ◌+◌, ◌^◌, Bool, true, false, cond, List, [], ◌∷◌, ◌++◌, map, length, Option, Some, None, Result, Ok, Err, refl, sym, ap, ◌∙◌, subst, ◌<◌, ◌≤◌, arith}
 use Rattle.std.specs.Prelude.{ℤ, ◌&&◌, ◌==◌, int_lt, is_some, nat_lt, not, FitsSigned}
 use Rattle.std.specs.Int.{w64}
-use Rattle.std.specs.List.{AllByRecursion}
+use Rattle.std.specs.List.{AllByRecursion, sum_by}
+use Rattle.std.proofs.lemmas.List.Sums.{sum_by-cons}
 use Rattle.std.specs.Option.{IfSome, ok_or, option_map_or}
 use Rattle.std.proofs.lemmas.Bool.{ltb-true}
 use Rattle.std.proofs.lemmas.Bool.Decides.{nat_tests}
@@ -27,7 +28,7 @@ use Rattle.ode_value.specs.Pasts.{lists}
 use Rattle.ode_value.specs.References.{IsRef}
 use Rattle.ode_value.specs.Settling.{Settled, abort, transaction}
 use Rattle.ode_value.specs.Transactions.{Script}
-use Rattle.ode_value.specs.Worlds.{Declared, Object, Position, class_numbered}
+use Rattle.ode_value.specs.Worlds.{Bones, Declared, Object, Position, class_numbered}
 use Rattle.ode_engine.specs.Commands.{Step, after, settles, bones_now, goes_on, does_simple, ends_open, commits, does_class, does_clock, carried, command, finish}
 use Rattle.ode_engine.specs.Refusals.{classes_behind, classes_in, checked_in, declared_in, due_from, few, is_lone, place_of, placed, spends, ticks_in}
 use Rattle.ode_engine.specs.Sessions.{Session, closed}
@@ -37,7 +38,10 @@ use Rattle.ode_script.specs.Cutting.{Ending, Pieces, Then, Ended, pieces}
 use Rattle.ode_script.specs.Cutting as cutting
 use Rattle.ode_timer.specs.Due.{behind, due}
 use Rattle.ode_top.specs.Runs.{Item, item_of, answered, followed_by, ending_items, pieces_items, trace, worlds}
-use Rattle.ode_accepted_laws.specs.Languages.{HasSoundRules}
+use Rattle.ode_value.specs.Lengths.{key_length, piece_count, record_length}
+use Rattle.ode_value.specs.PrintedClasses.{decl_text}
+use Rattle.ode_value.specs.Weights.{class_weight, trigger_weight, weight}
+use Rattle.ode_accepted_laws.specs.Languages.{HasSoundRules, text_size}
 use Rattle.ode_laws.proofs.Each.{all-append, all-map, all-then}
 use Rattle.ode_run_laws.proofs.JoinLaws.{worlds_join}
 use Rattle.ode_sound_laws.specs.Sound.{checked_classes}
@@ -45,10 +49,28 @@ use Rattle.ode_good_laws.specs.Well.{IsWell}
 use Rattle.ode_good_laws.proofs.ClockRuns.{clock_well}
 use Rattle.ode_good_laws.proofs.GoodAgain.{drain_well, statement_well}
 use Rattle.ode_good_runs.specs.Reading.{ReadsWell}
-use Rattle.ode_good_runs.proofs.Declaring.{class_well, declared_is}
+use Rattle.ode_good_runs.proofs.Declaring.{class_well, classes_accepted, declared_is}
 use Rattle.ode_good_runs.proofs.DueLaws.{FitsRow, behind_fits, due_fits}
 use Rattle.ode_good_runs.proofs.Going.{Goes, IsFirst, IsGoing, begun_going, commits_well, settles_well, statement_goes, well_first}
 use Rattle.ode_good_runs.proofs.Literals.{literals_fit, then_answer, then_ok, ok_same}
+
+-- ---- the texts of classes are part of a world's weight
+
+text_weight : (c : Declared) → text_size c ≤ class_weight c
+text_weight c = part (length (decl_text c.tree)) (record_length (11 + length c.class.name)) (key_length * piece_count (length (decl_text c.tree))) (sum_by trigger_weight c.class.triggers) where
+  part : (n a b s : ℕ) → n ≤ a + (b + n) + s
+  part n a b s = omega arith
+
+texts_weight : (cs : List Declared) → sum_by text_size cs ≤ sum_by class_weight cs
+texts_weight [] = omega arith
+texts_weight (c ∷ cs) =
+    let one : sum_by text_size (c ∷ cs) ≡ text_size c + sum_by text_size cs = sum_by-cons text_size c cs in
+    let two : sum_by class_weight (c ∷ cs) ≡ class_weight c + sum_by class_weight cs = sum_by-cons class_weight c cs in
+    omega (arith, one, two, text_weight c, texts_weight cs)
+
+texts_light : (b : Bones) → sum_by text_size b.classes ≤ weight b
+unfolding weight
+texts_light b = let less = texts_weight b.classes in omega (arith, less)
 
 module _ (l : Language) (rules : HasSoundRules l) (reads : ReadsWell l) where
   abbrev AllWell : Settlings → Type 0
@@ -146,6 +168,11 @@ module _ (l : Language) (rules : HasSoundRules l) (reads : ReadsWell l) where
     below : (o : Object) → o.id < w.bones.next → o.id < 2 ^ 64
     below o less = omega (arith, less, h.good.bones.next.bounded)
 
+    listed : AllByRecursion (λ (c : Declared). length c.class.kinds ≤ 2 ^ 32) w.bones.classes
+    listed =
+        all-then (λ (c : Declared). length c.class.kinds ≤ sum_by text_size w.bones.classes) (λ (c : Declared). length c.class.kinds ≤ 2 ^ 32)
+        (λ c few. omega (arith, few, texts_light w.bones, h.good.bones.light)) w.bones.classes (rules.kinds w.bones.classes (classes_accepted l [] w.bones.classes h.good.bones.classes))
+
     few_kinds : (n : ℕ) (cs : List Declared) → AllByRecursion (λ (c : Declared). length c.class.kinds ≤ 2 ^ 32) cs → length (kinds_of cs n) ≤ 2 ^ 32
     few_kinds n [] all = omega arith
     few_kinds n (c ∷ cs) all = by_test (c.class.number == n) (few_kinds n cs all.1) where
@@ -154,7 +181,7 @@ module _ (l : Language) (rules : HasSoundRules l) (reads : ReadsWell l) where
       by_test false rest = rest
 
     row : (o : Object) → IsObject w.bones o → FitsRow (time_row w.bones.classes o)
-    row o is = record { object = below o is.number; places = few_kinds o.class w.bones.classes (reads.kinds w.bones.classes h.good.bones.classes) }
+    row o is = record { object = below o is.number; places = few_kinds o.class w.bones.classes listed }
 
   -- what is due up to an instant: few positions, in their range
   record AreDue (ps : List Position) : Type 0 where

@@ -1,20 +1,17 @@
 -- What the reading of a language promises.
-use Rattle.std.specs.Prelude.{◌≡◌, ◌≤◌, ◌^◌, ℕ, ℤ, List, [], ◌++◌, length, codes, FitsSigned, Some, Ok}
+use Rattle.std.specs.Prelude.{◌≡◌, ℕ, ℤ, List, ◌++◌, codes, FitsSigned, Some, Ok}
 use Rattle.std.specs.Int.{w64}
 use Rattle.std.specs.List.{AllByRecursion}
 use Rattle.ode_value.specs.declared.statement.ClassDecl.{ClassDecl}
 use Rattle.ode_value.specs.declared.statement.Statement.TheVariants as statement
 use Rattle.ode_value.specs.declared.statement.Stmt.{Stmt}
-use Rattle.ode_value.specs.GoodWorlds.{AreClasses}
 use Rattle.ode_value.specs.Language.{Language}
 use Rattle.ode_value.specs.PrintedClasses.{decl_text}
 use Rattle.ode_value.specs.References.{IsRef}
-use Rattle.ode_value.specs.Worlds.{Declared}
 
--- The literals of a statement that is read are references, a class that is read is read again from its printed text, instants have
--- 64 bits, and a class has no more kinds than a position of the clock has places.
+-- The literals of a statement that is read are references, a class that is read is read again from its printed text, and instants have
+-- 64 bits.
 pub record ReadsWell (l : Language) : Type 0 where
   pub literals : (piece : List ℕ) (s : Stmt) → l.statement_of piece ≡ Ok (statement.Simple s) → AllByRecursion IsRef (l.literals s)
   pub again : (piece : List ℕ) (d : ClassDecl) → l.statement_of piece ≡ Ok (statement.Class d) → l.statement_of (decl_text d ++ codes ";") ≡ Ok (statement.Class d)
   pub instants : (text : List ℕ) (t : ℤ) → l.instant_of text ≡ Some t → FitsSigned w64 t
-  pub kinds : (cs : List Declared) → AreClasses l [] cs → AllByRecursion (λ (c : Declared). length c.class.kinds ≤ 2 ^ 32) cs

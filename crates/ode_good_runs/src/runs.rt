@@ -9,7 +9,7 @@ ghost use Rattle.ode_value.specs.Limits.{transaction_limit};
 ghost use Rattle.ode_value.specs.Pasts.{lists};
 ghost use Rattle.ode_value.specs.Settling.{transaction};
 ghost use Rattle.ode_value.specs.Transactions.{Script};
-ghost use Rattle.ode_value.specs.Worlds.{Declared};
+ghost use Rattle.ode_value.specs.Worlds.{Declared, empty_world};
 ghost use Rattle.ode_engine.specs.Refusals.{declared_in};
 ghost use Rattle.ode_engine.specs.Works.{declares};
 ghost use Rattle.ode_top.specs.Runs.{trace, worlds};
@@ -19,10 +19,11 @@ ghost use Rattle.ode_sound_laws.specs.Sound.{AreSound};
 ghost use Rattle.ode_sound_laws.specs.Typed.{AreFromOne};
 ghost use Rattle.ode_good_runs.specs.Reading.{ReadsWell};
 
-/// By a language with sound rules the classes of a good world are sound. If it also reads well, then from a good world whose versions'
+/// By a language with sound rules a fresh database is a good world, and the classes of a good world are sound. If it also reads well, then from a good world whose versions'
 /// numbers begin at 1 each world of a run of any script is such a world again, and so is the one that the declaration of a class leaves,
 /// which was read and is accepted.
 pub fn runs_stay_good()
+    ensures fresh { (l : Language) → HasSoundRules l → IsWell l empty_world }
     ensures sound { (l : Language) → HasSoundRules l → (w : ListWorld) → IsGood l w → AreSound w.bones.classes }
     ensures run { (l : Language) → HasSoundRules l → ReadsWell l → (w : ListWorld) → IsGood l w → AreFromOne w.bones → (script : Items ℕ) → AllByRecursion (IsWell l) (worlds (trace l w script)) }
     ensures declared { (l : Language) → HasSoundRules l → ReadsWell l → (w : ListWorld) → IsGood l w → AreFromOne w.bones → w.bones.transaction < transaction_limit →

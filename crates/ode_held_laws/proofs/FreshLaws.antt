@@ -148,13 +148,13 @@ module _ (l : Language) (records : Entries) (w : ListWorld) (held : HoldsCounted
 
   -- ---- any number
 
-  whole_there : (id : ℕ) (o : Object) → object_numbered id w.bones.objects ≡ Some o → (whole_in classes records id ≡ There (Some (read_whole o))) × IsIn s.world id (read_whole o)
+  pub whole_there : (id : ℕ) (o : Object) → object_numbered id w.bones.objects ≡ Some o → (whole_in classes records id ≡ There (Some (read_whole o))) × IsIn s.world id (read_whole o)
   whole_there id o at =
       let same : o.id ≡ id = numbered_id id w.bones.objects o at in
       subst (λ n. object_numbered n w.bones.objects ≡ Some o → (whole_in classes records n ≡ There (Some (read_whole o))) × IsIn s.world n (read_whole o)) same
       (λ there. (whole_read o there, read_in o there)) at
 
-  none_there : (id : ℕ) → object_numbered id w.bones.objects ≡ None → whole_in classes records id ≡ There None
+  pub none_there : (id : ℕ) → object_numbered id w.bones.objects ≡ None → whole_in classes records id ≡ There None
   unfolding whole_in
   none_there id none =
       ap (λ (f : Found (Option ObjectHead)). f >>= with_parts classes records id) (object_shown id ∙ ap (λ (p : Option Object). There (option_map head_of_object p)) none)

@@ -32,8 +32,8 @@ pub trait Acts<S: Schema> {
     /// What can be known of it: the world that it began with, and what else its calls keep.
     ghost Known: { Type 0 };
 
-    /// This is known of it. It stays so until the disk fails or a record is damaged.
-    ghost knows: { Self → Known → Type 0 };
+    /// This is known of it, under a schema. It stays so until the disk fails or a record is damaged.
+    ghost knows: { Self → S → Known → Type 0 };
 
     /// What is known then.
     ghost failed: { Self → Known → Stop → Type 0 };
@@ -43,61 +43,61 @@ pub trait Acts<S: Schema> {
 
     /// One more statement.
     fn count(&mut self, schema: &S) -> Result<(), Stop>
-        ensures acts { (classes : Items Declared) (g : Known) → S.declares schema.now classes → knows self.old g → Ends result (with_classes classes (view self.new g)) (counts (with_classes classes (view self.old g))) }
-        ensures kept { (g : Known) → knows self.old g → Leaves result (knows self.new g) (failed self.new g) };
+        ensures acts { (classes : Items Declared) (g : Known) → S.declares schema.now classes → knows self.old schema.now g → Ends result (with_classes classes (view self.new g)) (counts (with_classes classes (view self.old g))) }
+        ensures kept { (g : Known) → knows self.old schema.now g → Leaves result (knows self.new schema.now g) (failed self.new g) };
 
     /// The line of a value that is shown.
     fn show(&mut self, schema: &S, v: &Value) -> Result<(), Stop>
-        ensures acts { (classes : Items Declared) (g : Known) → S.declares schema.now classes → knows self.old g → Ends result (with_classes classes (view self.new g)) (prints (value_line v.now) (with_classes classes (view self.old g))) }
-        ensures kept { (g : Known) → knows self.old g → Leaves result (knows self.new g) (failed self.new g) };
+        ensures acts { (classes : Items Declared) (g : Known) → S.declares schema.now classes → knows self.old schema.now g → Ends result (with_classes classes (view self.new g)) (prints (value_line v.now) (with_classes classes (view self.old g))) }
+        ensures kept { (g : Known) → knows self.old schema.now g → Leaves result (knows self.new schema.now g) (failed self.new g) };
 
     /// The line of a text that is said.
     fn say(&mut self, schema: &S, text: &Value) -> Result<(), Stop>
-        ensures acts { (classes : Items Declared) (g : Known) → S.declares schema.now classes → knows self.old g → Ends result (with_classes classes (view self.new g)) (prints (said_line (text_in text.now)) (with_classes classes (view self.old g))) }
-        ensures kept { (g : Known) → knows self.old g → Leaves result (knows self.new g) (failed self.new g) };
+        ensures acts { (classes : Items Declared) (g : Known) → S.declares schema.now classes → knows self.old schema.now g → Ends result (with_classes classes (view self.new g)) (prints (said_line (text_in text.now)) (with_classes classes (view self.old g))) }
+        ensures kept { (g : Known) → knows self.old schema.now g → Leaves result (knows self.new schema.now g) (failed self.new g) };
 
     /// The line of a firing.
     fn tell(&mut self, schema: &S, f: &Firing) -> Result<(), Stop>
         requires { S.has_trigger schema.now f.now.trigger.class f.now.trigger.place }
-        ensures acts { (classes : Items Declared) (g : Known) → S.declares schema.now classes → knows self.old g → Ends result (with_classes classes (view self.new g)) (prints (fired_text (firing (S.trigger schema.now) f.now)) (with_classes classes (view self.old g))) }
-        ensures kept { (g : Known) → knows self.old g → Leaves result (knows self.new g) (failed self.new g) };
+        ensures acts { (classes : Items Declared) (g : Known) → S.declares schema.now classes → knows self.old schema.now g → Ends result (with_classes classes (view self.new g)) (prints (fired_text (firing (S.trigger schema.now) f.now)) (with_classes classes (view self.old g))) }
+        ensures kept { (g : Known) → knows self.old schema.now g → Leaves result (knows self.new schema.now g) (failed self.new g) };
 
     /// The object of a number is there.
     fn live(&mut self, schema: &S, id: u64) -> Result<(), Stop>
-        ensures acts { (classes : Items Declared) (g : Known) → S.declares schema.now classes → knows self.old g → Ends result (with_classes classes (view self.new g)) (lives id (with_classes classes (view self.old g))) }
-        ensures kept { (g : Known) → knows self.old g → Leaves result (knows self.new g) (failed self.new g) };
+        ensures acts { (classes : Items Declared) (g : Known) → S.declares schema.now classes → knows self.old schema.now g → Ends result (with_classes classes (view self.new g)) (lives id (with_classes classes (view self.old g))) }
+        ensures kept { (g : Known) → knows self.old schema.now g → Leaves result (knows self.new schema.now g) (failed self.new g) };
 
     /// Whether it is there.
     fn is_live(&mut self, schema: &S, id: u64) -> Result<bool, Stop>
-        ensures acts { (classes : Items Declared) (g : Known) → S.declares schema.now classes → knows self.old g → Ends result (with_classes classes (view self.new g)) (reads (is_live id) (with_classes classes (view self.old g))) }
-        ensures kept { (g : Known) → knows self.old g → Leaves result (knows self.new g) (failed self.new g) }
+        ensures acts { (classes : Items Declared) (g : Known) → S.declares schema.now classes → knows self.old schema.now g → Ends result (with_classes classes (view self.new g)) (reads (is_live id) (with_classes classes (view self.old g))) }
+        ensures kept { (g : Known) → knows self.old schema.now g → Leaves result (knows self.new schema.now g) (failed self.new g) }
         ensures fault { IfErr result IsFault };
 
     /// A reference denotes a version.
     fn stand(&mut self, schema: &S, r: Ref) -> Result<(), Stop>
-        ensures acts { (classes : Items Declared) (g : Known) → S.declares schema.now classes → knows self.old g → Ends result (with_classes classes (view self.new g)) (stands r (with_classes classes (view self.old g))) }
-        ensures kept { (g : Known) → knows self.old g → Leaves result (knows self.new g) (failed self.new g) };
+        ensures acts { (classes : Items Declared) (g : Known) → S.declares schema.now classes → knows self.old schema.now g → Ends result (with_classes classes (view self.new g)) (stands r (with_classes classes (view self.old g))) }
+        ensures kept { (g : Known) → knows self.old schema.now g → Leaves result (knows self.new schema.now g) (failed self.new g) };
 
     /// Whether it does.
     fn denotes(&mut self, schema: &S, r: Ref) -> Result<bool, Stop>
-        ensures acts { (classes : Items Declared) (g : Known) → S.declares schema.now classes → knows self.old g → Ends result (with_classes classes (view self.new g)) (sees (λ b. is_some (denotes b r)) (with_classes classes (view self.old g))) }
-        ensures kept { (g : Known) → knows self.old g → Leaves result (knows self.new g) (failed self.new g) }
+        ensures acts { (classes : Items Declared) (g : Known) → S.declares schema.now classes → knows self.old schema.now g → Ends result (with_classes classes (view self.new g)) (sees (λ b. is_some (denotes b r)) (with_classes classes (view self.old g))) }
+        ensures kept { (g : Known) → knows self.old schema.now g → Leaves result (knows self.new schema.now g) (failed self.new g) }
         ensures fault { IfErr result IsFault };
 
     /// The class of an object.
     fn class_of(&mut self, schema: &S, id: u64) -> Result<u32, Stop>
-        ensures acts { (classes : Items Declared) (g : Known) → S.declares schema.now classes → knows self.old g → Ends result (with_classes classes (view self.new g)) (class_of id (with_classes classes (view self.old g))) }
-        ensures kept { (g : Known) → knows self.old g → Leaves result (knows self.new g) (failed self.new g) };
+        ensures acts { (classes : Items Declared) (g : Known) → S.declares schema.now classes → knows self.old schema.now g → Ends result (with_classes classes (view self.new g)) (class_of id (with_classes classes (view self.old g))) }
+        ensures kept { (g : Known) → knows self.old schema.now g → Leaves result (knows self.new schema.now g) (failed self.new g) };
 
     /// An object that is there joins the touched ones, where it isn't among them; whether it does.
     fn join(&mut self, schema: &S, id: u64) -> Result<bool, Stop>
-        ensures acts { (classes : Items Declared) (g : Known) → S.declares schema.now classes → knows self.old g → Ends result (with_classes classes (view self.new g)) (joins_first id (with_classes classes (view self.old g))) }
-        ensures kept { (g : Known) → knows self.old g → Leaves result (knows self.new g) (failed self.new g) };
+        ensures acts { (classes : Items Declared) (g : Known) → S.declares schema.now classes → knows self.old schema.now g → Ends result (with_classes classes (view self.new g)) (joins_first id (with_classes classes (view self.old g))) }
+        ensures kept { (g : Known) → knows self.old schema.now g → Leaves result (knows self.new schema.now g) (failed self.new g) };
 
     /// Whether an object's class lists a kind.
     fn is_listed(&mut self, schema: &S, id: u64, kind: &Kind) -> Result<bool, Stop>
-        ensures acts { (classes : Items Declared) (g : Known) → S.declares schema.now classes → knows self.old g → Ends result (with_classes classes (view self.new g)) (is_listed id kind.now (with_classes classes (view self.old g))) }
-        ensures kept { (g : Known) → knows self.old g → Leaves result (knows self.new g) (failed self.new g) };
+        ensures acts { (classes : Items Declared) (g : Known) → S.declares schema.now classes → knows self.old schema.now g → Ends result (with_classes classes (view self.new g)) (is_listed id kind.now (with_classes classes (view self.old g))) }
+        ensures kept { (g : Known) → knows self.old schema.now g → Leaves result (knows self.new schema.now g) (failed self.new g) };
 
     /// A point arises: the activations that fire there, in order.
     fn arise(
@@ -107,8 +107,8 @@ pub trait Acts<S: Schema> {
         kind: &Kind,
         args: &[Value],
     ) -> Result<List<Firing>, Stop>
-        ensures acts { (classes : Items Declared) (g : Known) → S.declares schema.now classes → knows self.old g → EndsBy (map (firing (S.trigger schema.now))) result (with_classes classes (view self.new g)) (arises (numbers (S.tables schema.now)) (both_lists (numbers (S.tables schema.now))) id kind.now args.now (with_classes classes (view self.old g))) }
-        ensures kept { (g : Known) → knows self.old g → Leaves result (knows self.new g) (failed self.new g) }
+        ensures acts { (classes : Items Declared) (g : Known) → S.declares schema.now classes → knows self.old schema.now g → EndsBy (map (firing (S.trigger schema.now))) result (with_classes classes (view self.new g)) (arises (numbers (S.tables schema.now)) (both_lists (numbers (S.tables schema.now))) id kind.now args.now (with_classes classes (view self.old g))) }
+        ensures kept { (g : Known) → knows self.old schema.now g → Leaves result (knows self.new schema.now g) (failed self.new g) }
         ensures declared { IfOk result (All (λ f. S.has_trigger schema.now f.trigger.class f.trigger.place)) };
 
     /// The same in the list of all points alone.
@@ -119,63 +119,63 @@ pub trait Acts<S: Schema> {
         kind: &Kind,
         args: &[Value],
     ) -> Result<List<Firing>, Stop>
-        ensures acts { (classes : Items Declared) (g : Known) → S.declares schema.now classes → knows self.old g → EndsBy (map (firing (S.trigger schema.now))) result (with_classes classes (view self.new g)) (arises (numbers (S.tables schema.now)) (whole_list (numbers (S.tables schema.now))) id kind.now args.now (with_classes classes (view self.old g))) }
-        ensures kept { (g : Known) → knows self.old g → Leaves result (knows self.new g) (failed self.new g) }
+        ensures acts { (classes : Items Declared) (g : Known) → S.declares schema.now classes → knows self.old schema.now g → EndsBy (map (firing (S.trigger schema.now))) result (with_classes classes (view self.new g)) (arises (numbers (S.tables schema.now)) (whole_list (numbers (S.tables schema.now))) id kind.now args.now (with_classes classes (view self.old g))) }
+        ensures kept { (g : Known) → knows self.old schema.now g → Leaves result (knows self.new schema.now g) (failed self.new g) }
         ensures declared { IfOk result (All (λ f. S.has_trigger schema.now f.trigger.class f.trigger.place)) };
 
     /// A deferred firing.
     fn defer(&mut self, schema: &S, f: &Firing) -> Result<(), Stop>
         requires { S.has_trigger schema.now f.now.trigger.class f.now.trigger.place }
-        ensures acts { (classes : Items Declared) (g : Known) → S.declares schema.now classes → knows self.old g → Ends result (with_classes classes (view self.new g)) (defers (firing (S.trigger schema.now) f.now) (with_classes classes (view self.old g))) }
-        ensures kept { (g : Known) → knows self.old g → Leaves result (knows self.new g) (failed self.new g) };
+        ensures acts { (classes : Items Declared) (g : Known) → S.declares schema.now classes → knows self.old schema.now g → Ends result (with_classes classes (view self.new g)) (defers (firing (S.trigger schema.now) f.now) (with_classes classes (view self.old g))) }
+        ensures kept { (g : Known) → knows self.old schema.now g → Leaves result (knows self.new schema.now g) (failed self.new g) };
 
     /// A detached firing.
     fn collect(&mut self, schema: &S, independent: bool, f: &Firing) -> Result<(), Stop>
         requires { S.has_trigger schema.now f.now.trigger.class f.now.trigger.place }
-        ensures acts { (classes : Items Declared) (g : Known) → S.declares schema.now classes → knows self.old g → Ends result (with_classes classes (view self.new g)) (collects prints independent (firing (S.trigger schema.now) f.now) (with_classes classes (view self.old g))) }
-        ensures kept { (g : Known) → knows self.old g → Leaves result (knows self.new g) (failed self.new g) };
+        ensures acts { (classes : Items Declared) (g : Known) → S.declares schema.now classes → knows self.old schema.now g → Ends result (with_classes classes (view self.new g)) (collects prints independent (firing (S.trigger schema.now) f.now) (with_classes classes (view self.old g))) }
+        ensures kept { (g : Known) → knows self.old schema.now g → Leaves result (knows self.new schema.now g) (failed self.new g) };
 
     /// One at a point of the settling, where lines have no limit.
     fn collect_last(&mut self, schema: &S, f: &Firing) -> Result<(), Stop>
         requires { S.has_trigger schema.now f.now.trigger.class f.now.trigger.place }
-        ensures acts { (classes : Items Declared) (g : Known) → S.declares schema.now classes → knows self.old g → Ends result (with_classes classes (view self.new g)) (collects says true (firing (S.trigger schema.now) f.now) (with_classes classes (view self.old g))) }
-        ensures kept { (g : Known) → knows self.old g → Leaves result (knows self.new g) (failed self.new g) };
+        ensures acts { (classes : Items Declared) (g : Known) → S.declares schema.now classes → knows self.old schema.now g → Ends result (with_classes classes (view self.new g)) (collects says true (firing (S.trigger schema.now) f.now) (with_classes classes (view self.old g))) }
+        ensures kept { (g : Known) → knows self.old schema.now g → Leaves result (knows self.new schema.now g) (failed self.new g) };
 
     /// The hard constraints are tested on the version that a reference denotes.
     fn test_hard(&mut self, schema: &S, r: Ref) -> Result<(), Stop>
-        ensures acts { (classes : Items Declared) (g : Known) → S.declares schema.now classes → knows self.old g → Ends result (with_classes classes (view self.new g)) (tests_hard r (with_classes classes (view self.old g))) }
-        ensures kept { (g : Known) → knows self.old g → Leaves result (knows self.new g) (failed self.new g) };
+        ensures acts { (classes : Items Declared) (g : Known) → S.declares schema.now classes → knows self.old schema.now g → Ends result (with_classes classes (view self.new g)) (tests_hard r (with_classes classes (view self.old g))) }
+        ensures kept { (g : Known) → knows self.old schema.now g → Leaves result (knows self.new schema.now g) (failed self.new g) };
 
     /// A field of the version that a reference denotes is set.
     fn set_field(&mut self, schema: &S, r: Ref, place: u16, v: Value) -> Result<(), Stop>
-        ensures acts { (classes : Items Declared) (g : Known) → S.declares schema.now classes → knows self.old g → Ends result (with_classes classes (view self.new g)) (sets_field r place v (with_classes classes (view self.old g))) }
-        ensures kept { (g : Known) → knows self.old g → Leaves result (knows self.new g) (failed self.new g) };
+        ensures acts { (classes : Items Declared) (g : Known) → S.declares schema.now classes → knows self.old schema.now g → Ends result (with_classes classes (view self.new g)) (sets_field r place v (with_classes classes (view self.old g))) }
+        ensures kept { (g : Known) → knows self.old schema.now g → Leaves result (knows self.new schema.now g) (failed self.new g) };
 
     /// A new version, derived from the one that a reference denotes.
     fn derive(&mut self, schema: &S, r: Ref) -> Result<Ref, Stop>
-        ensures acts { (classes : Items Declared) (g : Known) → S.declares schema.now classes → knows self.old g → Ends result (with_classes classes (view self.new g)) (derives r (with_classes classes (view self.old g))) }
-        ensures kept { (g : Known) → knows self.old g → Leaves result (knows self.new g) (failed self.new g) };
+        ensures acts { (classes : Items Declared) (g : Known) → S.declares schema.now classes → knows self.old schema.now g → Ends result (with_classes classes (view self.new g)) (derives r (with_classes classes (view self.old g))) }
+        ensures kept { (g : Known) → knows self.old schema.now g → Leaves result (knows self.new schema.now g) (failed self.new g) };
 
     /// The version that a reference denotes is removed.
     fn drop_version(&mut self, schema: &S, r: Ref) -> Result<(), Stop>
-        ensures acts { (classes : Items Declared) (g : Known) → S.declares schema.now classes → knows self.old g → Ends result (with_classes classes (view self.new g)) (drops r (with_classes classes (view self.old g))) }
-        ensures kept { (g : Known) → knows self.old g → Leaves result (knows self.new g) (failed self.new g) };
+        ensures acts { (classes : Items Declared) (g : Known) → S.declares schema.now classes → knows self.old schema.now g → Ends result (with_classes classes (view self.new g)) (drops r (with_classes classes (view self.old g))) }
+        ensures kept { (g : Known) → knows self.old schema.now g → Leaves result (knows self.new schema.now g) (failed self.new g) };
 
     /// An object is removed.
     fn remove(&mut self, schema: &S, id: u64) -> Result<(), Stop>
-        ensures acts { (classes : Items Declared) (g : Known) → S.declares schema.now classes → knows self.old g → Ends result (with_classes classes (view self.new g)) (removes id (with_classes classes (view self.old g))) }
-        ensures kept { (g : Known) → knows self.old g → Leaves result (knows self.new g) (failed self.new g) };
+        ensures acts { (classes : Items Declared) (g : Known) → S.declares schema.now classes → knows self.old schema.now g → Ends result (with_classes classes (view self.new g)) (removes id (with_classes classes (view self.old g))) }
+        ensures kept { (g : Known) → knows self.old schema.now g → Leaves result (knows self.new schema.now g) (failed self.new g) };
 
     /// A new object of the class of a number, with these fields. It has no activations yet.
     fn make(&mut self, schema: &S, class: u32, fields: List<Value>) -> Result<u64, Stop>
-        ensures acts { (classes : Items Declared) (g : Known) → S.declares schema.now classes → knows self.old g → Ends result (with_classes classes (view self.new g)) (makes (numbers (S.tables schema.now)) class fields (with_classes classes (view self.old g))) }
-        ensures kept { (g : Known) → knows self.old g → Leaves result (knows self.new g) (failed self.new g) };
+        ensures acts { (classes : Items Declared) (g : Known) → S.declares schema.now classes → knows self.old schema.now g → Ends result (with_classes classes (view self.new g)) (makes (numbers (S.tables schema.now)) class fields (with_classes classes (view self.old g))) }
+        ensures kept { (g : Known) → knows self.old schema.now g → Leaves result (knows self.new schema.now g) (failed self.new g) };
 
     /// A new object has an activation of an initial trigger.
     fn activate_initial(&mut self, schema: &S, id: u64, t: Trigger) -> Result<(), Stop>
         requires { S.has_trigger schema.now t.class t.place }
-        ensures acts { (classes : Items Declared) (g : Known) → S.declares schema.now classes → knows self.old g → Ends result (with_classes classes (view self.new g)) (activates_initial (numbers (S.tables schema.now)) id (trigger (S.trigger schema.now) t) (with_classes classes (view self.old g))) }
-        ensures kept { (g : Known) → knows self.old g → Leaves result (knows self.new g) (failed self.new g) };
+        ensures acts { (classes : Items Declared) (g : Known) → S.declares schema.now classes → knows self.old schema.now g → Ends result (with_classes classes (view self.new g)) (activates_initial (numbers (S.tables schema.now)) id (trigger (S.trigger schema.now) t) (with_classes classes (view self.old g))) }
+        ensures kept { (g : Known) → knows self.old schema.now g → Leaves result (knows self.new schema.now g) (failed self.new g) };
 
     /// A new activation of the trigger of a name.
     fn activate(
@@ -185,51 +185,51 @@ pub trait Acts<S: Schema> {
         trigger: &Name,
         args: List<Value>,
     ) -> Result<Value, Stop>
-        ensures acts { (classes : Items Declared) (g : Known) → S.declares schema.now classes → knows self.old g → Ends result (with_classes classes (view self.new g)) (switches_on_named (numbers (S.tables schema.now)) r trigger.now args (with_classes classes (view self.old g))) }
-        ensures kept { (g : Known) → knows self.old g → Leaves result (knows self.new g) (failed self.new g) };
+        ensures acts { (classes : Items Declared) (g : Known) → S.declares schema.now classes → knows self.old schema.now g → Ends result (with_classes classes (view self.new g)) (switches_on_named (numbers (S.tables schema.now)) r trigger.now args (with_classes classes (view self.old g))) }
+        ensures kept { (g : Known) → knows self.old schema.now g → Leaves result (knows self.new schema.now g) (failed self.new g) };
 
     /// The activation of a number goes off.
     fn deactivate(&mut self, schema: &S, r: Ref, number: &Value) -> Result<(), Stop>
-        ensures acts { (classes : Items Declared) (g : Known) → S.declares schema.now classes → knows self.old g → Ends result (with_classes classes (view self.new g)) (switches_off_numbered (numbers (S.tables schema.now)) r number.now (with_classes classes (view self.old g))) }
-        ensures kept { (g : Known) → knows self.old g → Leaves result (knows self.new g) (failed self.new g) };
+        ensures acts { (classes : Items Declared) (g : Known) → S.declares schema.now classes → knows self.old schema.now g → Ends result (with_classes classes (view self.new g)) (switches_off_numbered (numbers (S.tables schema.now)) r number.now (with_classes classes (view self.old g))) }
+        ensures kept { (g : Known) → knows self.old schema.now g → Leaves result (knows self.new schema.now g) (failed self.new g) };
 
     /// The value of an expression.
     fn evaluate(&mut self, schema: &S, on: &Scene, e: &Expr) -> Result<Value, Stop>
-        ensures acts { (classes : Items Declared) (g : Known) → S.declares schema.now classes → knows self.old g → Ends result (with_classes classes (view self.new g)) (evaluates e.now (scene on.now) (with_classes classes (view self.old g))) }
-        ensures kept { (g : Known) → knows self.old g → Leaves result (knows self.new g) (failed self.new g) };
+        ensures acts { (classes : Items Declared) (g : Known) → S.declares schema.now classes → knows self.old schema.now g → Ends result (with_classes classes (view self.new g)) (evaluates e.now (scene on.now) (with_classes classes (view self.old g))) }
+        ensures kept { (g : Known) → knows self.old schema.now g → Leaves result (knows self.new schema.now g) (failed self.new g) };
 
     /// As many rounds as a completion may take.
     fn rounds(&mut self, schema: &S) -> Result<u64, Stop>
-        ensures acts { (classes : Items Declared) (g : Known) → S.declares schema.now classes → knows self.old g → Ends result (with_classes classes (view self.new g)) (reads rounds (with_classes classes (view self.old g))) }
-        ensures kept { (g : Known) → knows self.old g → Leaves result (knows self.new g) (failed self.new g) }
+        ensures acts { (classes : Items Declared) (g : Known) → S.declares schema.now classes → knows self.old schema.now g → Ends result (with_classes classes (view self.new g)) (reads rounds (with_classes classes (view self.old g))) }
+        ensures kept { (g : Known) → knows self.old schema.now g → Leaves result (knows self.new schema.now g) (failed self.new g) }
         ensures fault { IfErr result IsFault };
 
     /// The object that was touched at a place.
     fn touched_at(&mut self, schema: &S, at: u64) -> Result<Option<u64>, Stop>
-        ensures acts { (classes : Items Declared) (g : Known) → S.declares schema.now classes → knows self.old g → Ends result (with_classes classes (view self.new g)) (reads (λ x. slice_get x.touched at) (with_classes classes (view self.old g))) }
-        ensures kept { (g : Known) → knows self.old g → Leaves result (knows self.new g) (failed self.new g) }
+        ensures acts { (classes : Items Declared) (g : Known) → S.declares schema.now classes → knows self.old schema.now g → Ends result (with_classes classes (view self.new g)) (reads (λ x. slice_get x.touched at) (with_classes classes (view self.old g))) }
+        ensures kept { (g : Known) → knows self.old schema.now g → Leaves result (knows self.new schema.now g) (failed self.new g) }
         ensures fault { IfErr result IsFault };
 
     /// The firing that was deferred at a place.
     fn deferred_at(&mut self, schema: &S, at: u64) -> Result<Option<Firing>, Stop>
-        ensures acts { (classes : Items Declared) (g : Known) → S.declares schema.now classes → knows self.old g → EndsBy (option_map (firing (S.trigger schema.now))) result (with_classes classes (view self.new g)) (reads (λ x. slice_get x.deferred at) (with_classes classes (view self.old g))) }
-        ensures kept { (g : Known) → knows self.old g → Leaves result (knows self.new g) (failed self.new g) }
+        ensures acts { (classes : Items Declared) (g : Known) → S.declares schema.now classes → knows self.old schema.now g → EndsBy (option_map (firing (S.trigger schema.now))) result (with_classes classes (view self.new g)) (reads (λ x. slice_get x.deferred at) (with_classes classes (view self.old g))) }
+        ensures kept { (g : Known) → knows self.old schema.now g → Leaves result (knows self.new schema.now g) (failed self.new g) }
         ensures fault { IfErr result IsFault }
         ensures declared { IfOk result (λ found. IfSome found (λ f. S.has_trigger schema.now f.trigger.class f.trigger.place)) };
 
     /// All touched objects.
     fn touched(&mut self, schema: &S) -> Result<List<u64>, Stop>
-        ensures acts { (classes : Items Declared) (g : Known) → S.declares schema.now classes → knows self.old g → Ends result (with_classes classes (view self.new g)) (reads (λ x. x.touched) (with_classes classes (view self.old g))) }
-        ensures kept { (g : Known) → knows self.old g → Leaves result (knows self.new g) (failed self.new g) }
+        ensures acts { (classes : Items Declared) (g : Known) → S.declares schema.now classes → knows self.old schema.now g → Ends result (with_classes classes (view self.new g)) (reads (λ x. x.touched) (with_classes classes (view self.old g))) }
+        ensures kept { (g : Known) → knows self.old schema.now g → Leaves result (knows self.new schema.now g) (failed self.new g) }
         ensures fault { IfErr result IsFault };
 
     /// The soft constraints are tested on all touched objects.
     fn test_soft(&mut self, schema: &S) -> Result<(), Stop>
-        ensures acts { (classes : Items Declared) (g : Known) → S.declares schema.now classes → knows self.old g → Ends result (with_classes classes (view self.new g)) (tests_all (with_classes classes (view self.old g))) }
-        ensures kept { (g : Known) → knows self.old g → Leaves result (knows self.new g) (failed self.new g) };
+        ensures acts { (classes : Items Declared) (g : Known) → S.declares schema.now classes → knows self.old schema.now g → Ends result (with_classes classes (view self.new g)) (tests_all (with_classes classes (view self.old g))) }
+        ensures kept { (g : Known) → knows self.old schema.now g → Leaves result (knows self.new schema.now g) (failed self.new g) };
 
     /// What is to be kept isn't too heavy.
     fn weigh(&mut self, schema: &S) -> Result<(), Stop>
-        ensures acts { (classes : Items Declared) (g : Known) → S.declares schema.now classes → knows self.old g → Ends result (with_classes classes (view self.new g)) (weighs (with_classes classes (view self.old g))) }
-        ensures kept { (g : Known) → knows self.old g → Leaves result (knows self.new g) (failed self.new g) };
+        ensures acts { (classes : Items Declared) (g : Known) → S.declares schema.now classes → knows self.old schema.now g → Ends result (with_classes classes (view self.new g)) (weighs (with_classes classes (view self.old g))) }
+        ensures kept { (g : Known) → knows self.old schema.now g → Leaves result (knows self.new schema.now g) (failed self.new g) };
 }

@@ -20,8 +20,8 @@ fn post_tcomplete<S: Schema, T: Acts<S>>(
     tx: &mut T,
     id: u64,
 ) -> Result<(), Stop>
-    ensures acts { (classes : Items Declared) (g : T.Known) → S.declares schema.now classes → T.knows tx.old g → Ends result (with_classes classes (T.view tx.new g)) (posts_tcomplete (numbers (S.tables schema.now)) id (with_classes classes (T.view tx.old g))) }
-    ensures kept { (g : T.Known) → T.knows tx.old g → Leaves result (T.knows tx.new g) (T.failed tx.new g) }
+    ensures acts { (classes : Items Declared) (g : T.Known) → S.declares schema.now classes → T.knows tx.old schema.now g → Ends result (with_classes classes (T.view tx.new g)) (posts_tcomplete (numbers (S.tables schema.now)) id (with_classes classes (T.view tx.old g))) }
+    ensures kept { (g : T.Known) → T.knows tx.old schema.now g → Leaves result (T.knows tx.new schema.now g) (T.failed tx.new g) }
 {
     if !tx.is_live(schema, id)? {
         return Ok(());
@@ -37,8 +37,8 @@ fn go_round<S: Schema, T: Acts<S>>(
     tx: &mut T,
     rounds: u64,
 ) -> Result<(), Stop>
-    ensures acts { (classes : Items Declared) (g : T.Known) → S.declares schema.now classes → T.knows tx.old g → Ends result (with_classes classes (T.view tx.new g)) (goes_round (numbers (S.tables schema.now)) rounds 0 0 (with_classes classes (T.view tx.old g))) }
-    ensures kept { (g : T.Known) → T.knows tx.old g → Leaves result (T.knows tx.new g) (T.failed tx.new g) }
+    ensures acts { (classes : Items Declared) (g : T.Known) → S.declares schema.now classes → T.knows tx.old schema.now g → Ends result (with_classes classes (T.view tx.new g)) (goes_round (numbers (S.tables schema.now)) rounds 0 0 (with_classes classes (T.view tx.old g))) }
+    ensures kept { (g : T.Known) → T.knows tx.old schema.now g → Leaves result (T.knows tx.new schema.now g) (T.failed tx.new g) }
 {
     let mut at = 0u64;
     let mut ran = 0u64;
@@ -63,8 +63,8 @@ fn go_round<S: Schema, T: Acts<S>>(
 /// The whole completion: last points and deferred actions, soft constraints, and the weight of what is to be kept.
 #[tactic(auto, unfolding(ode_value::specs::Completing::completes))]
 pub fn complete<S: Schema, T: Acts<S>>(alloc: Global, schema: &S, tx: &mut T) -> Result<(), Stop>
-    ensures acts { (classes : Items Declared) (g : T.Known) → S.declares schema.now classes → T.knows tx.old g → Ends result (with_classes classes (T.view tx.new g)) (completes (numbers (S.tables schema.now)) (with_classes classes (T.view tx.old g))) }
-    ensures kept { (g : T.Known) → T.knows tx.old g → Leaves result (T.knows tx.new g) (T.failed tx.new g) }
+    ensures acts { (classes : Items Declared) (g : T.Known) → S.declares schema.now classes → T.knows tx.old schema.now g → Ends result (with_classes classes (T.view tx.new g)) (completes (numbers (S.tables schema.now)) (with_classes classes (T.view tx.old g))) }
+    ensures kept { (g : T.Known) → T.knows tx.old schema.now g → Leaves result (T.knows tx.new schema.now g) (T.failed tx.new g) }
 {
     let rounds = tx.rounds(schema)?;
     go_round(alloc, schema, tx, rounds)?;

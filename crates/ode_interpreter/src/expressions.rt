@@ -26,8 +26,8 @@ pub(crate) fn holds<S: Schema, T: Acts<S>>(
     on: &Scene,
     e: &Expr,
 ) -> Result<bool, Stop>
-    ensures acts { (classes : Items Declared) (g : T.Known) → S.declares schema.now classes → T.knows tx.old g → Ends result (with_classes classes (T.view tx.new g)) (holds e.now (scene on.now) (with_classes classes (T.view tx.old g))) }
-    ensures kept { (g : T.Known) → T.knows tx.old g → Leaves result (T.knows tx.new g) (T.failed tx.new g) }
+    ensures acts { (classes : Items Declared) (g : T.Known) → S.declares schema.now classes → T.knows tx.old schema.now g → Ends result (with_classes classes (T.view tx.new g)) (holds e.now (scene on.now) (with_classes classes (T.view tx.old g))) }
+    ensures kept { (g : T.Known) → T.knows tx.old schema.now g → Leaves result (T.knows tx.new schema.now g) (T.failed tx.new g) }
 {
     let v = tx.evaluate(schema, on, e)?;
     Ok(is_true(&v))
@@ -42,8 +42,8 @@ pub(crate) fn evaluate_all<S: Schema, T: Acts<S>>(
     on: &Scene,
     es: &[Expr],
 ) -> Result<List<Value>, Stop>
-    ensures acts { (classes : Items Declared) (g : T.Known) → S.declares schema.now classes → T.knows tx.old g → Ends result (with_classes classes (T.view tx.new g)) (evaluates_all es.now (scene on.now) (with_classes classes (T.view tx.old g))) }
-    ensures kept { (g : T.Known) → T.knows tx.old g → Leaves result (T.knows tx.new g) (T.failed tx.new g) }
+    ensures acts { (classes : Items Declared) (g : T.Known) → S.declares schema.now classes → T.knows tx.old schema.now g → Ends result (with_classes classes (T.view tx.new g)) (evaluates_all es.now (scene on.now) (with_classes classes (T.view tx.old g))) }
+    ensures kept { (g : T.Known) → T.knows tx.old schema.now g → Leaves result (T.knows tx.new schema.now g) (T.failed tx.new g) }
 {
     let mut values = List::new(alloc);
     for e in es {
@@ -59,8 +59,8 @@ pub(crate) fn reference<S: Schema, T: Acts<S>>(
     on: &Scene,
     e: &Expr,
 ) -> Result<Ref, Stop>
-    ensures acts { (classes : Items Declared) (g : T.Known) → S.declares schema.now classes → T.knows tx.old g → Ends result (with_classes classes (T.view tx.new g)) (reference e.now (scene on.now) (with_classes classes (T.view tx.old g))) }
-    ensures kept { (g : T.Known) → T.knows tx.old g → Leaves result (T.knows tx.new g) (T.failed tx.new g) }
+    ensures acts { (classes : Items Declared) (g : T.Known) → S.declares schema.now classes → T.knows tx.old schema.now g → Ends result (with_classes classes (T.view tx.new g)) (reference e.now (scene on.now) (with_classes classes (T.view tx.old g))) }
+    ensures kept { (g : T.Known) → T.knows tx.old schema.now g → Leaves result (T.knows tx.new schema.now g) (T.failed tx.new g) }
 {
     let v = tx.evaluate(schema, on, e)?;
     let Value::Reference(r) = v else {
@@ -77,8 +77,8 @@ pub(crate) fn receiver<S: Schema, T: Acts<S>>(
     on: &Scene,
     of: &Option<Expr>,
 ) -> Result<Ref, Stop>
-    ensures acts { (classes : Items Declared) (g : T.Known) → S.declares schema.now classes → T.knows tx.old g → Ends result (with_classes classes (T.view tx.new g)) (receiver of.now (scene on.now) (with_classes classes (T.view tx.old g))) }
-    ensures kept { (g : T.Known) → T.knows tx.old g → Leaves result (T.knows tx.new g) (T.failed tx.new g) }
+    ensures acts { (classes : Items Declared) (g : T.Known) → S.declares schema.now classes → T.knows tx.old schema.now g → Ends result (with_classes classes (T.view tx.new g)) (receiver of.now (scene on.now) (with_classes classes (T.view tx.old g))) }
+    ensures kept { (g : T.Known) → T.knows tx.old schema.now g → Leaves result (T.knows tx.new schema.now g) (T.failed tx.new g) }
 {
     match of {
         Some(e) => reference(schema, tx, on, e),
@@ -97,8 +97,8 @@ pub(crate) fn set<S: Schema, T: Acts<S>>(
     var: &Var,
     v: Value,
 ) -> Result<(), Stop>
-    ensures acts { (classes : Items Declared) (g : T.Known) → S.declares schema.now classes → T.knows tx.old g → EndsBy (λ _. Goes (scene on.new)) result (with_classes classes (T.view tx.new g)) (sets var.now v (scene on.old) (with_classes classes (T.view tx.old g))) }
-    ensures kept { (g : T.Known) → T.knows tx.old g → Leaves result (T.knows tx.new g) (T.failed tx.new g) }
+    ensures acts { (classes : Items Declared) (g : T.Known) → S.declares schema.now classes → T.knows tx.old schema.now g → EndsBy (λ _. Goes (scene on.new)) result (with_classes classes (T.view tx.new g)) (sets var.now v (scene on.old) (with_classes classes (T.view tx.old g))) }
+    ensures kept { (g : T.Known) → T.knows tx.old schema.now g → Leaves result (T.knows tx.new schema.now g) (T.failed tx.new g) }
 {
     match var {
         Var::Local(place) => {

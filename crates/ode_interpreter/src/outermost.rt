@@ -25,8 +25,8 @@ pub fn execute<S: Schema, T: Acts<S>>(
     tx: &mut T,
     s: &Stmt,
 ) -> Result<(), Stop>
-    ensures acts { (classes : Items Declared) (g : T.Known) → S.declares schema.now classes → T.knows tx.old g → Ends result (with_classes classes (T.view tx.new g)) (commands (numbers (S.tables schema.now)) s.now (with_classes classes (T.view tx.old g))) }
-    ensures kept { (g : T.Known) → T.knows tx.old g → Leaves result (T.knows tx.new g) (T.failed tx.new g) }
+    ensures acts { (classes : Items Declared) (g : T.Known) → S.declares schema.now classes → T.knows tx.old schema.now g → Ends result (with_classes classes (T.view tx.new g)) (commands (numbers (S.tables schema.now)) s.now (with_classes classes (T.view tx.old g))) }
+    ensures kept { (g : T.Known) → T.knows tx.old schema.now g → Leaves result (T.knows tx.new schema.now g) (T.failed tx.new g) }
 {
     let mut on = Scene {
         this: Ref {
@@ -49,8 +49,8 @@ pub fn call<S: Schema, T: Acts<S>>(
     method: &Name,
     args: List<Value>,
 ) -> Result<Value, Stop>
-    ensures acts { (classes : Items Declared) (g : T.Known) → S.declares schema.now classes → T.knows tx.old g → Ends result (with_classes classes (T.view tx.new g)) (calls_deeper (numbers (S.tables schema.now)) (outermost (numbers (S.tables schema.now))) of method.now args (with_classes classes (T.view tx.old g))) }
-    ensures kept { (g : T.Known) → T.knows tx.old g → Leaves result (T.knows tx.new g) (T.failed tx.new g) }
+    ensures acts { (classes : Items Declared) (g : T.Known) → S.declares schema.now classes → T.knows tx.old schema.now g → Ends result (with_classes classes (T.view tx.new g)) (calls_deeper (numbers (S.tables schema.now)) (outermost (numbers (S.tables schema.now))) of method.now args (with_classes classes (T.view tx.old g))) }
+    ensures kept { (g : T.Known) → T.knows tx.old schema.now g → Leaves result (T.knows tx.new schema.now g) (T.failed tx.new g) }
 {
     statements::call(alloc, schema, tx, DEPTH_LIMIT, of, method, args)
 }
@@ -63,8 +63,8 @@ pub fn touch<S: Schema, T: Acts<S>>(
     tx: &mut T,
     id: u64,
 ) -> Result<(), Stop>
-    ensures acts { (classes : Items Declared) (g : T.Known) → S.declares schema.now classes → T.knows tx.old g → Ends result (with_classes classes (T.view tx.new g)) (touches (numbers (S.tables schema.now)) (first_actions (numbers (S.tables schema.now))) id (with_classes classes (T.view tx.old g))) }
-    ensures kept { (g : T.Known) → T.knows tx.old g → Leaves result (T.knows tx.new g) (T.failed tx.new g) }
+    ensures acts { (classes : Items Declared) (g : T.Known) → S.declares schema.now classes → T.knows tx.old schema.now g → Ends result (with_classes classes (T.view tx.new g)) (touches (numbers (S.tables schema.now)) (first_actions (numbers (S.tables schema.now))) id (with_classes classes (T.view tx.old g))) }
+    ensures kept { (g : T.Known) → T.knows tx.old schema.now g → Leaves result (T.knows tx.new schema.now g) (T.failed tx.new g) }
 {
     statements::touch(alloc, schema, tx, DEPTH_LIMIT, id)
 }
@@ -79,8 +79,8 @@ pub fn post<S: Schema, T: Acts<S>>(
     kind: &Kind,
     args: &[Value],
 ) -> Result<(), Stop>
-    ensures acts { (classes : Items Declared) (g : T.Known) → S.declares schema.now classes → T.knows tx.old g → Ends result (with_classes classes (T.view tx.new g)) (posts (numbers (S.tables schema.now)) (first_actions (numbers (S.tables schema.now))) id kind.now args.now (with_classes classes (T.view tx.old g))) }
-    ensures kept { (g : T.Known) → T.knows tx.old g → Leaves result (T.knows tx.new g) (T.failed tx.new g) }
+    ensures acts { (classes : Items Declared) (g : T.Known) → S.declares schema.now classes → T.knows tx.old schema.now g → Ends result (with_classes classes (T.view tx.new g)) (posts (numbers (S.tables schema.now)) (first_actions (numbers (S.tables schema.now))) id kind.now args.now (with_classes classes (T.view tx.old g))) }
+    ensures kept { (g : T.Known) → T.knows tx.old schema.now g → Leaves result (T.knows tx.new schema.now g) (T.failed tx.new g) }
 {
     statements::post(alloc, schema, tx, DEPTH_LIMIT, id, kind, args)
 }
@@ -94,8 +94,8 @@ pub fn fire_now<S: Schema, T: Acts<S>>(
     f: &Firing,
 ) -> Result<(), Stop>
     requires { S.has_trigger schema.now f.now.trigger.class f.now.trigger.place }
-    ensures acts { (classes : Items Declared) (g : T.Known) → S.declares schema.now classes → T.knows tx.old g → Ends result (with_classes classes (T.view tx.new g)) (runs (first_actions (numbers (S.tables schema.now))) (firing (S.trigger schema.now) f.now) (with_classes classes (T.view tx.old g))) }
-    ensures kept { (g : T.Known) → T.knows tx.old g → Leaves result (T.knows tx.new g) (T.failed tx.new g) }
+    ensures acts { (classes : Items Declared) (g : T.Known) → S.declares schema.now classes → T.knows tx.old schema.now g → Ends result (with_classes classes (T.view tx.new g)) (runs (first_actions (numbers (S.tables schema.now))) (firing (S.trigger schema.now) f.now) (with_classes classes (T.view tx.old g))) }
+    ensures kept { (g : T.Known) → T.knows tx.old schema.now g → Leaves result (T.knows tx.new schema.now g) (T.failed tx.new g) }
 {
     statements::act(alloc, schema, tx, DEPTH_LIMIT, f)
 }

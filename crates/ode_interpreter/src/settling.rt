@@ -23,8 +23,8 @@ fn collect_all<S: Schema, T: Acts<S>>(
     firings: &[Firing],
 ) -> Result<(), Stop>
     requires { All (λ f. S.has_trigger schema.now f.trigger.class f.trigger.place) firings.now }
-    ensures acts { (classes : Items Declared) (g : T.Known) → S.declares schema.now classes → T.knows tx.old g → Ends result (with_classes classes (T.view tx.new g)) (each (collects says true) (map (firing (S.trigger schema.now)) firings.now) (with_classes classes (T.view tx.old g))) }
-    ensures kept { (g : T.Known) → T.knows tx.old g → Leaves result (T.knows tx.new g) (T.failed tx.new g) }
+    ensures acts { (classes : Items Declared) (g : T.Known) → S.declares schema.now classes → T.knows tx.old schema.now g → Ends result (with_classes classes (T.view tx.new g)) (each (collects says true) (map (firing (S.trigger schema.now)) firings.now) (with_classes classes (T.view tx.old g))) }
+    ensures kept { (g : T.Known) → T.knows tx.old schema.now g → Leaves result (T.knows tx.new schema.now g) (T.failed tx.new g) }
 {
     for f in firings {
         tx.collect_last(schema, f)?;
@@ -40,8 +40,8 @@ fn arise_last<S: Schema, T: Acts<S>>(
     kind: &Kind,
     id: u64,
 ) -> Result<List<Firing>, Stop>
-    ensures acts { (classes : Items Declared) (g : T.Known) → S.declares schema.now classes → T.knows tx.old g → EndsBy (map (firing (S.trigger schema.now))) result (with_classes classes (T.view tx.new g)) (arises (numbers (S.tables schema.now)) (last_place (numbers (S.tables schema.now)) kept) id kind.now [] (with_classes classes (T.view tx.old g))) }
-    ensures kept { (g : T.Known) → T.knows tx.old g → Leaves result (T.knows tx.new g) (T.failed tx.new g) }
+    ensures acts { (classes : Items Declared) (g : T.Known) → S.declares schema.now classes → T.knows tx.old schema.now g → EndsBy (map (firing (S.trigger schema.now))) result (with_classes classes (T.view tx.new g)) (arises (numbers (S.tables schema.now)) (last_place (numbers (S.tables schema.now)) kept) id kind.now [] (with_classes classes (T.view tx.old g))) }
+    ensures kept { (g : T.Known) → T.knows tx.old schema.now g → Leaves result (T.knows tx.new schema.now g) (T.failed tx.new g) }
     ensures declared { IfOk result (All (λ f. S.has_trigger schema.now f.trigger.class f.trigger.place)) }
 {
     if kept {
@@ -60,8 +60,8 @@ fn post_last<S: Schema, T: Acts<S>>(
     kind: &Kind,
     id: u64,
 ) -> Result<(), Stop>
-    ensures acts { (classes : Items Declared) (g : T.Known) → S.declares schema.now classes → T.knows tx.old g → Ends result (with_classes classes (T.view tx.new g)) (posts_last (numbers (S.tables schema.now)) (last_place (numbers (S.tables schema.now)) kept) kind.now id (with_classes classes (T.view tx.old g))) }
-    ensures kept { (g : T.Known) → T.knows tx.old g → Leaves result (T.knows tx.new g) (T.failed tx.new g) }
+    ensures acts { (classes : Items Declared) (g : T.Known) → S.declares schema.now classes → T.knows tx.old schema.now g → Ends result (with_classes classes (T.view tx.new g)) (posts_last (numbers (S.tables schema.now)) (last_place (numbers (S.tables schema.now)) kept) kind.now id (with_classes classes (T.view tx.old g))) }
+    ensures kept { (g : T.Known) → T.knows tx.old schema.now g → Leaves result (T.knows tx.new schema.now g) (T.failed tx.new g) }
 {
     if !tx.is_live(schema, id)? {
         return Ok(());
@@ -81,8 +81,8 @@ fn post_each<S: Schema, T: Acts<S>>(
     kind: &Kind,
     ids: &[u64],
 ) -> Result<(), Stop>
-    ensures acts { (classes : Items Declared) (g : T.Known) → S.declares schema.now classes → T.knows tx.old g → Ends result (with_classes classes (T.view tx.new g)) (each (posts_last (numbers (S.tables schema.now)) (last_place (numbers (S.tables schema.now)) kept) kind.now) ids.now (with_classes classes (T.view tx.old g))) }
-    ensures kept { (g : T.Known) → T.knows tx.old g → Leaves result (T.knows tx.new g) (T.failed tx.new g) }
+    ensures acts { (classes : Items Declared) (g : T.Known) → S.declares schema.now classes → T.knows tx.old schema.now g → Ends result (with_classes classes (T.view tx.new g)) (each (posts_last (numbers (S.tables schema.now)) (last_place (numbers (S.tables schema.now)) kept) kind.now) ids.now (with_classes classes (T.view tx.old g))) }
+    ensures kept { (g : T.Known) → T.knows tx.old schema.now g → Leaves result (T.knows tx.new schema.now g) (T.failed tx.new g) }
 {
     for id in ids {
         post_last(schema, tx, kept, kind, *id)?;
@@ -98,8 +98,8 @@ fn post_touched<S: Schema, T: Acts<S>>(
     kept: bool,
     kind: &Kind,
 ) -> Result<(), Stop>
-    ensures acts { (classes : Items Declared) (g : T.Known) → S.declares schema.now classes → T.knows tx.old g → IfOk result (λ _. with_classes classes (T.view tx.new g) ≡ posted (numbers (S.tables schema.now)) (last_place (numbers (S.tables schema.now)) kept) kind.now (with_classes classes (T.view tx.old g))) }
-    ensures kept { (g : T.Known) → T.knows tx.old g → Leaves result (T.knows tx.new g) (T.failed tx.new g) }
+    ensures acts { (classes : Items Declared) (g : T.Known) → S.declares schema.now classes → T.knows tx.old schema.now g → IfOk result (λ _. with_classes classes (T.view tx.new g) ≡ posted (numbers (S.tables schema.now)) (last_place (numbers (S.tables schema.now)) kept) kind.now (with_classes classes (T.view tx.old g))) }
+    ensures kept { (g : T.Known) → T.knows tx.old schema.now g → Leaves result (T.knows tx.new schema.now g) (T.failed tx.new g) }
     ensures settled { IfErr result IsFault }
 {
     let ids = tx.touched(schema)?;
@@ -112,8 +112,8 @@ fn post_touched<S: Schema, T: Acts<S>>(
 
 /// The points of a commit, in both lists of each touched object that is there. Their firings are collected.
 pub fn post_committed<S: Schema, T: Acts<S>>(schema: &S, tx: &mut T) -> Result<(), Stop>
-    ensures acts { (classes : Items Declared) (g : T.Known) → S.declares schema.now classes → T.knows tx.old g → IfOk result (λ _. with_classes classes (T.view tx.new g) ≡ posted (numbers (S.tables schema.now)) (both_lists (numbers (S.tables schema.now))) Kind.TCommit (with_classes classes (T.view tx.old g))) }
-    ensures kept { (g : T.Known) → T.knows tx.old g → Leaves result (T.knows tx.new g) (T.failed tx.new g) }
+    ensures acts { (classes : Items Declared) (g : T.Known) → S.declares schema.now classes → T.knows tx.old schema.now g → IfOk result (λ _. with_classes classes (T.view tx.new g) ≡ posted (numbers (S.tables schema.now)) (both_lists (numbers (S.tables schema.now))) Kind.TCommit (with_classes classes (T.view tx.old g))) }
+    ensures kept { (g : T.Known) → T.knows tx.old schema.now g → Leaves result (T.knows tx.new schema.now g) (T.failed tx.new g) }
     ensures settled { IfErr result IsFault }
 {
     post_touched(schema, tx, true, &Kind::TCommit)
@@ -121,8 +121,8 @@ pub fn post_committed<S: Schema, T: Acts<S>>(schema: &S, tx: &mut T) -> Result<(
 
 /// Those of an abort, in the lists of all points alone.
 pub fn post_aborted<S: Schema, T: Acts<S>>(schema: &S, tx: &mut T) -> Result<(), Stop>
-    ensures acts { (classes : Items Declared) (g : T.Known) → S.declares schema.now classes → T.knows tx.old g → IfOk result (λ _. with_classes classes (T.view tx.new g) ≡ posted (numbers (S.tables schema.now)) (whole_list (numbers (S.tables schema.now))) Kind.TAbort (with_classes classes (T.view tx.old g))) }
-    ensures kept { (g : T.Known) → T.knows tx.old g → Leaves result (T.knows tx.new g) (T.failed tx.new g) }
+    ensures acts { (classes : Items Declared) (g : T.Known) → S.declares schema.now classes → T.knows tx.old schema.now g → IfOk result (λ _. with_classes classes (T.view tx.new g) ≡ posted (numbers (S.tables schema.now)) (whole_list (numbers (S.tables schema.now))) Kind.TAbort (with_classes classes (T.view tx.old g))) }
+    ensures kept { (g : T.Known) → T.knows tx.old schema.now g → Leaves result (T.knows tx.new schema.now g) (T.failed tx.new g) }
     ensures settled { IfErr result IsFault }
 {
     post_touched(schema, tx, false, &Kind::TAbort)

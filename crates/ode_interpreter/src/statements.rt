@@ -29,8 +29,8 @@ pub(crate) fn exec_all<S: Schema, T: Acts<S>>(
     levels: u8,
     body: &[Stmt],
 ) -> Result<Option<Value>, Stop>
-    ensures acts { (classes : Items Declared) (g : T.Known) → S.declares schema.now classes → T.knows tx.old g → EndsBy (flow_of (scene on.new)) result (with_classes classes (T.view tx.new g)) (in_turn (map (execute (numbers (S.tables schema.now)) (deeper (numbers (S.tables schema.now)) levels)) body.now) (scene on.old) (with_classes classes (T.view tx.old g))) }
-    ensures kept { (g : T.Known) → T.knows tx.old g → Leaves result (T.knows tx.new g) (T.failed tx.new g) }
+    ensures acts { (classes : Items Declared) (g : T.Known) → S.declares schema.now classes → T.knows tx.old schema.now g → EndsBy (flow_of (scene on.new)) result (with_classes classes (T.view tx.new g)) (in_turn (map (execute (numbers (S.tables schema.now)) (deeper (numbers (S.tables schema.now)) levels)) body.now) (scene on.old) (with_classes classes (T.view tx.old g))) }
+    ensures kept { (g : T.Known) → T.knows tx.old schema.now g → Leaves result (T.knows tx.new schema.now g) (T.failed tx.new g) }
 {
     for s in body {
         match exec(alloc, schema, tx, on, levels, s)? {
@@ -52,8 +52,8 @@ pub(crate) fn run_body<S: Schema, T: Acts<S>>(
     levels: u8,
     body: &[Stmt],
 ) -> Result<Option<Value>, Stop>
-    ensures acts { (classes : Items Declared) (g : T.Known) → S.declares schema.now classes → T.knows tx.old g → Ends result (with_classes classes (T.view tx.new g)) (executes (numbers (S.tables schema.now)) (deeper (numbers (S.tables schema.now)) levels) body.now (scene on) (with_classes classes (T.view tx.old g))) }
-    ensures kept { (g : T.Known) → T.knows tx.old g → Leaves result (T.knows tx.new g) (T.failed tx.new g) }
+    ensures acts { (classes : Items Declared) (g : T.Known) → S.declares schema.now classes → T.knows tx.old schema.now g → Ends result (with_classes classes (T.view tx.new g)) (executes (numbers (S.tables schema.now)) (deeper (numbers (S.tables schema.now)) levels) body.now (scene on) (with_classes classes (T.view tx.old g))) }
+    ensures kept { (g : T.Known) → T.knows tx.old schema.now g → Leaves result (T.knows tx.new schema.now g) (T.failed tx.new g) }
 {
     let mut on = on;
     match exec_all(alloc, schema, tx, &mut on, levels, body)? {
@@ -73,8 +73,8 @@ pub(crate) fn exec<S: Schema, T: Acts<S>>(
     levels: u8,
     s: &Stmt,
 ) -> Result<Option<Value>, Stop>
-    ensures acts { (classes : Items Declared) (g : T.Known) → S.declares schema.now classes → T.knows tx.old g → EndsBy (flow_of (scene on.new)) result (with_classes classes (T.view tx.new g)) (execute (numbers (S.tables schema.now)) (deeper (numbers (S.tables schema.now)) levels) s.now (scene on.old) (with_classes classes (T.view tx.old g))) }
-    ensures kept { (g : T.Known) → T.knows tx.old g → Leaves result (T.knows tx.new g) (T.failed tx.new g) }
+    ensures acts { (classes : Items Declared) (g : T.Known) → S.declares schema.now classes → T.knows tx.old schema.now g → EndsBy (flow_of (scene on.new)) result (with_classes classes (T.view tx.new g)) (execute (numbers (S.tables schema.now)) (deeper (numbers (S.tables schema.now)) levels) s.now (scene on.old) (with_classes classes (T.view tx.old g))) }
+    ensures kept { (g : T.Known) → T.knows tx.old schema.now g → Leaves result (T.knows tx.new schema.now g) (T.failed tx.new g) }
 {
     tx.count(schema)?;
     match s {
@@ -138,8 +138,8 @@ pub(crate) fn right<S: Schema, T: Acts<S>>(
     on: &Scene,
     rhs: &Rhs,
 ) -> Result<Value, Stop>
-    ensures acts { (classes : Items Declared) (g : T.Known) → S.declares schema.now classes → T.knows tx.old g → Ends result (with_classes classes (T.view tx.new g)) (right (numbers (S.tables schema.now)) (deeper (numbers (S.tables schema.now)) levels) rhs.now (scene on.now) (with_classes classes (T.view tx.old g))) }
-    ensures kept { (g : T.Known) → T.knows tx.old g → Leaves result (T.knows tx.new g) (T.failed tx.new g) }
+    ensures acts { (classes : Items Declared) (g : T.Known) → S.declares schema.now classes → T.knows tx.old schema.now g → Ends result (with_classes classes (T.view tx.new g)) (right (numbers (S.tables schema.now)) (deeper (numbers (S.tables schema.now)) levels) rhs.now (scene on.now) (with_classes classes (T.view tx.old g))) }
+    ensures kept { (g : T.Known) → T.knows tx.old schema.now g → Leaves result (T.knows tx.new schema.now g) (T.failed tx.new g) }
 {
     match rhs {
         Rhs::Plain(e) => tx.evaluate(schema, on, e),
@@ -183,8 +183,8 @@ pub(crate) fn create<S: Schema, T: Acts<S>>(
     class: &Name,
     fields: &[(Name, Expr)],
 ) -> Result<Value, Stop>
-    ensures acts { (classes : Items Declared) (g : T.Known) → S.declares schema.now classes → T.knows tx.old g → Ends result (with_classes classes (T.view tx.new g)) (creates (numbers (S.tables schema.now)) (actions_of (deeper (numbers (S.tables schema.now)) levels)) class.now fields.now (scene on.now) (with_classes classes (T.view tx.old g))) }
-    ensures kept { (g : T.Known) → T.knows tx.old g → Leaves result (T.knows tx.new g) (T.failed tx.new g) }
+    ensures acts { (classes : Items Declared) (g : T.Known) → S.declares schema.now classes → T.knows tx.old schema.now g → Ends result (with_classes classes (T.view tx.new g)) (creates (numbers (S.tables schema.now)) (actions_of (deeper (numbers (S.tables schema.now)) levels)) class.now fields.now (scene on.now) (with_classes classes (T.view tx.old g))) }
+    ensures kept { (g : T.Known) → T.knows tx.old schema.now g → Leaves result (T.knows tx.new schema.now g) (T.failed tx.new g) }
 {
     let object = make_named(alloc, schema, tx, on, class, fields)?;
     let r = Ref {
@@ -207,8 +207,8 @@ pub(crate) fn delete<S: Schema, T: Acts<S>>(
     on: &Scene,
     e: &Expr,
 ) -> Result<(), Stop>
-    ensures acts { (classes : Items Declared) (g : T.Known) → S.declares schema.now classes → T.knows tx.old g → Ends result (with_classes classes (T.view tx.new g)) (deletes (numbers (S.tables schema.now)) (actions_of (deeper (numbers (S.tables schema.now)) levels)) e.now (scene on.now) (with_classes classes (T.view tx.old g))) }
-    ensures kept { (g : T.Known) → T.knows tx.old g → Leaves result (T.knows tx.new g) (T.failed tx.new g) }
+    ensures acts { (classes : Items Declared) (g : T.Known) → S.declares schema.now classes → T.knows tx.old schema.now g → Ends result (with_classes classes (T.view tx.new g)) (deletes (numbers (S.tables schema.now)) (actions_of (deeper (numbers (S.tables schema.now)) levels)) e.now (scene on.now) (with_classes classes (T.view tx.old g))) }
+    ensures kept { (g : T.Known) → T.knows tx.old schema.now g → Leaves result (T.knows tx.new schema.now g) (T.failed tx.new g) }
 {
     let r = reference(schema, tx, on, e)?;
     touch(alloc, schema, tx, levels, r.object)?;
@@ -228,8 +228,8 @@ pub(crate) fn new_version<S: Schema, T: Acts<S>>(
     on: &Scene,
     e: &Expr,
 ) -> Result<Value, Stop>
-    ensures acts { (classes : Items Declared) (g : T.Known) → S.declares schema.now classes → T.knows tx.old g → Ends result (with_classes classes (T.view tx.new g)) (copies (numbers (S.tables schema.now)) (actions_of (deeper (numbers (S.tables schema.now)) levels)) e.now (scene on.now) (with_classes classes (T.view tx.old g))) }
-    ensures kept { (g : T.Known) → T.knows tx.old g → Leaves result (T.knows tx.new g) (T.failed tx.new g) }
+    ensures acts { (classes : Items Declared) (g : T.Known) → S.declares schema.now classes → T.knows tx.old schema.now g → Ends result (with_classes classes (T.view tx.new g)) (copies (numbers (S.tables schema.now)) (actions_of (deeper (numbers (S.tables schema.now)) levels)) e.now (scene on.now) (with_classes classes (T.view tx.old g))) }
+    ensures kept { (g : T.Known) → T.knows tx.old schema.now g → Leaves result (T.knows tx.new schema.now g) (T.failed tx.new g) }
 {
     let r = reference(schema, tx, on, e)?;
     touch(alloc, schema, tx, levels, r.object)?;
@@ -247,8 +247,8 @@ pub(crate) fn drop_version<S: Schema, T: Acts<S>>(
     on: &Scene,
     e: &Expr,
 ) -> Result<(), Stop>
-    ensures acts { (classes : Items Declared) (g : T.Known) → S.declares schema.now classes → T.knows tx.old g → Ends result (with_classes classes (T.view tx.new g)) (drops_version (numbers (S.tables schema.now)) (actions_of (deeper (numbers (S.tables schema.now)) levels)) e.now (scene on.now) (with_classes classes (T.view tx.old g))) }
-    ensures kept { (g : T.Known) → T.knows tx.old g → Leaves result (T.knows tx.new g) (T.failed tx.new g) }
+    ensures acts { (classes : Items Declared) (g : T.Known) → S.declares schema.now classes → T.knows tx.old schema.now g → Ends result (with_classes classes (T.view tx.new g)) (drops_version (numbers (S.tables schema.now)) (actions_of (deeper (numbers (S.tables schema.now)) levels)) e.now (scene on.now) (with_classes classes (T.view tx.old g))) }
+    ensures kept { (g : T.Known) → T.knows tx.old schema.now g → Leaves result (T.knows tx.new schema.now g) (T.failed tx.new g) }
 {
     let r = reference(schema, tx, on, e)?;
     touch(alloc, schema, tx, levels, r.object)?;
@@ -267,8 +267,8 @@ pub(crate) fn activate<S: Schema, T: Acts<S>>(
     trigger: &Name,
     args: &[Expr],
 ) -> Result<Value, Stop>
-    ensures acts { (classes : Items Declared) (g : T.Known) → S.declares schema.now classes → T.knows tx.old g → Ends result (with_classes classes (T.view tx.new g)) (activates (numbers (S.tables schema.now)) (actions_of (deeper (numbers (S.tables schema.now)) levels)) of.now trigger.now args.now (scene on.now) (with_classes classes (T.view tx.old g))) }
-    ensures kept { (g : T.Known) → T.knows tx.old g → Leaves result (T.knows tx.new g) (T.failed tx.new g) }
+    ensures acts { (classes : Items Declared) (g : T.Known) → S.declares schema.now classes → T.knows tx.old schema.now g → Ends result (with_classes classes (T.view tx.new g)) (activates (numbers (S.tables schema.now)) (actions_of (deeper (numbers (S.tables schema.now)) levels)) of.now trigger.now args.now (scene on.now) (with_classes classes (T.view tx.old g))) }
+    ensures kept { (g : T.Known) → T.knows tx.old schema.now g → Leaves result (T.knows tx.new schema.now g) (T.failed tx.new g) }
 {
     let r = reference(schema, tx, on, of)?;
     let args = evaluate_all(alloc, schema, tx, on, args)?;
@@ -289,8 +289,8 @@ pub(crate) fn deactivate<S: Schema, T: Acts<S>>(
     e: &Expr,
     number: &Expr,
 ) -> Result<(), Stop>
-    ensures acts { (classes : Items Declared) (g : T.Known) → S.declares schema.now classes → T.knows tx.old g → Ends result (with_classes classes (T.view tx.new g)) (deactivates (numbers (S.tables schema.now)) (actions_of (deeper (numbers (S.tables schema.now)) levels)) e.now number.now (scene on.now) (with_classes classes (T.view tx.old g))) }
-    ensures kept { (g : T.Known) → T.knows tx.old g → Leaves result (T.knows tx.new g) (T.failed tx.new g) }
+    ensures acts { (classes : Items Declared) (g : T.Known) → S.declares schema.now classes → T.knows tx.old schema.now g → Ends result (with_classes classes (T.view tx.new g)) (deactivates (numbers (S.tables schema.now)) (actions_of (deeper (numbers (S.tables schema.now)) levels)) e.now number.now (scene on.now) (with_classes classes (T.view tx.old g))) }
+    ensures kept { (g : T.Known) → T.knows tx.old schema.now g → Leaves result (T.knows tx.new schema.now g) (T.failed tx.new g) }
 {
     let r = reference(schema, tx, on, e)?;
     let v = tx.evaluate(schema, on, number)?;
@@ -311,8 +311,8 @@ pub(crate) fn call<S: Schema, T: Acts<S>>(
     name: &Name,
     args: List<Value>,
 ) -> Result<Value, Stop>
-    ensures acts { (classes : Items Declared) (g : T.Known) → S.declares schema.now classes → T.knows tx.old g → Ends result (with_classes classes (T.view tx.new g)) (calls_deeper (numbers (S.tables schema.now)) (deeper (numbers (S.tables schema.now)) levels) r name.now args (with_classes classes (T.view tx.old g))) }
-    ensures kept { (g : T.Known) → T.knows tx.old g → Leaves result (T.knows tx.new g) (T.failed tx.new g) }
+    ensures acts { (classes : Items Declared) (g : T.Known) → S.declares schema.now classes → T.knows tx.old schema.now g → Ends result (with_classes classes (T.view tx.new g)) (calls_deeper (numbers (S.tables schema.now)) (deeper (numbers (S.tables schema.now)) levels) r name.now args (with_classes classes (T.view tx.old g))) }
+    ensures kept { (g : T.Known) → T.knows tx.old schema.now g → Leaves result (T.knows tx.new schema.now g) (T.failed tx.new g) }
 {
     if levels == 0 {
         return Err(Stop::Abort(Reason::Depth));
@@ -332,8 +332,8 @@ pub(crate) fn call_inside<S: Schema, T: Acts<S>>(
     name: &Name,
     args: List<Value>,
 ) -> Result<Value, Stop>
-    ensures acts { (classes : Items Declared) (g : T.Known) → S.declares schema.now classes → T.knows tx.old g → Ends result (with_classes classes (T.view tx.new g)) (calls_inside (numbers (S.tables schema.now)) (level (numbers (S.tables schema.now)) (deeper (numbers (S.tables schema.now)) levels)) r name.now args (with_classes classes (T.view tx.old g))) }
-    ensures kept { (g : T.Known) → T.knows tx.old g → Leaves result (T.knows tx.new g) (T.failed tx.new g) }
+    ensures acts { (classes : Items Declared) (g : T.Known) → S.declares schema.now classes → T.knows tx.old schema.now g → Ends result (with_classes classes (T.view tx.new g)) (calls_inside (numbers (S.tables schema.now)) (level (numbers (S.tables schema.now)) (deeper (numbers (S.tables schema.now)) levels)) r name.now args (with_classes classes (T.view tx.old g))) }
+    ensures kept { (g : T.Known) → T.knows tx.old schema.now g → Leaves result (T.knows tx.new schema.now g) (T.failed tx.new g) }
 {
     touch(alloc, schema, tx, levels, r.object)?;
     tx.stand(schema, r)?;
@@ -376,8 +376,8 @@ pub(crate) fn call_after<S: Schema, T: Acts<S>>(
     name: &Name,
     args: &[Value],
 ) -> Result<(), Stop>
-    ensures acts { (classes : Items Declared) (g : T.Known) → S.declares schema.now classes → T.knows tx.old g → Ends result (with_classes classes (T.view tx.new g)) (calls_behind (numbers (S.tables schema.now)) (actions_of (deeper (numbers (S.tables schema.now)) levels)) r name.now args.now (with_classes classes (T.view tx.old g))) }
-    ensures kept { (g : T.Known) → T.knows tx.old g → Leaves result (T.knows tx.new g) (T.failed tx.new g) }
+    ensures acts { (classes : Items Declared) (g : T.Known) → S.declares schema.now classes → T.knows tx.old schema.now g → Ends result (with_classes classes (T.view tx.new g)) (calls_behind (numbers (S.tables schema.now)) (actions_of (deeper (numbers (S.tables schema.now)) levels)) r name.now args.now (with_classes classes (T.view tx.old g))) }
+    ensures kept { (g : T.Known) → T.knows tx.old schema.now g → Leaves result (T.knows tx.new schema.now g) (T.failed tx.new g) }
 {
     if !tx.denotes(schema, r)? {
         return Ok(());
@@ -398,8 +398,8 @@ pub(crate) fn touch<S: Schema, T: Acts<S>>(
     levels: u8,
     id: u64,
 ) -> Result<(), Stop>
-    ensures acts { (classes : Items Declared) (g : T.Known) → S.declares schema.now classes → T.knows tx.old g → Ends result (with_classes classes (T.view tx.new g)) (touches (numbers (S.tables schema.now)) (actions_of (deeper (numbers (S.tables schema.now)) levels)) id (with_classes classes (T.view tx.old g))) }
-    ensures kept { (g : T.Known) → T.knows tx.old g → Leaves result (T.knows tx.new g) (T.failed tx.new g) }
+    ensures acts { (classes : Items Declared) (g : T.Known) → S.declares schema.now classes → T.knows tx.old schema.now g → Ends result (with_classes classes (T.view tx.new g)) (touches (numbers (S.tables schema.now)) (actions_of (deeper (numbers (S.tables schema.now)) levels)) id (with_classes classes (T.view tx.old g))) }
+    ensures kept { (g : T.Known) → T.knows tx.old schema.now g → Leaves result (T.knows tx.new schema.now g) (T.failed tx.new g) }
 {
     if tx.join(schema, id)? {
         return post(alloc, schema, tx, levels, id, &Kind::TBegin, &[]);
@@ -419,8 +419,8 @@ pub(crate) fn post<S: Schema, T: Acts<S>>(
     kind: &Kind,
     args: &[Value],
 ) -> Result<(), Stop>
-    ensures acts { (classes : Items Declared) (g : T.Known) → S.declares schema.now classes → T.knows tx.old g → Ends result (with_classes classes (T.view tx.new g)) (posts (numbers (S.tables schema.now)) (actions_of (deeper (numbers (S.tables schema.now)) levels)) id kind.now args.now (with_classes classes (T.view tx.old g))) }
-    ensures kept { (g : T.Known) → T.knows tx.old g → Leaves result (T.knows tx.new g) (T.failed tx.new g) }
+    ensures acts { (classes : Items Declared) (g : T.Known) → S.declares schema.now classes → T.knows tx.old schema.now g → Ends result (with_classes classes (T.view tx.new g)) (posts (numbers (S.tables schema.now)) (actions_of (deeper (numbers (S.tables schema.now)) levels)) id kind.now args.now (with_classes classes (T.view tx.old g))) }
+    ensures kept { (g : T.Known) → T.knows tx.old schema.now g → Leaves result (T.knows tx.new schema.now g) (T.failed tx.new g) }
 {
     if tx.is_listed(schema, id, kind)? {
         let firings = tx.arise(schema, id, kind, args)?;
@@ -439,8 +439,8 @@ pub(crate) fn fire_all<S: Schema, T: Acts<S>>(
     firings: &[Firing],
 ) -> Result<(), Stop>
     requires { All (λ f. S.has_trigger schema.now f.trigger.class f.trigger.place) firings.now }
-    ensures acts { (classes : Items Declared) (g : T.Known) → S.declares schema.now classes → T.knows tx.old g → Ends result (with_classes classes (T.view tx.new g)) (each (treats (actions_of (deeper (numbers (S.tables schema.now)) levels))) (map (firing (S.trigger schema.now)) firings.now) (with_classes classes (T.view tx.old g))) }
-    ensures kept { (g : T.Known) → T.knows tx.old g → Leaves result (T.knows tx.new g) (T.failed tx.new g) }
+    ensures acts { (classes : Items Declared) (g : T.Known) → S.declares schema.now classes → T.knows tx.old schema.now g → Ends result (with_classes classes (T.view tx.new g)) (each (treats (actions_of (deeper (numbers (S.tables schema.now)) levels))) (map (firing (S.trigger schema.now)) firings.now) (with_classes classes (T.view tx.old g))) }
+    ensures kept { (g : T.Known) → T.knows tx.old schema.now g → Leaves result (T.knows tx.new schema.now g) (T.failed tx.new g) }
 {
     for f in firings {
         fire(alloc, schema, tx, levels, f)?;
@@ -459,8 +459,8 @@ pub(crate) fn fire<S: Schema, T: Acts<S>>(
     f: &Firing,
 ) -> Result<(), Stop>
     requires { S.has_trigger schema.now f.now.trigger.class f.now.trigger.place }
-    ensures acts { (classes : Items Declared) (g : T.Known) → S.declares schema.now classes → T.knows tx.old g → Ends result (with_classes classes (T.view tx.new g)) (treats (actions_of (deeper (numbers (S.tables schema.now)) levels)) (firing (S.trigger schema.now) f.now) (with_classes classes (T.view tx.old g))) }
-    ensures kept { (g : T.Known) → T.knows tx.old g → Leaves result (T.knows tx.new g) (T.failed tx.new g) }
+    ensures acts { (classes : Items Declared) (g : T.Known) → S.declares schema.now classes → T.knows tx.old schema.now g → Ends result (with_classes classes (T.view tx.new g)) (treats (actions_of (deeper (numbers (S.tables schema.now)) levels)) (firing (S.trigger schema.now) f.now) (with_classes classes (T.view tx.old g))) }
+    ensures kept { (g : T.Known) → T.knows tx.old schema.now g → Leaves result (T.knows tx.new schema.now g) (T.failed tx.new g) }
 {
     match schema.trigger(f.trigger).mode {
         Mode::Immediate => act(alloc, schema, tx, levels, f),
@@ -481,8 +481,8 @@ pub(crate) fn act<S: Schema, T: Acts<S>>(
     f: &Firing,
 ) -> Result<(), Stop>
     requires { S.has_trigger schema.now f.now.trigger.class f.now.trigger.place }
-    ensures acts { (classes : Items Declared) (g : T.Known) → S.declares schema.now classes → T.knows tx.old g → Ends result (with_classes classes (T.view tx.new g)) (runs (actions_of (deeper (numbers (S.tables schema.now)) levels)) (firing (S.trigger schema.now) f.now) (with_classes classes (T.view tx.old g))) }
-    ensures kept { (g : T.Known) → T.knows tx.old g → Leaves result (T.knows tx.new g) (T.failed tx.new g) }
+    ensures acts { (classes : Items Declared) (g : T.Known) → S.declares schema.now classes → T.knows tx.old schema.now g → Ends result (with_classes classes (T.view tx.new g)) (runs (actions_of (deeper (numbers (S.tables schema.now)) levels)) (firing (S.trigger schema.now) f.now) (with_classes classes (T.view tx.old g))) }
+    ensures kept { (g : T.Known) → T.knows tx.old schema.now g → Leaves result (T.knows tx.new schema.now g) (T.failed tx.new g) }
 {
     tx.tell(schema, f)?;
     tx.live(schema, f.object)?;
@@ -509,8 +509,8 @@ pub(crate) fn enter<S: Schema, T: Acts<S>>(
     on: Scene,
     body: &[Stmt],
 ) -> Result<Option<Value>, Stop>
-    ensures acts { (classes : Items Declared) (g : T.Known) → S.declares schema.now classes → T.knows tx.old g → Ends result (with_classes classes (T.view tx.new g)) (enters (actions_of (deeper (numbers (S.tables schema.now)) levels)) body.now (scene on) (with_classes classes (T.view tx.old g))) }
-    ensures kept { (g : T.Known) → T.knows tx.old g → Leaves result (T.knows tx.new g) (T.failed tx.new g) }
+    ensures acts { (classes : Items Declared) (g : T.Known) → S.declares schema.now classes → T.knows tx.old schema.now g → Ends result (with_classes classes (T.view tx.new g)) (enters (actions_of (deeper (numbers (S.tables schema.now)) levels)) body.now (scene on) (with_classes classes (T.view tx.old g))) }
+    ensures kept { (g : T.Known) → T.knows tx.old schema.now g → Leaves result (T.knows tx.new schema.now g) (T.failed tx.new g) }
 {
     if levels == 0 {
         return Err(Stop::Abort(Reason::Depth));

@@ -18,7 +18,7 @@ const TABLE_PLACES: u64 = 65_536;
 
 /// What the heads of classes and tables bring, in the order of keys.
 #[derive(Clone, Copy, Debug, PartialEq, Eq)]
-pub(crate) enum Part {
+pub enum Part {
     Texts,
     TableHeads,
     Tables,

@@ -8,7 +8,7 @@ mod records;
 mod walking;
 
 pub use cause::Cause;
-pub use completeness::{class_count, complete, of_head};
+pub use completeness::{Part, class_count, complete, of_head};
 pub use error::OpenError;
 pub use records::Found;
 pub use walking::{Pass, walk};

@@ -93,7 +93,7 @@ module _ (by : ℕ → ℕ → Table) (place : Place (Unit {0}) ℕ) (kind : Kin
     pub arises_as : (classes : List Class) (base : Entries) (fired_there : List Fired) → HoldsActivations id t.current x → place.grow tt p ≡ tt
         → kept_then.activations ≡ map (row_of state_of) behind → (object_after firings o).activations ≡ map activation_of behind
         → map state_row (taken_over behind t.current.activations) ≡ map (row_of state_of) behind → map active_as (taken_over behind t.current.activations) ≡ map activation_of behind
-        → map fired_as firings ≡ fired_there → Arises fired_there (put_acts classes base id behind x) (arises (numbers by) place id kind args y)
+        → map fired_as firings ≡ fired_there → Arises y fired_there (put_acts classes base id behind x) (arises (numbers by) place id kind args y)
     arises_as classes base fired_there holds own states ends rows taken same = record {
       x = then_x;
       y = end_by firings;
@@ -101,6 +101,7 @@ module _ (by : ℕ → ℕ → Table) (place : Place (Unit {0}) ℕ) (kind : Kin
       put_back = put_so classes base holds;
       arises = arises_so;
       same = same;
+      continues = record { first = refl; bones = refl; deferred = refl; text = refl; run = refl };
       stands = record {
         origin = stands.origin;
         counters = stands.counters;
@@ -130,7 +131,7 @@ gives_running classes base maps x id t running is given =
 pub all_arise : (by : ℕ → ℕ → Table) (tables : List Table) (alphabets : List (List MaskedKind)) (maps : List ℕ) (classes : List Class) (base : Entries) (kind : Kind) (args : List Value)
     (x : Layer) (y : NumberTx) (id : ℕ) (t : Tracked) (running : List Running) → Stands x y → tracked_at id x ≡ Some t → t.current.live ≡ true → HoldsActivations id t.current x
     → acts classes base id maps x ≡ Ok running → AreOf by tables alphabets y.now.bones.classes (object_as id t.current) running
-    → Arises (all_fired tables alphabets y.now.bones.classes (point_of id t.current kind args) running)
+    → Arises y (all_fired tables alphabets y.now.bones.classes (point_of id t.current kind args) running)
     (put_acts classes base id (all_behind tables alphabets y.now.bones.classes (point_of id t.current kind args) running) x)
     (arises (numbers by) (both_lists (numbers by)) id kind args y)
 all_arise by tables alphabets maps classes base kind args x y id t running stands is live holds given are =
@@ -150,7 +151,7 @@ all_arise by tables alphabets maps classes base kind args x y id t running stand
 pub whole_arise : (by : ℕ → ℕ → Table) (tables : List Table) (alphabets : List (List MaskedKind)) (maps : List ℕ) (classes : List Class) (base : Entries) (kind : Kind) (args : List Value)
     (x : Layer) (y : NumberTx) (id : ℕ) (t : Tracked) (running : List Running) → Stands x y → tracked_at id x ≡ Some t → t.current.live ≡ true → HoldsActivations id t.current x
     → acts classes base id maps x ≡ Ok running → AreOf by tables alphabets y.now.bones.classes (object_as id t.current) running
-    → Arises (whole_fired tables alphabets y.now.bones.classes (point_of id t.current kind args) running)
+    → Arises y (whole_fired tables alphabets y.now.bones.classes (point_of id t.current kind args) running)
     (put_acts classes base id (whole_behind tables alphabets y.now.bones.classes (point_of id t.current kind args) running) x)
     (arises (numbers by) (whole_list (numbers by)) id kind args y)
 whole_arise by tables alphabets maps classes base kind args x y id t running stands is live holds given are =

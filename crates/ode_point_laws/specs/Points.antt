@@ -7,6 +7,7 @@ use Rattle.ode_objects.specs.Rewinding.{sees_in}
 use Rattle.ode_objects.specs.declared.object.Object.{Object}
 use Rattle.ode_overlay.specs.Answers.{Answer}
 use Rattle.ode_overlay.specs.Layers.{Layer, holding}
+use Rattle.ode_overlay_laws.specs.Following.{Continues}
 use Rattle.ode_overlay_laws.specs.Standing.{Stands, object_as}
 use Rattle.ode_states.specs.Advance.{advanced, fired_in}
 use Rattle.ode_states.specs.Machine.{checked, fired_as}
@@ -53,8 +54,8 @@ module _ (tables : List Table) (alphabets : List (List MaskedKind)) (classes : L
   whole_fired p acts = all_fired p (filter (sees_whole (checked classes)) acts)
 
 -- The activations were put back, and the machine is done with the same firings; the overlay stands for the transaction from which it goes
--- on.
-pub record Arises (fired : List Fired) (put : Answer (Unit {0} × Layer)) (outcome : Outcome (Unit {0}) ℕ (List Firing)) : Type 0 where
+-- on, and which continues the one before.
+pub record Arises (before : NumberTx) (fired : List Fired) (put : Answer (Unit {0} × Layer)) (outcome : Outcome (Unit {0}) ℕ (List Firing)) : Type 0 where
   pub x : Layer
   pub y : NumberTx
   pub firings : List Firing
@@ -62,3 +63,4 @@ pub record Arises (fired : List Fired) (put : Answer (Unit {0} × Layer)) (outco
   pub arises : outcome ≡ Done firings y
   pub same : map fired_as firings ≡ fired
   pub stands : Stands x y
+  pub continues : Continues before y

@@ -27,13 +27,13 @@ pub fn points_follow()
     ensures both { (by : ℕ → ℕ → States) (tables : Items States) (alphabets : Items (Items MaskedKind)) (maps : Items ℕ) (classes : Items Class) (base : Entries) (kind : Kind) (args : Items Value)
         (x : Layer) (y : NumberTx) (id : ℕ) (t : Tracked) (running : Items Running) → Stands x y → tracked_at id x ≡ Some t → t.current.live ≡ true → HoldsActivations id t.current x
         → acts classes base id maps x ≡ Ok running → AreOf by tables alphabets y.now.bones.classes (object_as id t.current) running
-        → Arises (all_fired tables alphabets y.now.bones.classes (point_of id t.current kind args) running)
+        → Arises y (all_fired tables alphabets y.now.bones.classes (point_of id t.current kind args) running)
         (put_acts classes base id (all_behind tables alphabets y.now.bones.classes (point_of id t.current kind args) running) x)
         (arises (numbers by) (both_lists (numbers by)) id kind args y) }
     ensures whole { (by : ℕ → ℕ → States) (tables : Items States) (alphabets : Items (Items MaskedKind)) (maps : Items ℕ) (classes : Items Class) (base : Entries) (kind : Kind) (args : Items Value)
         (x : Layer) (y : NumberTx) (id : ℕ) (t : Tracked) (running : Items Running) → Stands x y → tracked_at id x ≡ Some t → t.current.live ≡ true → HoldsActivations id t.current x
         → acts classes base id maps x ≡ Ok running → AreOf by tables alphabets y.now.bones.classes (object_as id t.current) running
-        → Arises (whole_fired tables alphabets y.now.bones.classes (point_of id t.current kind args) running)
+        → Arises y (whole_fired tables alphabets y.now.bones.classes (point_of id t.current kind args) running)
         (put_acts classes base id (whole_behind tables alphabets y.now.bones.classes (point_of id t.current kind args) running) x)
         (arises (numbers by) (whole_list (numbers by)) id kind args y) }
 {}

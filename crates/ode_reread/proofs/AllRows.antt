@@ -7,11 +7,9 @@ use Rattle.ode_grammar.specs.declared.item.Action.{Action}
 use Rattle.ode_grammar.specs.declared.item.Action.TheVariants as action
 use Rattle.ode_grammar.specs.declared.item.Item.{Item}
 use Rattle.ode_grammar.specs.declared.terminal.Terminal.{Terminal}
-use Rattle.ode_grammar.specs.declared.terminal.Terminal.TheVariants as terminal
 use Rattle.ode_grammar.specs.Grammar.{after, skipped}
 use Rattle.ode_grammar.proofs.Follows.{IfRow}
 use Rattle.ode_terminals.specs.declared.seen.Place.{Place}
-use Rattle.ode_terminals.specs.Seen.{this_terminal}
 use Rattle.ode_reread.proofs.Both.{Both, make}
 use Rattle.ode_reread.proofs.Effects.{added, ands_rows, compare_rows, dots_rows, expr_rows, factors_rows, ors_rows, sums_rows, unary_rows, Effect, Replaces, RowIs}
 use Rattle.ode_reread.proofs.EventRows.{after_what_rows, before_what_rows, event_ands_rows, event_as_is, event_ors_rows, event_unary_rows, kind_rows, mask_rows, more_prior_rows, more_relative_rows, more_sequence_rows, no_mask, period_rows, time_what_rows}
@@ -23,28 +21,28 @@ any_row : (place : Place) (p : Part) (k : Terminal) (r : Option (List Item)) →
 any_row place p k None f = tt
 any_row place p k (Some row) f = λ kd bytes s b w l. f b w
 
-all_rows : (place : Place) → this_terminal place ≡ terminal.Leaf → (p : Part) (k : Terminal) → IfRow (RowIs place p k) (after p k)
-all_rows place own part.Expr k = expr_rows place own k
-all_rows place own part.Unary k = unary_rows place own k
-all_rows place own part.Dots k = dots_rows place k
-all_rows place own part.Factors k = factors_rows place k
-all_rows place own part.Sums k = sums_rows place k
-all_rows place own part.Compare k = compare_rows place k
-all_rows place own part.Ands k = ands_rows place k
-all_rows place own part.Ors k = ors_rows place k
-all_rows place own part.EventUnary k = event_unary_rows place k
-all_rows place own part.EventAnds k = event_ands_rows place k
-all_rows place own part.EventOrs k = event_ors_rows place k
-all_rows place own part.MoreRelative k = more_relative_rows place k
-all_rows place own part.MorePrior k = more_prior_rows place k
-all_rows place own part.MoreSequence k = more_sequence_rows place k
-all_rows place own part.Mask k = mask_rows place k
-all_rows place own part.Kind k = kind_rows place k
-all_rows place own part.AfterWhat k = after_what_rows place k
-all_rows place own part.BeforeWhat k = before_what_rows place k
-all_rows place own part.TimeWhat k = time_what_rows place k
-all_rows place own part.Period k = period_rows place k
-all_rows place own other k = any_row place other k (after other k) (λ b w. tt)
+all_rows : (place : Place) (p : Part) (k : Terminal) → IfRow (RowIs place p k) (after p k)
+all_rows place part.Expr k = expr_rows place k
+all_rows place part.Unary k = unary_rows place k
+all_rows place part.Dots k = dots_rows place k
+all_rows place part.Factors k = factors_rows place k
+all_rows place part.Sums k = sums_rows place k
+all_rows place part.Compare k = compare_rows place k
+all_rows place part.Ands k = ands_rows place k
+all_rows place part.Ors k = ors_rows place k
+all_rows place part.EventUnary k = event_unary_rows place k
+all_rows place part.EventAnds k = event_ands_rows place k
+all_rows place part.EventOrs k = event_ors_rows place k
+all_rows place part.MoreRelative k = more_relative_rows place k
+all_rows place part.MorePrior k = more_prior_rows place k
+all_rows place part.MoreSequence k = more_sequence_rows place k
+all_rows place part.Mask k = mask_rows place k
+all_rows place part.Kind k = kind_rows place k
+all_rows place part.AfterWhat k = after_what_rows place k
+all_rows place part.BeforeWhat k = before_what_rows place k
+all_rows place part.TimeWhat k = time_what_rows place k
+all_rows place part.Period k = period_rows place k
+all_rows place other k = any_row place other k (after other k) (λ b w. tt)
 
 -- ---- parts that are left out
 
@@ -77,5 +75,5 @@ left_out place part.Period a b e = absurd (none-some a e)
 left_out place other a b e = tt
 
 -- the row of a part does what the part does
-pub row_does : (place : Place) → this_terminal place ≡ terminal.Leaf → (p : Part) (k : Terminal) (row : List Item) → after p k ≡ Some row → RowIs place p k row
-row_does place own p k row e = subst (IfRow (RowIs place p k)) e (all_rows place own p k)
+pub row_does : (place : Place) (p : Part) (k : Terminal) (row : List Item) → after p k ≡ Some row → RowIs place p k row
+row_does place p k row e = subst (IfRow (RowIs place p k)) e (all_rows place p k)

@@ -18,7 +18,7 @@ blank_front at bytes e = gap_front at 1 (32 ∷ bytes) (omega arith) (omega arit
 
 -- ---- pieces of lists
 
-drop_front : (xs ys : List ℕ) → drop (length xs) (xs ++ ys) ≡ ys
+pub drop_front : (xs ys : List ℕ) → drop (length xs) (xs ++ ys) ≡ ys
 drop_front [] ys = refl
 drop_front (x ∷ xs) ys = drop_front xs ys
 

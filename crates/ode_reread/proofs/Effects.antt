@@ -1,6 +1,5 @@
 -- What a text of each part does to the trees and heights: an expression adds one that is good.
 use Rattle.std.proofs.Common.{◌≡◌, ◌≤◌, ℕ, ◌+◌, max, Bool, true, false, cond, codes, List, [], ◌∷◌, ◌++◌, Option, Some, None, refl, sym, ◌∙◌, ap, subst, arith}
-use Rattle.std.specs.Str.{bytes_eq}
 use Rattle.ode_lex.specs.declared.token.Mark.{Mark}
 use Rattle.ode_lex.specs.declared.token.TokenKind.{TokenKind}
 use Rattle.ode_lex.specs.declared.token.TokenKind.TheVariants as kind
@@ -17,22 +16,21 @@ use Rattle.ode_grammar.proofs.Follows.{IfRow}
 use Rattle.ode_heights.specs.declared.height.Height.{Height}
 use Rattle.ode_heights.specs.Heights.{above, in_pair, leaf, raised}
 use Rattle.ode_terminals.specs.declared.seen.Place.{Place}
-use Rattle.ode_terminals.specs.Seen.{this_terminal}
 use Rattle.ode_value.specs.Words.{is_free, reserved}
 use Rattle.ode_value.specs.declared.event.EventExpr.{EventExpr}
 use Rattle.ode_value.specs.declared.event.Kind.{Kind}
 use Rattle.ode_value.specs.declared.statement.Expr.{Expr}
 use Rattle.ode_value.specs.declared.statement.Expr.TheVariants as expr
-use Rattle.ode_value.specs.declared.value.Value.TheVariants as value
 use Rattle.ode_syntax.specs.Built.{binary_of, built, built_right_side, built_statement, built_event, built_kind, built_class, built_member, built_script, unary_of}
-use Rattle.ode_syntax.specs.Kept.{content_of, is_text, kept_as, leaf_of, name_of, text_of, word_leaf, Spelled}
+use Rattle.ode_syntax.specs.Kept.{kept_as, leaf_of, name_of, Spelled}
 use Rattle.ode_reread.proofs.Both.{Both, keep, make}
 use Rattle.ode_reread.proofs.EventGoods.{GoodEvent, GoodInstants, GoodKind}
 use Rattle.ode_reread.proofs.EventPrints.{with_event, with_kind}
 use Rattle.ode_reread.proofs.ExprRows.{longer, rows}
+use Rattle.ode_reread.proofs.Leaves.{leaf_read}
 use Rattle.ode_reread.proofs.Marked.{is_leaf, with_expr, with_mark_on, with_name}
 use Rattle.ode_reread.proofs.Prints.{made_field, made_version}
-use Rattle.ode_reread.proofs.Goods.{binary_good, false_good, field_good, good_up, int_good, name_good, null_good, reference_good, text_good, this_good, true_good, unary_good, version_good, Good}
+use Rattle.ode_reread.proofs.Goods.{binary_good, field_good, good_up, name_good, unary_good, version_good, Good}
 use Rattle.ode_reread.proofs.Sounds.{is_operator, operator_is_mark, Sound}
 
 abbrev pub spelt : Terminal → TokenKind → List ℕ → Spelled
@@ -113,32 +111,7 @@ finished place b c w a e = subst (λ x. Adds place b x) e a
 pub added : (place : Place) (b m : Both) (e : Expr) (h : Height) → Good place e h → m ≡ with_expr e h b → Adds place b m
 added place b m e h good is = record { e = e; h = h; good = good; is = is }
 
--- ---- what leaves say
-
-good_either : (place : Place) (c : Bool) (e f : Expr) → Good place e leaf → Good place f leaf → Good place (cond c e f) leaf
-good_either place true e f g h = g
-good_either place false e f g h = h
-
-word_leaf_good : (place : Place) → this_terminal place ≡ terminal.Leaf → (bytes : List ℕ) → Good place (word_leaf bytes) leaf
-word_leaf_good place own bytes =
-    good_either place (bytes_eq bytes (codes "true")) _ _ (true_good place)
-    (good_either place (bytes_eq bytes (codes "false")) _ _ (false_good place)
-    (good_either place (bytes_eq bytes (codes "null")) _ _ (null_good place) (this_good place own)))
-
-is_a_text : (bytes : List ℕ) → is_text (text_of bytes) ≡ true
-is_a_text bytes = cases (is_text bytes) refl
-  where
-    cases : (c : Bool) → is_text bytes ≡ c → is_text (cond c bytes []) ≡ true
-    cases true e = e
-    cases false e = refl
-
-leaf_read : (place : Place) → this_terminal place ≡ terminal.Leaf → (k : Terminal) (kd : TokenKind) (bytes : List ℕ) → is_leaf k ≡ true
-    → Sound place (spelt k kd bytes) → Good place (leaf_of kd bytes) leaf
-leaf_read place own k kind.Word bytes e s = word_leaf_good place own bytes
-leaf_read place own k (kind.Number n) bytes e s = let m = s.says in subst (λ z. Good place (expr.Lit (value.Int z)) leaf) (sym m.1) (int_good place m.0 m.2)
-leaf_read place own k kind.Text bytes e s = text_good place (text_of (content_of bytes)) (is_a_text (content_of bytes))
-leaf_read place own k (kind.Reference r) bytes e s = let m = s.says in reference_good place r m.0 m.1 (ap is_leaf (sym s.seen_as) ∙ e)
-leaf_read place own k (kind.Mark m) bytes e s = this_good place own
+-- ---- names
 
 pub name_free : (bytes : List ℕ) → is_free (name_of bytes) ≡ true
 unfolding reserved
@@ -150,11 +123,11 @@ name_free bytes = cases (is_free bytes) refl
 
 -- ---- operands
 
-leaf_after : (place : Place) → this_terminal place ≡ terminal.Leaf → (k : Terminal) → is_leaf k ≡ true
+leaf_after : (place : Place) (k : Terminal) → is_leaf k ≡ true
     → ((kd : TokenKind) (bytes : List ℕ) (b : Both) → make action.Leaf (keep (spelt k kd bytes) b) ≡ with_expr (leaf_of kd bytes) leaf b)
     → RowIs place part.Unary k (item.Build action.Leaf ∷ item.Part part.Dots ∷ [])
-leaf_after place own k e made kd bytes s b w l =
-    let x = added place b (make action.Leaf (keep (spelt k kd bytes) b)) (leaf_of kd bytes) leaf (leaf_read place own k kd bytes e s) (made kd bytes b) in
+leaf_after place k e made kd bytes s b w l =
+    let x = added place b (make action.Leaf (keep (spelt k kd bytes) b)) (leaf_of kd bytes) leaf (leaf_read place k kd bytes e s) (made kd bytes b) in
     finished place b l.0 w (replaced place b _ l.0 x l.1) l.2
 
 in_brackets_up : (h : Height) → h.own ≤ in_pair h
@@ -212,20 +185,20 @@ name_after place kd bytes s b w l =
     let x = added place b (make action.Variable (with_name name b)) (expr.Name name) leaf (name_good place name (name_free bytes)) (made_variable name b) in
     finished place b l.0 w (replaced place b _ l.0 x l.1) l.2
 
-pub unary_rows : (place : Place) → this_terminal place ≡ terminal.Leaf → (k : Terminal) → IfRow (RowIs place part.Unary k) (after part.Unary k)
+pub unary_rows : (place : Place) (k : Terminal) → IfRow (RowIs place part.Unary k) (after part.Unary k)
 unfolding after kept_as built raised
-unary_rows place own terminal.Leaf = leaf_after place own terminal.Leaf refl (λ kd bs b. refl)
-unary_rows place own terminal.Number = leaf_after place own terminal.Number refl (λ kd bs b. refl)
-unary_rows place own terminal.Seconds = leaf_after place own terminal.Seconds refl (λ kd bs b. refl)
-unary_rows place own terminal.Count = leaf_after place own terminal.Count refl (λ kd bs b. refl)
-unary_rows place own terminal.Text = leaf_after place own terminal.Text refl (λ kd bs b. refl)
-unary_rows place own terminal.Instant = leaf_after place own terminal.Instant refl (λ kd bs b. refl)
-unary_rows place own terminal.OpenParen = paren_after place
-unary_rows place own terminal.Version = version_after place
-unary_rows place own terminal.Minus = sign_after place terminal.Minus refl (λ m bytes b. refl)
-unary_rows place own terminal.Not = sign_after place terminal.Not refl (λ m bytes b. refl)
-unary_rows place own terminal.Name = name_after place
-unary_rows place own other = tt
+unary_rows place terminal.Leaf = leaf_after place terminal.Leaf refl (λ kd bs b. refl)
+unary_rows place terminal.Number = leaf_after place terminal.Number refl (λ kd bs b. refl)
+unary_rows place terminal.Seconds = leaf_after place terminal.Seconds refl (λ kd bs b. refl)
+unary_rows place terminal.Count = leaf_after place terminal.Count refl (λ kd bs b. refl)
+unary_rows place terminal.Text = leaf_after place terminal.Text refl (λ kd bs b. refl)
+unary_rows place terminal.Instant = leaf_after place terminal.Instant refl (λ kd bs b. refl)
+unary_rows place terminal.OpenParen = paren_after place
+unary_rows place terminal.Version = version_after place
+unary_rows place terminal.Minus = sign_after place terminal.Minus refl (λ m bytes b. refl)
+unary_rows place terminal.Not = sign_after place terminal.Not refl (λ m bytes b. refl)
+unary_rows place terminal.Name = name_after place
+unary_rows place other = tt
 
 -- ---- fields
 
@@ -370,5 +343,5 @@ whole_row place k (Some row) p = λ kd bytes s b w l.
     let a5 = replaced place b j.0 n.0 a4 n.1 in
     finished place b n.0 w a5 n.2
 
-pub expr_rows : (place : Place) → this_terminal place ≡ terminal.Leaf → (k : Terminal) → IfRow (RowIs place part.Expr k) (after part.Expr k)
-expr_rows place own k = subst (IfRow (RowIs place part.Expr k)) (sym (rows k)) (whole_row place k (after part.Unary k) (unary_rows place own k))
+pub expr_rows : (place : Place) (k : Terminal) → IfRow (RowIs place part.Expr k) (after part.Expr k)
+expr_rows place k = subst (IfRow (RowIs place part.Expr k)) (sym (rows k)) (whole_row place k (after part.Unary k) (unary_rows place k))

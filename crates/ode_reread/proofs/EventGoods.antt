@@ -1,5 +1,5 @@
 -- Event expressions whose printed text is read as they are, no higher than they were read.
-use Rattle.std.proofs.Common.{◌≡◌, ◌≤◌, ◌<◌, ◌^◌, ℕ, max, Bool, true, false, cond, codes, nat_le, nat_lt, pos, List, [], ◌∷◌, ◌++◌, ◌⊎◌, inl, inr, Some, None, arith, refl, sym, ◌∙◌, ap}
+use Rattle.std.proofs.Common.{◌≡◌, ◌≤◌, ◌<◌, ◌^◌, ℕ, max, Bool, true, false, cond, codes, nat_le, pos, List, [], ◌∷◌, ◌++◌, ◌⊎◌, inl, inr, Some, None, arith, refl, sym, ◌∙◌, ap}
 use Rattle.std.proofs.lemmas.Bool.Decides.{nat_tests}
 use Rattle.std.proofs.lemmas.List.{append-nil}
 use Rattle.ode_lex.specs.declared.token.Mark.TheVariants as mark

@@ -1,5 +1,5 @@
 -- Expressions whose printed text is read as they are, no higher than they were read.
-use Rattle.std.proofs.Common.{◌≡◌, ◌≤◌, ◌<◌, ◌^◌, ℕ, max, Bool, true, false, not, ◌||◌, cond, codes, map, ◌==◌, nat_le, nat_lt, ℤ, pos, List, [], ◌∷◌, ◌++◌, length, Option, Some, None, arith, refl, sym, ◌∙◌, ap, subst}
+use Rattle.std.proofs.Common.{◌≡◌, ◌≤◌, ◌<◌, ◌^◌, ℕ, max, Bool, true, false, not, ◌||◌, cond, codes, map, ◌==◌, nat_le, ℤ, pos, List, [], ◌∷◌, ◌++◌, length, Option, Some, None, arith, refl, sym, ◌∙◌, ap, subst}
 use Rattle.std.specs.List.{list_all, list_any}
 use Rattle.std.specs.Str.{bytes_eq}
 use Rattle.std.proofs.lemmas.Slice.Eq.{bytes_eq-Decides}
@@ -184,7 +184,7 @@ free_is_name : (w : List ℕ) → list_any (λ x. bytes_eq x w) reserved ≡ fal
 unfolding word_terminal
 free_is_name w e = not_looked_up rows w (sym (words_reserved w) ∙ e)
 
-turned : (a b : List ℕ) → bytes_eq a b ≡ false → bytes_eq b a ≡ false
+pub turned : (a b : List ℕ) → bytes_eq a b ≡ false → bytes_eq b a ≡ false
 turned a b e = cases (bytes_eq b a) refl
   where
     cases : (c : Bool) → bytes_eq b a ≡ c → c ≡ false

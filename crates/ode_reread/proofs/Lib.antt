@@ -10,6 +10,7 @@ pub mod Sounds
 pub mod EventPrints
 pub mod EventSpells
 pub mod EventGoods
+pub mod Leaves
 pub mod Effects
 pub mod EventRows
 pub mod AllRows

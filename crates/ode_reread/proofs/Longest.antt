@@ -26,7 +26,7 @@ use Rattle.ode_reread.specs.Rereading.{IsRead}
 
 -- ---- a text, and what begins one
 
-is_text : {items : List Item} {m : Heights} {ts : List Terminal} {out : Heights} → Derives of_heights items m ts out → Derives plain items tt ts tt
+pub is_text : {items : List Item} {m : Heights} {ts : List Terminal} {out : Heights} → Derives of_heights items m ts out → Derives plain items tt ts tt
 is_text Done = Done
 is_text (Next k e d) = Next k e (is_text d)
 is_text (Make a d) = Make a (is_text d)
@@ -51,7 +51,7 @@ tokens_of : Lexed → List Token
 tokens_of (Tokens ts) = ts
 tokens_of (NoToken at) = []
 
-one_lexing : (x y : List Token) → Tokens x ≡ Tokens y → x ≡ y
+pub one_lexing : (x y : List Token) → Tokens x ≡ Tokens y → x ≡ y
 unfolding tokens_of
 one_lexing x y e = ap tokens_of e
 

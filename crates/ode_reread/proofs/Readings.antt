@@ -7,7 +7,6 @@ use Rattle.ode_grammar.specs.declared.item.Item.TheVariants as item
 use Rattle.ode_grammar.specs.declared.item.Part.TheVariants as part
 use Rattle.ode_grammar.specs.declared.reader.Start.{Start}
 use Rattle.ode_grammar.specs.declared.reader.Start.TheVariants as start
-use Rattle.ode_grammar.specs.declared.terminal.Terminal.TheVariants as terminal
 use Rattle.ode_grammar.specs.Grammar.{items_of}
 use Rattle.ode_grammar.specs.Texts.{Derives, Done, Next, Make, Rule, Skip}
 use Rattle.ode_grammar.proofs.Follows.{start_well}
@@ -16,7 +15,7 @@ use Rattle.ode_heights.specs.declared.height.Height.{Height}
 use Rattle.ode_heights.specs.declared.height.Heights.{Heights}
 use Rattle.ode_heights.specs.Heights.{heights as of_heights, highest, none}
 use Rattle.ode_terminals.specs.declared.seen.Place.{Place}
-use Rattle.ode_terminals.specs.Seen.{terminal_of, this_terminal}
+use Rattle.ode_terminals.specs.Seen.{terminal_of}
 use Rattle.ode_value.specs.Printing.{event_text, expr_text}
 use Rattle.ode_value.specs.declared.event.EventExpr.{EventExpr}
 use Rattle.ode_value.specs.declared.statement.Expr.{Expr}
@@ -38,25 +37,24 @@ use Rattle.ode_reread.proofs.Marked.{with_expr}
 use Rattle.ode_reread.proofs.Sounds.{text_sounds, Sound, Sounds}
 
 -- a text does what its items do
-pub leads : {items : List Item} {b : Both} {ts : List Spelled} {out : Both} → (place : Place) → this_terminal place ≡ terminal.Leaf
-    → Derives both items b ts out → Sounds place ts → Leads place items b out
-leads place own Done s = refl
-leads {b = b} {out = out} place own (Next {items = items} {t = t} k e d) s = (
+pub leads : {items : List Item} {b : Both} {ts : List Spelled} {out : Both} → (place : Place) → Derives both items b ts out → Sounds place ts → Leads place items b out
+leads place Done s = refl
+leads {b = b} {out = out} place (Next {items = items} {t = t} k e d) s = (
   t.kind,
   t.bytes,
   subst (λ j. Sound place (spelt j t.kind t.bytes)) e s.0,
-  subst (λ j. Leads place items (keep (spelt j t.kind t.bytes) b) out) e (leads place own d s.1),
+  subst (λ j. Leads place items (keep (spelt j t.kind t.bytes) b) out) e (leads place d s.1),
 )
-leads place own (Make a d) s = leads place own d s
-leads {b = b} {out = out} place own (Rule {items = items} {t = t} p row e d) s =
-    let x = split place row items (keep t b) out (leads place own d s.1) in
-    (x.mid, row_does place own p t.terminal row e t.kind t.bytes s.0 b x.mid x.first, x.behind)
-leads {b = b} place own (Skip p a e d) s = (make a b, left_out place p a b e, leads place own d s)
+leads place (Make a d) s = leads place d s
+leads {b = b} {out = out} place (Rule {items = items} {t = t} p row e d) s =
+    let x = split place row items (keep t b) out (leads place d s.1) in
+    (x.mid, row_does place p t.terminal row e t.kind t.bytes s.0 b x.mid x.first, x.behind)
+leads {b = b} place (Skip p a e d) s = (make a b, left_out place p a b e, leads place d s)
 
 abbrev pub at_start : Both
 at_start = record { trees = no_trees; heights = none }
 
-same_seen : (place : Place) (text : List ℕ) (tokens : List Token) → seen_of (map (spelled place text) tokens) ≡ map (terminal_of place text) tokens
+pub same_seen : (place : Place) (text : List ℕ) (tokens : List Token) → seen_of (map (spelled place text) tokens) ≡ map (terminal_of place text) tokens
 same_seen place text [] = refl
 same_seen place text (t ∷ ts) = ap (λ ks. terminal_of place text t ∷ ks) (same_seen place text ts)
 
@@ -67,9 +65,9 @@ pub record Reading (most : ℕ) (s : Start) (place : Place) (made : Trees) : Typ
   pub within : highest out.heights ≤ most
   pub leads : Leads place (items_of s) at_start out
 
-pub reading : (most : ℕ) (s : Start) (place : Place) (text : List ℕ) (made : Trees) → this_terminal place ≡ terminal.Leaf → IsRead most s place text made
+pub reading : (most : ℕ) (s : Start) (place : Place) (text : List ℕ) (made : Trees) → IsRead most s place text made
     → Reading most s place made
-reading most s place text made own r =
+reading most s place text made r =
     let x = lifted r.makes none in
     let out : Both = record { trees = made; heights = x.heights } in
     let seen = subst (λ ks. Derives of_heights (items_of s) none ks x.heights) (same_seen place text r.tokens) (its_heights x.derives) in
@@ -78,7 +76,7 @@ reading most s place text made own r =
       out = out;
       trees = refl;
       within = subst (λ (h : Heights). highest h ≤ most) same r.within.within;
-      leads = leads place own x.derives (text_sounds place text r.tokens r.lexed_as);
+      leads = leads place x.derives (text_sounds place text r.tokens r.lexed_as);
     }
 
 -- a text of these tokens is read so
@@ -118,11 +116,11 @@ good_again most place e h g l =
     let read = is_read most start.Expr place g.text g.tokens out cut derives (one_height g.low most (omega arith)) in
     (out.trees, subst (λ (t : List ℕ). IsRead most start.Expr place t out.trees) (ap (λ p. p.text) (sym g.shown)) read, refl)
 
-pub expr_again : (most : ℕ) (place : Place) (text : List ℕ) (made : Trees) → this_terminal place ≡ terminal.Leaf → IsRead most start.Expr place text made
+pub expr_again : (most : ℕ) (place : Place) (text : List ℕ) (made : Trees) → IsRead most start.Expr place text made
     → (again : Trees) × IsRead most start.Expr place (expr_text (tree made.exprs)) again × (tree again.exprs ≡ tree made.exprs)
 unfolding items_of
-expr_again most place text made own r =
-    let x = reading most start.Expr place text made own r in
+expr_again most place text made r =
+    let x = reading most start.Expr place text made r in
     let l = x.leads in
     let a = l.1 in
     let is : x.out ≡ with_expr a.e a.h at_start = sym l.2 ∙ a.is in
@@ -144,12 +142,12 @@ event_good_again most place e h g l =
     let read = is_read most start.Event place g.text g.tokens out cut derives (one_height g.low most (omega arith)) in
     (out.trees, subst (λ (t : List ℕ). IsRead most start.Event place t out.trees) (ap (λ p. p.text) (sym g.shown)) read, refl)
 
-pub event_again : (most : ℕ) (place : Place) (text : List ℕ) (made : Trees) → this_terminal place ≡ terminal.Leaf → GoodInstants place
+pub event_again : (most : ℕ) (place : Place) (text : List ℕ) (made : Trees) → GoodInstants place
     → IsRead most start.Event place text made
     → (again : Trees) × IsRead most start.Event place (event_text (event_tree made.events)) again × (event_tree again.events ≡ event_tree made.events)
 unfolding items_of
-event_again most place text made own instants r =
-    let x = reading most start.Event place text made own r in
+event_again most place text made instants r =
+    let x = reading most start.Event place text made r in
     let l = x.leads in
     let a1 = l.1 in
     let a2 = l.2.1 a1.e a1.h at_start a1.is a1.good in

@@ -12,15 +12,16 @@ use Rattle.ode_grammar.specs.Texts.{Derives, Done, Next, Make, Rule, Skip}
 use Rattle.ode_grammar.proofs.Follows.{IfRow}
 use Rattle.ode_terminals.specs.declared.seen.Place.{Place}
 use Rattle.ode_syntax.specs.Kept.{Spelled}
-use Rattle.ode_reread.proofs.AllRows.{left_out}
+use Rattle.ode_reread.proofs.AllRows.{left_out, row_does}
 use Rattle.ode_reread.proofs.Both.{both, keep, make, Both}
 use Rattle.ode_reread.proofs.Effects.{spelt}
 use Rattle.ode_reread.proofs.Prints.{nothing}
 use Rattle.ode_reread.proofs.Sounds.{Sound, Sounds}
-use Rattle.ode_reread_classes.proofs.Does.{old, parted, Changes, Does, GoodMembers, News, Olds, RowDoes}
+use Rattle.ode_reread_classes.proofs.Does.{old, parted, Changes, Does, GoodMembers, News, RowDoes}
 use Rattle.ode_reread_classes.proofs.MemberRows.{class_rows, second_param_rows, third_param_rows, fourth_param_rows, fifth_param_rows, sixth_param_rows, seventh_param_rows, eighth_param_rows, ninth_param_rows, tenth_param_rows, eleventh_param_rows, twelfth_param_rows, thirteenth_param_rows, fourteenth_param_rows, fifteenth_param_rows, sixteenth_param_rows, field_or_method_rows, initial_rows, lasting_rows, members_rows, mode_rows, more_kinds_rows, no_initial, no_lasting, no_mode, no_parent, no_scope, params_rows, parent_rows, scope_rows, sort_rows}
 use Rattle.ode_reread_classes.proofs.Puts.{with_body, with_members}
-use Rattle.ode_reread_classes.proofs.SideRows.{args_rows, call_dot_rows, chained_rows, more_args_rows, more_sets_rows, rhs_dot_rows, rhs_dots_rows, rhs_name_rows, rhs_rows, sets_rows}
+use Rattle.ode_reread_classes.proofs.ScriptRows.{clock_text_rows, statement_rows}
+use Rattle.ode_reread_classes.proofs.SideRows.{args_rows, call_dot_rows, chained_rows, more_args_rows, more_sets_rows, rhs_dot_rows, rhs_dots_rows, rhs_name_rows, rhs_rows, script_rhs_rows, sets_rows}
 use Rattle.ode_reread_classes.proofs.StatementRows.{else_rows, inner_name_rows, inners_rows, no_else, return_value_rows}
 use Rattle.ode_reread_classes.proofs.Statements.{GoodBody}
 
@@ -30,51 +31,54 @@ any_row : (place : Place) (p : Part) (k : Terminal) (r : Option (List Item)) →
 any_row place p k None f = tt
 any_row place p k (Some row) f = λ kd bytes s b w l. f b w
 
-all_rows : (place : Place) → Olds place → (p : Part) (k : Terminal) → IfRow (RowDoes place p k) (after p k)
-all_rows place olds part.Args k = args_rows place olds k
-all_rows place olds part.MoreArgs k = more_args_rows place k
-all_rows place olds part.Sets k = sets_rows place k
-all_rows place olds part.MoreSets k = more_sets_rows place k
-all_rows place olds part.Chained k = chained_rows place olds k
-all_rows place olds part.CallDot k = call_dot_rows place k
-all_rows place olds part.Rhs k = rhs_rows place olds k
-all_rows place olds part.RhsDots k = rhs_dots_rows place olds k
-all_rows place olds part.RhsDot k = rhs_dot_rows place olds k
-all_rows place olds part.RhsName k = rhs_name_rows place olds k
-all_rows place olds part.Inners k = inners_rows place olds k
-all_rows place olds part.InnerName k = inner_name_rows place k
-all_rows place olds part.ReturnValue k = return_value_rows place olds k
-all_rows place olds part.Else k = else_rows place k
-all_rows place olds part.Sort k = sort_rows place k
-all_rows place olds part.Params k = params_rows place k
-all_rows place olds part.SecondParam k = second_param_rows place k
-all_rows place olds part.ThirdParam k = third_param_rows place k
-all_rows place olds part.FourthParam k = fourth_param_rows place k
-all_rows place olds part.FifthParam k = fifth_param_rows place k
-all_rows place olds part.SixthParam k = sixth_param_rows place k
-all_rows place olds part.SeventhParam k = seventh_param_rows place k
-all_rows place olds part.EighthParam k = eighth_param_rows place k
-all_rows place olds part.NinthParam k = ninth_param_rows place k
-all_rows place olds part.TenthParam k = tenth_param_rows place k
-all_rows place olds part.EleventhParam k = eleventh_param_rows place k
-all_rows place olds part.TwelfthParam k = twelfth_param_rows place k
-all_rows place olds part.ThirteenthParam k = thirteenth_param_rows place k
-all_rows place olds part.FourteenthParam k = fourteenth_param_rows place k
-all_rows place olds part.FifteenthParam k = fifteenth_param_rows place k
-all_rows place olds part.SixteenthParam k = sixteenth_param_rows place k
-all_rows place olds part.MoreKinds k = more_kinds_rows place k
-all_rows place olds part.Initial k = initial_rows place k
-all_rows place olds part.Lasting k = lasting_rows place k
-all_rows place olds part.Scope k = scope_rows place k
-all_rows place olds part.Mode k = mode_rows place k
-all_rows place olds part.Parent k = parent_rows place k
-all_rows place olds part.Members k = members_rows place k
-all_rows place olds part.FieldOrMethod k = field_or_method_rows place k
-all_rows place olds part.Class k = class_rows place k
-all_rows place olds other k = any_row place other k (after other k) (λ b w. tt)
+all_rows : (place : Place) → (p : Part) (k : Terminal) → IfRow (RowDoes place p k) (after p k)
+all_rows place part.Args k = args_rows place k
+all_rows place part.MoreArgs k = more_args_rows place k
+all_rows place part.Sets k = sets_rows place k
+all_rows place part.MoreSets k = more_sets_rows place k
+all_rows place part.Chained k = chained_rows place k
+all_rows place part.CallDot k = call_dot_rows place k
+all_rows place part.Rhs k = rhs_rows place k
+all_rows place part.RhsDots k = rhs_dots_rows place k
+all_rows place part.RhsDot k = rhs_dot_rows place k
+all_rows place part.RhsName k = rhs_name_rows place k
+all_rows place part.Inners k = inners_rows place k
+all_rows place part.InnerName k = inner_name_rows place k
+all_rows place part.ReturnValue k = return_value_rows place k
+all_rows place part.Else k = else_rows place k
+all_rows place part.Sort k = sort_rows place k
+all_rows place part.Params k = params_rows place k
+all_rows place part.SecondParam k = second_param_rows place k
+all_rows place part.ThirdParam k = third_param_rows place k
+all_rows place part.FourthParam k = fourth_param_rows place k
+all_rows place part.FifthParam k = fifth_param_rows place k
+all_rows place part.SixthParam k = sixth_param_rows place k
+all_rows place part.SeventhParam k = seventh_param_rows place k
+all_rows place part.EighthParam k = eighth_param_rows place k
+all_rows place part.NinthParam k = ninth_param_rows place k
+all_rows place part.TenthParam k = tenth_param_rows place k
+all_rows place part.EleventhParam k = eleventh_param_rows place k
+all_rows place part.TwelfthParam k = twelfth_param_rows place k
+all_rows place part.ThirteenthParam k = thirteenth_param_rows place k
+all_rows place part.FourteenthParam k = fourteenth_param_rows place k
+all_rows place part.FifteenthParam k = fifteenth_param_rows place k
+all_rows place part.SixteenthParam k = sixteenth_param_rows place k
+all_rows place part.MoreKinds k = more_kinds_rows place k
+all_rows place part.Initial k = initial_rows place k
+all_rows place part.Lasting k = lasting_rows place k
+all_rows place part.Scope k = scope_rows place k
+all_rows place part.Mode k = mode_rows place k
+all_rows place part.Parent k = parent_rows place k
+all_rows place part.Members k = members_rows place k
+all_rows place part.FieldOrMethod k = field_or_method_rows place k
+all_rows place part.Class k = class_rows place k
+all_rows place part.ScriptRhs k = script_rhs_rows place k
+all_rows place part.ClockText k = clock_text_rows place k
+all_rows place part.Statement k = statement_rows place k
+all_rows place other k = any_row place other k (after other k) (λ b w. tt)
 
-row_does : (place : Place) → Olds place → (p : Part) (k : Terminal) (row : List Item) → after p k ≡ Some row → RowDoes place p k row
-row_does place olds p k row e = subst (IfRow (RowDoes place p k)) e (all_rows place olds p k)
+news_does : (place : Place) (p : Part) (k : Terminal) (row : List Item) → after p k ≡ Some row → RowDoes place p k row
+news_does place p k row e = subst (IfRow (RowDoes place p k)) e (all_rows place p k)
 
 -- ---- parts that are left out
 
@@ -126,22 +130,25 @@ left place part.SixteenthParam a b e = absurd (none-some a e)
 left place part.MoreKinds a b e = absurd (none-some a e)
 left place part.FieldOrMethod a b e = absurd (none-some a e)
 left place part.Class a b e = absurd (none-some a e)
+left place part.ScriptRhs a b e = absurd (none-some a e)
+left place part.ClockText a b e = absurd (none-some a e)
+left place part.Statement a b e = absurd (none-some a e)
 left place other a b e = tt
 
 -- ---- whole texts
 
 -- a text does what its items do
-pub does : {items : List Item} {b : Both} {ts : List Spelled} {out : Both} → (place : Place) → Olds place → Derives both items b ts out → Sounds place ts → Does place items b out
-does place olds Done s = refl
-does {b = b} {out = out} place olds (Next {items = items} {t = t} k e d) s = (
+pub does : {items : List Item} {b : Both} {ts : List Spelled} {out : Both} → (place : Place) → Derives both items b ts out → Sounds place ts → Does place items b out
+does place Done s = refl
+does {b = b} {out = out} place (Next {items = items} {t = t} k e d) s = (
   t.kind,
   t.bytes,
   subst (λ j. Sound place (spelt j t.kind t.bytes)) e s.0,
-  subst (λ j. Does place items (keep (spelt j t.kind t.bytes) b) out) e (does place olds d s.1),
+  subst (λ j. Does place items (keep (spelt j t.kind t.bytes) b) out) e (does place d s.1),
 )
-does place olds (Make a d) s = does place olds d s
-does {b = b} {out = out} place olds (Rule {items = items} {t = t} p row e d) s =
-    let x = parted place row items (keep t b) out (does place olds d s.1) in
-    let before = olds p t.terminal row e t.kind t.bytes s.0 b x.mid (old place row (keep t b) x.mid x.first) in
-    (x.mid, (before, row_does place olds p t.terminal row e t.kind t.bytes s.0 b x.mid x.first), x.behind)
-does {b = b} place olds (Skip p a e d) s = (make a b, (left_out place p a b e, left place p a b e), does place olds d s)
+does place (Make a d) s = does place d s
+does {b = b} {out = out} place (Rule {items = items} {t = t} p row e d) s =
+    let x = parted place row items (keep t b) out (does place d s.1) in
+    let before = row_does place p t.terminal row e t.kind t.bytes s.0 b x.mid (old place row (keep t b) x.mid x.first) in
+    (x.mid, (before, news_does place p t.terminal row e t.kind t.bytes s.0 b x.mid x.first), x.behind)
+does {b = b} place (Skip p a e d) s = (make a b, (left_out place p a b e, left place p a b e), does place d s)

@@ -256,6 +256,33 @@ rhs_place items = record {
   again = rhs_dot_head items;
 }
 
+abbrev pub alone : List Item
+alone = item.Build action.Simple ∷ []
+
+pub statement_atoms : IsAtoms part.Statement (called_statement alone)
+unfolding after
+statement_atoms = record { leaf = refl; number = refl; seconds = refl; count = refl; text = refl; instant = refl; pair = refl; version = refl }
+
+pub statement_place : (items : List Item) → IsPlace part.Statement items (inner_tail (alone ++ items))
+unfolding after
+statement_place items = record {
+  begun = begun_by part.Statement (called_statement alone) items (inner_tail (alone ++ items)) statement_atoms (token_head _)
+      (Chain (item.Build action.Variable ∷ []) None (called_statement alone) refl refl (token_head _));
+  again = call_dot_head _;
+}
+
+pub script_rhs_atoms : IsAtoms part.ScriptRhs (item.Part part.RhsDots ∷ [])
+unfolding after
+script_rhs_atoms = record { leaf = refl; number = refl; seconds = refl; count = refl; text = refl; instant = refl; pair = refl; version = refl }
+
+pub script_rhs_place : (items : List Item) → IsPlace part.ScriptRhs items (item.Part part.RhsDot ∷ items)
+unfolding after
+script_rhs_place items = record {
+  begun = begun_by part.ScriptRhs (item.Part part.RhsDots ∷ []) items (item.Part part.RhsDot ∷ items) script_rhs_atoms (rhs_dots_head items)
+      (Chain (item.Build action.Variable ∷ []) None (item.Part part.RhsDots ∷ []) refl refl (rhs_dots_head items));
+  again = rhs_dot_head items;
+}
+
 -- ---- operands
 
 -- the tokens are this operand, and don't begin with a sign
@@ -309,11 +336,11 @@ signs terminal.Name = λ e. absurd (false≢true e)
 signs other = tt
 
 -- the last item has made what there is
-record LastMade (a : Action) (e : Both) : Type 0 where
+pub record LastMade (a : Action) (e : Both) : Type 0 where
   pub before : Both
   pub is : make a before ≡ e
 
-last_made : {a : Action} {b e : Both} {ts : List Spelled} → Ds (item.Build a ∷ []) b ts e → LastMade a e
+pub last_made : {a : Action} {b e : Both} {ts : List Spelled} → Ds (item.Build a ∷ []) b ts e → LastMade a e
 last_made {b = b} (Make a Done) = record { before = b; is = refl }
 
 abbrev first_expr : Both → Expr

@@ -1,6 +1,5 @@
 -- Classes whose printed text is read as they are, no higher than they were read.
-use Rattle.std.proofs.Common.{◌≡◌, ◌≤◌, ℕ, max, true, codes, List, [], ◌∷◌, ◌++◌, map, Option, Some, None, refl, sym, subst, arith}
-use Rattle.std.specs.List.{flat_map}
+use Rattle.std.proofs.Common.{◌≡◌, ◌≤◌, ℕ, max, true, codes, List, [], ◌∷◌, ◌++◌, map, Option, Some, None, refl, arith}
 use Rattle.ode_lex.specs.declared.token.Mark.TheVariants as mark
 use Rattle.ode_lex.specs.declared.token.TokenKind.TheVariants as kind
 use Rattle.ode_grammar.specs.declared.item.Action.TheVariants as action
@@ -13,24 +12,24 @@ use Rattle.ode_grammar.specs.Statements.{class_rest}
 use Rattle.ode_grammar.specs.Texts.{Make, Rule, Skip}
 use Rattle.ode_heights.specs.Heights.{raised}
 use Rattle.ode_terminals.specs.declared.seen.Place.{Place}
-use Rattle.ode_value.specs.PrintedClasses.{decl_text, in_braces, member_text, parent_text}
+use Rattle.ode_value.specs.PrintedClasses.{decl_text, member_text, parent_text}
 use Rattle.ode_value.specs.Words.{is_free}
 use Rattle.ode_value.specs.declared.statement.ClassDecl.{ClassDecl}
 use Rattle.ode_value.specs.declared.statement.Member.{Member}
 use Rattle.ode_syntax.specs.Built.{built, built_right_side, built_statement, built_event, built_kind, built_class}
 use Rattle.ode_syntax.specs.Kept.{kept_as, Spelled}
-use Rattle.ode_relex.specs.Ends.{ends_mark, stops}
+use Rattle.ode_relex.specs.Ends.{stops}
 use Rattle.ode_reread.proofs.Both.{Both}
 use Rattle.ode_reread.proofs.Cuts.{spell}
 use Rattle.ode_reread.proofs.Goods.{free_word}
 use Rattle.ode_reread.proofs.Marked.{marked, with_name}
 use Rattle.ode_reread.proofs.Prints.{regroup, Ds}
-use Rattle.ode_reread.proofs.Spells.{ends, ends_marks, no_blank, Spells}
+use Rattle.ode_reread.proofs.Spells.{Spells}
 use Rattle.ode_reread_classes.proofs.Chains.{name_next}
 use Rattle.ode_reread_classes.proofs.Derivations.{next_mark, skip_nothing}
-use Rattle.ode_reread_classes.proofs.Lists.{elements, weaker, Each, Element, Elements}
+use Rattle.ode_reread_classes.proofs.Lists.{brace_opens, braced, elements, weaker, Each, Element, Elements}
 use Rattle.ode_reread_classes.proofs.Members.{printed_member, GoodMember}
-use Rattle.ode_reread_classes.proofs.Pieces.{between_blanks, blank, closing_mark, join, one_mark, then_blank, to_spells, word, word_begun, worded, Piece}
+use Rattle.ode_reread_classes.proofs.Pieces.{between_blanks, join, then_blank, to_spells, word, word_begun, worded, Piece}
 use Rattle.ode_reread_classes.proofs.Puts.{with_class, with_members, with_parent}
 
 abbrev pub GoodParent : Option (List ℕ) → Type 0
@@ -67,13 +66,6 @@ printed_parent place (Some name) g = record {
 
 -- ---- all
 
-braces : (texts : List (List ℕ)) → in_braces texts ≡ codes "{" ++ flat_map (λ t. codes " " ++ t) texts ++ codes " }"
-braces [] = refl
-braces (text ∷ texts) = refl
-
-closing_brace : (place : Place) → Piece place ends (codes " }") (marked mark.CloseBrace ∷ [])
-closing_brace place = join (blank place) (closing_mark place mark.CloseBrace) (λ rest x. refl)
-
 pub record PrintedClass (place : Place) (n : ℕ) (c : ClassDecl) : Type 0 where
   pub tokens : List Spelled
   pub low : ℕ
@@ -87,13 +79,13 @@ class_by : (place : Place) (n : ℕ) (name : List ℕ) (p : Option (List ℕ)) (
 unfolding skipped kept_as built built_right_side built_statement built_event built_kind built_class raised
 class_by place n name p ms f g r =
     let w = free_word name f in
-    let braced = marked mark.OpenBrace ∷ (r.tokens ++ marked mark.CloseBrace ∷ []) in
+    let inside = marked mark.OpenBrace ∷ (r.tokens ++ marked mark.CloseBrace ∷ []) in
     record {
-      tokens = spell place kind.Word name ∷ (g.tokens ++ braced);
+      tokens = spell place kind.Word name ∷ (g.tokens ++ inside);
       low = max 0 r.low;
       no_higher = lower n r.low r.no_higher;
       spells = to_spells refl
-          (join (then_blank (join (join (worded place (codes "class") refl) (word place name w) (word_begun name w)) g.piece g.begins) (λ rest. refl)) (braced_piece place n ms r) (brace_first ms));
+          (join (then_blank (join (join (worded place (codes "class") refl) (word place name w) (word_begun name w)) g.piece g.begins) (λ rest. refl)) (braced place with_members (item.Part part.Members) member_text n ms r) (λ rest e. brace_opens (map member_text ms) rest));
       does = λ items b ts out d.
           let close = marked mark.CloseBrace ∷ ts in
           let c = with_parent p (with_name name b) in
@@ -101,26 +93,12 @@ class_by place n name p ms f g r =
           let membered = r.does [] 0 (item.Token terminal.CloseBrace ∷ item.Build action.Class ∷ items) c close out ended in
           let opened = next_mark mark.OpenBrace refl (Make {m = c} action.Members (regroup r.tokens (marked mark.CloseBrace ∷ []) ts membered)) in
           let parented = g.does (item.Token terminal.OpenBrace ∷ item.Build action.Members ∷ item.Part part.Members ∷ item.Token terminal.CloseBrace ∷ item.Build action.Class ∷ items)
-          (with_name name b) (braced ++ ts) out opened in
-          name_next place name f (regroup g.tokens braced ts parented);
+          (with_name name b) (inside ++ ts) out opened in
+          name_next place name f (regroup g.tokens inside ts parented);
     }
   where
     lower : (n low : ℕ) → low ≤ n → max 0 low ≤ n
     lower n low l = omega arith
-
-    brace_begins : (texts : List (List ℕ)) (rest : List ℕ) → ends rest ≡ true → ends_mark (flat_map (λ t. codes " " ++ t) texts ++ rest) ≡ true
-    brace_begins [] rest e = ends_marks rest e
-    brace_begins (t ∷ texts) rest e = refl
-
-    braced_piece : (place : Place) (n : ℕ) (ms : List Member) → (r : Elements place with_members (item.Part part.Members) (codes " ") member_text n ms)
-        → Piece place ends (in_braces (map member_text ms)) (marked mark.OpenBrace ∷ (r.tokens ++ marked mark.CloseBrace ∷ []))
-    braced_piece place n ms r =
-        subst (λ t. Piece place ends t (marked mark.OpenBrace ∷ (r.tokens ++ marked mark.CloseBrace ∷ []))) (sym (braces (map member_text ms)))
-        (join (join (one_mark place mark.OpenBrace) r.piece (brace_begins (map member_text ms))) (closing_brace place) (λ rest x. refl))
-
-    brace_first : (ms : List Member) (rest : List ℕ) → ends rest ≡ true → no_blank (in_braces (map member_text ms) ++ rest) ≡ true
-    brace_first [] rest e = refl
-    brace_first (m ∷ ms) rest e = refl
 
 pub printed_class : (place : Place) (n : ℕ) (c : ClassDecl) → GoodClass place n c → PrintedClass place n c
 printed_class place n c g =

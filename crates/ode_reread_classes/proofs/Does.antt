@@ -15,17 +15,21 @@ use Rattle.ode_value.specs.declared.binding.Param.{Param}
 use Rattle.ode_value.specs.declared.statement.Expr.{Expr}
 use Rattle.ode_value.specs.declared.statement.Member.{Member}
 use Rattle.ode_value.specs.declared.statement.Sort.{Sort}
+use Rattle.ode_reread.proofs.AllRows.{row_does}
 use Rattle.ode_reread.proofs.Both.{Both, keep, make}
-use Rattle.ode_reread.proofs.Effects.{spelt, Adds, Effect, Leads, Replaces, RowIs}
+use Rattle.ode_reread.proofs.Effects.{spelt, Adds, Effect, Leads, Replaces}
 use Rattle.ode_reread.proofs.Goods.{Good}
 use Rattle.ode_reread.proofs.Marked.{with_expr, with_name}
 use Rattle.ode_reread.proofs.Sounds.{Sound}
+use Rattle.ode_value.specs.declared.statement.Statement.{Statement}
+use Rattle.ode_value.specs.declared.statement.Statement.TheVariants as statement
+use Rattle.ode_reread.proofs.EventPrints.{with_leaf_on}
 use Rattle.ode_reread_classes.proofs.Classes.{GoodClass, GoodParent}
 use Rattle.ode_reread_classes.proofs.Lists.{Each}
 use Rattle.ode_reread_classes.proofs.Members.{GoodKinds, GoodMember, GoodParam, GoodParams, GoodSort}
-use Rattle.ode_reread_classes.proofs.Parts.{GoodArgs, GoodRight, GoodSets}
-use Rattle.ode_reread_classes.proofs.Puts.{with_args, with_body, with_class, with_flag, with_kinds, with_members, with_mode, with_params, with_parent, with_right, with_sets, with_sort, with_stmt}
-use Rattle.ode_reread_classes.proofs.Statements.{GoodBody, GoodElse, GoodStmt}
+use Rattle.ode_reread_classes.proofs.Parts.{GoodArgs, GoodOwned, GoodRight, GoodSets}
+use Rattle.ode_reread_classes.proofs.Puts.{with_args, with_body, with_class, with_flag, with_kinds, with_members, with_mode, with_params, with_parent, with_right, with_script, with_sets, with_sort, with_stmt}
+use Rattle.ode_reread_classes.proofs.Statements.{GoodAlone, GoodBody, GoodElse, GoodStmt}
 
 -- one more that is good
 pub record Gives {X : Type 0} (put : X → Both → Both) (P : X → Type 0) (b w : Both) : Type 0 where
@@ -65,6 +69,12 @@ pub record AddsCall (place : Place) (b w : Both) : Type 0 where
 abbrev pub AddsRight : Place → Both → Both → Type 0
 AddsRight place b w = Raises with_right (GoodRight place) b w
 
+abbrev pub AddsOwned : Place → Both → Both → Type 0
+AddsOwned place b w = Raises with_right (GoodOwned place) b w
+
+abbrev pub unowned : {place : Place} {b w : Both} → AddsOwned place b w → AddsRight place b w
+unowned a = record { x = a.x; n = a.n; good = a.good.0; is = a.is }
+
 abbrev pub AddsStmt : Place → Both → Both → Type 0
 AddsStmt place b w = Raises with_stmt (GoodStmt place) b w
 
@@ -75,6 +85,15 @@ GoodMembers place n ms = Each (GoodMember place n) ms
 abbrev pub ChangesParams : ℕ → Both → Both → Type 0
 ChangesParams k b w = (xs : List Param) (c : Both) → b ≡ with_params xs c → length xs ≤ k → Each GoodParam xs → Gives with_params GoodParams c w
 
+-- a statement of a script, as far as one is printed
+abbrev pub GoodScript : Place → ℕ → Statement → Type 0
+GoodScript place n (statement.Simple s) = GoodAlone place n s
+GoodScript place n (statement.Class c) = GoodClass place n c
+GoodScript place n other = Unit {0}
+
+abbrev pub AddsScript : Place → Both → Both → Type 0
+AddsScript place b w = Raises with_script (GoodScript place) b w
+
 abbrev pub News : Place → Part → Both → Both → Type 0
 News place part.Args b w = Changes with_args (GoodArgs place) b w
 News place part.MoreArgs b w = Changes with_args (GoodArgs place) b w
@@ -83,8 +102,9 @@ News place part.MoreSets b w = Changes with_sets (GoodSets place) b w
 News place part.Chained b w = AddsCall place b w
 News place part.CallDot b w = (m : List ℕ) (e : Expr) (h : Height) (c : Both) → b ≡ with_name m (with_expr e h c) → is_free m ≡ true → Good place e h → AddsCall place c w
 News place part.Rhs b w = AddsRight place b w
-News place part.RhsDots b w = (e : Expr) (h : Height) (c : Both) → b ≡ with_expr e h c → Good place e h → AddsRight place c w
-News place part.RhsDot b w = (m : List ℕ) (e : Expr) (h : Height) (c : Both) → b ≡ with_name m (with_expr e h c) → is_free m ≡ true → Good place e h → AddsRight place c w
+News place part.ScriptRhs b w = AddsOwned place b w
+News place part.RhsDots b w = (e : Expr) (h : Height) (c : Both) → b ≡ with_expr e h c → Good place e h → AddsOwned place c w
+News place part.RhsDot b w = (m : List ℕ) (e : Expr) (h : Height) (c : Both) → b ≡ with_name m (with_expr e h c) → is_free m ≡ true → Good place e h → AddsOwned place c w
 News place part.RhsName b w = (m : List ℕ) (c : Both) → b ≡ with_name m c → is_free m ≡ true → AddsRight place c w
 News place part.Inners b w = Changes with_body (GoodBody place) b w
 News place part.InnerName b w = (m : List ℕ) (c : Both) → b ≡ with_name m c → is_free m ≡ true → AddsStmt place c w
@@ -118,6 +138,8 @@ News place part.FieldOrMethod b w =
     (m : List ℕ) (s : Sort) (ms : List Member) (n : ℕ) (c : Both) → b ≡ with_name m (with_sort s (with_members ms n c)) → is_free m ≡ true → GoodSort s → GoodMembers place n ms
     → Raises with_members (GoodMembers place) c w
 News place part.Class b w = Raises with_class (GoodClass place) b w
+News place part.ClockText b w = (x : Expr) × (w ≡ with_leaf_on x b)
+News place part.Statement b w = AddsScript place b w
 News place other b w = Unit {0}
 
 -- what items do, one after the other
@@ -132,10 +154,7 @@ Does place (item.Part p ∷ items) b w = (c : Both) × (Effect place p b c × Ne
 abbrev pub RowDoes : Place → Part → Terminal → List Item → Type 0
 RowDoes place p k row = (kd : TokenKind) (bytes : List ℕ) → Sound place (spelt k kd bytes) → (b w : Both) → Does place row (keep (spelt k kd bytes) b) w → News place p b w
 
--- what was known of the rows before
-abbrev pub Olds : Place → Type 0
-Olds place = (p : Part) (k : Terminal) (row : List Item) → after p k ≡ Some row → RowIs place p k row
-
+-- what was known before
 pub old : (place : Place) (items : List Item) (b w : Both) → Does place items b w → Leads place items b w
 old place [] b w l = l
 old place (item.Token k ∷ items) b w l = (l.0, l.1, l.2, old place items (keep (spelt k l.0 l.1) b) w l.3)
@@ -164,9 +183,9 @@ then_leads place (item.Build a ∷ xs) ys b mid w l m = then_leads place xs ys (
 then_leads place (item.Part p ∷ xs) ys b mid w l m = (l.0, l.1, then_leads place xs ys l.0 mid w l.2 m)
 
 -- what begins an operand adds a good expression, before any dots
-pub fronted : (place : Place) → Olds place → (k : Terminal) (pre : List Item) → after part.Unary k ≡ Some (pre ++ item.Part part.Dots ∷ [])
+pub fronted : (place : Place) → (k : Terminal) (pre : List Item) → after part.Unary k ≡ Some (pre ++ item.Part part.Dots ∷ [])
     → (kd : TokenKind) (bytes : List ℕ) → Sound place (spelt k kd bytes) → (b mid : Both) → Does place pre (keep (spelt k kd bytes) b) mid → Adds place b mid
-fronted place olds k pre e kd bytes s b mid l =
+fronted place k pre e kd bytes s b mid l =
     let no_dots : Replaces place mid mid = λ x h c is good. record { e = x; h = h; good = good; is = is } in
-    olds part.Unary k (pre ++ item.Part part.Dots ∷ []) e kd bytes s b mid
+    row_does place part.Unary k (pre ++ item.Part part.Dots ∷ []) e kd bytes s b mid
     (then_leads place pre (item.Part part.Dots ∷ []) (keep (spelt k kd bytes) b) mid mid (old place pre (keep (spelt k kd bytes) b) mid l) (mid, no_dots, refl))

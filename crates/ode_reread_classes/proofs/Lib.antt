@@ -15,6 +15,8 @@ pub mod Does
 pub mod SideRows
 pub mod StatementRows
 pub mod MemberRows
+pub mod ScriptRows
 pub mod AllParts
 pub mod Readings
 pub mod Parsed
+pub mod Places

@@ -1,15 +1,19 @@
 -- Elements of a list, each behind the others.
-use Rattle.std.proofs.Common.{◌≡◌, ◌≤◌, ℕ, max, true, List, [], ◌∷◌, ◌++◌, append_assoc, map, sym, ◌∙◌, ap, subst, arith}
+use Rattle.std.proofs.Common.{◌≡◌, ◌≤◌, ℕ, max, true, List, [], ◌∷◌, ◌++◌, append_assoc, map, sym, ◌∙◌, ap, subst, arith, codes, refl}
 use Rattle.std.specs.List.{flat_map}
+use Rattle.ode_lex.specs.declared.token.Mark.TheVariants as mark
+use Rattle.ode_relex.specs.Ends.{ends_mark, opens}
+use Rattle.ode_value.specs.PrintedClasses.{in_braces}
 use Rattle.std.proofs.lemmas.List.{append-nil}
 use Rattle.ode_grammar.specs.declared.item.Item.{Item}
 use Rattle.ode_terminals.specs.declared.seen.Place.{Place}
 use Rattle.ode_syntax.specs.Kept.{Spelled}
 use Rattle.ode_reread.proofs.Both.{Both}
+use Rattle.ode_reread.proofs.Marked.{marked}
 use Rattle.ode_reread.proofs.Prints.{regroup, Ds}
-use Rattle.ode_reread.proofs.Spells.{ends}
+use Rattle.ode_reread.proofs.Spells.{ends, ends_marks, no_blank}
 use Rattle.ode_reread_classes.proofs.Derivations.{from}
-use Rattle.ode_reread_classes.proofs.Pieces.{join, nothing, Piece}
+use Rattle.ode_reread_classes.proofs.Pieces.{blank, closing_mark, join, nothing, one_mark, Piece}
 
 -- P holds of each
 abbrev pub Each : {X : Type 0} → (X → Type 0) → List X → Type 0
@@ -75,3 +79,28 @@ pub elements : {X : Type 0} (place : Place) (put : List X → ℕ → Both → B
     → Each (Element place put part before text n) xs → Elements place put part before text n xs
 elements place put part before text n [] h = none place put part before text n
 elements place put part before text n (x ∷ xs) h = more place put part before text n x xs h.0 (elements place put part before text n xs h.1)
+
+-- ---- braces
+
+braces : (texts : List (List ℕ)) → in_braces texts ≡ codes "{" ++ flat_map (λ t. codes " " ++ t) texts ++ codes " }"
+braces [] = refl
+braces (text ∷ texts) = refl
+
+brace_begins : (texts : List (List ℕ)) (rest : List ℕ) → ends rest ≡ true → ends_mark (flat_map (λ t. codes " " ++ t) texts ++ rest) ≡ true
+brace_begins [] rest e = ends_marks rest e
+brace_begins (t ∷ texts) rest e = refl
+
+-- elements in braces
+pub braced : {X : Type 0} (place : Place) (put : List X → ℕ → Both → Both) (part : Item) (text : X → List ℕ) (n : ℕ) (xs : List X)
+    → (r : Elements place put part (codes " ") text n xs) → Piece place ends (in_braces (map text xs)) (marked mark.OpenBrace ∷ (r.tokens ++ marked mark.CloseBrace ∷ []))
+braced place put part text n xs r =
+    subst (λ t. Piece place ends t (marked mark.OpenBrace ∷ (r.tokens ++ marked mark.CloseBrace ∷ []))) (sym (braces (map text xs)))
+    (join (join (one_mark place mark.OpenBrace) r.piece (brace_begins (map text xs))) (join (blank place) (closing_mark place mark.CloseBrace) (λ rest x. refl)) (λ rest x. refl))
+
+pub brace_opens : (texts : List (List ℕ)) (rest : List ℕ) → no_blank (in_braces texts ++ rest) ≡ true
+brace_opens [] rest = refl
+brace_opens (t ∷ texts) rest = refl
+
+pub braces_open : (texts : List (List ℕ)) → opens (in_braces texts) ≡ true
+braces_open [] = refl
+braces_open (t ∷ texts) = refl

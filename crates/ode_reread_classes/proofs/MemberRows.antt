@@ -36,7 +36,7 @@ use Rattle.ode_reread.proofs.Marked.{with_expr, with_name}
 use Rattle.ode_reread_classes.proofs.Classes.{GoodClass, GoodParent}
 use Rattle.ode_reread_classes.proofs.Does.{given_by, parted, raised_by, Changes, ChangesParams, Does, Gives, GoodMembers, News, Raises, RowDoes}
 use Rattle.ode_reread_classes.proofs.Lists.{one_more, weaker}
-use Rattle.ode_reread_classes.proofs.Members.{member_up, GoodKinds, GoodMember, GoodParam, GoodResult, GoodSort}
+use Rattle.ode_reread_classes.proofs.Members.{field_items, member_up, GoodKinds, GoodMember, GoodParam, GoodResult, GoodSort}
 use Rattle.ode_reread_classes.proofs.Parts.{expr_up}
 use Rattle.ode_reread_classes.proofs.Puts.{with_body, with_class, with_flag, with_kinds, with_members, with_mode, with_params, with_parent, with_sort}
 use Rattle.ode_reread_classes.proofs.StatementRows.{bodied}
@@ -324,9 +324,6 @@ fielded place b d w a l = λ xs n c is good.
     let p = l.3 in
     let r = p.1.1 name a.x xs n c (ap (with_name name) (a.is ∙ ap (with_sort a.x) is)) (name_free l.1) a.good good in
     raised_by (p.2.1.1 r.x r.n c r.is r.good) p.2.2
-
-abbrev field_items : List Item
-field_items = item.Token terminal.Name ∷ item.Part part.FieldOrMethod ∷ item.Part part.Members ∷ []
 
 sort_member : (place : Place) → RowDoes place part.Members terminal.SortWord (item.Build action.Sort ∷ field_items)
 sort_member place kd bytes s b w l =

@@ -36,7 +36,7 @@ use Rattle.ode_value.specs.declared.statement.Sort.{Sort}
 use Rattle.ode_value.specs.declared.statement.Sort.TheVariants as sort
 use Rattle.ode_syntax.specs.Built.{built, built_right_side, built_statement, built_event, built_kind, built_class, built_member, built_script}
 use Rattle.ode_syntax.specs.Kept.{kept_as, Spelled}
-use Rattle.ode_relex.specs.Ends.{ends_mark, opens}
+use Rattle.ode_relex.specs.Ends.{opens}
 use Rattle.ode_reread.proofs.Both.{Both}
 use Rattle.ode_reread.proofs.Cuts.{spell}
 use Rattle.ode_reread.proofs.EventGoods.{GoodEvent, GoodKind}
@@ -45,13 +45,13 @@ use Rattle.ode_reread.proofs.EventSpells.{words_spell}
 use Rattle.ode_reread.proofs.Goods.{free_word}
 use Rattle.ode_reread.proofs.Marked.{marked, with_expr, with_name}
 use Rattle.ode_reread.proofs.Prints.{regroup, Ds}
-use Rattle.ode_reread.proofs.Spells.{ends, ends_stops, no_blank, opens_append, opens_blank, opens_marks, word_spells, Spells}
+use Rattle.ode_reread.proofs.Spells.{ends, ends_stops, no_blank, opens_append, word_spells, Spells}
 use Rattle.ode_reread_classes.proofs.Chains.{name_next}
 use Rattle.ode_reread_classes.proofs.Derivations.{from, mark_rule, next_mark, with_tokens}
 use Rattle.ode_reread_classes.proofs.Lists.{elements, weaker, Each, Element, Elements}
 use Rattle.ode_reread_classes.proofs.ParamParts.{last_param, more_part, next_param}
 use Rattle.ode_reread_classes.proofs.Parts.{expr_up, up, GoodExpr}
-use Rattle.ode_reread_classes.proofs.Pieces.{begun, between_blanks, blank, closing_mark, expr_spells, join, mark_blank, nothing, of_spells, one_mark, then_blank, to_spells, word, word_begun, worded, Piece}
+use Rattle.ode_reread_classes.proofs.Pieces.{begun, between_blanks, blank, blanks_behind, closing_mark, expr_spells, join, mark_blank, marks_behind, nothing, of_spells, one_mark, then_blank, to_spells, word, word_begun, worded, Piece}
 use Rattle.ode_reread_classes.proofs.Puts.{with_body, with_flag, with_kinds, with_members, with_mode, with_params, with_sort}
 use Rattle.ode_reread_classes.proofs.Statements.{body_up, printed_body, GoodBody}
 
@@ -81,7 +81,7 @@ record PrintedSort (place : Place) (s : Sort) : Type 0 where
 abbrev sort_row : List Item → List Item
 sort_row more = item.Build action.Sort ∷ more
 
-abbrev field_items : List Item
+abbrev pub field_items : List Item
 field_items = item.Token terminal.Name ∷ item.Part part.FieldOrMethod ∷ item.Part part.Members ∷ []
 
 abbrev param_items : List Item
@@ -215,7 +215,7 @@ some_params place p ps g r =
     let tokens = s.tokens ++ spell place kind.Word p.name ∷ [] in
     record {
       inner = (tokens ++ r.tokens) ++ marked mark.CloseParen ∷ [];
-      piece = join (join (one_mark place mark.OpenParen) (join (param_piece place p g.0 s) r.piece r.begins) (first_begins place p ps s)) (closing_mark place mark.CloseParen) (λ rest e. refl);
+      piece = join (join (one_mark place mark.OpenParen) (join (param_piece place p g.0 s) r.piece r.begins) (marks_behind (param_text p) _ (param_opens place p s))) (closing_mark place mark.CloseParen) (λ rest e. refl);
       does = λ items b ts out d.
           let close = marked mark.CloseParen ∷ ts in
           let others = r.does (p ∷ []) items b ts out d in
@@ -224,12 +224,6 @@ some_params place p ps g r =
           regroup (tokens ++ r.tokens) (marked mark.CloseParen ∷ []) ts
           (regroup tokens r.tokens close (regroup s.tokens (spell place kind.Word p.name ∷ []) (r.tokens ++ close) sorted));
     }
-  where
-    first_begins : (place : Place) (p : Param) (ps : List Param) → PrintedSort place p.sort → (rest : List ℕ) → ends rest ≡ true
-        → ends_mark ((param_text p ++ flat_map (λ t. codes ", " ++ t) (map param_text ps)) ++ rest) ≡ true
-    first_begins place p ps s rest e =
-        let inner = param_text p ++ flat_map (λ t. codes ", " ++ t) (map param_text ps) in
-        opens_marks (inner ++ rest) (opens_append inner rest (opens_append (param_text p) (flat_map (λ t. codes ", " ++ t) (map param_text ps)) (param_opens place p s)))
 
 -- at most 16 of them
 pub record GoodParams (ps : List Param) : Type 0 where
@@ -430,7 +424,7 @@ unfolding after kept_as word_terminal built built_right_side built_statement bui
 events_by place n k ks g r =
     member_by place n (member.Events (k ∷ ks)) (spell place kind.Word (codes "event") ∷ ((g.tokens ++ r.tokens) ++ marked mark.Semi ∷ [])) 0 (omega arith)
     (to_spells refl
-    (join (join (worded place (codes "event") refl) (join (of_spells g.spells) r.piece r.begins) (first_begins place k ks g)) (closing_mark place mark.Semi) (λ rest x. refl)))
+    (join (join (worded place (codes "event") refl) (join (of_spells g.spells) r.piece r.begins) (blanks_behind (kind_text k) _ g.spells.begins)) (closing_mark place mark.Semi) (λ rest x. refl)))
     (λ done m items b ts out d.
     let same : max m 0 ≡ m = omega arith in
     let c = with_members done m b in
@@ -442,12 +436,6 @@ events_by place n k ks g r =
     Rule part.Members
     (item.Build action.Kinds ∷ item.Part part.Kind ∷ item.Build action.Listed ∷ item.Part part.MoreKinds ∷ item.Build action.Events ∷ item.Part part.Members ∷ []) refl
     (Make action.Kinds (regroup (g.tokens ++ r.tokens) (marked mark.Semi ∷ []) ts (regroup g.tokens r.tokens close first))))
-  where
-    first_begins : (place : Place) (k : Kind) (ks : List Kind) → GoodKind place k → (rest : List ℕ) → ends rest ≡ true
-        → no_blank ((kind_text k ++ flat_map (λ t. codes ", " ++ t) (map kind_text ks)) ++ rest) ≡ true
-    first_begins place k ks g rest e =
-        let inner = kind_text k ++ flat_map (λ t. codes ", " ++ t) (map kind_text ks) in
-        opens_blank (inner ++ rest) (opens_append inner rest (opens_append (kind_text k) (flat_map (λ t. codes ", " ++ t) (map kind_text ks)) g.spells.begins))
 
 -- at least one
 abbrev pub GoodKinds : Place → List Kind → Type 0

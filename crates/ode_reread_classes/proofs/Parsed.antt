@@ -1,19 +1,14 @@
 -- A text that is read is parsed so, and isn't refused.
-use Rattle.std.proofs.Common.{◌≡◌, ℕ, ◌+◌, List, [], map, take, drop, refl, sym, ◌∙◌, ap, subst}
+use Rattle.std.proofs.Common.{◌≡◌, ℕ, ◌+◌, List, map, take, drop, refl, sym, ◌∙◌, subst}
 use Rattle.std.proofs.lemmas.List.{take-append-drop}
 use Rattle.ode_lex.specs.declared.token.Token.{Token}
-use Rattle.ode_lex.specs.Tokens.{lexed, Lexed, NoToken, Tokens}
-use Rattle.ode_grammar.specs.declared.item.Item.{Item}
+use Rattle.ode_lex.specs.Tokens.{lexed, NoToken, Tokens}
 use Rattle.ode_grammar.specs.declared.reader.Start.{Start}
-use Rattle.ode_grammar.specs.declared.terminal.Terminal.{Terminal}
 use Rattle.ode_grammar.specs.Grammar.{items_of}
-use Rattle.ode_grammar.specs.Texts.{plain, Derives, Done, Make, Next, Rule, Skip}
 use Rattle.ode_grammar.proofs.Follows.{start_well}
 use Rattle.ode_grammar.proofs.Runs.{one_meaning}
-use Rattle.ode_heights.specs.declared.height.Heights.{Heights}
 use Rattle.ode_heights.specs.declared.height.TheConstants.{HEIGHT_LIMIT}
 use Rattle.ode_heights.specs.Depths.{BeginsWithin, IsTextWithin}
-use Rattle.ode_heights.specs.Heights.{heights as of_heights}
 use Rattle.ode_terminals.specs.declared.seen.Place.{Place}
 use Rattle.ode_syntax.specs.declared.trees.Trees.{Trees}
 use Rattle.ode_syntax.specs.Kept.{spelled}
@@ -22,28 +17,14 @@ use Rattle.ode_eventsyn.specs.declared.error.SyntaxError.{SyntaxError}
 use Rattle.ode_eventsyn.specs.declared.error.SyntaxError.TheVariants as error
 use Rattle.ode_eventsyn.specs.Parsing.{seen, AreTree, IsWhyWhole}
 use Rattle.ode_classyn.specs.Texts.{IsParsed, IsUnparsed, IsWhyNot, Standing}
-
-tokens_of : Lexed → List Token
-tokens_of (Tokens ts) = ts
-tokens_of (NoToken at) = []
-
-one_lexing : (text : List ℕ) (x y : List Token) → lexed text ≡ Tokens x → lexed text ≡ Tokens y → x ≡ y
-unfolding tokens_of
-one_lexing text x y e f = ap tokens_of (sym e ∙ f)
+use Rattle.ode_reread.proofs.Longest.{is_text, one_lexing}
 
 -- the same trees, wherever the text is parsed
 pub one_tree : (s : Start) (standing : Standing) (text : List ℕ) (x y : Trees) → IsParsed s standing text x → IsParsed s standing text y → x ≡ y
 one_tree s standing text x y p q =
-    let same = one_lexing text q.tokens p.tokens q.lexed_as p.lexed_as in
+    let same = one_lexing q.tokens p.tokens (sym q.lexed_as ∙ p.lexed_as) in
     let r = subst (λ ts. AreTree s (standing text ts) text ts y) same q.is_tree in
     one_meaning trees (items_of s) no_trees (map (spelled (standing text p.tokens) text) p.tokens) x y (start_well s) p.is_tree.makes r.makes
-
-is_text : {items : List Item} {m : Heights} {ts : List Terminal} {out : Heights} → Derives of_heights items m ts out → Derives plain items tt ts tt
-is_text Done = Done
-is_text (Next k e d) = Next k e (is_text d)
-is_text (Make a d) = Make a (is_text d)
-is_text (Rule p row e d) = Rule p row e (is_text d)
-is_text (Skip p a e d) = Skip p a e (is_text d)
 
 not_why : (s : Start) (place : Place) (text : List ℕ) (tokens : List Token) → IsTextWithin HEIGHT_LIMIT s (seen place text tokens) → (e : SyntaxError) → IsWhyWhole s place text tokens e
     → e ≡ error.Memory
@@ -58,7 +39,7 @@ not_why s place text tokens w (error.TooDeep at) h =
 
 unparsed : (s : Start) (standing : Standing) (text : List ℕ) (made : Trees) → IsParsed s standing text made → (e : SyntaxError) → IsUnparsed s standing text e → e ≡ error.Memory
 unparsed s standing text made p e h =
-    let same = one_lexing text h.tokens p.tokens h.lexed_as p.lexed_as in
+    let same = one_lexing h.tokens p.tokens (sym h.lexed_as ∙ p.lexed_as) in
     not_why s (standing text p.tokens) text p.tokens p.is_tree.within e (subst (λ ts. IsWhyWhole s (standing text ts) text ts e) same h.why)
 
 no_token : (text : List ℕ) (tokens : List Token) (at : ℕ) → lexed text ≡ Tokens tokens → lexed text ≡ NoToken at → ⊥

@@ -73,3 +73,7 @@ owned (Some e) = true
 abbrev pub has_owner : Rhs → Bool
 has_owner (rhs.Call c) = owned c.of
 has_owner other = true
+
+-- a right side that a script may have
+abbrev pub GoodOwned : Place → ℕ → Rhs → Type 0
+GoodOwned place n r = GoodRight place n r × (has_owner r ≡ true)

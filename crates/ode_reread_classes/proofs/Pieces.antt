@@ -111,6 +111,13 @@ word_begun w h rest e = opens_blank (w ++ rest) (opens_append w rest (word_opens
 pub word_begun_mark : (w : List ℕ) → is_word w ≡ true → (rest : List ℕ) → stops rest ≡ true → ends_mark (w ++ rest) ≡ true
 word_begun_mark w h rest e = opens_marks (w ++ rest) (opens_append w rest (word_opens w h))
 
+-- with more behind it
+pub marks_behind : (x more : List ℕ) → opens x ≡ true → (rest : List ℕ) → ends rest ≡ true → ends_mark ((x ++ more) ++ rest) ≡ true
+marks_behind x more o rest e = opens_marks ((x ++ more) ++ rest) (opens_append (x ++ more) rest (opens_append x more o))
+
+pub blanks_behind : (x more : List ℕ) → opens x ≡ true → (rest : List ℕ) → ends rest ≡ true → no_blank ((x ++ more) ++ rest) ≡ true
+blanks_behind x more o rest e = opens_blank ((x ++ more) ++ rest) (opens_append (x ++ more) rest (opens_append x more o))
+
 -- a piece that is a text of its own
 pub to_spells : {place : Place} {text : List ℕ} {ts : List Spelled} → opens text ≡ true → Piece place ends text ts → Spells place text ts
 to_spells o p = record { begins = o; cuts = p.cuts }

@@ -24,7 +24,7 @@ use Rattle.ode_reread.proofs.Effects.{spelt}
 use Rattle.ode_reread.proofs.ExprRows.{longer, rows}
 use Rattle.ode_reread.proofs.Marked.{marked}
 use Rattle.ode_reread.proofs.Prints.{Ds}
-use Rattle.ode_reread_classes.proofs.Chains.{acted, dots_view, early, kept_dot, late, leaf_front, name_row, pair_front, rhs_atoms, undo, version_front, Dotted, DotsView, Ended, IsAtoms}
+use Rattle.ode_reread_classes.proofs.Chains.{acted, dots_view, early, kept_dot, late, leaf_front, name_row, pair_front, rhs_atoms, script_rhs_atoms, undo, version_front, Dotted, DotsView, Ended, IsAtoms}
 use Rattle.ode_reread_classes.proofs.Derivations.{from, left_nothing, row_of, splits, together, view, with_items, with_tokens, Left, Ruled, View}
 
 abbrev pub plain_items : List Item
@@ -296,6 +296,10 @@ pub rhs_right : IsRight part.Rhs
 unfolding after
 rhs_right = right_by part.Rhs rhs_atoms (Chain [] (Some action.Variable) part.RhsName refl refl name_stand) refl refl
 
+pub script_right : IsRight part.ScriptRhs
+unfolding after
+script_right = right_by part.ScriptRhs script_rhs_atoms (Chain (item.Build action.Variable ∷ []) None part.RhsDots refl refl dots_stand) refl refl
+
 -- the row of an operand in that of an expression
 record Longer (more : List Item) (o : Option (List Item)) (row : List Item) : Type 0 where
   pub front : List Item
@@ -306,7 +310,7 @@ is_longer : (more : List Item) (o : Option (List Item)) (row : List Item) → lo
 is_longer more None row e = absurd (none-some row e)
 is_longer more (Some front) row e = record { front = front; some = refl; same = sym (same_Some (front ++ more) row e) }
 
-no_expr_skip : (a : Action) → skipped part.Expr ≡ Some a → ⊥
+pub no_expr_skip : (a : Action) → skipped part.Expr ≡ Some a → ⊥
 unfolding skipped
 no_expr_skip a e = none-some a e
 

@@ -30,12 +30,12 @@ use Rattle.ode_reread.proofs.Goods.{free_word}
 use Rattle.ode_reread.proofs.Marked.{marked, with_expr, with_name}
 use Rattle.ode_reread.proofs.Prints.{Ds}
 use Rattle.ode_reread.proofs.Spells.{opens_append, word_opens, Spells}
-use Rattle.ode_reread_classes.proofs.Chains.{appended, chained_place, inner_place, name_next, name_rule, rhs_place, IsPlace}
+use Rattle.ode_reread_classes.proofs.Chains.{alone, appended, chained_place, inner_place, name_next, name_rule, rhs_place, script_rhs_place, statement_place, IsPlace}
 use Rattle.ode_reread_classes.proofs.Derivations.{with_tokens}
 use Rattle.ode_reread_classes.proofs.Parts.{has_owner, is_do, GoodArgs, GoodExpr, GoodOf, GoodOwner, GoodRight, GoodSets}
 use Rattle.ode_reread_classes.proofs.Pieces.{begun, expr_spells, join, of_spells, to_spells, word, word_begun, worded}
 use Rattle.ode_reread_classes.proofs.Puts.{with_args, with_right}
-use Rattle.ode_reread_classes.proofs.Rights.{plain_right, rhs_right, IsRight}
+use Rattle.ode_reread_classes.proofs.Rights.{plain_right, rhs_right, script_right, IsRight}
 use Rattle.ode_reread_classes.proofs.Sides.{arguments_next, printed_args, printed_call, printed_sets, with_call}
 
 -- a part that a change may begin, and what follows it
@@ -55,6 +55,11 @@ done more = item.Token terminal.Semi ∷ item.Build action.Do ∷ more
 
 -- a part that simple statements may begin, and what follows them
 pub record IsSimple (p : Part) (more : List Item) : Type 0 where
+  pub say : after p terminal.Say ≡ Some (item.Part part.Expr ∷ item.Token terminal.Semi ∷ item.Build action.Say ∷ more)
+  pub pdelete : after p terminal.PDelete ≡ Some (item.Part part.Expr ∷ item.Token terminal.Semi ∷ item.Build action.Delete ∷ more)
+  pub dropversion : after p terminal.DropVersion ≡ Some (item.Part part.Expr ∷ item.Token terminal.Semi ∷ item.Build action.DropVersion ∷ more)
+  pub deactivate : after p terminal.Deactivate
+      ≡ Some (item.Part part.Expr ∷ item.Token terminal.Comma ∷ item.Part part.Expr ∷ item.Token terminal.Semi ∷ item.Build action.Deactivate ∷ more)
   pub change : IsChange p (done more)
   pub place : (items : List Item) → IsPlace p items (item.Part part.CallDot ∷ item.Build action.Call ∷ (done more ++ items))
 
@@ -64,7 +69,29 @@ inner_side = record { right = rhs_right; change = record { pnew = refl; newversi
 
 pub inner_simple : IsSimple part.Inners appended
 unfolding after
-inner_simple = record { change = record { pnew = refl; newversion = refl; activate = refl }; place = inner_place }
+inner_simple = record {
+  say = refl;
+  pdelete = refl;
+  dropversion = refl;
+  deactivate = refl;
+  change = record { pnew = refl; newversion = refl; activate = refl };
+  place = inner_place;
+}
+
+pub script_side : IsSide part.ScriptRhs
+unfolding after
+script_side = record { right = script_right; change = record { pnew = refl; newversion = refl; activate = refl }; place = script_rhs_place }
+
+pub script_simple : IsSimple part.Statement alone
+unfolding after
+script_simple = record {
+  say = refl;
+  pdelete = refl;
+  dropversion = refl;
+  deactivate = refl;
+  change = record { pnew = refl; newversion = refl; activate = refl };
+  place = statement_place;
+}
 
 -- the tokens, and a semicolon, are this right side
 abbrev pub AsRight : Part → Rhs → ℕ → List Spelled → Type 0

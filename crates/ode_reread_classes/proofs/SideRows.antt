@@ -22,21 +22,20 @@ use Rattle.ode_value.specs.declared.statement.Expr.TheVariants as expr
 use Rattle.ode_value.specs.declared.statement.Rhs.TheVariants as rhs
 use Rattle.ode_syntax.specs.Built.{built, built_right_side}
 use Rattle.ode_syntax.specs.Kept.{kept_as, name_of}
+use Rattle.ode_reread.proofs.AllRows.{row_does}
 use Rattle.ode_reread.proofs.Both.{Both, keep, make}
 use Rattle.ode_reread.proofs.Effects.{finished, name_free, replaced, spelt, Adds, Effect, Replaces}
 use Rattle.ode_reread.proofs.Goods.{field_good, name_good, Good}
 use Rattle.ode_reread.proofs.Marked.{with_expr, with_name}
 use Rattle.ode_reread.proofs.Sounds.{Sound}
 use Rattle.ode_reread_classes.proofs.Chains.{acted, early, leaf_front, name_row, pair_front, version_front}
-use Rattle.ode_reread_classes.proofs.Does.{fronted, old, parted, raised_by, AddsCall, AddsRight, Changes, Does, News, Olds, Raises, RowDoes}
+use Rattle.ode_reread_classes.proofs.Does.{fronted, old, parted, raised_by, unowned, AddsCall, AddsOwned, Changes, Does, News, Raises, RowDoes}
 use Rattle.ode_reread_classes.proofs.Parts.{args_up, is_do as is_do_of, expr_up, more_args, more_sets, GoodArgs, GoodOf, GoodSets}
 use Rattle.ode_reread_classes.proofs.Puts.{with_args, with_sets}
 use Rattle.ode_reread_classes.proofs.Rights.{after_ands, after_compare, after_factors, after_sums, dot_stand, dots_stand, is_held, name_stand, plain_items, Commutes}
+use Rattle.ode_reread_classes.proofs.Sides.{args_items}
 
 -- ---- arguments
-
-abbrev args_items : List Item
-args_items = item.Build action.Argument ∷ item.Part part.MoreArgs ∷ []
 
 args_end : (place : Place) (p : Part) → ((b w : Both) → Changes with_args (GoodArgs place) b w → News place p b w) → RowDoes place p terminal.CloseParen []
 unfolding kept_as
@@ -49,10 +48,10 @@ argued place b d w a l = λ xs n c is good.
     let made : make action.Argument d ≡ with_args (xs ++ a.e ∷ []) (max n a.h.own) c = ap (make action.Argument) (a.is ∙ ap (with_expr a.e a.h) is) in
     raised_by (l.1.1 (xs ++ a.e ∷ []) (max n a.h.own) c made (more_args place n xs a.e a.h good a.good)) l.2
 
-args_first : (place : Place) → Olds place → (k : Terminal) (row : List Item) → after part.Expr k ≡ Some row → RowDoes place part.Args k (row ++ args_items)
-args_first place olds k row e kd bytes s b w l =
+args_first : (place : Place) → (k : Terminal) (row : List Item) → after part.Expr k ≡ Some row → RowDoes place part.Args k (row ++ args_items)
+args_first place k row e kd bytes s b w l =
     let r = parted place row args_items (keep (spelt k kd bytes) b) w l in
-    argued place b r.mid w (olds part.Expr k row e kd bytes s b r.mid (old place row _ r.mid r.first)) r.behind
+    argued place b r.mid w (row_does place part.Expr k row e kd bytes s b r.mid (old place row _ r.mid r.first)) r.behind
 
 args_next : (place : Place) → RowDoes place part.MoreArgs terminal.Comma (item.Part part.Expr ∷ args_items)
 unfolding kept_as
@@ -73,21 +72,21 @@ variable_row = name_row ++ behind_unary
 abbrev pub sign_row : List Item
 sign_row = item.Part part.Unary ∷ item.Build action.Sign ∷ behind_unary
 
-pub args_rows : (place : Place) → Olds place → (k : Terminal) → IfRow (RowDoes place part.Args k) (after part.Args k)
+pub args_rows : (place : Place) → (k : Terminal) → IfRow (RowDoes place part.Args k) (after part.Args k)
 unfolding after
-args_rows place olds terminal.CloseParen = args_end place part.Args (λ b w f. f)
-args_rows place olds terminal.Leaf = args_first place olds terminal.Leaf leaf_row refl
-args_rows place olds terminal.Number = args_first place olds terminal.Number leaf_row refl
-args_rows place olds terminal.Seconds = args_first place olds terminal.Seconds leaf_row refl
-args_rows place olds terminal.Count = args_first place olds terminal.Count leaf_row refl
-args_rows place olds terminal.Text = args_first place olds terminal.Text leaf_row refl
-args_rows place olds terminal.Instant = args_first place olds terminal.Instant leaf_row refl
-args_rows place olds terminal.OpenParen = args_first place olds terminal.OpenParen pair_row refl
-args_rows place olds terminal.Version = args_first place olds terminal.Version version_row refl
-args_rows place olds terminal.Name = args_first place olds terminal.Name variable_row refl
-args_rows place olds terminal.Minus = args_first place olds terminal.Minus sign_row refl
-args_rows place olds terminal.Not = args_first place olds terminal.Not sign_row refl
-args_rows place olds other = tt
+args_rows place terminal.CloseParen = args_end place part.Args (λ b w f. f)
+args_rows place terminal.Leaf = args_first place terminal.Leaf leaf_row refl
+args_rows place terminal.Number = args_first place terminal.Number leaf_row refl
+args_rows place terminal.Seconds = args_first place terminal.Seconds leaf_row refl
+args_rows place terminal.Count = args_first place terminal.Count leaf_row refl
+args_rows place terminal.Text = args_first place terminal.Text leaf_row refl
+args_rows place terminal.Instant = args_first place terminal.Instant leaf_row refl
+args_rows place terminal.OpenParen = args_first place terminal.OpenParen pair_row refl
+args_rows place terminal.Version = args_first place terminal.Version version_row refl
+args_rows place terminal.Name = args_first place terminal.Name variable_row refl
+args_rows place terminal.Minus = args_first place terminal.Minus sign_row refl
+args_rows place terminal.Not = args_first place terminal.Not sign_row refl
+args_rows place other = tt
 
 pub more_args_rows : (place : Place) (k : Terminal) → IfRow (RowDoes place part.MoreArgs k) (after part.MoreArgs k)
 unfolding after
@@ -171,42 +170,42 @@ called place more b d w a l =
     record { mid = p.0; call = p.1.1 name a.e a.h b (ap (with_name name) a.is) (name_free l.3.1) a.good; behind = p.2 }
 
 -- an atom begins a part
-pub atom_called : (place : Place) → Olds place → (k : Terminal) (pre more : List Item) → after part.Unary k ≡ Some (pre ++ item.Part part.Dots ∷ [])
+pub atom_called : (place : Place) → (k : Terminal) (pre more : List Item) → after part.Unary k ≡ Some (pre ++ item.Part part.Dots ∷ [])
     → (kd : TokenKind) (bytes : List ℕ) → Sound place (spelt k kd bytes) → (b w : Both) → Does place (pre ++ (dotted_call ++ more)) (keep (spelt k kd bytes) b) w
     → Called place more b w
-atom_called place olds k pre more e kd bytes s b w l =
+atom_called place k pre more e kd bytes s b w l =
     let r = parted place pre (dotted_call ++ more) (keep (spelt k kd bytes) b) w l in
-    called place more b r.mid w (fronted place olds k pre e kd bytes s b r.mid r.first) r.behind
+    called place more b r.mid w (fronted place k pre e kd bytes s b r.mid r.first) r.behind
 
-chained_by : (place : Place) → Olds place → (k : Terminal) (pre : List Item) → after part.Unary k ≡ Some (pre ++ item.Part part.Dots ∷ [])
+chained_by : (place : Place) → (k : Terminal) (pre : List Item) → after part.Unary k ≡ Some (pre ++ item.Part part.Dots ∷ [])
     → RowDoes place part.Chained k (pre ++ (dotted_call ++ []))
-chained_by place olds k pre e kd bytes s b w l =
-    let r = atom_called place olds k pre [] e kd bytes s b w l in
+chained_by place k pre e kd bytes s b w l =
+    let r = atom_called place k pre [] e kd bytes s b w l in
     subst (λ x. AddsCall place b x) r.behind r.call
 
 abbrev pub name_front : List Item
 name_front = item.Build action.Variable ∷ []
 
-pub chained_rows : (place : Place) → Olds place → (k : Terminal) → IfRow (RowDoes place part.Chained k) (after part.Chained k)
+pub chained_rows : (place : Place) → (k : Terminal) → IfRow (RowDoes place part.Chained k) (after part.Chained k)
 unfolding after
-chained_rows place olds terminal.Leaf = chained_by place olds terminal.Leaf leaf_front refl
-chained_rows place olds terminal.Number = chained_by place olds terminal.Number leaf_front refl
-chained_rows place olds terminal.Seconds = chained_by place olds terminal.Seconds leaf_front refl
-chained_rows place olds terminal.Count = chained_by place olds terminal.Count leaf_front refl
-chained_rows place olds terminal.Text = chained_by place olds terminal.Text leaf_front refl
-chained_rows place olds terminal.Instant = chained_by place olds terminal.Instant leaf_front refl
-chained_rows place olds terminal.OpenParen = chained_by place olds terminal.OpenParen pair_front refl
-chained_rows place olds terminal.Version = chained_by place olds terminal.Version version_front refl
-chained_rows place olds terminal.Name = chained_by place olds terminal.Name name_front refl
-chained_rows place olds other = tt
+chained_rows place terminal.Leaf = chained_by place terminal.Leaf leaf_front refl
+chained_rows place terminal.Number = chained_by place terminal.Number leaf_front refl
+chained_rows place terminal.Seconds = chained_by place terminal.Seconds leaf_front refl
+chained_rows place terminal.Count = chained_by place terminal.Count leaf_front refl
+chained_rows place terminal.Text = chained_by place terminal.Text leaf_front refl
+chained_rows place terminal.Instant = chained_by place terminal.Instant leaf_front refl
+chained_rows place terminal.OpenParen = chained_by place terminal.OpenParen pair_front refl
+chained_rows place terminal.Version = chained_by place terminal.Version version_front refl
+chained_rows place terminal.Name = chained_by place terminal.Name name_front refl
+chained_rows place other = tt
 
 -- ---- expressions as right sides
 
 -- an expression, and its semicolon
-made_right : (place : Place) (b d w : Both) → Adds place b d → Does place plain_items d w → AddsRight place b w
+made_right : (place : Place) (b d w : Both) → Adds place b d → Does place plain_items d w → AddsOwned place b w
 unfolding kept_as built built_right_side raised
 made_right place b d w a l =
-    raised_by (record { x = rhs.Plain a.e; n = a.h.own; good = expr_up place a.e a.h a.h.own (omega arith) a.good; is = ap (make action.Plain) a.is }) l.3
+    raised_by (record { x = rhs.Plain a.e; n = a.h.own; good = (expr_up place a.e a.h a.h.own (omega arith) a.good, refl); is = ap (make action.Plain) a.is }) l.3
 
 -- the parts between an operator's row and the end of its expression
 abbrev AllReplace : Place → List Item → Type 0
@@ -229,7 +228,7 @@ sums_replace place c b w a l = compare_replaces place c l.0 w (replaced place c 
 
 -- what was put off gives a good expression, and so a right side
 abbrev Stands : Place → Option Action → Both → Both → Type 0
-Stands place o b w = (e : Expr) (h : Height) (c : Both) → acted o b ≡ with_expr e h c → Good place e h → AddsRight place c w
+Stands place o b w = (e : Expr) (h : Height) (c : Both) → acted o b ≡ with_expr e h c → Good place e h → AddsOwned place c w
 
 undone : (place : Place) (o : Option Action) (items : List Item) (b w : Both) → Does place (early o ++ items) b w → Does place items (acted o b) w
 undone place None items b w l = l
@@ -239,14 +238,14 @@ undone place (Some a) items b w l = l
 abbrev IsReplacing : Part → Type 0
 IsReplacing q = (place : Place) (b w : Both) → Effect place q b w → Replaces place b w
 
-stands : (place : Place) → Olds place → (o : Option Action) → Commutes o → (q : Part) → IsReplacing q → (xs : List Item) → AllReplace place xs
+stands : (place : Place) → (o : Option Action) → Commutes o → (q : Part) → IsReplacing q → (xs : List Item) → AllReplace place xs
     → (k : Terminal) (row : List Item) → after q k ≡ Some row → is_held k ≡ true → (kd : TokenKind) (bytes : List ℕ) → Sound place (spelt k kd bytes) → (b w : Both)
     → Does place (early o ++ (row ++ (xs ++ plain_items))) (keep (spelt k kd bytes) b) w → Stands place o b w
-stands place olds o commutes q replacing xs all k row e held kd bytes s b w l = λ x h c is good.
+stands place o commutes q replacing xs all k row e held kd bytes s b w l = λ x h c is good.
     let t = spelt k kd bytes in
     let y = subst (λ z. Does place (row ++ (xs ++ plain_items)) z w) (commutes k kd bytes b held) (undone place o (row ++ (xs ++ plain_items)) (keep t b) w l) in
     let r = parted place row (xs ++ plain_items) (keep t (acted o b)) w y in
-    let f = replacing place (acted o b) r.mid (olds q k row e kd bytes s (acted o b) r.mid (old place row _ r.mid r.first)) in
+    let f = replacing place (acted o b) r.mid (row_does place q k row e kd bytes s (acted o b) r.mid (old place row _ r.mid r.first)) in
     let p = parted place xs plain_items r.mid w r.behind in
     made_right place c p.mid w (all c r.mid p.mid (f x h c is good) p.first) p.behind
 
@@ -254,7 +253,7 @@ semi_stands : (place : Place) (o : Option Action) → (b w : Both) → Does plac
 unfolding built built_right_side raised
 semi_stands place o b w l = λ e h c is good.
     let y = undone place o (item.Build action.Plain ∷ []) b w l in
-    record { x = rhs.Plain e; n = h.own; good = expr_up place e h h.own (omega arith) good; is = sym y ∙ ap (make action.Plain) is }
+    record { x = rhs.Plain e; n = h.own; good = (expr_up place e h h.own (omega arith) good, refl); is = sym y ∙ ap (make action.Plain) is }
 
 -- at each of the three parts
 dots_news : (place : Place) (b w : Both) → Stands place None b w → News place part.RhsDots b w
@@ -266,7 +265,7 @@ dot_news place b w f = λ m e h c is free good. f (expr.Field e m) (above h.own)
 
 name_news : (place : Place) (b w : Both) → Stands place (Some action.Variable) b w → News place part.RhsName b w
 unfolding built raised
-name_news place b w f = λ m c is free. f (expr.Name m) leaf c (ap (make action.Variable) is) (name_good place m free)
+name_news place b w f = λ m c is free. unowned (f (expr.Name m) leaf c (ap (make action.Variable) is) (name_good place m free))
 
 abbrev factors_row : List Item
 factors_row = item.Part part.Unary ∷ item.Build action.Binary ∷ item.Part part.Factors ∷ []
@@ -301,7 +300,7 @@ field_right place kd bytes s b w l = λ m e h c is f good.
     raised_by (record {
       x = rhs.Call (record { of = Some e; method = m; args = a.x });
       n = n;
-      good = (of, f, args_up place a.n n a.x (omega arith) a.good);
+      good = ((of, f, args_up place a.n n a.x (omega arith) a.good), refl);
       is = ap (make action.Call) (a.is ∙ ap (with_args a.x a.n) is);
     })
     r.behind.3
@@ -319,75 +318,83 @@ own_right place kd bytes s b w l = λ m c is f.
     })
     r.behind.3
 
-pub rhs_dots_rows : (place : Place) → Olds place → (k : Terminal) → IfRow (RowDoes place part.RhsDots k) (after part.RhsDots k)
+pub rhs_dots_rows : (place : Place) → (k : Terminal) → IfRow (RowDoes place part.RhsDots k) (after part.RhsDots k)
 unfolding after kept_as
-rhs_dots_rows place olds terminal.Dot = λ kd bytes s b w l. dots_news place b w (next_name place None b w l)
-rhs_dots_rows place olds terminal.Semi = λ kd bytes s b w l. dots_news place b w (semi_stands place None b w l)
-rhs_dots_rows place olds terminal.Times = λ kd bytes s b w l.
-    dots_news place b w (stands place olds None dots_stand.commutes part.Factors (λ p c d f. f) after_factors (sums_replace place) terminal.Times factors_row refl refl kd bytes s b w l)
-rhs_dots_rows place olds terminal.Plus = λ kd bytes s b w l.
-    dots_news place b w (stands place olds None dots_stand.commutes part.Sums (λ p c d f. f) after_sums (compare_replaces place) terminal.Plus sums_row refl refl kd bytes s b w l)
-rhs_dots_rows place olds terminal.Minus = λ kd bytes s b w l.
-    dots_news place b w (stands place olds None dots_stand.commutes part.Sums (λ p c d f. f) after_sums (compare_replaces place) terminal.Minus sums_row refl refl kd bytes s b w l)
-rhs_dots_rows place olds terminal.Compares = λ kd bytes s b w l.
-    dots_news place b w (stands place olds None dots_stand.commutes part.Compare (λ p c d f. f) after_compare (ands_replace place) terminal.Compares compare_row refl refl kd bytes s b w l)
-rhs_dots_rows place olds terminal.AndAnd = λ kd bytes s b w l.
-    dots_news place b w (stands place olds None dots_stand.commutes part.Ands (λ p c d f. f) after_ands (ors_replace place) terminal.AndAnd ands_row refl refl kd bytes s b w l)
-rhs_dots_rows place olds terminal.OrOr = λ kd bytes s b w l.
-    dots_news place b w (stands place olds None dots_stand.commutes part.Ors (λ p c d f. f) [] (none_replace place) terminal.OrOr ors_row refl refl kd bytes s b w l)
-rhs_dots_rows place olds other = tt
+rhs_dots_rows place terminal.Dot = λ kd bytes s b w l. dots_news place b w (next_name place None b w l)
+rhs_dots_rows place terminal.Semi = λ kd bytes s b w l. dots_news place b w (semi_stands place None b w l)
+rhs_dots_rows place terminal.Times = λ kd bytes s b w l.
+    dots_news place b w (stands place None dots_stand.commutes part.Factors (λ p c d f. f) after_factors (sums_replace place) terminal.Times factors_row refl refl kd bytes s b w l)
+rhs_dots_rows place terminal.Plus = λ kd bytes s b w l.
+    dots_news place b w (stands place None dots_stand.commutes part.Sums (λ p c d f. f) after_sums (compare_replaces place) terminal.Plus sums_row refl refl kd bytes s b w l)
+rhs_dots_rows place terminal.Minus = λ kd bytes s b w l.
+    dots_news place b w (stands place None dots_stand.commutes part.Sums (λ p c d f. f) after_sums (compare_replaces place) terminal.Minus sums_row refl refl kd bytes s b w l)
+rhs_dots_rows place terminal.Compares = λ kd bytes s b w l.
+    dots_news place b w (stands place None dots_stand.commutes part.Compare (λ p c d f. f) after_compare (ands_replace place) terminal.Compares compare_row refl refl kd bytes s b w l)
+rhs_dots_rows place terminal.AndAnd = λ kd bytes s b w l.
+    dots_news place b w (stands place None dots_stand.commutes part.Ands (λ p c d f. f) after_ands (ors_replace place) terminal.AndAnd ands_row refl refl kd bytes s b w l)
+rhs_dots_rows place terminal.OrOr = λ kd bytes s b w l.
+    dots_news place b w (stands place None dots_stand.commutes part.Ors (λ p c d f. f) [] (none_replace place) terminal.OrOr ors_row refl refl kd bytes s b w l)
+rhs_dots_rows place other = tt
 
-pub rhs_dot_rows : (place : Place) → Olds place → (k : Terminal) → IfRow (RowDoes place part.RhsDot k) (after part.RhsDot k)
+pub rhs_dot_rows : (place : Place) → (k : Terminal) → IfRow (RowDoes place part.RhsDot k) (after part.RhsDot k)
 unfolding after kept_as
-rhs_dot_rows place olds terminal.Dot = λ kd bytes s b w l. dot_news place b w (next_name place (Some action.Field) b w l)
-rhs_dot_rows place olds terminal.Semi = λ kd bytes s b w l. dot_news place b w (semi_stands place (Some action.Field) b w l)
-rhs_dot_rows place olds terminal.OpenParen = field_right place
-rhs_dot_rows place olds terminal.Times = λ kd bytes s b w l.
-    dot_news place b w (stands place olds (Some action.Field) dot_stand.commutes part.Factors (λ p c d f. f) after_factors (sums_replace place) terminal.Times factors_row refl refl kd bytes s b w l)
-rhs_dot_rows place olds terminal.Plus = λ kd bytes s b w l.
-    dot_news place b w (stands place olds (Some action.Field) dot_stand.commutes part.Sums (λ p c d f. f) after_sums (compare_replaces place) terminal.Plus sums_row refl refl kd bytes s b w l)
-rhs_dot_rows place olds terminal.Minus = λ kd bytes s b w l.
-    dot_news place b w (stands place olds (Some action.Field) dot_stand.commutes part.Sums (λ p c d f. f) after_sums (compare_replaces place) terminal.Minus sums_row refl refl kd bytes s b w l)
-rhs_dot_rows place olds terminal.Compares = λ kd bytes s b w l.
-    dot_news place b w (stands place olds (Some action.Field) dot_stand.commutes part.Compare (λ p c d f. f) after_compare (ands_replace place) terminal.Compares compare_row refl refl kd bytes s b w l)
-rhs_dot_rows place olds terminal.AndAnd = λ kd bytes s b w l.
-    dot_news place b w (stands place olds (Some action.Field) dot_stand.commutes part.Ands (λ p c d f. f) after_ands (ors_replace place) terminal.AndAnd ands_row refl refl kd bytes s b w l)
-rhs_dot_rows place olds terminal.OrOr = λ kd bytes s b w l.
-    dot_news place b w (stands place olds (Some action.Field) dot_stand.commutes part.Ors (λ p c d f. f) [] (none_replace place) terminal.OrOr ors_row refl refl kd bytes s b w l)
-rhs_dot_rows place olds other = tt
+rhs_dot_rows place terminal.Dot = λ kd bytes s b w l. dot_news place b w (next_name place (Some action.Field) b w l)
+rhs_dot_rows place terminal.Semi = λ kd bytes s b w l. dot_news place b w (semi_stands place (Some action.Field) b w l)
+rhs_dot_rows place terminal.OpenParen = field_right place
+rhs_dot_rows place terminal.Times = λ kd bytes s b w l.
+    dot_news place b w (stands place (Some action.Field) dot_stand.commutes part.Factors (λ p c d f. f) after_factors (sums_replace place) terminal.Times factors_row refl refl kd bytes s b w l)
+rhs_dot_rows place terminal.Plus = λ kd bytes s b w l.
+    dot_news place b w (stands place (Some action.Field) dot_stand.commutes part.Sums (λ p c d f. f) after_sums (compare_replaces place) terminal.Plus sums_row refl refl kd bytes s b w l)
+rhs_dot_rows place terminal.Minus = λ kd bytes s b w l.
+    dot_news place b w (stands place (Some action.Field) dot_stand.commutes part.Sums (λ p c d f. f) after_sums (compare_replaces place) terminal.Minus sums_row refl refl kd bytes s b w l)
+rhs_dot_rows place terminal.Compares = λ kd bytes s b w l.
+    dot_news place b w (stands place (Some action.Field) dot_stand.commutes part.Compare (λ p c d f. f) after_compare (ands_replace place) terminal.Compares compare_row refl refl kd bytes s b w l)
+rhs_dot_rows place terminal.AndAnd = λ kd bytes s b w l.
+    dot_news place b w (stands place (Some action.Field) dot_stand.commutes part.Ands (λ p c d f. f) after_ands (ors_replace place) terminal.AndAnd ands_row refl refl kd bytes s b w l)
+rhs_dot_rows place terminal.OrOr = λ kd bytes s b w l.
+    dot_news place b w (stands place (Some action.Field) dot_stand.commutes part.Ors (λ p c d f. f) [] (none_replace place) terminal.OrOr ors_row refl refl kd bytes s b w l)
+rhs_dot_rows place other = tt
 
-pub rhs_name_rows : (place : Place) → Olds place → (k : Terminal) → IfRow (RowDoes place part.RhsName k) (after part.RhsName k)
+pub rhs_name_rows : (place : Place) → (k : Terminal) → IfRow (RowDoes place part.RhsName k) (after part.RhsName k)
 unfolding after kept_as
-rhs_name_rows place olds terminal.Dot = λ kd bytes s b w l. name_news place b w (next_name place (Some action.Variable) b w l)
-rhs_name_rows place olds terminal.Semi = λ kd bytes s b w l. name_news place b w (semi_stands place (Some action.Variable) b w l)
-rhs_name_rows place olds terminal.OpenParen = own_right place
-rhs_name_rows place olds terminal.Times = λ kd bytes s b w l.
-    name_news place b w (stands place olds (Some action.Variable) name_stand.commutes part.Factors (λ p c d f. f) after_factors (sums_replace place) terminal.Times factors_row refl refl kd bytes s b w l)
-rhs_name_rows place olds terminal.Plus = λ kd bytes s b w l.
-    name_news place b w (stands place olds (Some action.Variable) name_stand.commutes part.Sums (λ p c d f. f) after_sums (compare_replaces place) terminal.Plus sums_row refl refl kd bytes s b w l)
-rhs_name_rows place olds terminal.Minus = λ kd bytes s b w l.
-    name_news place b w (stands place olds (Some action.Variable) name_stand.commutes part.Sums (λ p c d f. f) after_sums (compare_replaces place) terminal.Minus sums_row refl refl kd bytes s b w l)
-rhs_name_rows place olds terminal.Compares = λ kd bytes s b w l.
-    name_news place b w (stands place olds (Some action.Variable) name_stand.commutes part.Compare (λ p c d f. f) after_compare (ands_replace place) terminal.Compares compare_row refl refl kd bytes s b w l)
-rhs_name_rows place olds terminal.AndAnd = λ kd bytes s b w l.
-    name_news place b w (stands place olds (Some action.Variable) name_stand.commutes part.Ands (λ p c d f. f) after_ands (ors_replace place) terminal.AndAnd ands_row refl refl kd bytes s b w l)
-rhs_name_rows place olds terminal.OrOr = λ kd bytes s b w l.
-    name_news place b w (stands place olds (Some action.Variable) name_stand.commutes part.Ors (λ p c d f. f) [] (none_replace place) terminal.OrOr ors_row refl refl kd bytes s b w l)
-rhs_name_rows place olds other = tt
+rhs_name_rows place terminal.Dot = λ kd bytes s b w l. name_news place b w (next_name place (Some action.Variable) b w l)
+rhs_name_rows place terminal.Semi = λ kd bytes s b w l. name_news place b w (semi_stands place (Some action.Variable) b w l)
+rhs_name_rows place terminal.OpenParen = own_right place
+rhs_name_rows place terminal.Times = λ kd bytes s b w l.
+    name_news place b w (stands place (Some action.Variable) name_stand.commutes part.Factors (λ p c d f. f) after_factors (sums_replace place) terminal.Times factors_row refl refl kd bytes s b w l)
+rhs_name_rows place terminal.Plus = λ kd bytes s b w l.
+    name_news place b w (stands place (Some action.Variable) name_stand.commutes part.Sums (λ p c d f. f) after_sums (compare_replaces place) terminal.Plus sums_row refl refl kd bytes s b w l)
+rhs_name_rows place terminal.Minus = λ kd bytes s b w l.
+    name_news place b w (stands place (Some action.Variable) name_stand.commutes part.Sums (λ p c d f. f) after_sums (compare_replaces place) terminal.Minus sums_row refl refl kd bytes s b w l)
+rhs_name_rows place terminal.Compares = λ kd bytes s b w l.
+    name_news place b w (stands place (Some action.Variable) name_stand.commutes part.Compare (λ p c d f. f) after_compare (ands_replace place) terminal.Compares compare_row refl refl kd bytes s b w l)
+rhs_name_rows place terminal.AndAnd = λ kd bytes s b w l.
+    name_news place b w (stands place (Some action.Variable) name_stand.commutes part.Ands (λ p c d f. f) after_ands (ors_replace place) terminal.AndAnd ands_row refl refl kd bytes s b w l)
+rhs_name_rows place terminal.OrOr = λ kd bytes s b w l.
+    name_news place b w (stands place (Some action.Variable) name_stand.commutes part.Ors (λ p c d f. f) [] (none_replace place) terminal.OrOr ors_row refl refl kd bytes s b w l)
+rhs_name_rows place other = tt
 
 -- ---- whole right sides
 
-chain_right : (place : Place) → Olds place → (k : Terminal) (pre : List Item) → after part.Unary k ≡ Some (pre ++ item.Part part.Dots ∷ [])
-    → RowDoes place part.Rhs k (pre ++ item.Part part.RhsDots ∷ [])
-chain_right place olds k pre e kd bytes s b w l =
+chain_owned : (place : Place) (k : Terminal) (pre : List Item) → after part.Unary k ≡ Some (pre ++ item.Part part.Dots ∷ []) → (kd : TokenKind) (bytes : List ℕ)
+    → Sound place (spelt k kd bytes) → (b w : Both) → Does place (pre ++ item.Part part.RhsDots ∷ []) (keep (spelt k kd bytes) b) w → AddsOwned place b w
+chain_owned place k pre e kd bytes s b w l =
     let r = parted place pre (item.Part part.RhsDots ∷ []) (keep (spelt k kd bytes) b) w l in
-    let a = fronted place olds k pre e kd bytes s b r.mid r.first in
+    let a = fronted place k pre e kd bytes s b r.mid r.first in
     raised_by (r.behind.1.1 a.e a.h b a.is a.good) r.behind.2
 
-sign_right : (place : Place) → Olds place → (k : Terminal) → after part.Expr k ≡ Some sign_row → RowDoes place part.Rhs k (sign_row ++ plain_items)
-sign_right place olds k e kd bytes s b w l =
+chain_right : (place : Place) (k : Terminal) (pre : List Item) → after part.Unary k ≡ Some (pre ++ item.Part part.Dots ∷ [])
+    → RowDoes place part.Rhs k (pre ++ item.Part part.RhsDots ∷ [])
+chain_right place k pre e kd bytes s b w l = unowned (chain_owned place k pre e kd bytes s b w l)
+
+sign_owned : (place : Place) (k : Terminal) → after part.Expr k ≡ Some sign_row → (kd : TokenKind) (bytes : List ℕ) → Sound place (spelt k kd bytes) → (b w : Both)
+    → Does place (sign_row ++ plain_items) (keep (spelt k kd bytes) b) w → AddsOwned place b w
+sign_owned place k e kd bytes s b w l =
     let r = parted place sign_row plain_items (keep (spelt k kd bytes) b) w l in
-    made_right place b r.mid w (olds part.Expr k sign_row e kd bytes s b r.mid (old place sign_row _ r.mid r.first)) r.behind
+    made_right place b r.mid w (row_does place part.Expr k sign_row e kd bytes s b r.mid (old place sign_row _ r.mid r.first)) r.behind
+
+sign_right : (place : Place) (k : Terminal) → after part.Expr k ≡ Some sign_row → RowDoes place part.Rhs k (sign_row ++ plain_items)
+sign_right place k e kd bytes s b w l = unowned (sign_owned place k e kd bytes s b w l)
 
 name_right : (place : Place) → RowDoes place part.Rhs terminal.Name (item.Part part.RhsName ∷ [])
 unfolding kept_as
@@ -396,7 +403,7 @@ name_right place kd bytes s b w l = raised_by (l.1.1 (name_of bytes) b refl (nam
 -- a change, and what follows it
 pub record Changed (place : Place) (more : List Item) (b w : Both) : Type 0 where
   pub mid : Both
-  pub right : AddsRight place b mid
+  pub right : AddsOwned place b mid
   pub is_do : is_do_of right.x ≡ true
   pub behind : Does place more mid w
 
@@ -409,7 +416,7 @@ pnew_changes place more kd bytes b w l =
     let f = p.1.1 [] 0 (with_name name b) refl tt in
     record {
       mid = make action.New p.0;
-      right = record { x = rhs.New name f.x; n = f.n; good = (name_free l.1, f.good); is = ap (make action.New) f.is };
+      right = record { x = rhs.New name f.x; n = f.n; good = ((name_free l.1, f.good), refl); is = ap (make action.New) f.is };
       is_do = refl;
       behind = p.2;
     }
@@ -421,7 +428,7 @@ newversion_changes place more kd bytes b w l =
     let a = l.1.0 in
     record {
       mid = make action.NewVersion l.0;
-      right = record { x = rhs.NewVersion a.e; n = a.h.own; good = expr_up place a.e a.h a.h.own (omega arith) a.good; is = ap (make action.NewVersion) a.is };
+      right = record { x = rhs.NewVersion a.e; n = a.h.own; good = (expr_up place a.e a.h a.h.own (omega arith) a.good, refl); is = ap (make action.NewVersion) a.is };
       is_do = refl;
       behind = l.2;
     }
@@ -435,30 +442,48 @@ activate_changes place more kd bytes b w l =
     let of : GoodOf place n a.e = record { h = a.h; good = a.good; below = omega arith } in
     record {
       mid = make action.Activate l.0;
-      right = record { x = rhs.Activate a.e a.name a.args; n = n; good = (of, a.free, args_up place a.n n a.args (omega arith) a.goods); is = ap (make action.Activate) a.is };
+      right = record { x = rhs.Activate a.e a.name a.args; n = n; good = ((of, a.free, args_up place a.n n a.args (omega arith) a.goods), refl); is = ap (make action.Activate) a.is };
       is_do = refl;
       behind = l.2;
     }
 
 -- a change and its semicolon
-change_right : (place : Place) (b w : Both) → Changed place ending b w → AddsRight place b w
+change_right : (place : Place) (b w : Both) → Changed place ending b w → AddsOwned place b w
 unfolding kept_as
 change_right place b w c = raised_by c.right c.behind.3
 
-pub rhs_rows : (place : Place) → Olds place → (k : Terminal) → IfRow (RowDoes place part.Rhs k) (after part.Rhs k)
+pub rhs_rows : (place : Place) → (k : Terminal) → IfRow (RowDoes place part.Rhs k) (after part.Rhs k)
 unfolding after
-rhs_rows place olds terminal.Leaf = chain_right place olds terminal.Leaf leaf_front refl
-rhs_rows place olds terminal.Number = chain_right place olds terminal.Number leaf_front refl
-rhs_rows place olds terminal.Seconds = chain_right place olds terminal.Seconds leaf_front refl
-rhs_rows place olds terminal.Count = chain_right place olds terminal.Count leaf_front refl
-rhs_rows place olds terminal.Text = chain_right place olds terminal.Text leaf_front refl
-rhs_rows place olds terminal.Instant = chain_right place olds terminal.Instant leaf_front refl
-rhs_rows place olds terminal.OpenParen = chain_right place olds terminal.OpenParen pair_front refl
-rhs_rows place olds terminal.Version = chain_right place olds terminal.Version version_front refl
-rhs_rows place olds terminal.Name = name_right place
-rhs_rows place olds terminal.Minus = sign_right place olds terminal.Minus refl
-rhs_rows place olds terminal.Not = sign_right place olds terminal.Not refl
-rhs_rows place olds terminal.PNew = λ kd bytes s b w l. change_right place b w (pnew_changes place ending kd bytes b w l)
-rhs_rows place olds terminal.NewVersion = λ kd bytes s b w l. change_right place b w (newversion_changes place ending kd bytes b w l)
-rhs_rows place olds terminal.Activate = λ kd bytes s b w l. change_right place b w (activate_changes place ending kd bytes b w l)
-rhs_rows place olds other = tt
+rhs_rows place terminal.Leaf = chain_right place terminal.Leaf leaf_front refl
+rhs_rows place terminal.Number = chain_right place terminal.Number leaf_front refl
+rhs_rows place terminal.Seconds = chain_right place terminal.Seconds leaf_front refl
+rhs_rows place terminal.Count = chain_right place terminal.Count leaf_front refl
+rhs_rows place terminal.Text = chain_right place terminal.Text leaf_front refl
+rhs_rows place terminal.Instant = chain_right place terminal.Instant leaf_front refl
+rhs_rows place terminal.OpenParen = chain_right place terminal.OpenParen pair_front refl
+rhs_rows place terminal.Version = chain_right place terminal.Version version_front refl
+rhs_rows place terminal.Name = name_right place
+rhs_rows place terminal.Minus = sign_right place terminal.Minus refl
+rhs_rows place terminal.Not = sign_right place terminal.Not refl
+rhs_rows place terminal.PNew = λ kd bytes s b w l. unowned (change_right place b w (pnew_changes place ending kd bytes b w l))
+rhs_rows place terminal.NewVersion = λ kd bytes s b w l. unowned (change_right place b w (newversion_changes place ending kd bytes b w l))
+rhs_rows place terminal.Activate = λ kd bytes s b w l. unowned (change_right place b w (activate_changes place ending kd bytes b w l))
+rhs_rows place other = tt
+
+pub script_rhs_rows : (place : Place) (k : Terminal) → IfRow (RowDoes place part.ScriptRhs k) (after part.ScriptRhs k)
+unfolding after
+script_rhs_rows place terminal.Leaf = chain_owned place terminal.Leaf leaf_front refl
+script_rhs_rows place terminal.Number = chain_owned place terminal.Number leaf_front refl
+script_rhs_rows place terminal.Seconds = chain_owned place terminal.Seconds leaf_front refl
+script_rhs_rows place terminal.Count = chain_owned place terminal.Count leaf_front refl
+script_rhs_rows place terminal.Text = chain_owned place terminal.Text leaf_front refl
+script_rhs_rows place terminal.Instant = chain_owned place terminal.Instant leaf_front refl
+script_rhs_rows place terminal.OpenParen = chain_owned place terminal.OpenParen pair_front refl
+script_rhs_rows place terminal.Version = chain_owned place terminal.Version version_front refl
+script_rhs_rows place terminal.Name = chain_owned place terminal.Name name_front refl
+script_rhs_rows place terminal.Minus = sign_owned place terminal.Minus refl
+script_rhs_rows place terminal.Not = sign_owned place terminal.Not refl
+script_rhs_rows place terminal.PNew = λ kd bytes s b w l. change_right place b w (pnew_changes place ending kd bytes b w l)
+script_rhs_rows place terminal.NewVersion = λ kd bytes s b w l. change_right place b w (newversion_changes place ending kd bytes b w l)
+script_rhs_rows place terminal.Activate = λ kd bytes s b w l. change_right place b w (activate_changes place ending kd bytes b w l)
+script_rhs_rows place other = tt

@@ -1,10 +1,7 @@
 -- Right sides whose parts are good: their printed texts, cut into tokens that derive them, no higher than they were read.
 use Rattle.std.proofs.Common.{◌≡◌, ◌≤◌, ℕ, ◌+◌, max, Bool, true, false, codes, List, [], ◌∷◌, ◌++◌, append_assoc, map, Some, refl, sym, ap, arith}
-use Rattle.std.specs.List.{flat_map}
-use Rattle.std.proofs.lemmas.Option.{none-some}
 use Rattle.ode_lex.specs.declared.token.Mark.TheVariants as mark
 use Rattle.ode_lex.specs.declared.token.TokenKind.TheVariants as kind
-use Rattle.ode_grammar.specs.declared.item.Action.{Action}
 use Rattle.ode_grammar.specs.declared.item.Action.TheVariants as action
 use Rattle.ode_grammar.specs.declared.item.Item.{Item}
 use Rattle.ode_grammar.specs.declared.item.Item.TheVariants as item
@@ -13,7 +10,7 @@ use Rattle.ode_grammar.specs.declared.item.Part.TheVariants as part
 use Rattle.ode_grammar.specs.declared.terminal.Terminal.{Terminal}
 use Rattle.ode_grammar.specs.declared.terminal.Terminal.TheVariants as terminal
 use Rattle.ode_grammar.specs.Expressions.{arguments}
-use Rattle.ode_grammar.specs.Grammar.{after, skipped}
+use Rattle.ode_grammar.specs.Grammar.{after}
 use Rattle.ode_grammar.specs.Statements.{field_set}
 use Rattle.ode_grammar.specs.Texts.{Next, Make, Rule}
 use Rattle.ode_grammar.proofs.Follows.{IfRow}
@@ -25,25 +22,22 @@ use Rattle.ode_value.specs.Words.{is_free}
 use Rattle.ode_value.specs.declared.statement.Expr.{Expr}
 use Rattle.ode_syntax.specs.Built.{built, built_right_side}
 use Rattle.ode_syntax.specs.Kept.{kept_as, Spelled}
-use Rattle.ode_relex.specs.Ends.{ends_mark, opens}
+use Rattle.ode_relex.specs.Ends.{opens}
 use Rattle.ode_reread.proofs.Both.{Both}
 use Rattle.ode_reread.proofs.Cuts.{spell}
 use Rattle.ode_reread.proofs.Goods.{free_word}
 use Rattle.ode_reread.proofs.Marked.{as_operand, marked, operand_height, with_expr, with_name}
 use Rattle.ode_reread.proofs.Prints.{regroup, Ds}
-use Rattle.ode_reread.proofs.Spells.{ends, opens_append, opens_marks, word_opens}
+use Rattle.ode_reread.proofs.Spells.{ends, opens_append, word_opens}
 use Rattle.ode_reread_classes.proofs.Chains.{called, name_next, name_rule, operand_of, IsPlace}
 use Rattle.ode_reread_classes.proofs.Derivations.{from, mark_rule, row_of, view, with_items, Left, Ruled, View}
 use Rattle.ode_reread_classes.proofs.Lists.{elements, weaker, Element, Elements}
 use Rattle.ode_reread_classes.proofs.Parts.{GoodArgs, GoodExpr, GoodOf, GoodSet, GoodSets}
-use Rattle.ode_reread_classes.proofs.Pieces.{begun, between_blanks, closing_mark, expr_spells, join, mark_blank, of_spells, one_mark, operand_text_spells, retoken, to_spells, word, word_begun_mark, Piece}
+use Rattle.ode_reread_classes.proofs.Pieces.{begun, between_blanks, closing_mark, expr_spells, join, mark_blank, marks_behind, of_spells, one_mark, operand_text_spells, retoken, to_spells, word, word_begun_mark, Piece}
 use Rattle.ode_reread_classes.proofs.Puts.{with_args, with_sets}
+use Rattle.ode_reread_classes.proofs.Rights.{no_expr_skip}
 
 -- ---- a part that begins as another does
-
-no_expr_skip : (a : Action) → skipped part.Expr ≡ Some a → ⊥
-unfolding skipped
-no_expr_skip a e = none-some a e
 
 abbrev pub Begins : Part → List Item → Type 0
 Begins p more = (k : Terminal) → IfRow (λ row. after p k ≡ Some (row ++ more)) (after part.Expr k)
@@ -58,7 +52,7 @@ begins p more f items x = begins_by p more items f (view x)
 
 -- ---- arguments
 
-abbrev args_items : List Item
+abbrev pub args_items : List Item
 args_items = item.Build action.Argument ∷ item.Part part.MoreArgs ∷ []
 
 pub args_begin : Begins part.Args args_items
@@ -120,7 +114,7 @@ some_args place n e xs g r = let p = g.no_higher in let q = r.no_higher in recor
   inner = (g.tokens ++ r.tokens) ++ marked mark.CloseParen ∷ [];
   low = max g.low.own r.low;
   no_higher = omega arith;
-  piece = join (join (one_mark place mark.OpenParen) (join (of_spells (expr_spells g)) r.piece r.begins) (first_begins place n e xs g)) (closing_mark place mark.CloseParen) (λ rest f. refl);
+  piece = join (join (one_mark place mark.OpenParen) (join (of_spells (expr_spells g)) r.piece r.begins) (marks_behind (expr_text e) _ (expr_spells g).begins)) (closing_mark place mark.CloseParen) (λ rest f. refl);
   does = λ items b ts out d.
       let same : max (max 0 g.low.own) r.low ≡ max g.low.own r.low = omega arith in
       let close = marked mark.CloseParen ∷ ts in
@@ -129,12 +123,6 @@ some_args place n e xs g r = let p = g.no_higher in let q = r.no_higher in recor
       let first = g.prints.whole (args_items ++ items) (with_args [] 0 b) (r.tokens ++ close) out (made_argument [] 0 g.low.own e g.low.bare (item.Part part.MoreArgs ∷ items) b (r.tokens ++ close) out others) in
       regroup (g.tokens ++ r.tokens) (marked mark.CloseParen ∷ []) ts (regroup g.tokens r.tokens close (begins part.Args args_items args_begin items first));
 }
-  where
-    first_begins : (place : Place) (n : ℕ) (e : Expr) (xs : List Expr) → GoodExpr place n e → (rest : List ℕ) → ends rest ≡ true
-        → ends_mark ((expr_text e ++ flat_map (λ t. codes ", " ++ t) (map expr_text xs)) ++ rest) ≡ true
-    first_begins place n e xs g rest f =
-        let inner = expr_text e ++ flat_map (λ t. codes ", " ++ t) (map expr_text xs) in
-        opens_marks (inner ++ rest) (opens_append inner rest (opens_append (expr_text e) (flat_map (λ t. codes ", " ++ t) (map expr_text xs)) (expr_spells g).begins))
 
 pub printed_args : (place : Place) (n : ℕ) (xs : List Expr) → GoodArgs place n xs → PrintedArgs place n xs
 printed_args place n [] g = no_args place n
@@ -206,7 +194,7 @@ some_sets place n s xs g r = let p = g.1.no_higher in let q = r.no_higher in rec
   inner = ((spell place kind.Word s.0 ∷ marked mark.Assign ∷ g.1.tokens) ++ r.tokens) ++ marked mark.CloseParen ∷ [];
   low = max g.1.low.own r.low;
   no_higher = omega arith;
-  piece = join (join (one_mark place mark.OpenParen) (join (set_piece place n s g) r.piece r.begins) (first_begins place n s xs g)) (closing_mark place mark.CloseParen) (λ rest f. refl);
+  piece = join (join (one_mark place mark.OpenParen) (join (set_piece place n s g) r.piece r.begins) (marks_behind (set_text s) _ (set_opens place n s g))) (closing_mark place mark.CloseParen) (λ rest f. refl);
   does = λ items b ts out d.
       let same : max (max 0 g.1.low.own) r.low ≡ max g.1.low.own r.low = omega arith in
       let close = marked mark.CloseParen ∷ ts in
@@ -216,12 +204,6 @@ some_sets place n s xs g r = let p = g.1.no_higher in let q = r.no_higher in rec
       let tokens = spell place kind.Word s.0 ∷ marked mark.Assign ∷ g.1.tokens in
       regroup (tokens ++ r.tokens) (marked mark.CloseParen ∷ []) ts (regroup tokens r.tokens close first);
 }
-  where
-    first_begins : (place : Place) (n : ℕ) (s : List ℕ × Expr) (xs : List (List ℕ × Expr)) → GoodSet place n s → (rest : List ℕ) → ends rest ≡ true
-        → ends_mark ((set_text s ++ flat_map (λ t. codes ", " ++ t) (map set_text xs)) ++ rest) ≡ true
-    first_begins place n s xs g rest f =
-        let inner = set_text s ++ flat_map (λ t. codes ", " ++ t) (map set_text xs) in
-        opens_marks (inner ++ rest) (opens_append inner rest (opens_append (set_text s) (flat_map (λ t. codes ", " ++ t) (map set_text xs)) (set_opens place n s g)))
 
 pub printed_sets : (place : Place) (n : ℕ) (xs : List (List ℕ × Expr)) → GoodSets place n xs → PrintedSets place n xs
 printed_sets place n [] g = no_sets place n

@@ -22,15 +22,16 @@ use Rattle.ode_value.specs.declared.statement.Stmt.{Stmt}
 use Rattle.ode_value.specs.declared.statement.Stmt.TheVariants as stmt
 use Rattle.ode_syntax.specs.Built.{built, built_right_side, built_statement}
 use Rattle.ode_syntax.specs.Kept.{kept_as, name_of}
+use Rattle.ode_reread.proofs.AllRows.{row_does}
 use Rattle.ode_reread.proofs.Both.{Both, keep, make}
 use Rattle.ode_reread.proofs.Effects.{name_free, spelt}
 use Rattle.ode_reread.proofs.Goods.{name_good}
 use Rattle.ode_reread.proofs.Marked.{with_expr, with_name}
 use Rattle.ode_reread_classes.proofs.Chains.{appended, leaf_front, pair_front, version_front}
-use Rattle.ode_reread_classes.proofs.Does.{old, parted, raised_by, AddsCall, AddsRight, AddsStmt, Changes, Does, Olds, Raises, RowDoes}
+use Rattle.ode_reread_classes.proofs.Does.{old, parted, raised_by, unowned, AddsCall, AddsOwned, AddsRight, AddsStmt, Changes, Does, Raises, RowDoes}
 use Rattle.ode_reread_classes.proofs.Parts.{args_up, expr_up, is_do, is_do as is_do_of, GoodExpr, GoodOf, GoodRight}
 use Rattle.ode_reread_classes.proofs.Puts.{with_args, with_body, with_right, with_stmt}
-use Rattle.ode_reread_classes.proofs.SideForms.{done}
+use Rattle.ode_reread_classes.proofs.SideForms.{done, inner_simple}
 use Rattle.ode_reread_classes.proofs.SideRows.{activate_changes, argued_call, atom_called, leaf_row, newversion_changes, pair_row, pnew_changes, sign_row, variable_row, version_row, Called, Changed}
 use Rattle.ode_reread_classes.proofs.Statements.{body_up, deactivate_good, delete_good, do_good, drop_version_good, if_good, let_good, more_body, no_body, return_good, return_nothing_good, say_good, set_good, show_good, tabort_good, GoodBody, GoodElse, GoodStmt}
 
@@ -81,44 +82,51 @@ else_up place n m (s ∷ xs) l g = body_up place n m (s ∷ xs) l g
 -- ---- a word and an expression
 
 -- what is said, deleted and dropped, with its semicolon
-expression_said : (place : Place) (a : Action) (of : Expr → Stmt) → ((e : Expr) (h : Height) (c : Both) → make a (with_expr e h c) ≡ with_stmt (of e) h.own c)
-    → ((n : ℕ) (e : Expr) → GoodExpr place n e → GoodStmt place n (of e)) → (more : List Item) (b w : Both)
-    → Does place (item.Part part.Expr ∷ item.Token terminal.Semi ∷ item.Build a ∷ more) b w → (d : Both) × AddsStmt place b d × Does place more d w
+pub expression_said : (place : Place) (a : Action) (of : Expr → Stmt) → ((e : Expr) (h : Height) (c : Both) → make a (with_expr e h c) ≡ with_stmt (of e) h.own c)
+    → (P : ℕ → Stmt → Type 0) → ((n : ℕ) (e : Expr) → GoodExpr place n e → P n (of e)) → (more : List Item) (b w : Both)
+    → Does place (item.Part part.Expr ∷ item.Token terminal.Semi ∷ item.Build a ∷ more) b w → (d : Both) × Raises with_stmt P b d × Does place more d w
 unfolding kept_as
-expression_said place a of made good more b w l =
+expression_said place a of made P good more b w l =
     let x = l.1.0 in
     (make a l.0, record { x = of x.e; n = x.h.own; good = good x.h.own x.e (expr_up place x.e x.h x.h.own (omega arith) x.good); is = ap (make a) x.is ∙ made x.e x.h b }, l.2.3)
 
 said_after : (place : Place) → RowDoes place part.Inners terminal.Say (item.Part part.Expr ∷ item.Token terminal.Semi ∷ item.Build action.Say ∷ appended)
 unfolding kept_as built built_right_side built_statement raised
 said_after place kd bytes s b w l =
-    let r = expression_said place action.Say stmt.Say (λ e h c. refl) (say_good place) appended b w l in
+    let r = expression_said place action.Say stmt.Say (λ e h c. refl) (GoodStmt place) (say_good inner_simple place) appended b w l in
     appending place b r.0 w r.1 r.2
 
 deleted_after : (place : Place) → RowDoes place part.Inners terminal.PDelete (item.Part part.Expr ∷ item.Token terminal.Semi ∷ item.Build action.Delete ∷ appended)
 unfolding kept_as built built_right_side built_statement raised
 deleted_after place kd bytes s b w l =
-    let r = expression_said place action.Delete stmt.Delete (λ e h c. refl) (delete_good place) appended b w l in
+    let r = expression_said place action.Delete stmt.Delete (λ e h c. refl) (GoodStmt place) (delete_good inner_simple place) appended b w l in
     appending place b r.0 w r.1 r.2
 
 dropped_after : (place : Place) → RowDoes place part.Inners terminal.DropVersion (item.Part part.Expr ∷ item.Token terminal.Semi ∷ item.Build action.DropVersion ∷ appended)
 unfolding kept_as built built_right_side built_statement raised
 dropped_after place kd bytes s b w l =
-    let r = expression_said place action.DropVersion stmt.DropVersion (λ e h c. refl) (drop_version_good place) appended b w l in
+    let r = expression_said place action.DropVersion stmt.DropVersion (λ e h c. refl) (GoodStmt place) (drop_version_good inner_simple place) appended b w l in
     appending place b r.0 w r.1 r.2
 
-deactivated_after : (place : Place)
-    → RowDoes place part.Inners terminal.Deactivate
-    (item.Part part.Expr ∷ item.Token terminal.Comma ∷ item.Part part.Expr ∷ item.Token terminal.Semi ∷ item.Build action.Deactivate ∷ appended)
+pub deactivation : (place : Place) (P : ℕ → Stmt → Type 0) → ((n : ℕ) (e f : Expr) → GoodExpr place n e → GoodExpr place n f → P n (stmt.Deactivate e f)) → (more : List Item) (b w : Both)
+    → Does place (item.Part part.Expr ∷ item.Token terminal.Comma ∷ item.Part part.Expr ∷ item.Token terminal.Semi ∷ item.Build action.Deactivate ∷ more) b w
+    → (d : Both) × Raises with_stmt P b d × Does place more d w
 unfolding kept_as built built_right_side built_statement raised
-deactivated_after place kd bytes s b w l =
+deactivation place P good more b w l =
     let x = l.1.0 in
     let p = l.2.3 in
     let y = p.1.0 in
     let n = max x.h.own y.h.own in
-    let d = make action.Deactivate p.0 in
-    let good = deactivate_good place n x.e y.e (expr_up place x.e x.h n (omega arith) x.good) (expr_up place y.e y.h n (omega arith) y.good) in
-    appending place b d w (record { x = stmt.Deactivate x.e y.e; n = n; good = good; is = ap (make action.Deactivate) (y.is ∙ ap (with_expr y.e y.h) x.is) }) p.2.3
+    let both = good n x.e y.e (expr_up place x.e x.h n (omega arith) x.good) (expr_up place y.e y.h n (omega arith) y.good) in
+    (make action.Deactivate p.0, record { x = stmt.Deactivate x.e y.e; n = n; good = both; is = ap (make action.Deactivate) (y.is ∙ ap (with_expr y.e y.h) x.is) }, p.2.3)
+
+deactivated_after : (place : Place)
+    → RowDoes place part.Inners terminal.Deactivate
+    (item.Part part.Expr ∷ item.Token terminal.Comma ∷ item.Part part.Expr ∷ item.Token terminal.Semi ∷ item.Build action.Deactivate ∷ appended)
+unfolding kept_as
+deactivated_after place kd bytes s b w l =
+    let r = deactivation place (GoodStmt place) (deactivate_good inner_simple place) appended b w l in
+    appending place b r.0 w r.1 r.2
 
 tabort_after : (place : Place) → RowDoes place part.Inners terminal.TAbort (item.Token terminal.Semi ∷ item.Build action.TAbort ∷ appended)
 unfolding kept_as built built_right_side built_statement raised
@@ -148,11 +156,11 @@ done_by place b d w r o l =
     appending place b (make action.Do d) w (record { x = stmt.Do r.x; n = r.n; good = do_good place r.n r.x o r.good; is = ap (make action.Do) r.is }) l.3
 
 changed_alone : (place : Place) (b w : Both) → Changed place (done appended) b w → Changes with_body (GoodBody place) b w
-changed_alone place b w c = done_by place b c.mid w c.right c.is_do c.behind
+changed_alone place b w c = done_by place b c.mid w (unowned c.right) c.is_do c.behind
 
 -- a call by a reference as a right side
 pub record CallRight (place : Place) (b d : Both) : Type 0 where
-  pub right : AddsRight place b d
+  pub right : AddsOwned place b d
   pub is_do : is_do_of right.x ≡ true
 
 pub call_right : (place : Place) (b d : Both) → AddsCall place b d → CallRight place b (make action.Call d)
@@ -164,7 +172,7 @@ call_right place b d a =
       right = record {
         x = rhs.Call (record { of = Some a.e; method = a.name; args = a.args });
         n = n;
-        good = (of, a.free, args_up place a.n n a.args (omega arith) a.goods);
+        good = ((of, a.free, args_up place a.n n a.args (omega arith) a.goods), refl);
         is = ap (make action.Call) a.is;
       };
       is_do = refl;
@@ -173,14 +181,14 @@ call_right place b d a =
 called_alone : (place : Place) (b w : Both) → Called place (item.Build action.Call ∷ done appended) b w → Changes with_body (GoodBody place) b w
 called_alone place b w c =
     let r = call_right place b c.mid c.call in
-    done_by place b (make action.Call c.mid) w r.right r.is_do c.behind
+    done_by place b (make action.Call c.mid) w (unowned r.right) r.is_do c.behind
 
 abbrev called_done : List Item
 called_done = item.Build action.Call ∷ done appended
 
-call_after : (place : Place) → Olds place → (k : Terminal) (pre : List Item) → after part.Unary k ≡ Some (pre ++ item.Part part.Dots ∷ [])
+call_after : (place : Place) → (k : Terminal) (pre : List Item) → after part.Unary k ≡ Some (pre ++ item.Part part.Dots ∷ [])
     → RowDoes place part.Inners k (pre ++ (dotted_call ++ called_done))
-call_after place olds k pre e kd bytes s b w l = called_alone place b w (atom_called place olds k pre called_done e kd bytes s b w l)
+call_after place k pre e kd bytes s b w l = called_alone place b w (atom_called place k pre called_done e kd bytes s b w l)
 
 name_after : (place : Place) → RowDoes place part.Inners terminal.Name (item.Part part.InnerName ∷ appended)
 unfolding kept_as
@@ -210,7 +218,7 @@ dot_after place kd bytes s b w l = λ m c is f.
     let p = l.3 in
     let a = p.1.1 name (expr.Name m) leaf c (ap (λ x. with_name name (make action.Variable x)) is) (name_free l.1) (name_good place m f) in
     let r = call_right place c p.0 a in
-    raised_by (record { x = stmt.Do r.right.x; n = r.right.n; good = do_good place r.right.n r.right.x r.is_do r.right.good; is = ap (make action.Do) r.right.is }) p.2.3
+    raised_by (record { x = stmt.Do r.right.x; n = r.right.n; good = do_good place r.right.n r.right.x r.is_do r.right.good.0; is = ap (make action.Do) r.right.is }) p.2.3
 
 pub inner_name_rows : (place : Place) (k : Terminal) → IfRow (RowDoes place part.InnerName k) (after part.InnerName k)
 unfolding after
@@ -224,32 +232,32 @@ inner_name_rows place other = tt
 abbrev return_items : List Item
 return_items = item.Token terminal.Semi ∷ item.Build action.Return ∷ []
 
-value_after : (place : Place) → Olds place → (k : Terminal) (row : List Item) → after part.Expr k ≡ Some row → RowDoes place part.ReturnValue k (row ++ return_items)
+value_after : (place : Place) → (k : Terminal) (row : List Item) → after part.Expr k ≡ Some row → RowDoes place part.ReturnValue k (row ++ return_items)
 unfolding kept_as built built_right_side built_statement raised
-value_after place olds k row e kd bytes s b w l =
+value_after place k row e kd bytes s b w l =
     let r = parted place row return_items (keep (spelt k kd bytes) b) w l in
-    let a = olds part.Expr k row e kd bytes s b r.mid (old place row _ r.mid r.first) in
+    let a = row_does place part.Expr k row e kd bytes s b r.mid (old place row _ r.mid r.first) in
     raised_by (record { x = stmt.Return (Some a.e); n = a.h.own; good = return_good place a.h.own a.e (expr_up place a.e a.h a.h.own (omega arith) a.good); is = ap (make action.Return) a.is }) r.behind.3
 
 no_value_after : (place : Place) → RowDoes place part.ReturnValue terminal.Semi (item.Build action.ReturnNothing ∷ [])
 unfolding kept_as built built_right_side built_statement raised
 no_value_after place kd bytes s b w l = raised_by (record { x = stmt.Return None; n = 0; good = return_nothing_good place 0; is = refl }) l
 
-pub return_value_rows : (place : Place) → Olds place → (k : Terminal) → IfRow (RowDoes place part.ReturnValue k) (after part.ReturnValue k)
+pub return_value_rows : (place : Place) → (k : Terminal) → IfRow (RowDoes place part.ReturnValue k) (after part.ReturnValue k)
 unfolding after
-return_value_rows place olds terminal.Semi = no_value_after place
-return_value_rows place olds terminal.Leaf = value_after place olds terminal.Leaf leaf_row refl
-return_value_rows place olds terminal.Number = value_after place olds terminal.Number leaf_row refl
-return_value_rows place olds terminal.Seconds = value_after place olds terminal.Seconds leaf_row refl
-return_value_rows place olds terminal.Count = value_after place olds terminal.Count leaf_row refl
-return_value_rows place olds terminal.Text = value_after place olds terminal.Text leaf_row refl
-return_value_rows place olds terminal.Instant = value_after place olds terminal.Instant leaf_row refl
-return_value_rows place olds terminal.OpenParen = value_after place olds terminal.OpenParen pair_row refl
-return_value_rows place olds terminal.Version = value_after place olds terminal.Version version_row refl
-return_value_rows place olds terminal.Name = value_after place olds terminal.Name variable_row refl
-return_value_rows place olds terminal.Minus = value_after place olds terminal.Minus sign_row refl
-return_value_rows place olds terminal.Not = value_after place olds terminal.Not sign_row refl
-return_value_rows place olds other = tt
+return_value_rows place terminal.Semi = no_value_after place
+return_value_rows place terminal.Leaf = value_after place terminal.Leaf leaf_row refl
+return_value_rows place terminal.Number = value_after place terminal.Number leaf_row refl
+return_value_rows place terminal.Seconds = value_after place terminal.Seconds leaf_row refl
+return_value_rows place terminal.Count = value_after place terminal.Count leaf_row refl
+return_value_rows place terminal.Text = value_after place terminal.Text leaf_row refl
+return_value_rows place terminal.Instant = value_after place terminal.Instant leaf_row refl
+return_value_rows place terminal.OpenParen = value_after place terminal.OpenParen pair_row refl
+return_value_rows place terminal.Version = value_after place terminal.Version version_row refl
+return_value_rows place terminal.Name = value_after place terminal.Name variable_row refl
+return_value_rows place terminal.Minus = value_after place terminal.Minus sign_row refl
+return_value_rows place terminal.Not = value_after place terminal.Not sign_row refl
+return_value_rows place other = tt
 
 return_after : (place : Place) → RowDoes place part.Inners terminal.Return (item.Part part.ReturnValue ∷ appended)
 unfolding kept_as
@@ -275,27 +283,27 @@ if_after place kd bytes s b w l =
 
 -- ---- all statements of a body
 
-pub inners_rows : (place : Place) → Olds place → (k : Terminal) → IfRow (RowDoes place part.Inners k) (after part.Inners k)
+pub inners_rows : (place : Place) → (k : Terminal) → IfRow (RowDoes place part.Inners k) (after part.Inners k)
 unfolding after kept_as
-inners_rows place olds terminal.Let = let_after place
-inners_rows place olds terminal.Name = name_after place
-inners_rows place olds terminal.If = if_after place
-inners_rows place olds terminal.Return = return_after place
-inners_rows place olds terminal.TAbort = tabort_after place
-inners_rows place olds terminal.Show = show_after place
-inners_rows place olds terminal.Say = said_after place
-inners_rows place olds terminal.PDelete = deleted_after place
-inners_rows place olds terminal.DropVersion = dropped_after place
-inners_rows place olds terminal.Deactivate = deactivated_after place
-inners_rows place olds terminal.PNew = λ kd bytes s b w l. changed_alone place b w (pnew_changes place (done appended) kd bytes b w l)
-inners_rows place olds terminal.NewVersion = λ kd bytes s b w l. changed_alone place b w (newversion_changes place (done appended) kd bytes b w l)
-inners_rows place olds terminal.Activate = λ kd bytes s b w l. changed_alone place b w (activate_changes place (done appended) kd bytes b w l)
-inners_rows place olds terminal.Leaf = call_after place olds terminal.Leaf leaf_front refl
-inners_rows place olds terminal.Number = call_after place olds terminal.Number leaf_front refl
-inners_rows place olds terminal.Seconds = call_after place olds terminal.Seconds leaf_front refl
-inners_rows place olds terminal.Count = call_after place olds terminal.Count leaf_front refl
-inners_rows place olds terminal.Text = call_after place olds terminal.Text leaf_front refl
-inners_rows place olds terminal.Instant = call_after place olds terminal.Instant leaf_front refl
-inners_rows place olds terminal.OpenParen = call_after place olds terminal.OpenParen pair_front refl
-inners_rows place olds terminal.Version = call_after place olds terminal.Version version_front refl
-inners_rows place olds other = tt
+inners_rows place terminal.Let = let_after place
+inners_rows place terminal.Name = name_after place
+inners_rows place terminal.If = if_after place
+inners_rows place terminal.Return = return_after place
+inners_rows place terminal.TAbort = tabort_after place
+inners_rows place terminal.Show = show_after place
+inners_rows place terminal.Say = said_after place
+inners_rows place terminal.PDelete = deleted_after place
+inners_rows place terminal.DropVersion = dropped_after place
+inners_rows place terminal.Deactivate = deactivated_after place
+inners_rows place terminal.PNew = λ kd bytes s b w l. changed_alone place b w (pnew_changes place (done appended) kd bytes b w l)
+inners_rows place terminal.NewVersion = λ kd bytes s b w l. changed_alone place b w (newversion_changes place (done appended) kd bytes b w l)
+inners_rows place terminal.Activate = λ kd bytes s b w l. changed_alone place b w (activate_changes place (done appended) kd bytes b w l)
+inners_rows place terminal.Leaf = call_after place terminal.Leaf leaf_front refl
+inners_rows place terminal.Number = call_after place terminal.Number leaf_front refl
+inners_rows place terminal.Seconds = call_after place terminal.Seconds leaf_front refl
+inners_rows place terminal.Count = call_after place terminal.Count leaf_front refl
+inners_rows place terminal.Text = call_after place terminal.Text leaf_front refl
+inners_rows place terminal.Instant = call_after place terminal.Instant leaf_front refl
+inners_rows place terminal.OpenParen = call_after place terminal.OpenParen pair_front refl
+inners_rows place terminal.Version = call_after place terminal.Version version_front refl
+inners_rows place other = tt

@@ -1,12 +1,12 @@
 -- Statements whose printed text is read as they are, no higher than they were read.
 use Rattle.std.proofs.Common.{◌≡◌, ◌≤◌, ℕ, ◌+◌, max, true, codes, List, [], ◌∷◌, ◌++◌, append_assoc, map, Option, Some, None, refl, sym, ◌∙◌, ap, subst, arith}
-use Rattle.std.specs.List.{flat_map}
 use Rattle.ode_lex.specs.declared.token.Mark.TheVariants as mark
 use Rattle.ode_lex.specs.declared.token.TokenKind.TheVariants as kind
 use Rattle.ode_grammar.specs.declared.item.Action.{Action}
 use Rattle.ode_grammar.specs.declared.item.Action.TheVariants as action
 use Rattle.ode_grammar.specs.declared.item.Item.{Item}
 use Rattle.ode_grammar.specs.declared.item.Item.TheVariants as item
+use Rattle.ode_grammar.specs.declared.item.Part.{Part}
 use Rattle.ode_grammar.specs.declared.item.Part.TheVariants as part
 use Rattle.ode_grammar.specs.declared.terminal.Terminal.{Terminal}
 use Rattle.ode_grammar.specs.declared.terminal.Terminal.TheVariants as terminal
@@ -18,7 +18,7 @@ use Rattle.ode_heights.specs.Heights.{raised}
 use Rattle.ode_terminals.specs.declared.seen.Place.{Place}
 use Rattle.ode_terminals.specs.Words.{word_terminal}
 use Rattle.ode_value.specs.Printing.{expr_text}
-use Rattle.ode_value.specs.PrintedClasses.{body_text, else_part, in_braces, rhs_text, stmt_text, stmt_text_of}
+use Rattle.ode_value.specs.PrintedClasses.{body_text, else_part, rhs_text, stmt_text, stmt_text_of}
 use Rattle.ode_value.specs.Words.{is_free, is_word}
 use Rattle.ode_value.specs.declared.binding.Var.{Var}
 use Rattle.ode_value.specs.declared.binding.Var.TheVariants as var
@@ -30,32 +30,38 @@ use Rattle.ode_value.specs.declared.statement.Stmt.TheVariants as stmt
 use Rattle.ode_value.proofs.PrintLaws.{stmt_text_if}
 use Rattle.ode_syntax.specs.Built.{built, built_right_side, built_statement}
 use Rattle.ode_syntax.specs.Kept.{kept_as, Spelled}
-use Rattle.ode_relex.specs.Ends.{ends_mark}
 use Rattle.ode_reread.proofs.Both.{Both, keep, make}
 use Rattle.ode_reread.proofs.Cuts.{spell}
 use Rattle.ode_reread.proofs.Goods.{free_word, Good}
 use Rattle.ode_reread.proofs.Marked.{bracketed, marked, with_expr, with_name}
 use Rattle.ode_reread.proofs.Prints.{regroup, Ds}
-use Rattle.ode_reread.proofs.Spells.{brackets_spell, ends, ends_marks, opens_append, word_opens, Spells}
-use Rattle.ode_reread_classes.proofs.Chains.{appended, name_next, name_rule}
+use Rattle.ode_reread.proofs.Spells.{brackets_spell, ends, opens_append, word_opens, Spells}
+use Rattle.ode_reread_classes.proofs.Chains.{alone, appended, name_next, name_rule}
 use Rattle.ode_reread_classes.proofs.Derivations.{from, next_mark, skip_nothing, with_tokens}
-use Rattle.ode_reread_classes.proofs.Lists.{elements, one_more, weaker, Each, Element, Elements}
-use Rattle.ode_reread_classes.proofs.Parts.{is_do, up, GoodExpr, GoodRight}
-use Rattle.ode_reread_classes.proofs.Pieces.{begun, between_blanks, blank, closing_mark, expr_spells, join, mark_blank, nothing, of_spells, one_mark, then_blank, to_spells, word, word_begun, worded, Piece}
+use Rattle.ode_reread_classes.proofs.Lists.{braced, braces_open, elements, one_more, weaker, Each, Element, Elements}
+use Rattle.ode_reread_classes.proofs.Parts.{has_owner, is_do, up, GoodExpr, GoodRight}
+use Rattle.ode_reread_classes.proofs.Pieces.{begun, between_blanks, blank, closing_mark, expr_spells, join, mark_blank, nothing, of_spells, then_blank, to_spells, word, word_begun, worded, Piece}
 use Rattle.ode_reread_classes.proofs.Puts.{with_body, with_stmt}
-use Rattle.ode_reread_classes.proofs.SideForms.{printed_right}
+use Rattle.ode_reread_classes.proofs.SideForms.{printed_right, script_side, script_simple, AsDo, AsRight, IsSimple, PrintedRight}
 use Rattle.ode_reread_classes.proofs.Sides.{begins, Begins}
 
--- the tokens are this statement, in a body
-abbrev pub AsInner : Stmt → ℕ → List Spelled → Type 0
-AsInner s n us = (items : List Item) (b : Both) (ts : List Spelled) (out : Both) → Ds (appended ++ items) (with_stmt s n b) ts out → Ds (item.Part part.Inners ∷ items) b (us ++ ts) out
+-- the tokens are this statement at the part, before what follows it
+abbrev pub AsAt : Part → List Item → Stmt → ℕ → List Spelled → Type 0
+AsAt p more s n us = (items : List Item) (b : Both) (ts : List Spelled) (out : Both) → Ds (more ++ items) (with_stmt s n b) ts out → Ds (item.Part p ∷ items) b (us ++ ts) out
 
-pub record GoodStmt (place : Place) (n : ℕ) (s : Stmt) : Type 0 where
+pub record GoodAt (p : Part) (more : List Item) (place : Place) (n : ℕ) (s : Stmt) : Type 0 where
   pub tokens : List Spelled
   pub low : ℕ
   pub no_higher : low ≤ n
   pub spells : Spells place (stmt_text s) tokens
-  pub inner : AsInner s low tokens
+  pub does : AsAt p more s low tokens
+
+-- in a body, and alone in a script
+abbrev pub GoodStmt : Place → ℕ → Stmt → Type 0
+GoodStmt place n s = GoodAt part.Inners appended place n s
+
+abbrev pub GoodAlone : Place → ℕ → Stmt → Type 0
+GoodAlone place n s = GoodAt part.Statement alone place n s
 
 pub stmt_up : (place : Place) (n m : ℕ) (s : Stmt) → n ≤ m → GoodStmt place n s → GoodStmt place m s
 stmt_up place n m s l g = let p = g.no_higher in record {
@@ -63,17 +69,18 @@ stmt_up place n m s l g = let p = g.no_higher in record {
   low = g.low;
   no_higher = omega arith;
   spells = g.spells;
-  inner = g.inner;
+  does = g.does;
 }
 
 -- by its printed text
-stmt_good : (place : Place) (n : ℕ) (s : Stmt) (text : List ℕ) (tokens : List Spelled) (low : ℕ) → stmt_text s ≡ text → low ≤ n → Spells place text tokens → AsInner s low tokens → GoodStmt place n s
+stmt_good : {p : Part} {more : List Item} (place : Place) (n : ℕ) (s : Stmt) (text : List ℕ) (tokens : List Spelled) (low : ℕ) → stmt_text s ≡ text → low ≤ n → Spells place text tokens
+    → AsAt p more s low tokens → GoodAt p more place n s
 stmt_good place n s text tokens low e l p d = record {
   tokens = tokens;
   low = low;
   no_higher = l;
   spells = subst (λ t. Spells place t tokens) (sym e) p;
-  inner = d;
+  does = d;
 }
 
 -- ---- printed statements by their form
@@ -120,21 +127,18 @@ stmt-TAbort = ap stmt_text (sym stmt.rolls-TAbort) ∙ fold-roll-Stmt (List ℕ)
 
 -- ---- an expression behind a word
 
--- a statement of a word and an expression: its terminal and action
-record IsWorded (w : List ℕ) (k : Terminal) (a : Action) (of : Expr → Stmt) : Type 0 where
-  pub row : after part.Inners k ≡ Some (item.Part part.Expr ∷ item.Token terminal.Semi ∷ item.Build a ∷ appended)
-  pub made : (e : Expr) (h : Height) (b : Both) → make a (with_expr e h b) ≡ with_stmt (of e) h.own b
-
-worded_inner : (place : Place) (w : List ℕ) (k : Terminal) (a : Action) (of : Expr → Stmt) → IsWorded w k a of → (t : Spelled) → t.terminal ≡ k
-    → ((b : Both) → keep t b ≡ b) → (e : Expr) (h : Height) → (g : Good place e h) → AsInner (of e) g.low.own (t ∷ (g.tokens ++ marked mark.Semi ∷ []))
+worded_does : (p : Part) (more : List Item) (k : Terminal) (a : Action) (of : Expr → Stmt)
+    → after p k ≡ Some (item.Part part.Expr ∷ item.Token terminal.Semi ∷ item.Build a ∷ more) → ((e : Expr) (h : Height) (b : Both) → make a (with_expr e h b) ≡ with_stmt (of e) h.own b)
+    → (t : Spelled) → t.terminal ≡ k → ((b : Both) → keep t b ≡ b) → (place : Place) (e : Expr) (h : Height) → (g : Good place e h)
+    → AsAt p more (of e) g.low.own (t ∷ (g.tokens ++ marked mark.Semi ∷ []))
 unfolding kept_as
-worded_inner place w k a of i t seen kept e h g items b ts out d =
-    let row = item.Part part.Expr ∷ item.Token terminal.Semi ∷ item.Build a ∷ appended in
-    Rule part.Inners row (ap (after part.Inners) seen ∙ i.row)
+worded_does p more k a of r made t seen kept place e h g items b ts out d =
+    let row = item.Part part.Expr ∷ item.Token terminal.Semi ∷ item.Build a ∷ more in
+    Rule p row (ap (after p) seen ∙ r)
     (from (kept b)
     (regroup g.tokens (marked mark.Semi ∷ []) ts
-    (g.prints.whole (item.Token terminal.Semi ∷ item.Build a ∷ (appended ++ items)) b (marked mark.Semi ∷ ts) out
-    (Next terminal.Semi refl (Make a (from (i.made e g.low b) d))))))
+    (g.prints.whole (item.Token terminal.Semi ∷ item.Build a ∷ (more ++ items)) b (marked mark.Semi ∷ ts) out
+    (Next terminal.Semi refl (Make a (from (made e g.low b) d))))))
 
 worded_spells : (place : Place) (w : List ℕ) (e : Expr) (h : Height) → is_word w ≡ true → (g : Good place e h)
     → Spells place (w ++ codes " " ++ expr_text e ++ codes ";") (spell place kind.Word w ∷ (g.tokens ++ marked mark.Semi ∷ []))
@@ -142,39 +146,40 @@ worded_spells place w e h f g =
     to_spells (opens_append (w ++ codes " " ++ expr_text e) (codes ";") (opens_append (w ++ codes " ") (expr_text e) (opens_append w (codes " ") (word_opens w f))))
     (join (join (worded place w f) (of_spells (expr_spells g)) (begun (expr_spells g))) (closing_mark place mark.Semi) (λ rest x. refl))
 
-say_is : IsWorded (codes "say") terminal.Say action.Say stmt.Say
-unfolding after built built_right_side built_statement raised
-say_is = record { row = refl; made = λ e h b. refl }
+made_say : (e : Expr) (h : Height) (b : Both) → make action.Say (with_expr e h b) ≡ with_stmt (stmt.Say e) h.own b
+unfolding built built_right_side built_statement raised
+made_say e h b = refl
 
-pub say_good : (place : Place) (n : ℕ) (e : Expr) → GoodExpr place n e → GoodStmt place n (stmt.Say e)
+pub say_good : {p : Part} {more : List Item} → IsSimple p more → (place : Place) (n : ℕ) (e : Expr) → GoodExpr place n e → GoodAt p more place n (stmt.Say e)
 unfolding kept_as word_terminal
-say_good place n e g =
+say_good {p = p} {more = more} i place n e g =
     stmt_good place n (stmt.Say e) _ _ g.low.own (stmt-Say e) g.no_higher (worded_spells place (codes "say") e (up n) refl g)
-    (worded_inner place (codes "say") terminal.Say action.Say stmt.Say say_is (spell place kind.Word (codes "say")) refl (λ b. refl) e (up n) g)
+    (worded_does p more terminal.Say action.Say stmt.Say i.say made_say (spell place kind.Word (codes "say")) refl (λ b. refl) place e (up n) g)
 
-delete_is : IsWorded (codes "pdelete") terminal.PDelete action.Delete stmt.Delete
-unfolding after built built_right_side built_statement raised
-delete_is = record { row = refl; made = λ e h b. refl }
+made_delete : (e : Expr) (h : Height) (b : Both) → make action.Delete (with_expr e h b) ≡ with_stmt (stmt.Delete e) h.own b
+unfolding built built_right_side built_statement raised
+made_delete e h b = refl
 
-pub delete_good : (place : Place) (n : ℕ) (e : Expr) → GoodExpr place n e → GoodStmt place n (stmt.Delete e)
+pub delete_good : {p : Part} {more : List Item} → IsSimple p more → (place : Place) (n : ℕ) (e : Expr) → GoodExpr place n e → GoodAt p more place n (stmt.Delete e)
 unfolding kept_as word_terminal
-delete_good place n e g =
+delete_good {p = p} {more = more} i place n e g =
     stmt_good place n (stmt.Delete e) _ _ g.low.own (stmt-Delete e) g.no_higher (worded_spells place (codes "pdelete") e (up n) refl g)
-    (worded_inner place (codes "pdelete") terminal.PDelete action.Delete stmt.Delete delete_is (spell place kind.Word (codes "pdelete")) refl (λ b. refl) e (up n) g)
+    (worded_does p more terminal.PDelete action.Delete stmt.Delete i.pdelete made_delete (spell place kind.Word (codes "pdelete")) refl (λ b. refl) place e (up n) g)
 
-drop_version_is : IsWorded (codes "delversion") terminal.DropVersion action.DropVersion stmt.DropVersion
-unfolding after built built_right_side built_statement raised
-drop_version_is = record { row = refl; made = λ e h b. refl }
+made_drop_version : (e : Expr) (h : Height) (b : Both) → make action.DropVersion (with_expr e h b) ≡ with_stmt (stmt.DropVersion e) h.own b
+unfolding built built_right_side built_statement raised
+made_drop_version e h b = refl
 
-pub drop_version_good : (place : Place) (n : ℕ) (e : Expr) → GoodExpr place n e → GoodStmt place n (stmt.DropVersion e)
+pub drop_version_good : {p : Part} {more : List Item} → IsSimple p more → (place : Place) (n : ℕ) (e : Expr) → GoodExpr place n e → GoodAt p more place n (stmt.DropVersion e)
 unfolding kept_as word_terminal
-drop_version_good place n e g =
+drop_version_good {p = p} {more = more} i place n e g =
     stmt_good place n (stmt.DropVersion e) _ _ g.low.own (stmt-DropVersion e) g.no_higher (worded_spells place (codes "delversion") e (up n) refl g)
-    (worded_inner place (codes "delversion") terminal.DropVersion action.DropVersion stmt.DropVersion drop_version_is (spell place kind.Word (codes "delversion")) refl (λ b. refl) e (up n) g)
+    (worded_does p more terminal.DropVersion action.DropVersion stmt.DropVersion i.dropversion made_drop_version (spell place kind.Word (codes "delversion")) refl (λ b. refl) place e (up n) g)
 
-pub deactivate_good : (place : Place) (n : ℕ) (e f : Expr) → GoodExpr place n e → GoodExpr place n f → GoodStmt place n (stmt.Deactivate e f)
-unfolding after kept_as word_terminal built built_right_side built_statement raised
-deactivate_good place n e f g r = let p = g.no_higher in let q = r.no_higher in
+pub deactivate_good : {p : Part} {more : List Item} → IsSimple p more → (place : Place) (n : ℕ) (e f : Expr) → GoodExpr place n e → GoodExpr place n f
+    → GoodAt p more place n (stmt.Deactivate e f)
+unfolding kept_as word_terminal built built_right_side built_statement raised
+deactivate_good {p = p} {more = more} i place n e f g r = let l = g.no_higher in let m = r.no_higher in
     stmt_good place n (stmt.Deactivate e f) _
     (spell place kind.Word (codes "deactivate") ∷ (((g.tokens ++ marked mark.Comma ∷ []) ++ r.tokens) ++ marked mark.Semi ∷ []))
     (max g.low.own r.low.own) (stmt-Deactivate e f) (omega arith)
@@ -184,11 +189,10 @@ deactivate_good place n e f g r = let p = g.no_higher in let q = r.no_higher in
     (of_spells (expr_spells r)) (begun (expr_spells r)))
     (closing_mark place mark.Semi) (λ rest x. refl)))
     (λ items b ts out d.
-    let semi = item.Token terminal.Semi ∷ item.Build action.Deactivate ∷ (appended ++ items) in
+    let semi = item.Token terminal.Semi ∷ item.Build action.Deactivate ∷ (more ++ items) in
     let second = r.prints.whole semi (with_expr e g.low b) (marked mark.Semi ∷ ts) out (Next terminal.Semi refl (Make action.Deactivate d)) in
     let first = g.prints.whole (item.Token terminal.Comma ∷ item.Part part.Expr ∷ semi) b (marked mark.Comma ∷ (r.tokens ++ marked mark.Semi ∷ ts)) out (Next terminal.Comma refl second) in
-    Rule part.Inners
-    (item.Part part.Expr ∷ item.Token terminal.Comma ∷ item.Part part.Expr ∷ item.Token terminal.Semi ∷ item.Build action.Deactivate ∷ appended) refl
+    Rule p (item.Part part.Expr ∷ item.Token terminal.Comma ∷ item.Part part.Expr ∷ item.Token terminal.Semi ∷ item.Build action.Deactivate ∷ more) i.deactivate
     (with_tokens (sym (regrouped g.tokens r.tokens ts)) first))
   where
     regrouped : (us vs ts : List Spelled)
@@ -236,25 +240,37 @@ set_good place n name r f g =
     (Rule part.InnerName (item.Part part.Rhs ∷ item.Build action.Set ∷ []) refl
     (regroup p.tokens (marked mark.Semi ∷ []) ts (p.right (item.Build action.Set ∷ (appended ++ items)) (with_name name b) ts out (Make action.Set d)))))
 
-pub show_good : (place : Place) (n : ℕ) (r : Rhs) → GoodRight place n r → GoodStmt place n (stmt.Show r)
-unfolding after kept_as word_terminal built built_right_side built_statement raised
-show_good place n r g =
-    let p = printed_right place n r g in
-    stmt_good place n (stmt.Show r) _
-    (spell place kind.Word (codes "show") ∷ (p.tokens ++ marked mark.Semi ∷ [])) p.low (stmt-Show r) p.no_higher
-    (to_spells refl (join (join (worded place (codes "show") refl) (of_spells p.spells) (begun p.spells)) (closing_mark place mark.Semi) (λ rest x. refl)))
+-- shown by a part of right sides
+shown_by : {p : Part} {more : List Item} (q : Part) → after p terminal.Show ≡ Some (item.Part q ∷ item.Build action.Show ∷ more) → (place : Place) (n : ℕ) (r : Rhs)
+    → (x : PrintedRight place n r) → AsRight q r x.low x.tokens → GoodAt p more place n (stmt.Show r)
+unfolding kept_as word_terminal built built_right_side built_statement raised
+shown_by {p = p} {more = more} q row place n r x right =
+    stmt_good place n (stmt.Show r) _ (spell place kind.Word (codes "show") ∷ (x.tokens ++ marked mark.Semi ∷ [])) x.low (stmt-Show r) x.no_higher
+    (to_spells refl (join (join (worded place (codes "show") refl) (of_spells x.spells) (begun x.spells)) (closing_mark place mark.Semi) (λ rest z. refl)))
     (λ items b ts out d.
-    Rule part.Inners (item.Part part.Rhs ∷ item.Build action.Show ∷ appended) refl
-    (regroup p.tokens (marked mark.Semi ∷ []) ts (p.right (item.Build action.Show ∷ (appended ++ items)) b ts out (Make action.Show d))))
+    Rule p (item.Part q ∷ item.Build action.Show ∷ more) row
+    (regroup x.tokens (marked mark.Semi ∷ []) ts (right (item.Build action.Show ∷ (more ++ items)) b ts out (Make action.Show d))))
+
+pub show_good : (place : Place) (n : ℕ) (r : Rhs) → GoodRight place n r → GoodStmt place n (stmt.Show r)
+unfolding after
+show_good place n r g = let x = printed_right place n r g in shown_by part.Rhs refl place n r x x.right
+
+pub show_alone : (place : Place) (n : ℕ) (r : Rhs) → has_owner r ≡ true → GoodRight place n r → GoodAlone place n (stmt.Show r)
+unfolding after
+show_alone place n r o g = let x = printed_right place n r g in shown_by part.ScriptRhs refl place n r x (x.side o part.ScriptRhs script_side)
+
+done_by : {p : Part} {more : List Item} (place : Place) (n : ℕ) (r : Rhs) → (x : PrintedRight place n r) → AsDo p more r x.low x.tokens → GoodAt p more place n (stmt.Do r)
+unfolding kept_as built built_right_side built_statement raised
+done_by place n r x f =
+    stmt_good place n (stmt.Do r) _ (x.tokens ++ marked mark.Semi ∷ []) x.low (stmt-Do r) x.no_higher
+    (to_spells (opens_append (rhs_text r) (codes ";") x.spells.begins) (join (of_spells x.spells) (closing_mark place mark.Semi) (λ rest z. refl)))
+    (λ items b ts out d. regroup x.tokens (marked mark.Semi ∷ []) ts (f items b (marked mark.Semi ∷ ts) out (Next terminal.Semi refl (Make action.Do d))))
 
 pub do_good : (place : Place) (n : ℕ) (r : Rhs) → is_do r ≡ true → GoodRight place n r → GoodStmt place n (stmt.Do r)
-unfolding kept_as built built_right_side built_statement raised
-do_good place n r o g =
-    let p = printed_right place n r g in
-    stmt_good place n (stmt.Do r) _ (p.tokens ++ marked mark.Semi ∷ []) p.low (stmt-Do r) p.no_higher
-    (to_spells (opens_append (rhs_text r) (codes ";") p.spells.begins) (join (of_spells p.spells) (closing_mark place mark.Semi) (λ rest x. refl)))
-    (λ items b ts out d.
-    regroup p.tokens (marked mark.Semi ∷ []) ts (p.alone o items b (marked mark.Semi ∷ ts) out (Next terminal.Semi refl (Make action.Do d))))
+do_good place n r o g = let x = printed_right place n r g in done_by place n r x (x.alone o)
+
+pub do_alone : (place : Place) (n : ℕ) (r : Rhs) → is_do r ≡ true → has_owner r ≡ true → GoodRight place n r → GoodAlone place n (stmt.Do r)
+do_alone place n r o k g = let x = printed_right place n r g in done_by place n r x (x.simple o k part.Statement alone script_simple)
 
 -- ---- what a method returns
 
@@ -321,7 +337,7 @@ statement place n s g = let p = g.no_higher in record {
   no_higher = omega arith;
   piece = join (blank place) (of_spells g.spells) (begun g.spells);
   begins = λ rest. refl;
-  does = λ done k items b ts out d. g.inner items (with_body done k b) ts out (Make action.Append d);
+  does = λ done k items b ts out d. g.does items (with_body done k b) ts out (Make action.Append d);
 }
 
 pub record PrintedBody (place : Place) (n : ℕ) (xs : List Stmt) : Type 0 where
@@ -331,31 +347,19 @@ pub record PrintedBody (place : Place) (n : ℕ) (xs : List Stmt) : Type 0 where
   pub spells : Spells place (body_text xs) tokens
   pub does : (items : List Item) (b : Both) (ts : List Spelled) (out : Both) → Ds items (with_body xs low b) ts out → Ds (body ++ items) b (tokens ++ ts) out
 
-braces : (texts : List (List ℕ)) → in_braces texts ≡ codes "{" ++ flat_map (λ t. codes " " ++ t) texts ++ codes " }"
-braces [] = refl
-braces (text ∷ texts) = refl
-
-closing_brace : (place : Place) → Piece place ends (codes " }") (marked mark.CloseBrace ∷ [])
-closing_brace place = join (blank place) (closing_mark place mark.CloseBrace) (λ rest x. refl)
-
 body_by : (place : Place) (m n : ℕ) (xs : List Stmt) → Elements place with_body (item.Part part.Inners) (codes " ") stmt_text m xs → m ≤ n → 1 ≤ n → PrintedBody place n xs
 unfolding after skipped kept_as built built_right_side built_statement raised
 body_by place m n xs r k l = let p = r.no_higher in record {
   tokens = marked mark.OpenBrace ∷ (r.tokens ++ marked mark.CloseBrace ∷ []);
   low = max 1 r.low;
   no_higher = omega arith;
-  spells = subst (λ t. Spells place t (marked mark.OpenBrace ∷ (r.tokens ++ marked mark.CloseBrace ∷ []))) (sym (braces (map stmt_text xs)))
-      (to_spells refl (join (join (one_mark place mark.OpenBrace) r.piece (brace_begins (map stmt_text xs))) (closing_brace place) (λ rest x. refl)));
+  spells = to_spells (braces_open (map stmt_text xs)) (braced place with_body (item.Part part.Inners) stmt_text m xs r);
   does = λ items b ts out d.
       let close = marked mark.CloseBrace ∷ ts in
       let ended = skip_nothing part.Inners refl (next_mark mark.CloseBrace refl d) in
       Next terminal.OpenBrace refl
       (Make action.Body (regroup r.tokens (marked mark.CloseBrace ∷ []) ts (r.does [] 1 (item.Token terminal.CloseBrace ∷ items) b close out ended)));
 }
-  where
-    brace_begins : (texts : List (List ℕ)) (rest : List ℕ) → ends rest ≡ true → ends_mark (flat_map (λ t. codes " " ++ t) texts ++ rest) ≡ true
-    brace_begins [] rest e = ends_marks rest e
-    brace_begins (t ∷ texts) rest e = refl
 
 pub printed_body : (place : Place) (n : ℕ) (xs : List Stmt) → GoodBody place n xs → PrintedBody place n xs
 printed_body place n xs g =

@@ -113,7 +113,7 @@ second_number q id out = grind (arith, nat_tests)
 
 -- ---- the records of a stored database
 
-five : (c : Row) (r2 r3 r4 r5 r6 r7 r8 r9 : List Row) → (c ∷ r2 ++ r3 ++ r4 ++ r5 ++ r6 ++ r7 ++ r8 ++ r9) ≡ (c ∷ ((r2 ++ (r3 ++ (r4 ++ r5))) ++ (r6 ++ (r7 ++ (r8 ++ r9)))))
+pub five : (c : Row) (r2 r3 r4 r5 r6 r7 r8 r9 : List Row) → (c ∷ r2 ++ r3 ++ r4 ++ r5 ++ r6 ++ r7 ++ r8 ++ r9) ≡ (c ∷ ((r2 ++ (r3 ++ (r4 ++ r5))) ++ (r6 ++ (r7 ++ (r8 ++ r9)))))
 five c r2 r3 r4 r5 r6 r7 r8 r9 = simp append_assoc
 
 -- those of classes

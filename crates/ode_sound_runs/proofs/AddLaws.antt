@@ -30,7 +30,7 @@ use Rattle.ode_sound_laws.specs.Fits.{all_alive, FitsVersion, FitsWorld, FitsEnt
 use Rattle.ode_sound_laws.specs.Typed.{IsTypedWorld}
 use Rattle.ode_sound_laws.proofs.Basics.{if_some_at, if_some_from, map_some, then_some}
 use Rattle.ode_sound_laws.proofs.FitLaws.{of_alive}
-use Rattle.ode_sound_runs.specs.Languages.{AddsSoundly}
+use Rattle.ode_sound_runs.specs.Adding.{AddsSoundly}
 
 module _ (b : Bones) (fit : AreFit b) (c : Declared) (adds : AddsSoundly b.classes c) where
   abbrev more : List Declared

@@ -33,7 +33,7 @@ use Rattle.ode_sound_laws.proofs.WalkCalls.{lives_ends}
 use Rattle.ode_sound_laws.proofs.WalkPosting.{posts_ends, touches_ends}
 use Rattle.ode_sound_laws.proofs.WalkStatements.{first_fits}
 use Rattle.ode_sound_laws.proofs.WorldLaws.{stays, begun_typed, whole_typed, drain_typed}
-use Rattle.ode_sound_runs.specs.Languages.{AddsSoundly}
+use Rattle.ode_sound_runs.specs.Adding.{AddsSoundly}
 use Rattle.ode_sound_runs.proofs.AddLaws.{class_added}
 
 -- ---- settled transactions

@@ -1,1 +1,1 @@
-pub mod Languages
+pub mod Adding

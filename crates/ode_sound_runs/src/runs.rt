@@ -9,7 +9,7 @@ ghost use Rattle.ode_value.specs.Settling.{Settled, transaction};
 ghost use Rattle.ode_value.specs.Transactions.{Script};
 ghost use Rattle.ode_value.specs.Worlds.{Declared, Position};
 ghost use Rattle.ode_sound_laws.specs.Typed.{IsTypedWorld};
-ghost use Rattle.ode_sound_runs.specs.Languages.{AddsSoundly};
+ghost use Rattle.ode_sound_runs.specs.Adding.{AddsSoundly};
 
 /// From a typed world, a tick, a whole run of the clock, and the declaration of a class that is sound behind the earlier ones leave typed
 /// worlds.

@@ -76,9 +76,14 @@ module _ (x : Layer) (y : NumberTx) (r : Ref) (new : Option Tracked) (stands : S
       let o = t.current in
       as_well y tells_version (rest o v) (acts (version_as v) y) (acts_on (version_as v) (object_as id o) y) (finds_object y id (object_as id o) (acts_on (version_as v)) (live_at y id o at true live))
       (follows_spaced x y (keys_by o) stands (object_part id, (version_part id (o.last + 1), tt)) (version_size (values_of v.fields)) (are_fields (values_of v.fields)) (nat_lt o.last version_limit)
-      tells_version (λ keys. Ok (new_version r o, then_x o v keys)) (change_by (version_as v) (object_as id o)) (fields_fit (values_of v.fields) (kept (version_as v) one))
-      (altered id (derived_from (version_as v)) (keys_by o) y, (altered_stands x y id new o (derived v.number (values_of v.fields) o) (derived_from (version_as v)) (keys_by o) stands at
-      (object_part id, (version_part id (o.last + 1), tt)) (λ q. refl) (derived_same id v o) refl, (altered_continues y id (derived_from (version_as v)) (keys_by o), refl))))
+      tells_version (λ keys. Ok (new_version r o, then_x o v keys)) (change_by (version_as v) (object_as id o)) (fields_fit (values_of v.fields) (kept (version_as v) one)) (
+        altered id (derived_from (version_as v)) (keys_by o) y,
+        (
+          altered_stands x y id new o (derived v.number (values_of v.fields) o) (derived_from (version_as v)) (keys_by o) stands at
+              (object_part id, (version_part id (o.last + 1), tt)) (λ q. refl) (derived_same id v o) refl,
+          (altered_continues y id (derived_from (version_as v)) (keys_by o), refl),
+        ),
+      ))
 
 pub derives_law : (classes : List Class) (base : Entries) (x : Layer) (y : NumberTx) (r : Ref) → Stands x y → IsRead classes base x y r.object → HoldsReferences y r
     → Follows y tells_version (derive classes base r x) (derives r y)

@@ -74,9 +74,14 @@ module _ (x : Layer) (y : NumberTx) (r : Ref) (new : Option Tracked) (stands : S
       → Follows y gives (calls.needs (error.LastVersion id) b >>= λ _. held_by t.current v) (tested_by v.number b)
   by_more t v is at true =
       let o = t.current in
-      follows_changes x y (keys_by v.number) stands (version_part id v.number, tt) 0 gives (λ keys. Ok (tt, then_x o v keys)) (alters_object id (less v.number)) none_is_short
-      (altered id (less v.number) (keys_by v.number) y, (altered_stands x y id new o (without v.number o) (less v.number) (keys_by v.number) stands at (version_part id v.number, tt) (λ q. refl)
-      (ap (λ (vs : List versions.Version). record (object_as id o) { versions = vs }) (without_same v.number 0 o.versions (has (object_as id o) at.object).rising)) refl, (altered_continues y id (less v.number) (keys_by v.number), refl)))
+      follows_changes x y (keys_by v.number) stands (version_part id v.number, tt) 0 gives (λ keys. Ok (tt, then_x o v keys)) (alters_object id (less v.number)) none_is_short (
+        altered id (less v.number) (keys_by v.number) y,
+        (
+          altered_stands x y id new o (without v.number o) (less v.number) (keys_by v.number) stands at (version_part id v.number, tt) (λ q. refl)
+              (ap (λ (vs : List versions.Version). record (object_as id o) { versions = vs }) (without_same v.number 0 o.versions (has (object_as id o) at.object).rising)) refl,
+          (altered_continues y id (less v.number) (keys_by v.number), refl),
+        ),
+      )
   by_more t v is at false = (reason.LastVersion id, (refl, refl))
 
   next : (t : Tracked) (v : Version) → object_of new id x ≡ Some t → IsIn y.now id t.current → t.current.live ≡ true → denoted y.now.bones r ≡ Ok (version_as v)

@@ -119,7 +119,7 @@ module _ (x : Layer) (y : NumberTx) (stands : Stands x y) (remembers : Remembers
       → seen.changed_weight now f + weighs_by object_weight (first_at id) ≡ seen.first_weight f + weighs_by kept_weight (now_at id)
   tracked_weighs id now Same at was = ap (λ (w : ℕ). 0 + w) (first_weighs id now was ∙ sym (now_weighs id now at))
   tracked_weighs id now (Other o) at was =
-      balanced (seen.object_weight now) (seen.object_weight o) (weighs_by object_weight (first_at id)) (weighs_by kept_weight (now_at id)) (first_weighs id o was) (now_weighs id now at)
+      balanced (seen.object_weight now) (seen.object_weight o) (weighs_by object_weight (first_at id)) (weighs_by kept_weight (now_at id)) (first_weighs id o was.is) (now_weighs id now at)
   tracked_weighs id now Absent at was =
       balanced (seen.object_weight now) 0 (weighs_by object_weight (first_at id)) (weighs_by kept_weight (now_at id)) (ap (weighs_by object_weight) was.object) (now_weighs id now at)
 
@@ -169,7 +169,7 @@ module _ (x : Layer) (y : NumberTx) (stands : Stands x y) (remembers : Remembers
   grown : bytes_after x + sum_by object_weight y.first.bones.objects ≡ bytes_before x + sum_by kept_weight y.now.bones.objects
   grown =
       let each = total_same n (λ id. weighs seen.weight_after (tracked_at id x) + weighs_by object_weight (first_at id)) (λ id. weighs seen.weight_before (tracked_at id x) + weighs_by kept_weight (now_at id))
-        (λ id less. each_weighs id (tracked_at id x) refl)
+      (λ id less. each_weighs id (tracked_at id x) refl)
       in
       let left = total_sum n (λ id. weighs seen.weight_after (tracked_at id x)) (λ id. weighs_by object_weight (first_at id)) in
       let right = total_sum n (λ id. weighs seen.weight_before (tracked_at id x)) (λ id. weighs_by kept_weight (now_at id)) in
@@ -177,7 +177,7 @@ module _ (x : Layer) (y : NumberTx) (stands : Stands x y) (remembers : Remembers
       ∙ ap (λ (b : ℕ). total n (λ id. weighs seen.weight_after (tracked_at id x)) + b) first_total
       ∙ sym left ∙ each ∙ right
       ∙ sym (ap (λ (a : ℕ). a + sum_by kept_weight y.now.bones.objects) (tracked_total seen.weight_before)
-        ∙ ap (λ (b : ℕ). total n (λ id. weighs seen.weight_before (tracked_at id x)) + b) now_total)
+      ∙ ap (λ (b : ℕ). total n (λ id. weighs seen.weight_before (tracked_at id x)) + b) now_total)
 
   pub grows_law : growth x ≡ pos (weight (kept_bones y.now.bones)) -ℤ pos (weight y.first.bones)
   unfolding weight

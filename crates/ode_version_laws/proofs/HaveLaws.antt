@@ -120,9 +120,9 @@ made_has id class fields = record { some = omega arith; rising = (omega arith, t
 
 -- a layer behind which they have
 abbrev Have : NumberTx → Layer → Type 0
-Have y x = (z : NumberTx) → Stands x z → Continues y z → HaveVersions z
+Have y x = (z : NumberTx) → Stands x z → Continues y z → HaveVersions z.now.bones
 
-module _ (x : Layer) (y : NumberTx) (stands : Stands x y) (have : HaveVersions y) where
+module _ (x : Layer) (y : NumberTx) (stands : Stands x y) (have : HaveVersions y.now.bones) where
   tracked_has : (id : ℕ) (t : Tracked) → tracked_at id x ≡ Some t → Own id t.current
   tracked_has id t is = have id (object_as id t.current) (stands.tracked id t is).object
 
@@ -180,39 +180,39 @@ module _ (x : Layer) (y : NumberTx) (stands : Stands x y) (have : HaveVersions y
 
 -- ---- each call
 
-pub write_has : (classes : List Class) (base : Entries) (x : Layer) (y : NumberTx) (r : Ref) (slot : ℕ) (value : Value) → Stands x y → HaveVersions y → IsRead classes base x y r.object → StillHaveVersions y (write classes base r slot value x)
+pub write_has : (classes : List Class) (base : Entries) (x : Layer) (y : NumberTx) (r : Ref) (slot : ℕ) (value : Value) → Stands x y → HaveVersions y.now.bones → IsRead classes base x y r.object → StillHaveVersions y (write classes base r slot value x)
 write_has classes base x y r slot value stands have found =
     write_leaves (Have y) classes base x r slot value found.object found.read (λ t v fields keys is. put_own x y stands have r.object found.object (written v.number fields t.current) (written_has r.object v.number fields t.current (was_has x y stands have r.object found.object found.is t is)) _ refl)
 
-pub derive_has : (classes : List Class) (base : Entries) (x : Layer) (y : NumberTx) (r : Ref) → Stands x y → HaveVersions y → IsRead classes base x y r.object → StillHaveVersions y (derive classes base r x)
+pub derive_has : (classes : List Class) (base : Entries) (x : Layer) (y : NumberTx) (r : Ref) → Stands x y → HaveVersions y.now.bones → IsRead classes base x y r.object → StillHaveVersions y (derive classes base r x)
 derive_has classes base x y r stands have found =
     derive_leaves (Have y) classes base x r found.object found.read (λ t v keys is. put_own x y stands have r.object found.object (derived v.number (values_of v.fields) t.current) (derived_own r.object v t.current (was_has x y stands have r.object found.object found.is t is)) _ refl)
 
-pub drop_has : (classes : List Class) (base : Entries) (x : Layer) (y : NumberTx) (r : Ref) → Stands x y → HaveVersions y → IsRead classes base x y r.object → StillHaveVersions y (drop_version classes base r x)
+pub drop_has : (classes : List Class) (base : Entries) (x : Layer) (y : NumberTx) (r : Ref) → Stands x y → HaveVersions y.now.bones → IsRead classes base x y r.object → StillHaveVersions y (drop_version classes base r x)
 drop_has classes base x y r stands have found =
     drop_leaves (Have y) classes base x r found.object found.read (λ t v more keys is. put_own x y stands have r.object found.object (without v.number t.current) (without_has r.object v.number t.current more (was_has x y stands have r.object found.object found.is t is)) _ refl)
 
-pub touch_has : (classes : List Class) (base : Entries) (x : Layer) (y : NumberTx) (id : ℕ) → Stands x y → HaveVersions y → IsRead classes base x y id → StillHaveVersions y (touch classes base id x)
+pub touch_has : (classes : List Class) (base : Entries) (x : Layer) (y : NumberTx) (id : ℕ) → Stands x y → HaveVersions y.now.bones → IsRead classes base x y id → StillHaveVersions y (touch classes base id x)
 touch_has classes base x y id stands have found =
     touch_leaves (Have y) classes base x id found.object found.read (stays x y stands have) (λ t keys is. read_has x y stands have id found.object found.is t is _ refl)
 
-pub remove_has : (classes : List Class) (base : Entries) (x : Layer) (y : NumberTx) (id : ℕ) → Stands x y → HaveVersions y → IsRead classes base x y id → StillHaveVersions y (remove classes base id x)
+pub remove_has : (classes : List Class) (base : Entries) (x : Layer) (y : NumberTx) (id : ℕ) → Stands x y → HaveVersions y.now.bones → IsRead classes base x y id → StillHaveVersions y (remove classes base id x)
 remove_has classes base x y id stands have found =
     remove_leaves (Have y) classes base x id found.object found.read (λ t keys is. put_own x y stands have id found.object (dead t.current) (let has = was_has x y stands have id found.object found.is t is in record { some = has.some; rising = has.rising; last = has.last }) _ refl)
 
-pub activate_has : (classes : List Class) (base : Entries) (x : Layer) (y : NumberTx) (id class trigger : ℕ) (args : List Value) → Stands x y → HaveVersions y → IsRead classes base x y id → StillHaveVersions y (activate classes base id class trigger args x)
+pub activate_has : (classes : List Class) (base : Entries) (x : Layer) (y : NumberTx) (id class trigger : ℕ) (args : List Value) → Stands x y → HaveVersions y.now.bones → IsRead classes base x y id → StillHaveVersions y (activate classes base id class trigger args x)
 activate_has classes base x y id class trigger args stands have found =
     activate_leaves (Have y) classes base x id class trigger args found.object found.read (λ t number keys is. put_own x y stands have id found.object (activated (new_active number class trigger args) t.current) (let has = was_has x y stands have id found.object found.is t is in record { some = has.some; rising = has.rising; last = has.last }) _ refl)
 
-pub deactivate_has : (classes : List Class) (base : Entries) (x : Layer) (y : NumberTx) (id number : ℕ) → Stands x y → HaveVersions y → IsRead classes base x y id → StillHaveVersions y (deactivate classes base id number x)
+pub deactivate_has : (classes : List Class) (base : Entries) (x : Layer) (y : NumberTx) (id number : ℕ) → Stands x y → HaveVersions y.now.bones → IsRead classes base x y id → StillHaveVersions y (deactivate classes base id number x)
 deactivate_has classes base x y id number stands have found =
     deactivate_leaves (Have y) classes base x id number found.object found.read (stays x y stands have) (λ t keys is. put_own x y stands have id found.object (switched_off number t.current) (let has = was_has x y stands have id found.object found.is t is in record { some = has.some; rising = has.rising; last = has.last }) _ refl)
 
-pub put_has : (classes : List Class) (base : Entries) (x : Layer) (y : NumberTx) (id : ℕ) (rs : List Running) → Stands x y → HaveVersions y → IsRead classes base x y id → StillHaveVersions y (put_acts classes base id rs x)
+pub put_has : (classes : List Class) (base : Entries) (x : Layer) (y : NumberTx) (id : ℕ) (rs : List Running) → Stands x y → HaveVersions y.now.bones → IsRead classes base x y id → StillHaveVersions y (put_acts classes base id rs x)
 put_has classes base x y id rs stands have found =
     put_leaves (Have y) classes base x id rs found.object found.read (stays x y stands have) (λ t keys is. put_own x y stands have id found.object (with_states rs t.current) (let has = was_has x y stands have id found.object found.is t is in record { some = has.some; rising = has.rising; last = has.last }) _ refl)
 
-pub create_has : (class : ℕ) (fields : List Value) (x : Layer) (y : NumberTx) → Stands x y → HaveVersions y → StillHaveVersions y (create class fields x)
+pub create_has : (class : ℕ) (fields : List Value) (x : Layer) (y : NumberTx) → Stands x y → HaveVersions y.now.bones → StillHaveVersions y (create class fields x)
 create_has class fields x y stands have = create_leaves (Have y) class fields x (λ keys. made_then (tracked_at x.next x) refl _ refl) where
   made_then : (f : Option Tracked) → tracked_at x.next x ≡ f → (x' : Layer) → x'.objects ≡ put_now x.next None (made class fields) x.objects → Have y x'
   made_then f is x' same = put_own x y stands have x.next None (made class fields) (made_has x.next class fields) x' same

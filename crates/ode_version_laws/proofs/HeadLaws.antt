@@ -2,7 +2,8 @@
 use Rattle.std.proofs.Common.{◌≡◌, ◌+◌, ◌<◌, ◌≤◌, ◌==◌, ◌||◌, ℕ, List, [], ◌∷◌, Bool, true, false, cond, find, length, map, option_map, Option, Some, None, Ok, Err, refl, sym, ap, subst, ◌∙◌, arith}
 use Rattle.std.proofs.lemmas.Bool.{eqb-true}
 use Rattle.std.proofs.lemmas.Bool.Decides.{nat_tests}
-use Rattle.std.specs.Prelude.{◌&&◌, nat_le, nat_lt}
+use Rattle.std.specs.Prelude.{nat_le, nat_lt}
+use Rattle.std.specs.Cmp.Derive.{both_true}
 use Rattle.std.specs.List.{AllByRecursion}
 use Rattle.ode_heap.specs.Answering.{class_of, head_of_object}
 use Rattle.ode_heap.specs.declared.object.ObjectHead.{ObjectHead}
@@ -37,25 +38,23 @@ head_same id o = ap (λ (ls : List Listed). record { class = o.class; versions =
 
 -- ---- their versions rise
 
-both : (a b : Bool) → a ≡ true → b ≡ true → (a && b) ≡ true
-both true b p q = q
-both false b p q = absurd (cc)
-
 rise_more : (last low : ℕ) (vs : List versions.Version) → RiseFrom (low + 1) (map (λ (v : versions.Version). v.number) vs) → AllByRecursion (λ (v : versions.Version). v.number ≤ last) vs
     → rise_above last low (map listed vs) ≡ true
 rise_more last low [] rise below = refl
 rise_more last low (v ∷ vs) rise below =
     let up : low + 1 ≤ v.number = rise.0 in
     let down : v.number ≤ last = below.0 in
-    both (nat_lt low v.number) (nat_le v.number last && rise_above last v.number (map listed vs)) (grind (arith, nat_tests))
-    (both (nat_le v.number last) (rise_above last v.number (map listed vs)) (grind (arith, nat_tests)) (rise_more last v.number vs rise.1 below.1))
+    let above : nat_lt low v.number ≡ true = grind (arith, nat_tests) in
+    let within : nat_le v.number last ≡ true = grind (arith, nat_tests) in
+    both_true above (both_true within (rise_more last v.number vs rise.1 below.1))
 
 rises : (last : ℕ) (vs : List versions.Version) → 0 < length vs → RiseFrom 0 (map (λ (v : versions.Version). v.number) vs) → AllByRecursion (λ (v : versions.Version). v.number ≤ last) vs
     → is_rising last (map listed vs) ≡ true
 rises last [] some rise below = absurd (omega (arith, some))
 rises last (v ∷ vs) some rise below =
     let down : v.number ≤ last = below.0 in
-    both (nat_le v.number last) (rise_above last v.number (map listed vs)) (grind (arith, nat_tests)) (rise_more last v.number vs rise.1 below.1)
+    let within : nat_le v.number last ≡ true = grind (arith, nat_tests) in
+    both_true within (rise_more last v.number vs rise.1 below.1)
 
 pub head_sound : (id : ℕ) (o : worlds.Object) → HasVersions o → sound id (head_of_object o) ≡ Ok (head_of_object o)
 head_sound id o has = ap (λ (b : Bool). cond b (Ok (head_of_object o)) (Err (Damaged (object_key id)))) (rises o.last o.versions has.some has.rising has.last)
@@ -83,10 +82,7 @@ found_of None o = newest_of o.versions
 found_of (Some n) o = numbered_of n o.versions
 
 -- a version that is denoted is found by its number, where numbers rise
-abbrev IsFound : List versions.Version → versions.Version → Type 0
-IsFound vs v = version_numbered v.number vs ≡ Some v
-
-pub found_by : (n : ℕ) (vs : List versions.Version) (v : versions.Version) → find (λ (w : versions.Version). w.number == n) vs ≡ Some v → version_numbered n vs ≡ Some v
+found_by : (n : ℕ) (vs : List versions.Version) (v : versions.Version) → find (λ (w : versions.Version). w.number == n) vs ≡ Some v → version_numbered n vs ≡ Some v
 found_by n [] v is = is
 found_by n (w ∷ vs) v is = by_test (w.number == n) is (found_by n vs v) where
   by_test : (b : Bool) → cond b (Some w) (find (λ (w : versions.Version). w.number == n) vs) ≡ Some v
@@ -94,10 +90,11 @@ found_by n (w ∷ vs) v is = by_test (w.number == n) is (found_by n vs v) where
   by_test true e more = e
   by_test false e more = more e
 
-newest_found : (all vs : List versions.Version) (v : versions.Version) → AllByRecursion (λ w. find (λ (u : versions.Version). u.number == w.number) all ≡ Some w) vs → newest vs ≡ Some v → IsFound all v
-newest_found all [] v each is = absurd (cc)
-newest_found all (w ∷ []) v each is = let same : w ≡ v = cc in subst (IsFound all) same (found_by w.number all w each.0)
-newest_found all (w ∷ u ∷ vs) v each is = newest_found all (u ∷ vs) v each.1 is
+-- what holds of all versions holds of the newest one
+pub newest_of_all : (P : versions.Version → Type 0) (vs : List versions.Version) (v : versions.Version) → AllByRecursion P vs → newest vs ≡ Some v → P v
+newest_of_all P [] v all is = absurd (cc)
+newest_of_all P (w ∷ []) v all is = let same : w ≡ v = cc in subst P same all.0
+newest_of_all P (w ∷ u ∷ vs) v all is = newest_of_all P (u ∷ vs) v all.1 is
 
 numbered_found : (n : ℕ) (vs : List versions.Version) (v : versions.Version) → version_numbered n vs ≡ Some v → v.number ≡ n
 numbered_found n [] v is = absurd (cc)
@@ -108,7 +105,9 @@ numbered_found n (w ∷ vs) v is = by_test (w.number == n) (eqb-true w.number n)
 
 pub denoted_found : (number : Option ℕ) (vs : List versions.Version) (v : versions.Version) → RiseFrom 0 (map (λ (w : versions.Version). w.number) vs) → version_of number vs ≡ Some v
     → version_numbered v.number vs ≡ Some v
-denoted_found None vs v rise is = newest_found vs vs v (find_rising (λ (w : versions.Version). w.number) 0 vs rise) is
+denoted_found None vs v rise is =
+    found_by v.number vs v
+    (newest_of_all (λ w. find (λ (u : versions.Version). u.number == w.number) vs ≡ Some w) vs v (find_rising (λ (w : versions.Version). w.number) 0 vs rise) is)
 denoted_found (Some n) vs v rise is = ap (λ (m : ℕ). version_numbered m vs) (numbered_found n vs v is) ∙ is
 
 -- ---- classes

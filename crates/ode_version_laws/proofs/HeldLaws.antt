@@ -21,12 +21,12 @@ in_stored l records w held P is = subst P (sym held.world.stands.bones) is
 -- the clauses of the heap's law
 pub shows_law : ((l : Language) (records : List Row) (w : ListWorld) (id : ℕ) → HoldsCounted l records w → object_in records id ≡ There (option_map head_of_object (object_numbered id w.bones.objects)))
     → ((l : Language) (records : List Row) (w : ListWorld) (id number : ℕ) (o : Object) (class : Class) → HoldsCounted l records w → object_numbered id w.bones.objects ≡ Some o
-      → class_numbered o.class w.bones.classes ≡ Some class → version_in records id number class ≡ There (option_map (λ (v : Version). v.fields) (version_numbered number o.versions)))
+    → class_numbered o.class w.bones.classes ≡ Some class → version_in records id number class ≡ There (option_map (λ (v : Version). v.fields) (version_numbered number o.versions)))
     → (l : Language) (records : List Row) (w : ListWorld) (held : HoldsCounted l records w) → Shows records held.world.stored.world
 shows_law objects versions l records w held = record {
   object = λ id. in_stored l records w held (λ b. object_in records id ≡ There (option_map head_of_object (object_numbered id b.objects))) (objects l records w id held);
   version = λ id number o class is its.
-    versions l records w id number o class held (ap (λ (b : Bones). object_numbered id b.objects) (sym held.world.stands.bones) ∙ is) (ap (λ (b : Bones). class_numbered o.class b.classes) (sym held.world.stands.bones) ∙ its);
+      versions l records w id number o class held (ap (λ (b : Bones). object_numbered id b.objects) (sym held.world.stands.bones) ∙ is) (ap (λ (b : Bones). class_numbered o.class b.classes) (sym held.world.stands.bones) ∙ its);
 }
 
 pub held_settled : (l : Language) (records : List Row) (w : ListWorld) (held : HoldsCounted l records w) → AreSettled held.world.stored.world

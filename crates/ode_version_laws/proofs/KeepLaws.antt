@@ -1,5 +1,5 @@
 -- Each call leaves an overlay that remembers.
-use Rattle.std.proofs.Common.{◌≡◌, ℕ, List, option_map, Option, Some, None, Ok, refl, sym, subst, ◌∙◌}
+use Rattle.std.proofs.Common.{◌≡◌, ℕ, List, option_map, Option, Some, None, Ok, refl, sym, subst, ◌∙◌, ◌≤◌, le_refl, arith}
 use Rattle.ode_heap.specs.Answers.{Found, There, Broken}
 use Rattle.ode_keep.specs.Entries.{Entries}
 use Rattle.ode_laws.specs.Alike.{NumberTx, NumberWorld}
@@ -22,7 +22,7 @@ use Rattle.ode_version_laws.proofs.CallLaws.{activate_leaves, create_leaves, dea
 use Rattle.ode_version_laws.proofs.RememberLaws.{remembers_changed, remembers_read}
 use Rattle.ode_version_laws.specs.Denoting.{IsRead}
 use Rattle.ode_version_laws.specs.Leaving.{StillRemembers}
-use Rattle.ode_version_laws.specs.Remembering.{IsKnown, Remembers, WasFirst}
+use Rattle.ode_version_laws.specs.Remembering.{IsKnown, NeverFalls, Remembers, WasFirst}
 
 -- ---- what was read
 
@@ -53,8 +53,8 @@ module _ (classes : List Class) (base : Entries) (x : Layer) (y : NumberTx) (id 
     is_known : (t : Tracked) → object_of new id x ≡ Some t → IsKnown w id (object_of new id x)
     is_known t is = subst (IsKnown w id) (sym is) (known new found.read found.is t is)
 
-    put : (t : Tracked) → object_of new id x ≡ Some t → (o : Object) (keys : List Key) → Remembers (with_now id new o keys x).objects w
-    put t is o keys = remembers_changed w x.objects id remembers new o (is_known t is)
+    put : (t : Tracked) → object_of new id x ≡ Some t → (o : Object) → t.current.last ≤ o.last → (keys : List Key) → Remembers (with_now id new o keys x).objects w
+    put t is o rises keys = remembers_changed w x.objects id remembers new o (is_known t is) (subst (λ (f : Option Tracked). NeverFalls f o) (sym is) rises)
 
     put_read : (t : Tracked) → object_of new id x ≡ Some t → (keys : List Key) → Remembers (touched_with new keys id x).objects w
     put_read t is keys = remembers_read w x.objects id remembers new (is_known t is)
@@ -63,15 +63,15 @@ module _ (classes : List Class) (base : Entries) (x : Layer) (y : NumberTx) (id 
 
 pub write_keeps : (classes : List Class) (base : Entries) (x : Layer) (y : NumberTx) (r : Ref) (slot : ℕ) (value : Value) → Stands x y → Remembers x.objects y.first → IsRead classes base x y r.object → StillRemembers y.first (write classes base r slot value x)
 write_keeps classes base x y r slot value stands remembers found =
-    write_leaves (λ (x : Layer). Remembers x.objects y.first) classes base x r slot value found.object found.read (λ t v fields keys is. put classes base x y r.object stands remembers found t is (written v.number fields t.current) keys)
+    write_leaves (λ (x : Layer). Remembers x.objects y.first) classes base x r slot value found.object found.read (λ t v fields keys is. put classes base x y r.object stands remembers found t is (written v.number fields t.current) (le_refl t.current.last) keys)
 
 pub derive_keeps : (classes : List Class) (base : Entries) (x : Layer) (y : NumberTx) (r : Ref) → Stands x y → Remembers x.objects y.first → IsRead classes base x y r.object → StillRemembers y.first (derive classes base r x)
 derive_keeps classes base x y r stands remembers found =
-    derive_leaves (λ (x : Layer). Remembers x.objects y.first) classes base x r found.object found.read (λ t v keys is. put classes base x y r.object stands remembers found t is (derived v.number (values_of v.fields) t.current) keys)
+    derive_leaves (λ (x : Layer). Remembers x.objects y.first) classes base x r found.object found.read (λ t v keys is. put classes base x y r.object stands remembers found t is (derived v.number (values_of v.fields) t.current) (omega arith) keys)
 
 pub drop_keeps : (classes : List Class) (base : Entries) (x : Layer) (y : NumberTx) (r : Ref) → Stands x y → Remembers x.objects y.first → IsRead classes base x y r.object → StillRemembers y.first (drop_version classes base r x)
 drop_keeps classes base x y r stands remembers found =
-    drop_leaves (λ (x : Layer). Remembers x.objects y.first) classes base x r found.object found.read (λ t v more keys is. put classes base x y r.object stands remembers found t is (without v.number t.current) keys)
+    drop_leaves (λ (x : Layer). Remembers x.objects y.first) classes base x r found.object found.read (λ t v more keys is. put classes base x y r.object stands remembers found t is (without v.number t.current) (le_refl t.current.last) keys)
 
 pub touch_keeps : (classes : List Class) (base : Entries) (x : Layer) (y : NumberTx) (id : ℕ) → Stands x y → Remembers x.objects y.first → IsRead classes base x y id → StillRemembers y.first (touch classes base id x)
 touch_keeps classes base x y id stands remembers found =
@@ -79,23 +79,27 @@ touch_keeps classes base x y id stands remembers found =
 
 pub remove_keeps : (classes : List Class) (base : Entries) (x : Layer) (y : NumberTx) (id : ℕ) → Stands x y → Remembers x.objects y.first → IsRead classes base x y id → StillRemembers y.first (remove classes base id x)
 remove_keeps classes base x y id stands remembers found =
-    remove_leaves (λ (x : Layer). Remembers x.objects y.first) classes base x id found.object found.read (λ t keys is. put classes base x y id stands remembers found t is (dead t.current) keys)
+    remove_leaves (λ (x : Layer). Remembers x.objects y.first) classes base x id found.object found.read (λ t keys is. put classes base x y id stands remembers found t is (dead t.current) (le_refl t.current.last) keys)
 
 pub activate_keeps : (classes : List Class) (base : Entries) (x : Layer) (y : NumberTx) (id class trigger : ℕ) (args : List Value) → Stands x y → Remembers x.objects y.first → IsRead classes base x y id → StillRemembers y.first (activate classes base id class trigger args x)
 activate_keeps classes base x y id class trigger args stands remembers found =
-    activate_leaves (λ (x : Layer). Remembers x.objects y.first) classes base x id class trigger args found.object found.read (λ t number keys is. put classes base x y id stands remembers found t is (activated (new_active number class trigger args) t.current) keys)
+    activate_leaves (λ (x : Layer). Remembers x.objects y.first) classes base x id class trigger args found.object found.read (λ t number keys is. put classes base x y id stands remembers found t is (activated (new_active number class trigger args) t.current) (le_refl t.current.last) keys)
 
 pub deactivate_keeps : (classes : List Class) (base : Entries) (x : Layer) (y : NumberTx) (id number : ℕ) → Stands x y → Remembers x.objects y.first → IsRead classes base x y id → StillRemembers y.first (deactivate classes base id number x)
 deactivate_keeps classes base x y id number stands remembers found =
-    deactivate_leaves (λ (x : Layer). Remembers x.objects y.first) classes base x id number found.object found.read remembers (λ t keys is. put classes base x y id stands remembers found t is (switched_off number t.current) keys)
+    deactivate_leaves (λ (x : Layer). Remembers x.objects y.first) classes base x id number found.object found.read remembers (λ t keys is. put classes base x y id stands remembers found t is (switched_off number t.current) (le_refl t.current.last) keys)
 
 pub put_keeps : (classes : List Class) (base : Entries) (x : Layer) (y : NumberTx) (id : ℕ) (rs : List Running) → Stands x y → Remembers x.objects y.first → IsRead classes base x y id → StillRemembers y.first (put_acts classes base id rs x)
 put_keeps classes base x y id rs stands remembers found =
-    put_leaves (λ (x : Layer). Remembers x.objects y.first) classes base x id rs found.object found.read remembers (λ t keys is. put classes base x y id stands remembers found t is (with_states rs t.current) keys)
+    put_leaves (λ (x : Layer). Remembers x.objects y.first) classes base x id rs found.object found.read remembers (λ t keys is. put classes base x y id stands remembers found t is (with_states rs t.current) (le_refl t.current.last) keys)
 
 pub create_keeps : (class : ℕ) (fields : List Value) (x : Layer) (y : NumberTx) → Stands x y → Remembers x.objects y.first → IsNewNumber x y x.next → StillRemembers y.first (create class fields x)
 create_keeps class fields x y stands remembers new =
-    create_leaves (λ (x : Layer). Remembers x.objects y.first) class fields x (λ keys. remembers_changed y.first x.objects x.next remembers None (made class fields) (new_known (tracked_at x.next x) refl)) where
+    create_leaves (λ (x : Layer). Remembers x.objects y.first) class fields x (λ keys. remembers_changed y.first x.objects x.next remembers None (made class fields) (new_known (tracked_at x.next x) refl) (new_falls (tracked_at x.next x) refl)) where
       new_known : (f : Option Tracked) → tracked_at x.next x ≡ f → IsKnown y.first x.next f
       new_known None is = let same = stands.others x.next is in record { object = sym same.object ∙ new.object; kept = sym same.kept ∙ new.kept }
       new_known (Some t) is = remembers.first x.next t is
+
+      new_falls : (f : Option Tracked) → tracked_at x.next x ≡ f → NeverFalls f (made class fields)
+      new_falls None is = tt
+      new_falls (Some t) is = let there = (stands.tracked x.next t is).object in absurd (cc (there, new.object))

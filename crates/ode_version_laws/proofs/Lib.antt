@@ -9,12 +9,14 @@ mod ReadLaws
 mod SumLaws
 mod SettledLaws
 mod HeldLaws
-mod TrackedMaps
+pub mod TrackedMaps
 mod RememberLaws
 mod CallLaws
 mod KeepLaws
 mod HaveLaws
 mod RewoundRows
 mod RewindLaws
+mod RewoundVersions
 mod WeightLaws
 mod GrowthLaws
+mod HoldingLaws

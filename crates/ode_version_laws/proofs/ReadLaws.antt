@@ -168,7 +168,7 @@ module _ (base : Entries) (x : Layer) (y : NumberTx) (r : Ref) (slot : ℕ) (sta
     by_declared (Some c) is some =
         ap (λ (f : Option Class). from_records (there_at (object_key id) f) >>= by_class v.number) (class_same o.class y.first.bones.classes ∙ is)
         ∙ ap (λ (f : Found (Option (List Value))). from_records (heap.◌>>=◌ f (there_at (version_key id v.number))) >>= seen.field_of (version_key id v.number) slot)
-          (shows.version id v.number o c first is ∙ ap (λ (w : Option versions.Version). There (option_map (λ (u : versions.Version). u.fields) w)) found)
+        (shows.version id v.number o c first is ∙ ap (λ (w : Option versions.Version). There (option_map (λ (u : versions.Version). u.fields) w)) found)
 
   first_object : (o : worlds.Object) → (r.object == 0) ≡ false → object_numbered id y.first.bones.objects ≡ Some o → object_numbered id y.now.bones.objects ≡ Some o
       → Is (by_sound (head_of_object o)) (field_of y.now.bones slot r)

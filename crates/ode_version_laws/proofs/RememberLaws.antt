@@ -1,5 +1,5 @@
 -- What objects were is remembered over changes.
-use Rattle.std.proofs.Common.{◌≡◌, ℕ, List, [], Bool, true, false, cond, Option, Some, None, refl, sym, subst, ◌∙◌}
+use Rattle.std.proofs.Common.{◌≡◌, ◌≤◌, ℕ, List, [], Bool, true, false, cond, Option, Some, None, refl, sym, subst, ◌∙◌, le_trans}
 use Rattle.std.proofs.lemmas.Cmp.{nat_cmp_total}
 use Rattle.std.specs.BTreeMap.{insert_entry, is_at}
 use Rattle.std.specs.List.Sorted.{IsStrictlySortedBy}
@@ -14,7 +14,7 @@ use Rattle.ode_objects.specs.declared.tracked.First.TheVariants.{Same, Other, Ab
 use Rattle.ode_objects.specs.declared.tracked.Tracked.{Tracked}
 use Rattle.ode_overlay.specs.Changing.{either, now_tracked, put_new, put_now}
 use Rattle.ode_overlay_laws.proofs.AlteredLaws.{at_same}
-use Rattle.ode_version_laws.specs.Remembering.{IsKnown, Remembers, WasFirst}
+use Rattle.ode_version_laws.specs.Remembering.{IsKnown, NeverFalls, Remembers, WasFirst}
 
 pub remembers_none : (w : NumberWorld) → Remembers [] w
 unfolding IsStrictlySortedBy
@@ -35,26 +35,26 @@ module _ (w : NumberWorld) (objects : List (ℕ × Tracked)) (id : ℕ) (remembe
       by_test n u false at e = remembers.first n u e
 
   -- a change leaves what was
-  was_first : (now was : Object) (f : First) → WasFirst w id was f → WasFirst w id now (as_first was f)
-  was_first now was Same is = is
-  was_first now was (Other o) is = is
-  was_first now was Absent is = is
+  was_first : (now was : Object) (f : First) → was.last ≤ now.last → WasFirst w id was f → WasFirst w id now (as_first was f)
+  was_first now was Same rises is = record { is = is; last = rises }
+  was_first now was (Other o) rises is = record { is = is.is; last = le_trans is.last rises }
+  was_first now was Absent rises is = is
 
-  was_known : (now : Object) (f : Option Tracked) → IsKnown w id f → let t = now_tracked now f in WasFirst w id t.current t.first
-  was_known now None known = known
-  was_known now (Some t) known = was_first now t.current t.first known
+  was_known : (now : Object) (f : Option Tracked) → NeverFalls f now → IsKnown w id f → let t = now_tracked now f in WasFirst w id t.current t.first
+  was_known now None rises known = known
+  was_known now (Some t) rises known = was_first now t.current t.first rises known
 
-  pub remembers_changed : (new : Option Tracked) (now : Object) → IsKnown w id (either new (lookup (is_at (nat_cmp id)) objects)) → Remembers (put_now id new now objects) w
-  remembers_changed new now known =
-      remembers_put (now_tracked now (either new (lookup (is_at (nat_cmp id)) objects))) (was_known now (either new (lookup (is_at (nat_cmp id)) objects)) known)
+  pub remembers_changed : (new : Option Tracked) (now : Object) → let f = either new (lookup (is_at (nat_cmp id)) objects) in IsKnown w id f → NeverFalls f now → Remembers (put_now id new now objects) w
+  remembers_changed new now known rises =
+      remembers_put (now_tracked now (either new (lookup (is_at (nat_cmp id)) objects))) (was_known now (either new (lookup (is_at (nat_cmp id)) objects)) rises known)
 
   pub remembers_read : (new : Option Tracked) → IsKnown w id (either new (lookup (is_at (nat_cmp id)) objects)) → Remembers (put_new id new objects) w
   remembers_read None known = remembers
   remembers_read (Some t) known = remembers_put t known
 
 pub changed_law : (w : NumberWorld) (objects : List (ℕ × Tracked)) (id : ℕ) (new : Option Tracked) (now : Object) → Remembers objects w
-    → IsKnown w id (either new (lookup (is_at (nat_cmp id)) objects)) → Remembers (put_now id new now objects) w
-changed_law w objects id new now remembers known = remembers_changed w objects id remembers new now known
+    → IsKnown w id (either new (lookup (is_at (nat_cmp id)) objects)) → NeverFalls (either new (lookup (is_at (nat_cmp id)) objects)) now → Remembers (put_now id new now objects) w
+changed_law w objects id new now remembers known rises = remembers_changed w objects id remembers new now known rises
 
 pub read_law : (w : NumberWorld) (objects : List (ℕ × Tracked)) (id : ℕ) (new : Option Tracked) → Remembers objects w
     → IsKnown w id (either new (lookup (is_at (nat_cmp id)) objects)) → Remembers (put_new id new objects) w

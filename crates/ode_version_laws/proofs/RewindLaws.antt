@@ -86,7 +86,7 @@ module _ (tables : ℕ → ℕ → Table) (x : Layer) (y : NumberTx) (stands : S
       subst (λ (u : Tracked). IsIn left id u.current) one (subst (IsIn left id) same (left_in id now now was at))
   tracked_left id now (Other o) at was t is =
       let one : record { first = Other o; current = rewound_object classes o now } ≡ t = cc in
-      subst (λ (u : Tracked). IsIn left id u.current) one (left_in id o now was at)
+      subst (λ (u : Tracked). IsIn left id u.current) one (left_in id o now was.is at)
   tracked_left id now Absent at was t is = absurd (cc)
 
   -- one that isn't
@@ -161,7 +161,7 @@ module _ (classes : List Class) (w : NumberWorld) where
     by_first : (now : Object) (f : First) → WasFirst w id now f → rewound classes (record { first = f; current = now }) ≡ Some u → WasFirst w id u.current u.first
     by_first now Same was is = let one : record { first = Same; current = now } ≡ u = cc in subst (λ (v : Tracked). WasFirst w id v.current v.first) one was
     by_first now (Other o) was is =
-        let one : record { first = Other o; current = rewound_object classes o now } ≡ u = cc in subst (λ (v : Tracked). WasFirst w id v.current v.first) one was
+        let one : record { first = Other o; current = rewound_object classes o now } ≡ u = cc in subst (λ (v : Tracked). WasFirst w id v.current v.first) one (record { is = was.is; last = was.last })
     by_first now Absent was is = absurd (cc)
 
   -- each of these was in the first world

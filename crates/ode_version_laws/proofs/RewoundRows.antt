@@ -86,7 +86,7 @@ module _ (tables : ℕ → ℕ → Table) (declared : List Declared) (now : List
 
     by_class : (c : Option Class)
         → option_map_or (λ w. states a.number w a.state)
-          (option_map (λ t. watch_of t a.args) (option_map (λ t. trigger_of a.class (a.trigger, t)) (option_and_then (λ (c : Class). slice_get c.triggers a.trigger) c))) a.state
+        (option_map (λ t. watch_of t a.args) (option_map (λ t. trigger_of a.class (a.trigger, t)) (option_and_then (λ (c : Class). slice_get c.triggers a.trigger) c))) a.state
         ≡ cond (sees_in c a.trigger) (state_in now a) a.state
     by_class None = refl
     by_class (Some c) = by_trigger (slice_get c.triggers a.trigger)
@@ -97,8 +97,8 @@ module _ (tables : ℕ → ℕ → Table) (declared : List Declared) (now : List
   rows_left o [] each = refl
   rows_left o (a ∷ more) each =
       let row : changed_row states (watch_at declared o) (row_of a) ≡ row_of (rewound_active classes now a) =
-        ap (λ (f : Option Activation). (a.number, option_map_or (λ w. states a.number w a.state) (option_and_then (watch_by declared) f) a.state)) each.0
-        ∙ ap (λ (s : ℕ). (a.number, s)) (state_left a)
+      ap (λ (f : Option Activation). (a.number, option_map_or (λ w. states a.number w a.state) (option_and_then (watch_by declared) f) a.state)) each.0
+      ∙ ap (λ (s : ℕ). (a.number, s)) (state_left a)
       in
       ap (λ (r : ℕ × ℕ). r ∷ changed_rows states declared o (rows_of more)) row
       ∙ ap (λ (rs : List (ℕ × ℕ)). row_of (rewound_active classes now a) ∷ rs) (rows_left o more each.1)
@@ -128,7 +128,7 @@ module _ (classes : List Class) where
   unchanged all [] each = refl
   unchanged all (a ∷ more) each =
       let state : (rewound_active classes all a).state ≡ a.state =
-        ap (λ (f : Option Active). cond (is_whole classes a) (option_map_or (λ (b : Active). b.state) f a.state) a.state) each.0 ∙ whole_or_not (is_whole classes a) a.state
+      ap (λ (f : Option Active). cond (is_whole classes a) (option_map_or (λ (b : Active). b.state) f a.state) a.state) each.0 ∙ whole_or_not (is_whole classes a) a.state
       in
       ap (λ (s : ℕ). record a { state = s } ∷ map (rewound_active classes all) more) state ∙ ap (λ (acts : List Active). a ∷ acts) (unchanged all more each.1)
 
@@ -152,10 +152,10 @@ module _ (tables : ℕ → ℕ → Table) (declared : List Declared) where
   rows_unchanged o all [] each = refl
   rows_unchanged o all (row ∷ rows) each =
       let now : unwrap_or (kept_at row.0 all) row.1 ≡ row.1 =
-        ap (λ (f : Option ℕ). unwrap_or f row.1) (kept_find row.0 all ∙ ap (option_map (λ (r : ℕ × ℕ). r.1)) each.0)
+      ap (λ (f : Option ℕ). unwrap_or f row.1) (kept_find row.0 all ∙ ap (option_map (λ (r : ℕ × ℕ). r.1)) each.0)
       in
       let one : changed_row (back (numbers tables) all) (watch_at declared o) row ≡ row =
-        ap (λ (s : ℕ). (row.0, option_map_or (λ (w : Watch). cond w.whole s row.1) (watch_at declared o row.0) row.1)) now ∙ ap (λ (s : ℕ). (row.0, s)) (by_watch row.1 (watch_at declared o row.0))
+      ap (λ (s : ℕ). (row.0, option_map_or (λ (w : Watch). cond w.whole s row.1) (watch_at declared o row.0) row.1)) now ∙ ap (λ (s : ℕ). (row.0, s)) (by_watch row.1 (watch_at declared o row.0))
       in
       ap (λ (r : ℕ × ℕ). r ∷ changed_rows (back (numbers tables) all) declared o rows) one ∙ ap (λ (rs : List (ℕ × ℕ)). row ∷ rs) (rows_unchanged o all rows each.1)
     where

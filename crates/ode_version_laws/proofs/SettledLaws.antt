@@ -1,17 +1,21 @@
 -- Good worlds are settled.
-use Rattle.std.proofs.Common.{◌≡◌, ◌==◌, ℕ, List, [], ◌∷◌, Bool, true, false, cond, Option, Some, refl, sym, ap, subst, ◌∙◌}
+use Rattle.std.proofs.Common.{◌≡◌, ◌≤◌, ◌==◌, ℕ, List, [], ◌∷◌, Bool, true, false, cond, Option, None, Some, refl, sym, ap, subst, ◌∙◌}
 use Rattle.std.specs.List.{AllByRecursion, AllZip}
+use Rattle.std.specs.Option.{IfSome, IsSome}
 use Rattle.ode_codec.specs.Standing.{ArePasts, AreStates, StandsAs}
 use Rattle.ode_laws.proofs.Each.{all-then}
 use Rattle.ode_laws.specs.Alike.{NumberWorld}
 use Rattle.ode_value.specs.Denoting.{object_numbered}
-use Rattle.ode_value.specs.GoodWorlds.{IsActivation, IsGood, IsObject}
+use Rattle.ode_value.specs.GoodWorlds.{IsActivation, IsGood, IsObject, IsVersion}
 use Rattle.ode_value.specs.Language.{Language, ListWorld}
 use Rattle.ode_value.specs.Objects.{Activation, Histories, Starts}
 use Rattle.ode_value.specs.Pasts.{Kept}
 use Rattle.ode_value.specs.Tables.{Table}
-use Rattle.ode_value.specs.Worlds.{Bones, Declared, Object, kept_at}
+use Rattle.ode_value.specs.Versions.{Version}
+use Rattle.ode_value.specs.Worlds.{Bones, Declared, Object, class_numbered, kept_at}
+use Rattle.ode_value.specs.declared.class.Class.{Class}
 use Rattle.ode_version_laws.proofs.SumLaws.{all_numbered}
+use Rattle.ode_version_laws.specs.Denoting.{HaveVersions}
 use Rattle.ode_version_laws.specs.Showing.{AreSettled, IsSettled}
 
 abbrev IsRowOf : Activation → ℕ × ℕ → Type 0
@@ -67,3 +71,14 @@ settled_law l tables v w good stands = λ id o is.
     let objects : AllByRecursion (IsObject v.bones) v.bones.objects = subst (λ (b : Bones). AllByRecursion (IsObject b) b.objects) (sym stands.bones) good.bones.objects in
     good_object v id o (all_numbered (IsObject v.bones) id v.bones.objects o objects is)
     (past_of tables w.bones.classes id o w.bones.objects v.pasts w.pasts stands.pasts (ap (λ (b : Bones). object_numbered id b.objects) (sym stands.bones) ∙ is))
+
+-- their objects have versions
+below_last : (b : Bones) (last : ℕ) (vs : List Version) (f : Option Class) → IsSome f → IfSome f (λ c. AllByRecursion (IsVersion b c last) vs) → AllByRecursion (λ (v : Version). v.number ≤ last) vs
+below_last b last vs None some all = absurd (cc)
+below_last b last vs (Some c) some all = all-then (IsVersion b c last) (λ (v : Version). v.number ≤ last) (λ v is. is.number) vs all
+
+pub versions_law : (l : Language) (tables : ℕ → ℕ → Table) (v : NumberWorld) (w : ListWorld) → IsGood l w → StandsAs tables v w → HaveVersions v.bones
+versions_law l tables v w good stands = λ id o is.
+    let objects : AllByRecursion (IsObject v.bones) v.bones.objects = subst (λ (b : Bones). AllByRecursion (IsObject b) b.objects) (sym stands.bones) good.bones.objects in
+    let known = all_numbered (IsObject v.bones) id v.bones.objects o objects is in
+    record { some = known.some; rising = known.rising; last = below_last v.bones o.last o.versions (class_numbered o.class v.bones.classes) known.class known.versions }

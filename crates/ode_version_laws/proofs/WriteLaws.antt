@@ -1,10 +1,11 @@
 -- Fields of versions are set, in the overlay and in the machine.
 use Rattle.std.proofs.Common.{◌≡◌, ℕ, zero, suc, List, [], ◌∷◌, Bool, true, false, length, map, nat_lt, slice_get, Option, Some, None, Ok, Err, refl, sym, ap, subst, ◌∙◌, arith}
 use Rattle.std.proofs.lemmas.Bool.Decides.{nat_tests}
-use Rattle.std.specs.Prelude.{◌&&◌}
+use Rattle.std.specs.Cmp.Derive.{both_true}
 use Rattle.std.specs.List.{slice_set}
 use Rattle.ode_keep.specs.Entries.{Entries}
 use Rattle.ode_laws.specs.Alike.{NumberTx}
+use Rattle.ode_objects.proofs.Kept.{first_of, second_of}
 use Rattle.ode_objects.specs.Objects.{values_of, written}
 use Rattle.ode_objects.specs.Values.{are_fields, are_kept, is_kept}
 use Rattle.ode_objects.specs.declared.object.Object.{Object}
@@ -39,24 +40,12 @@ use Rattle.ode_version_laws.proofs.SpacedLaws.{altered_continues, answers_well, 
 use Rattle.ode_version_laws.proofs.VersionLaws.{on_denoted}
 use Rattle.ode_version_laws.specs.Denoting.{FollowsUnless, HasVersionsAt, HoldsReferences, IsRead, LacksSlot}
 
-both : (a b : Bool) → a ≡ true → b ≡ true → (a && b) ≡ true
-both true b p q = q
-both false b p q = absurd (cc)
-
-first : (a b : Bool) → (a && b) ≡ true → a ≡ true
-first true b p = refl
-first false b p = absurd (cc)
-
-second : (a b : Bool) → (a && b) ≡ true → b ≡ true
-second true b p = p
-second false b p = absurd (cc)
-
 -- references can still be held where one more is set
 kept_set : (fields : List Value) (slot : ℕ) (value : Value) → are_kept fields ≡ true → is_kept value ≡ true → are_kept (slice_set fields slot value) ≡ true
 kept_set [] slot value kept one = refl
-kept_set (v ∷ fields) zero value kept one = both (is_kept value) (are_kept fields) one (second (is_kept v) (are_kept fields) kept)
+kept_set (v ∷ fields) zero value kept one = both_true one (second_of (is_kept v) (are_kept fields) kept)
 kept_set (v ∷ fields) (suc slot) value kept one =
-    both (is_kept v) (are_kept (slice_set fields slot value)) (first (is_kept v) (are_kept fields) kept) (kept_set fields slot value (second (is_kept v) (are_kept fields) kept) one)
+    both_true (first_of (is_kept v) (are_kept fields) kept) (kept_set fields slot value (second_of (is_kept v) (are_kept fields) kept) one)
 
 -- what a test asks for comes first
 asks_first : {A B : Type 0} (why : OverlayError) (b : Bool) (a : A) (next : A → Answer B) → (calls.needs why b >>= λ _. Ok a) >>= next ≡ calls.needs why b >>= λ _. next a
@@ -126,10 +115,14 @@ module _ (x : Layer) (y : NumberTx) (r : Ref) (slot : ℕ) (value : Value) (new 
       answers_well y gives (rest o v) (calls.needs TooLong (are_fields fields) >>= λ _. held_by o v fields) (acts (version_as v) y)
       (ap (λ (a : Answer (List Value)). a >>= held_by o v) (fields_set r slot value v there) ∙ asks_first TooLong (are_fields fields) fields (held_by o v))
       (follows_spaced x y (keys_by v.number) stands (version_part id v.number, tt) (version_size fields) (are_fields fields) true gives
-      (λ keys. Ok (tt, with_now id new (written v.number fields o) keys x)) (alters_object id (changed v.number fields)) (fields_fit fields (kept_set (values_of v.fields) slot value (kept (version_as v) denotes) one))
-      (altered id (changed v.number fields) (keys_by v.number) y, (altered_stands x y id new o (written v.number fields o) (changed v.number fields) (keys_by v.number) stands at (version_part id v.number, tt)
-      (λ q. refl) (ap (λ (vs : List versions.Version). record (object_as id o) { versions = vs }) (written_same v.number 0 fields o.versions (has (object_as id o) at.object).rising)) refl,
-      (altered_continues y id (changed v.number fields) (keys_by v.number), refl))))
+      (λ keys. Ok (tt, with_now id new (written v.number fields o) keys x)) (alters_object id (changed v.number fields)) (fields_fit fields (kept_set (values_of v.fields) slot value (kept (version_as v) denotes) one)) (
+        altered id (changed v.number fields) (keys_by v.number) y,
+        (
+          altered_stands x y id new o (written v.number fields o) (changed v.number fields) (keys_by v.number) stands at (version_part id v.number, tt)
+              (λ q. refl) (ap (λ (vs : List versions.Version). record (object_as id o) { versions = vs }) (written_same v.number 0 fields o.versions (has (object_as id o) at.object).rising)) refl,
+          (altered_continues y id (changed v.number fields) (keys_by v.number), refl),
+        ),
+      ))
 
   next : (t : Tracked) (v : Version) → object_of new id x ≡ Some t → IsIn y.now id t.current → t.current.live ≡ true → denoted y.now.bones r ≡ Ok (version_as v)
       → Is (rest t.current v) (acts (version_as v) y)

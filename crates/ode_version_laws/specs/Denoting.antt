@@ -42,13 +42,13 @@ pub record HasVersions (o : Object) : Type 0 where
   pub rising : RiseFrom 0 (map (λ (v : Version). v.number) o.versions)
   pub last : AllByRecursion (λ (v : Version). v.number ≤ o.last) o.versions
 
--- the object of a number has such versions, where there is one
+-- each object has such versions
+abbrev pub HaveVersions : Bones → Type 0
+HaveVersions b = (id : ℕ) (o : Object) → object_numbered id b.objects ≡ Some o → HasVersions o
+
+-- the object of a number has, where there is one
 abbrev pub HasVersionsAt : NumberTx → ℕ → Type 0
 HasVersionsAt y id = (o : Object) → object_numbered id y.now.bones.objects ≡ Some o → HasVersions o
-
--- so does each object
-abbrev pub HaveVersions : NumberTx → Type 0
-HaveVersions y = (id : ℕ) → HasVersionsAt y id
 
 -- the line of a new version, and its reference
 abbrev pub tells_version : Ref → Act (Unit {0}) ℕ Ref

@@ -18,4 +18,4 @@ StillRemembers w answer = IfDone (λ (x : Layer). Remembers x.objects w) answer
 
 -- each object has versions in every transaction that goes on and for which the overlay stands
 abbrev pub StillHaveVersions : {R : Type 0} → NumberTx → Answer (R × Layer) → Type 0
-StillHaveVersions y answer = IfDone (λ (x : Layer). (z : NumberTx) → Stands x z → Continues y z → HaveVersions z) answer
+StillHaveVersions y answer = IfDone (λ (x : Layer). (z : NumberTx) → Stands x z → Continues y z → HaveVersions z.now.bones) answer

@@ -1,13 +1,19 @@
-//! What the overlay does with versions, what it shows, and what it takes back are what the machine does, shows and takes back. Each law is
-//! carried by the contract of a function that does nothing.
+//! What the overlay does with versions, what it shows, what it takes back and how much it grows are what the machine does, shows, takes back
+//! and weighs. Each law is carried by the contract of a function that does nothing.
 #![tactic(auto)]
 
 mod growing;
+mod holding;
 mod reading;
 mod rewinding;
 mod versions;
 
 pub use growing::growths_are_the_worlds;
+pub use holding::values_that_fit_can_be_held;
 pub use reading::{held_worlds_are_shown, reads_follow};
-pub use rewinding::{calls_remember_firsts, firsts_are_remembered, good_worlds_are_settled, rewinds_follow};
-pub use versions::{calls_keep_versions, derivations_follow, version_removals_follow, writes_follow};
+pub use rewinding::{
+    calls_remember_firsts, firsts_are_remembered, good_worlds_are_settled, rewinds_follow,
+};
+pub use versions::{
+    calls_keep_versions, derivations_follow, version_removals_follow, writes_follow,
+};

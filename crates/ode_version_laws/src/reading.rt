@@ -28,8 +28,8 @@ pub fn held_worlds_are_shown()
 }
 
 /// Over records that show the first world, an object's head is that of the live object of the world now; a reference denotes the version
-/// that is found in the head, or there is none for the same reason; and a field that is read is the machine's, with the same fault where there is none, and the records are
-/// damaged only where the version hasn't the slot.
+/// that is found in the head, or there is none for the same reason; and a field that is read is the machine's, with the same fault where
+/// there is none, and the records are damaged only where the version hasn't the slot.
 pub fn reads_follow()
     ensures object { (base : Entries) (x : Layer) (y : NumberTx) (id : ℕ) → Stands x y → Shows base y.first → IsSettledAt y.first id → HasVersionsAt y id
         → object base id x ≡ Ok (option_map head_of_object (object_at y.now.bones id)) }

@@ -23,17 +23,18 @@ ghost use Rattle.ode_value.specs.Tables.{Table};
 ghost use Rattle.ode_value.specs.declared.class.Class.{Class};
 ghost use Rattle.ode_value.specs.declared.value.Ref.{Ref};
 ghost use Rattle.ode_value.specs.declared.value.Value.{Value};
-ghost use Rattle.ode_version_laws.specs.Denoting.{IsRead};
+ghost use Rattle.ode_version_laws.specs.Denoting.{HaveVersions, IsRead};
 ghost use Rattle.ode_version_laws.specs.Leaving.{StillRemembers};
-ghost use Rattle.ode_version_laws.specs.Remembering.{IsKnown, Remembers};
+ghost use Rattle.ode_version_laws.specs.Remembering.{IsKnown, NeverFalls, Remembers};
 ghost use Rattle.ode_version_laws.specs.Showing.{AreSettled};
 
-/// With no tracked object nothing is to be remembered. Whatever an object becomes, and where it is read, the overlay goes on remembering
-/// what the world had of it at first, where that is known of what was read.
+/// With no tracked object nothing is to be remembered. Whatever an object becomes, if the last number of its versions doesn't fall, and
+/// where it is read, the overlay goes on remembering what the world had of it at first, where that is known of what was read.
 pub fn firsts_are_remembered()
     ensures begun { (w : NumberWorld) → Remembers [] w }
     ensures changed { (w : NumberWorld) (objects : Items (ℕ × Tracked)) (id : ℕ) (new : Option Tracked) (now : Object) → Remembers objects w
-        → IsKnown w id (either new (lookup (is_at (nat_cmp id)) objects)) → Remembers (put_now id new now objects) w }
+        → IsKnown w id (either new (lookup (is_at (nat_cmp id)) objects)) → NeverFalls (either new (lookup (is_at (nat_cmp id)) objects)) now
+        → Remembers (put_now id new now objects) w }
     ensures read { (w : NumberWorld) (objects : Items (ℕ × Tracked)) (id : ℕ) (new : Option Tracked) → Remembers objects w
         → IsKnown w id (either new (lookup (is_at (nat_cmp id)) objects)) → Remembers (put_new id new objects) w }
 {}
@@ -61,16 +62,19 @@ pub fn calls_remember_firsts()
         → IsRead classes base x y id → StillRemembers y.first (put_acts classes base id rs x) }
 {}
 
-/// A world over state numbers that stands for a good one is settled.
+/// A world over state numbers that stands for a good one is settled, and each object has versions.
 pub fn good_worlds_are_settled()
-    ensures { (l : Language) (tables : ℕ → ℕ → Table) (v : NumberWorld) (w : ListWorld) → IsGood l w → StandsAs tables v w → AreSettled v }
+    ensures settled { (l : Language) (tables : ℕ → ℕ → Table) (v : NumberWorld) (w : ListWorld) → IsGood l w → StandsAs tables v w → AreSettled v }
+    ensures versions { (l : Language) (tables : ℕ → ℕ → Table) (v : NumberWorld) (w : ListWorld) → IsGood l w → StandsAs tables v w → HaveVersions v.bones }
 {}
 
 /// What the overlay takes back is what an abort takes back in the machine, before the last points: behind both it stands for the
-/// transaction, and remembers what objects were.
+/// transaction, and remembers what objects were; and each object has versions.
 pub fn rewinds_follow()
     ensures stands { (tables : ℕ → ℕ → Table) (x : Layer) (y : NumberTx) → Stands x y → Remembers x.objects y.first → AreSettled y.first
         → Stands (rewind (map class_of y.first.bones.classes) x) (aborted (numbers tables) y) }
     ensures remembers { (tables : ℕ → ℕ → Table) (x : Layer) (y : NumberTx) → Remembers x.objects y.first
         → Remembers (rewind (map class_of y.first.bones.classes) x).objects (aborted (numbers tables) y).first }
+    ensures versions { (tables : ℕ → ℕ → Table) (x : Layer) (y : NumberTx) → Stands x y → Remembers x.objects y.first → HaveVersions y.first.bones
+        → HaveVersions (aborted (numbers tables) y).now.bones }
 {}

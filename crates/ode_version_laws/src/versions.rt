@@ -39,21 +39,21 @@ pub fn writes_follow()
 /// Where each object has versions, so it does behind each call, in every transaction that goes on and for which the overlay then stands: one
 /// that reads, where what it reads is what the world now has.
 pub fn calls_keep_versions()
-    ensures write { (classes : Items Class) (base : Entries) (x : Layer) (y : NumberTx) (r : Ref) (slot : ℕ) (value : Value) → Stands x y → HaveVersions y
+    ensures write { (classes : Items Class) (base : Entries) (x : Layer) (y : NumberTx) (r : Ref) (slot : ℕ) (value : Value) → Stands x y → HaveVersions y.now.bones
         → IsRead classes base x y r.object → StillHaveVersions y (write classes base r slot value x) }
-    ensures derive { (classes : Items Class) (base : Entries) (x : Layer) (y : NumberTx) (r : Ref) → Stands x y → HaveVersions y
+    ensures derive { (classes : Items Class) (base : Entries) (x : Layer) (y : NumberTx) (r : Ref) → Stands x y → HaveVersions y.now.bones
         → IsRead classes base x y r.object → StillHaveVersions y (derive classes base r x) }
-    ensures drop { (classes : Items Class) (base : Entries) (x : Layer) (y : NumberTx) (r : Ref) → Stands x y → HaveVersions y
+    ensures drop { (classes : Items Class) (base : Entries) (x : Layer) (y : NumberTx) (r : Ref) → Stands x y → HaveVersions y.now.bones
         → IsRead classes base x y r.object → StillHaveVersions y (drop_version classes base r x) }
-    ensures touch { (classes : Items Class) (base : Entries) (x : Layer) (y : NumberTx) (id : ℕ) → Stands x y → HaveVersions y
+    ensures touch { (classes : Items Class) (base : Entries) (x : Layer) (y : NumberTx) (id : ℕ) → Stands x y → HaveVersions y.now.bones
         → IsRead classes base x y id → StillHaveVersions y (touch classes base id x) }
-    ensures create { (class : ℕ) (fields : Items Value) (x : Layer) (y : NumberTx) → Stands x y → HaveVersions y → StillHaveVersions y (create class fields x) }
-    ensures remove { (classes : Items Class) (base : Entries) (x : Layer) (y : NumberTx) (id : ℕ) → Stands x y → HaveVersions y
+    ensures create { (class : ℕ) (fields : Items Value) (x : Layer) (y : NumberTx) → Stands x y → HaveVersions y.now.bones → StillHaveVersions y (create class fields x) }
+    ensures remove { (classes : Items Class) (base : Entries) (x : Layer) (y : NumberTx) (id : ℕ) → Stands x y → HaveVersions y.now.bones
         → IsRead classes base x y id → StillHaveVersions y (remove classes base id x) }
     ensures activate { (classes : Items Class) (base : Entries) (x : Layer) (y : NumberTx) (id class trigger : ℕ) (args : Items Value) → Stands x y
-        → HaveVersions y → IsRead classes base x y id → StillHaveVersions y (activate classes base id class trigger args x) }
-    ensures deactivate { (classes : Items Class) (base : Entries) (x : Layer) (y : NumberTx) (id number : ℕ) → Stands x y → HaveVersions y
+        → HaveVersions y.now.bones → IsRead classes base x y id → StillHaveVersions y (activate classes base id class trigger args x) }
+    ensures deactivate { (classes : Items Class) (base : Entries) (x : Layer) (y : NumberTx) (id number : ℕ) → Stands x y → HaveVersions y.now.bones
         → IsRead classes base x y id → StillHaveVersions y (deactivate classes base id number x) }
-    ensures put { (classes : Items Class) (base : Entries) (x : Layer) (y : NumberTx) (id : ℕ) (rs : Items Running) → Stands x y → HaveVersions y
+    ensures put { (classes : Items Class) (base : Entries) (x : Layer) (y : NumberTx) (id : ℕ) (rs : Items Running) → Stands x y → HaveVersions y.now.bones
         → IsRead classes base x y id → StillHaveVersions y (put_acts classes base id rs x) }
 {}

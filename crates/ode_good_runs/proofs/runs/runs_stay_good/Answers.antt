@@ -1,6 +1,10 @@
 use Rattle.ode_good_runs.proofs.Declaring.{class_well, declared_is, good_sound, well_of}
+use Rattle.ode_good_runs.proofs.Fresh.{fresh_well}
 use Rattle.ode_good_runs.proofs.GoodRuns.{run_well}
 use Rattle.ode_good_runs.proofs.runs.runs_stay_good.Goals as goal
+
+pub returns-clause-fresh : goal.returns-clause-fresh
+returns-clause-fresh c l rules = fresh_well l rules
 
 pub returns-clause-sound : goal.returns-clause-sound
 returns-clause-sound c l rules w good = good_sound l rules w good

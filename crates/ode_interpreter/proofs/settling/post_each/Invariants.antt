@@ -13,8 +13,8 @@ invariant-loop-id g l =
     let past : Past (Unit {0}) ℕ = numbers (g.S.Schema.tables l.schema) in
     let place : Place (Unit {0}) ℕ = last_place past l.kept in
     record {
-      kept : (k : g.T.Acts.Known) → g.T.Acts.knows l.fn.tx k → g.T.Acts.knows l.tx k;
-      rest : (classes : List Declared) (k : g.T.Acts.Known) → g.S.Schema.declares l.schema classes → g.T.Acts.knows l.fn.tx k
+      kept : (k : g.T.Acts.Known) → g.T.Acts.knows l.fn.tx l.schema k → g.T.Acts.knows l.tx l.schema k;
+      rest : (classes : List Declared) (k : g.T.Acts.Known) → g.S.Schema.declares l.schema classes → g.T.Acts.knows l.fn.tx l.schema k
           → each (posts_last past place l.kind) (drop l.id-index l.ids) (with_classes classes (g.T.Acts.view l.tx k))
           ≡ each (posts_last past place l.kind) l.fn.ids (with_classes classes (g.T.Acts.view l.fn.tx k));
     }

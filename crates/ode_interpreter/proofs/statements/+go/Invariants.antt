@@ -76,8 +76,8 @@ invariant-exec_all-loop-s g l =
     let past : Past (Unit {0}) ℕ = numbers (g.S.Schema.tables l.schema) in
     let d : Option (Inner (Unit {0}) ℕ) = deeper past l.levels in
     record {
-      kept : (k : g.T.Acts.Known) → g.T.Acts.knows l.fn.tx k → g.T.Acts.knows l.tx k;
-      rest : (classes : List Declared) (k : g.T.Acts.Known) → g.S.Schema.declares l.schema classes → g.T.Acts.knows l.fn.tx k
+      kept : (k : g.T.Acts.Known) → g.T.Acts.knows l.fn.tx l.schema k → g.T.Acts.knows l.tx l.schema k;
+      rest : (classes : List Declared) (k : g.T.Acts.Known) → g.S.Schema.declares l.schema classes → g.T.Acts.knows l.fn.tx l.schema k
           → in_turn (map (execute past d) (drop l.s-index l.body)) (scene l.on) (with_classes classes (g.T.Acts.view l.tx k))
           ≡ in_turn (map (execute past d) l.fn.body) (scene l.fn.on) (with_classes classes (g.T.Acts.view l.fn.tx k));
     }
@@ -87,8 +87,8 @@ invariant-fire_all-loop-f g l =
     let past : Past (Unit {0}) ℕ = numbers (g.S.Schema.tables l.schema) in
     let d : Option (Body (Unit {0}) ℕ) = actions_of (deeper past l.levels) in
     record {
-      kept : (k : g.T.Acts.Known) → g.T.Acts.knows l.fn.tx k → g.T.Acts.knows l.tx k;
-      rest : (classes : List Declared) (k : g.T.Acts.Known) → g.S.Schema.declares l.schema classes → g.T.Acts.knows l.fn.tx k
+      kept : (k : g.T.Acts.Known) → g.T.Acts.knows l.fn.tx l.schema k → g.T.Acts.knows l.tx l.schema k;
+      rest : (classes : List Declared) (k : g.T.Acts.Known) → g.S.Schema.declares l.schema classes → g.T.Acts.knows l.fn.tx l.schema k
           → each (treats d) (map (firing (g.S.Schema.trigger l.schema)) (drop l.f-index l.firings)) (with_classes classes (g.T.Acts.view l.tx k))
           ≡ each (treats d) (map (firing (g.S.Schema.trigger l.schema)) l.fn.firings) (with_classes classes (g.T.Acts.view l.fn.tx k));
     }

@@ -1,4 +1,4 @@
-use Rattle.std.proofs.Common.{◌≡◌, ℕ, List, refl, sym, ◌∙◌, ap, subst}
+use Rattle.std.proofs.Common.{◌≡◌, ℕ, List, sym, ◌∙◌, ap, subst}
 use Rattle.ode_grammar.specs.declared.reader.Start.TheVariants as start
 use Rattle.ode_heights.specs.declared.height.TheConstants.{HEIGHT_LIMIT}
 use Rattle.ode_terminals.specs.declared.seen.Place.TheVariants.{Class}
@@ -15,7 +15,7 @@ use Rattle.ode_reread.proofs.laws.printed_events_are_parsed.Goals as goal
 -- the printed text is read as the tree
 read : (text : List ℕ) (e : EventExpr) → IsEventOf text e → (again : Trees) × IsRead HEIGHT_LIMIT start.Event Class (event_text e) again × (event_tree again.events ≡ e)
 read text e r =
-    subst (λ x. (again : Trees) × IsRead HEIGHT_LIMIT start.Event Class (event_text x) again × (event_tree again.events ≡ x)) (sym r.2) (event_again HEIGHT_LIMIT Class text r.0 refl (instants_good Class) r.1)
+    subst (λ x. (again : Trees) × IsRead HEIGHT_LIMIT start.Event Class (event_text x) again × (event_tree again.events ≡ x)) (sym r.2) (event_again HEIGHT_LIMIT Class text r.0 (instants_good Class) r.1)
 
 pub returns-clause-tokens : goal.returns-clause-tokens
 returns-clause-tokens c = λ text e r. let x = read text e r in (x.1.tokens, x.1.lexed_as)

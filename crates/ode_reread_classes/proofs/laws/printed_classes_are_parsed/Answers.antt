@@ -9,7 +9,7 @@ use Rattle.ode_syntax.specs.Built.{class_tree}
 use Rattle.ode_classyn.specs.Texts.{in_class, IsClassOf, IsParsed}
 use Rattle.ode_reread.specs.Rereading.{IsRead}
 use Rattle.ode_reread_classes.proofs.Parsed.{not_refused, one_tree}
-use Rattle.ode_reread_classes.proofs.Readings.{class_again, class_olds}
+use Rattle.ode_reread_classes.proofs.Readings.{class_again}
 use Rattle.ode_reread_classes.proofs.laws.printed_classes_are_parsed.Goals as goal
 
 is_read : (text : List ℕ) (made : Trees) → IsParsed start.Class in_class text made → IsRead HEIGHT_LIMIT start.Class Class text made
@@ -21,7 +21,7 @@ is_parsed text made r = record { tokens = r.tokens; lexed_as = r.lexed_as; is_tr
 -- the printed text is a text of the class
 itself : (text : List ℕ) (class : ClassDecl) → IsClassOf text class → IsClassOf (decl_text class) class
 itself text class p =
-    let x = class_again HEIGHT_LIMIT Class text p.0 class_olds (is_read text p.0 p.1) in
+    let x = class_again HEIGHT_LIMIT Class text p.0 (is_read text p.0 p.1) in
     subst (λ c. IsClassOf (decl_text c) c) (sym p.2) (x.0, is_parsed (decl_text (class_tree p.0.classes)) x.0 x.1, sym x.2)
 
 pub returns-clause-itself : goal.returns-clause-itself

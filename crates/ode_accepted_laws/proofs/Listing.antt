@@ -1,0 +1,186 @@
+-- Accepted classes list no more kinds than their texts have bytes together.
+use Rattle.std.proofs.Common.{◌≡◌, ◌≤◌, ◌+◌, ℕ, List, [], ◌∷◌, ◌++◌, fold, length, map, Option, Some, None, Ok, refl, ap, sym, ◌∙◌, subst, arith}
+use Rattle.std.specs.Prelude.{codes}
+use Rattle.std.specs.List.{AllByRecursion, flat_map, sum_by}
+use Rattle.std.specs.Option.{IfSome}
+use Rattle.std.specs.Str.{bytes_eq}
+use Rattle.std.proofs.lemmas.List.{append-nil, append_assoc, length-append, length-map, map-append}
+use Rattle.std.proofs.lemmas.List.Sums.{sum_by_push}
+use Rattle.ode_value.specs.declared.class.Class.{Class}
+use Rattle.ode_value.specs.declared.event.Kind.{Kind}
+use Rattle.ode_value.specs.declared.statement.ClassDecl.{ClassDecl}
+use Rattle.ode_value.specs.declared.statement.Member.{Member}
+use Rattle.ode_value.specs.declared.statement.Member.TheVariants as member
+use Rattle.ode_value.specs.Language.{Language}
+use Rattle.ode_value.specs.PrintedClasses.{decl_text, in_braces, member_text, parent_text}
+use Rattle.ode_value.specs.Printing.{kind_text, with_commas}
+use Rattle.ode_value.specs.Worlds.{Declared}
+use Rattle.ode_types.specs.Checks.{◌>>=◌, each}
+use Rattle.ode_types.specs.Declaring.{begins, declared, with_member}
+use Rattle.ode_types.specs.Static.{check_class, checked_member, completed, constraint_checked, method_checked, trigger_checked}
+use Rattle.ode_types.proofs.CheckedClasses.{bind-ok}
+use Rattle.ode_laws.proofs.Each.{all-append, all-find, all-map, all-then}
+use Rattle.ode_sound_laws.specs.Sound.{checked_classes}
+use Rattle.ode_accepted_laws.specs.Languages.{AreAccepted, HasStaticRules, text_size}
+use Rattle.ode_accepted_laws.proofs.Members.{IsParent, begun, kinds_of}
+
+-- ---- the kinds of members
+
+abbrev kinds_in : Member → List Kind
+kinds_in (member.Events kinds) = kinds
+kinds_in (member.Field name s) = []
+kinds_in (member.Method m) = []
+kinds_in (member.Constraint x) = []
+kinds_in (member.Trigger t) = []
+
+with_kinds : (c : Class) (m : Member) → (with_member c m).kinds ≡ c.kinds ++ kinds_in m
+with_kinds c (member.Events kinds) = refl
+with_kinds c (member.Field name s) = sym (append-nil c.kinds)
+with_kinds c (member.Method m) = sym (append-nil c.kinds)
+with_kinds c (member.Constraint x) = sym (append-nil c.kinds)
+with_kinds c (member.Trigger t) = sym (append-nil c.kinds)
+
+fold_kinds : (ms : List Member) (c : Class) → (fold with_member c ms).kinds ≡ c.kinds ++ flat_map kinds_in ms
+fold_kinds [] c = sym (append-nil c.kinds)
+fold_kinds (m ∷ ms) c =
+    fold_kinds ms (with_member c m) ∙ ap (λ ks. ks ++ flat_map kinds_in ms) (with_kinds c m) ∙ append_assoc c.kinds (kinds_in m) (flat_map kinds_in ms)
+
+module _ (cs : List Class) (x : Class) where
+  checked_kinds : (m n : Member) → checked_member cs x m ≡ Ok n → kinds_in n ≡ kinds_in m
+  checked_kinds (member.Events kinds) n h = let same : member.Events kinds ≡ n = cc in ap kinds_in (sym same)
+  checked_kinds (member.Field name s) n h = let same : member.Field name s ≡ n = cc in ap kinds_in (sym same)
+  checked_kinds (member.Method m) n h =
+      let p = bind-ok (method_checked cs x m) (λ k. Ok (member.Method k)) n h in
+      let same : member.Method p.0 ≡ n = cc (p.2) in
+      ap kinds_in (sym same)
+  checked_kinds (member.Constraint y) n h =
+      let p = bind-ok (constraint_checked cs x y) (λ k. Ok (member.Constraint k)) n h in
+      let same : member.Constraint p.0 ≡ n = cc (p.2) in
+      ap kinds_in (sym same)
+  checked_kinds (member.Trigger t) n h =
+      let p = bind-ok (trigger_checked cs x t) (λ k. Ok (member.Trigger k)) n h in
+      let same : member.Trigger p.0 ≡ n = cc (p.2) in
+      ap kinds_in (sym same)
+
+  all_kinds : (ms ns : List Member) → each (checked_member cs x) ms ≡ Ok ns → flat_map kinds_in ns ≡ flat_map kinds_in ms
+  all_kinds [] ns h = let none : List Member = [] in let same : none ≡ ns = cc in ap (flat_map kinds_in) (sym same)
+  all_kinds (m ∷ ms) ns h =
+      let p = bind-ok (checked_member cs x m) (λ n. each (checked_member cs x) ms >>= (λ js. Ok (n ∷ js))) ns h in
+      let q = bind-ok (each (checked_member cs x) ms) (λ js. Ok (p.0 ∷ js)) ns p.2 in
+      let same : p.0 ∷ q.0 ≡ ns = cc (q.2) in
+      ap (flat_map kinds_in) (sym same) ∙ ap (λ ks. ks ++ flat_map kinds_in q.0) (checked_kinds m p.0 p.1) ∙ ap (λ ks. kinds_in m ++ ks) (all_kinds ms q.0 q.1)
+
+-- ---- their text
+
+longer_front : {X : Type 0} (xs ys : List X) → length xs ≤ length (xs ++ ys)
+longer_front xs ys = let both : length (xs ++ ys) ≡ length xs + length ys = length-append xs ys in omega (arith, both)
+
+longer_end : {X : Type 0} (xs ys : List X) → length ys ≤ length (xs ++ ys)
+longer_end xs ys = let both : length (xs ++ ys) ≡ length xs + length ys = length-append xs ys in omega (arith, both)
+
+-- each text but the first has a separator before it
+commas_long : (texts : List (List ℕ)) → length texts ≤ length (flat_map (λ text. codes ", " ++ text) texts)
+commas_long [] = omega arith
+commas_long (t ∷ texts) =
+    let past = commas_long texts in
+    let here : length ((codes ", " ++ t) ++ flat_map (λ text. codes ", " ++ text) texts) ≡ length (codes ", " ++ t) + length (flat_map (λ text. codes ", " ++ text) texts) =
+    length-append (codes ", " ++ t) (flat_map (λ text. codes ", " ++ text) texts) in
+    omega (arith, past, here)
+
+listed_long : (texts : List (List ℕ)) → length texts ≤ length (with_commas texts) + 1
+listed_long [] = omega arith
+listed_long (t ∷ texts) =
+    let past = commas_long texts in
+    let here = longer_end t (flat_map (λ text. codes ", " ++ text) texts) in
+    omega (arith, past, here)
+
+member_long : (m : Member) → length (kinds_in m) ≤ length (member_text m)
+member_long (member.Field name s) = omega arith
+member_long (member.Method m) = omega arith
+member_long (member.Constraint x) = omega arith
+member_long (member.Trigger t) = omega arith
+member_long (member.Events kinds) =
+    let texts = with_commas (map kind_text kinds) in
+    let same : length (map kind_text kinds) ≡ length kinds = length-map kinds kind_text in
+    let listed : length (map kind_text kinds) ≤ length texts + 1 = listed_long (map kind_text kinds) in
+    let ended : length (texts ++ codes ";") ≡ length texts + length (codes ";") = length-append texts (codes ";") in
+    omega (arith, same, listed, ended)
+
+spaced_long : (ms : List Member) → length (flat_map kinds_in ms) ≤ length (flat_map (λ text. codes " " ++ text) (map member_text ms))
+spaced_long [] = omega arith
+spaced_long (m ∷ ms) =
+    let past = spaced_long ms in
+    let here = member_long m in
+    let kinds : length (kinds_in m ++ flat_map kinds_in ms) ≡ length (kinds_in m) + length (flat_map kinds_in ms) = length-append (kinds_in m) (flat_map kinds_in ms) in
+    let text : length ((codes " " ++ member_text m) ++ flat_map (λ t. codes " " ++ t) (map member_text ms)) ≡ length (codes " " ++ member_text m) + length (flat_map (λ t. codes " " ++ t) (map member_text ms)) =
+    length-append (codes " " ++ member_text m) (flat_map (λ t. codes " " ++ t) (map member_text ms)) in
+    omega (arith, past, here, kinds, text)
+
+braces_long : (ms : List Member) → length (flat_map kinds_in ms) ≤ length (in_braces (map member_text ms))
+braces_long [] = omega arith
+braces_long (m ∷ ms) =
+    let joined = member_text m ++ flat_map (λ t. codes " " ++ t) (map member_text ms) in
+    let past = spaced_long ms in
+    let here = member_long m in
+    let kinds : length (kinds_in m ++ flat_map kinds_in ms) ≡ length (kinds_in m) + length (flat_map kinds_in ms) = length-append (kinds_in m) (flat_map kinds_in ms) in
+    let text : length joined ≡ length (member_text m) + length (flat_map (λ t. codes " " ++ t) (map member_text ms)) = length-append (member_text m) (flat_map (λ t. codes " " ++ t) (map member_text ms)) in
+    let ended : length joined ≤ length (joined ++ codes " }") = longer_front joined (codes " }") in
+    omega (arith, past, here, kinds, text, ended)
+
+decl_long : (d : ClassDecl) → length (flat_map kinds_in d.members) ≤ length (decl_text d)
+decl_long d =
+    let body = in_braces (map member_text d.members) in
+    let inside : length (flat_map kinds_in d.members) ≤ length body = braces_long d.members in
+    let whole : length body ≤ length (decl_text d) = longer_end (codes "class " ++ d.name ++ parent_text d.parent ++ codes " ") body in
+    omega (arith, inside, whole)
+
+-- ---- a class
+
+-- the parent's kinds, and no more own ones than the text has bytes
+record HasKinds (known : List Class) (d : ClassDecl) (c : Class) : Type 0 where
+  parent : Option Class
+  there : IfSome parent (IsParent known)
+  few : length c.kinds ≤ length (kinds_of parent) + length (decl_text d)
+
+has_kinds : (known : List Class) (d : ClassDecl) (c : Class) → check_class known d ≡ Ok c → HasKinds known d c
+unfolding check_class completed
+has_kinds known d c h =
+    let first = bind-ok (begins known d) (λ start. declared known d start >>= (λ draft. completed (known ++ draft ∷ []) draft d start)) c h in
+    let start = first.0 in
+    let second = bind-ok (declared known d start) (λ draft. completed (known ++ draft ∷ []) draft d start) c first.2 in
+    let draft = second.0 in
+    let third = bind-ok (each (checked_member (known ++ draft ∷ []) draft) d.members) (λ ms. Ok (fold with_member start ms)) c second.2 in
+    let made : fold with_member start third.0 ≡ c = cc (third.2) in
+    let begin = begun known d start first.1 in
+    let is : c.kinds ≡ kinds_of begin.parent ++ flat_map kinds_in d.members =
+    sym (ap (λ (k : Class). k.kinds) made) ∙ fold_kinds third.0 start ∙ ap (λ ks. ks ++ flat_map kinds_in third.0) begin.kinds ∙ ap (λ ks. kinds_of begin.parent ++ ks) (all_kinds (known ++ draft ∷ []) draft d.members third.0 third.1) in
+    let both : length (kinds_of begin.parent ++ flat_map kinds_in d.members) ≡ length (kinds_of begin.parent) + length (flat_map kinds_in d.members) = length-append (kinds_of begin.parent) (flat_map kinds_in d.members) in
+    let own = decl_long d in
+    let long : length c.kinds ≡ length (kinds_of begin.parent ++ flat_map kinds_in d.members) = ap (λ ks. length ks) is in
+    record { parent = begin.parent; there = begin.there; few = omega (arith, both, own, long) }
+
+-- ---- all classes
+
+abbrev Few : ℕ → Class → Type 0
+Few n c = length c.kinds ≤ n
+
+parent_few : (n : ℕ) (known : List Class) → AllByRecursion (Few n) known → (parent : Option Class) → IfSome parent (IsParent known) → length (kinds_of parent) ≤ n
+parent_few n known all None there = omega arith
+parent_few n known all (Some p) there = all-find (Few n) (λ (c : Class). bytes_eq c.name there.0) known all p there.1
+
+module _ (l : Language) (rules : HasStaticRules l) where
+  pub kinds_few : (earlier cs : List Declared) → AllByRecursion (λ (c : Declared). Few (sum_by text_size earlier) c.class) earlier → AreAccepted l (checked_classes earlier) cs
+      → AllByRecursion (λ (c : Declared). Few (sum_by text_size (earlier ++ cs)) c.class) (earlier ++ cs)
+  kinds_few earlier [] all accepted = subst (λ (es : List Declared). AllByRecursion (λ (c : Declared). Few (sum_by text_size es) c.class) es) (sym (append-nil earlier)) all
+  kinds_few earlier (c ∷ cs) all accepted =
+      let n = sum_by text_size earlier in
+      let more : List Declared = earlier ++ c ∷ [] in
+      let total : sum_by text_size more ≡ n + text_size c = sum_by_push text_size earlier c in
+      let has = has_kinds (checked_classes earlier) c.tree c.class (ap (λ f. f (checked_classes earlier) c.tree) (sym rules.class_of) ∙ accepted.0) in
+      let above : length (kinds_of has.parent) ≤ n = parent_few n (checked_classes earlier) (all-map (Few n) (λ (d : Declared). d.class) earlier all) has.parent has.there in
+      let here : Few (sum_by text_size more) c.class = omega (arith, total, above, has.few) in
+      let old : AllByRecursion (λ (d : Declared). Few (sum_by text_size more) d.class) earlier =
+      all-then (λ (d : Declared). Few n d.class) (λ (d : Declared). Few (sum_by text_size more) d.class) (λ d few. omega (arith, total, few)) earlier all in
+      let both : AllByRecursion (λ (d : Declared). Few (sum_by text_size more) d.class) more = all-append (λ (d : Declared). Few (sum_by text_size more) d.class) earlier (c ∷ []) old (here, tt) in
+      let next : AreAccepted l (checked_classes more) cs = subst (λ es. AreAccepted l es cs) (sym (map-append (λ (d : Declared). d.class) earlier (c ∷ []))) accepted.1 in
+      subst (λ (es : List Declared). AllByRecursion (λ (d : Declared). Few (sum_by text_size es) d.class) es) (append_assoc earlier (c ∷ []) cs) (kinds_few more cs both next)

@@ -1,0 +1,4 @@
+mod ClimbLaws
+mod RowLaws
+mod BatchLaws
+mod PostedLaws

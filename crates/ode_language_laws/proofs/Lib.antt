@@ -1,0 +1,4 @@
+pub mod Clean
+pub mod LanguageRuns
+pub mod ReadRefs
+pub mod Seconds

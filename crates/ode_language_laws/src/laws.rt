@@ -1,0 +1,36 @@
+//! Laws of the language of scripts.
+ghost use Rattle.std.specs.Prelude.{◌≡◌, FitsSigned, ℕ, ℤ, List as Items, Ok, Some};
+ghost use Rattle.std.specs.Int.{w64};
+ghost use Rattle.std.specs.List.{AllByRecursion};
+ghost use Rattle.ode_value.specs.declared.statement.Statement.TheVariants.{Simple};
+ghost use Rattle.ode_value.specs.declared.statement.Stmt.{Stmt};
+ghost use Rattle.ode_value.specs.GoodWorlds.{IsGood};
+ghost use Rattle.ode_value.specs.Language.{ListWorld};
+ghost use Rattle.ode_value.specs.References.{IsRef};
+ghost use Rattle.ode_value.specs.Worlds.{empty_world};
+ghost use Rattle.ode_timer.specs.Dates.{instant_of};
+ghost use Rattle.ode_top.specs.Runs.{trace, worlds};
+ghost use Rattle.ode_types.specs.Literals.{literals};
+ghost use Rattle.ode_accepted_laws.specs.Languages.{HasSoundRules};
+ghost use Rattle.ode_good_laws.specs.Well.{IsWell};
+ghost use Rattle.ode_language.specs.Languages.{ode, statement_of};
+ghost use Rattle.ode_sound_laws.specs.Typed.{AreFromOne};
+ghost use Rattle.ode_language_laws.specs.Again.{AreReadAgain};
+
+/// The language of scripts has sound rules.
+pub fn language_has_sound_rules()
+    ensures { HasSoundRules ode }
+{}
+
+/// The literals of a statement that is read are references, and the second of an instant has 64 bits.
+pub fn what_is_read_is_in_range()
+    ensures literals { (piece : Items ℕ) (s : Stmt) → statement_of piece ≡ Ok (Simple s) → AllByRecursion IsRef (literals s) }
+    ensures instants { (text : Items ℕ) (t : ℤ) → instant_of text ≡ Some t → FitsSigned w64 t }
+{}
+
+/// Where each class that is read is read from its printed text too, a run of any script from a fresh database, or from a good world whose
+/// versions' numbers begin at 1, has good worlds alone, of sound classes.
+pub fn runs_of_the_language_stay_good()
+    ensures fresh { AreReadAgain → (script : Items ℕ) → AllByRecursion (IsWell ode) (worlds (trace ode empty_world script)) }
+    ensures good { AreReadAgain → (w : ListWorld) → IsGood ode w → AreFromOne w.bones → (script : Items ℕ) → AllByRecursion (IsWell ode) (worlds (trace ode w script)) }
+{}

@@ -1,0 +1,35 @@
+//! What an opening reads of records is what they hold: laws of definitions, each carried by the contract of a function that does nothing.
+#![tactic(auto)]
+
+ghost use Rattle.std.specs.Prelude.{◌≡◌, List as Items, Ok, map};
+ghost use Rattle.std.specs.List.{AllByRecursion};
+ghost use Rattle.ode_codec.specs.Standing.{HoldsWorld};
+ghost use Rattle.ode_keep.specs.Entries.{Entries};
+ghost use Rattle.ode_language.specs.Languages.{ode};
+ghost use Rattle.ode_opening.specs.Classes.{classes_in};
+ghost use Rattle.ode_opening_laws.specs.Holding.{HoldClasses, IsPlain, class_of};
+ghost use Rattle.ode_value.specs.Language.{ListWorld};
+ghost use Rattle.ode_value.specs.Worlds.{Declared};
+
+use ode_codec::one_spelling;
+
+/// Records that hold classes without triggers are read as these classes.
+pub fn held_classes_are_read()
+    ensures { (entries : Entries) (ds : Items Declared) → HoldClasses entries ds → classes_in ode entries ≡ Ok (map class_of ds) }
+{
+    one_spelling();
+}
+
+/// Records that hold a world whose classes declare no trigger hold these classes.
+pub fn held_worlds_hold_classes()
+    ensures { (records : Entries) (w : ListWorld) → HoldsWorld ode records w → AllByRecursion IsPlain w.bones.classes → HoldClasses records w.bones.classes }
+{}
+
+/// So such records are read as the world's classes.
+pub fn held_worlds_open_to_their_classes()
+    ensures { (records : Entries) (w : ListWorld) → HoldsWorld ode records w → AllByRecursion IsPlain w.bones.classes
+        → classes_in ode records ≡ Ok (map class_of w.bones.classes) }
+{
+    held_worlds_hold_classes();
+    held_classes_are_read();
+}
