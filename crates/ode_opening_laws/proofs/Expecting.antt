@@ -51,7 +51,7 @@ module _ (p : Part) where
       ap (λ (ks : List Key). ks ++ keys_of p (found_pieces class text (i + 1) n)) (no_keys p class i (bytes_of class text i))
       ∙ none_of_text class text (i + 1) n
 
-  none_of_pieces : (ds : List Declared) → keys_of p (pieces_found ds) ≡ []
+  pub none_of_pieces : (ds : List Declared) → keys_of p (pieces_found ds) ≡ []
   none_of_pieces [] = refl
   none_of_pieces (d ∷ ds) =
       flat_map-append (λ (f : Key × Record). keys_by p f.1) (pieces_of_class d) (pieces_found ds)
@@ -79,13 +79,13 @@ texts_of_heads (d ∷ ds) =
     ∙ ap (λ (ks : List Key). keys (pieces_of_class d) ++ ks) (texts_of_heads ds)
     ∙ sym (map-append (λ (f : Key × Record). f.0) (pieces_of_class d) (pieces_found ds))
 
-table_heads_of_heads : (ds : List Declared) → AllByRecursion IsPlain ds → keys_of part.TableHeads (heads_found ds) ≡ []
+pub table_heads_of_heads : (ds : List Declared) → AllByRecursion IsPlain ds → keys_of part.TableHeads (heads_found ds) ≡ []
 table_heads_of_heads [] plain = refl
 table_heads_of_heads (d ∷ ds) plain =
     ap (λ (ts : List TriggerDecl). run table_head_kind d.class.number 0 (length ts) ++ keys_of part.TableHeads (heads_found ds)) plain.0.no_triggers
     ∙ table_heads_of_heads ds plain.1
 
-tables_of_heads : (ds : List Declared) → keys_of part.Tables (heads_found ds) ≡ []
+pub tables_of_heads : (ds : List Declared) → keys_of part.Tables (heads_found ds) ≡ []
 tables_of_heads [] = refl
 tables_of_heads (d ∷ ds) = tables_of_heads ds
 

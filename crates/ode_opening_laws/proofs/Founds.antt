@@ -40,7 +40,7 @@ head_keyed : (d : Declared) → class_head_key d.class.number ≡ key_of (head_o
 unfolding key_of
 head_keyed d = refl
 
-head_spelled : (d : Declared) → (head_row d).1 ≡ value_of (head_of d)
+pub head_spelled : (d : Declared) → (head_row d).1 ≡ value_of (head_of d)
 unfolding value_of
 head_spelled d = simp append_assoc
 

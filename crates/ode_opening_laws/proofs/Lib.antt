@@ -5,3 +5,7 @@ pub mod Expecting
 pub mod Accepting
 pub mod Reading
 pub mod Sections
+pub mod Back
+pub mod Declared
+pub mod Splits
+pub mod Held

@@ -1,5 +1,5 @@
 -- Records that hold classes, in the words of what is stored.
-use Rattle.std.specs.Prelude.{◌≡◌, List, [], ◌++◌, map, length}
+use Rattle.std.specs.Prelude.{◌≡◌, ◌<◌, ◌^◌, ℕ, slice_index, List, [], ◌++◌, map, length}
 use Rattle.std.specs.List.{AllByRecursion, flat_map}
 use Rattle.std.specs.Option.{unwrap_or}
 use Rattle.ode_codec.specs.Rules.{IsRecord}
@@ -19,6 +19,13 @@ use Rattle.ode_value.specs.declared.class.Class.{Class}
 abbrev pub class_of : Declared → Class
 class_of d = d.class
 
+abbrev pub HasNoTriggers : Class → Type 0
+HasNoTriggers c = c.triggers ≡ []
+
+-- values that are bytes
+abbrev pub AreBytes : Entries → Type 0
+AreBytes entries = AllByRecursion (λ (e : Row). (i : ℕ) → slice_index e.1 i < 2 ^ 8) entries
+
 -- the head of a class
 abbrev pub head_of : Declared → Record
 head_of d = of.ClassHead d.class.number d.class.name (unwrap_or d.class.parent 0) (length (decl_text d.tree)) (length d.class.triggers)
@@ -30,7 +37,7 @@ class_rows ds = map head_row ds ++ flat_map text_rows ds
 -- a class whose head has a spelling, and which declares no trigger
 pub record IsPlain (d : Declared) : Type 0 where
   pub spelled : IsRecord (head_of d)
-  pub no_triggers : d.class.triggers ≡ []
+  pub no_triggers : HasNoTriggers d.class
 
 -- the records of classes and tables are those of these classes and no others, and each is accepted after the earlier ones
 pub record HoldClasses (entries : Entries) (ds : List Declared) : Type 0 where

@@ -7,9 +7,10 @@ ghost use Rattle.ode_codec.specs.Standing.{HoldsWorld};
 ghost use Rattle.ode_keep.specs.Entries.{Entries};
 ghost use Rattle.ode_language.specs.Languages.{ode};
 ghost use Rattle.ode_opening.specs.Classes.{classes_in};
-ghost use Rattle.ode_opening_laws.specs.Holding.{HoldClasses, IsPlain, class_of};
+ghost use Rattle.ode_opening_laws.specs.Holding.{AreBytes, HasNoTriggers, HoldClasses, IsPlain, class_of};
 ghost use Rattle.ode_value.specs.Language.{ListWorld};
 ghost use Rattle.ode_value.specs.Worlds.{Declared};
+ghost use Rattle.ode_value.specs.declared.class.Class.{Class};
 
 use ode_codec::one_spelling;
 
@@ -32,4 +33,12 @@ pub fn held_worlds_open_to_their_classes()
 {
     held_worlds_hold_classes();
     held_classes_are_read();
+}
+
+/// What is read of records, where no class declares a trigger, they hold: the answer is right where there is one.
+pub fn read_classes_are_held()
+    ensures { (entries : Entries) (cs : Items Class) → AreBytes entries → classes_in ode entries ≡ Ok cs → AllByRecursion HasNoTriggers cs
+        → (ds : Items Declared) × (cs ≡ map class_of ds) × HoldClasses entries ds }
+{
+    one_spelling();
 }

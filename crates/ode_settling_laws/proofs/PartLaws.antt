@@ -103,7 +103,7 @@ any_found n (b ∷ acts) a is = by_test (of_number n b) is (any_found n acts a) 
   by_test true e more = refl
   by_test false e more = more e
 
-number_found : (n : ℕ) (acts : List Active) (a : Active) → find (has_number n) acts ≡ Some a → a.number ≡ n
+pub number_found : (n : ℕ) (acts : List Active) (a : Active) → find (has_number n) acts ≡ Some a → a.number ≡ n
 number_found n [] a is = absurd (cc)
 number_found n (b ∷ acts) a is = by_test (b.number == n) refl is (number_found n acts a) where
   by_test : (t : Bool) → (b.number == n) ≡ t → cond t (Some b) (find (has_number n) acts) ≡ Some a → (find (has_number n) acts ≡ Some a → a.number ≡ n) → a.number ≡ n
@@ -111,7 +111,7 @@ number_found n (b ∷ acts) a is = by_test (b.number == n) refl is (number_found
   by_test false test e more = more e
 
 -- the state of the one of a number
-state_found : (n : ℕ) (acts : List Active) → kept_at n (map (λ (a : Active). (a.number, a.state)) acts) ≡ option_map (λ (a : Active). a.state) (find (has_number n) acts)
+pub state_found : (n : ℕ) (acts : List Active) → kept_at n (map (λ (a : Active). (a.number, a.state)) acts) ≡ option_map (λ (a : Active). a.state) (find (has_number n) acts)
 state_found n [] = refl
 state_found n (a ∷ acts) = by_test (a.number == n) (state_found n acts) where
   by_test : (t : Bool) → kept_at n (map (λ (b : Active). (b.number, b.state)) acts) ≡ option_map (λ (b : Active). b.state) (find (has_number n) acts)

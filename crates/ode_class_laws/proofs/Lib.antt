@@ -1,0 +1,5 @@
+pub mod GoodLaws
+pub mod HeldLaws
+pub mod Insertion
+pub mod Stands
+pub mod StoredLaws

@@ -1,0 +1,5 @@
+pub mod ClimbLaws
+pub mod HeadLaws
+pub mod PieceLaws
+pub mod PutLaws
+pub mod RowLaws

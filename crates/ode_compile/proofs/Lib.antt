@@ -1,0 +1,4 @@
+pub mod AnswerLaws
+pub mod LimitLaws
+pub mod NumberLaws
+pub mod TriggerLaws

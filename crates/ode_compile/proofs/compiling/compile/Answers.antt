@@ -1,0 +1,53 @@
+use Rattle.std.proofs.Common.{◌≡◌, List, length, map, true, Ok, ap, sym, ◌∙◌, subst}
+use Rattle.std.specs.List.{AllByRecursion}
+use Rattle.std.proofs.lemmas.Result.{err_from_is_err_and}
+use Rattle.ode_value.specs.ClassLimits.{limits_triggers}
+use Rattle.ode_value.specs.Lengths.{class_records}
+use Rattle.ode_value.specs.Numbers.{has_numbers}
+use Rattle.ode_value.specs.Tables.{Table}
+use Rattle.ode_value.specs.Weights.{record_count}
+use Rattle.ode_value.specs.declared.member.TriggerDecl.{TriggerDecl}
+use Rattle.ode_types.specs.Static.{check_class}
+use Rattle.ode_compile.specs.Compiling.{AreCompiled, size_of_table}
+use Rattle.ode_compile.proofs.AnswerLaws.{checked-ok, class_compiled, records_stop}
+use Rattle.ode_compile.proofs.NumberLaws.{numbers_kept}
+use Rattle.ode_compile.proofs.TriggerLaws.{records_are}
+use Rattle.ode_compile.proofs.compiling.compile.Goals as goal
+
+pub compile_triggers-requires : goal.compile_triggers-requires
+compile_triggers-requires c =
+    let known = c.args.known.now in
+    let d = c.args.decl.now in
+    subst (λ (ts : List TriggerDecl). AllByRecursion (λ (t : TriggerDecl). has_numbers t.event ≡ true) ts) (sym c.as_slice.ensures)
+    (numbers_kept known d c.in_ok-class.class (checked-ok (check_class known d) c.in_ok-class.class c.in_ok-class.ensures) c.requires.numbers)
+
+pub returns-in_err-few_records-clause-answers : goal.returns-in_err-few_records-clause-answers
+returns-in_err-few_records-clause-answers c =
+    let class = c.in_ok-class.class in
+    let d = c.args.decl.now in
+    let text = c.as_slice-2.result.now in
+    let tables = c.in_ok-tables.tables in
+    let count = class_records (length text) (map size_of_table c.as_slice-3.result.now) in
+    let within : limits_triggers class.triggers ≡ Ok tt = ap limits_triggers (sym c.as_slice.ensures) ∙ c.in_ok-tables.ensures.limits in
+    let all : AreCompiled class.triggers tables c.in_ok-tables.alphabets =
+    subst (λ (ts : List TriggerDecl). AreCompiled ts tables c.in_ok-tables.alphabets) c.as_slice.ensures c.in_ok-tables.ensures.compiled in
+    let counted : count ≡ record_count (record { class = class; tree = d }) =
+    ap (λ (ts : List Table). class_records (length text) (map size_of_table ts)) c.as_slice-3.ensures
+    ∙ records_are class d text tables c.in_ok-tables.alphabets (c.as_slice-2.ensures ∙ c.in_ok-text.ensures) all in
+    let p = err_from_is_err_and c.from_residual-in_err-few_records.result c.from_residual-in_err-few_records.ensures.1 in
+    rw (p.1, p.2) (records_stop c.args.known.now d class count c.in_err-few_records.field-0.0 c.in_ok-class.ensures within counted c.in_err-few_records.ensures)
+
+pub returns-clause-answers : goal.returns-clause-answers
+returns-clause-answers c =
+    let class = c.in_ok-class.class in
+    let d = c.args.decl.now in
+    let text = c.as_slice-2.result.now in
+    let tables = c.in_ok-tables.tables in
+    let count = class_records (length text) (map size_of_table c.as_slice-3.result.now) in
+    let within : limits_triggers class.triggers ≡ Ok tt = ap limits_triggers (sym c.as_slice.ensures) ∙ c.in_ok-tables.ensures.limits in
+    let all : AreCompiled class.triggers tables c.in_ok-tables.alphabets =
+    subst (λ (ts : List TriggerDecl). AreCompiled ts tables c.in_ok-tables.alphabets) c.as_slice.ensures c.in_ok-tables.ensures.compiled in
+    let counted : count ≡ record_count (record { class = class; tree = d }) =
+    ap (λ (ts : List Table). class_records (length text) (map size_of_table ts)) c.as_slice-3.ensures
+    ∙ records_are class d text tables c.in_ok-tables.alphabets (c.as_slice-2.ensures ∙ c.in_ok-text.ensures) all in
+    class_compiled c.args.known.now d class count c.in_ok-class.ensures within counted c.in_ok-few_records.ensures

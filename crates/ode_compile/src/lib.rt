@@ -1,0 +1,10 @@
+//! A declared class, compiled: checked, within the limits, with a table and an alphabet for each of its triggers.
+#![tactic(auto)]
+
+mod compiling;
+mod counting;
+mod stop;
+mod triggers;
+
+pub use compiling::{Compiled, compile};
+pub use stop::CompileStop;

@@ -1,0 +1,3 @@
+mod FirstLaws
+mod BytesLaws
+mod RewoundLaws
