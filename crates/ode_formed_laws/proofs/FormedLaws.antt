@@ -3,16 +3,19 @@ use Rattle.std.proofs.Common.{◌≡◌, ◌==◌, ℕ, List, [], ◌∷◌, Boo
 use Rattle.std.proofs.lemmas.Bool.{eqb-true}
 use Rattle.std.proofs.lemmas.Bool.Decides.{nat_tests}
 use Rattle.std.proofs.lemmas.Cmp.{nat_cmp_total}
-use Rattle.std.specs.Prelude.{◌||◌, nat_le, nat_lt}
+use Rattle.std.specs.Prelude.{◌&&◌, ◌||◌, nat_le, nat_lt}
 use Rattle.std.specs.BTreeMap.{is_at}
 use Rattle.std.specs.List.{AllByRecursion, fold}
 use Rattle.std.specs.Ordering.{nat_cmp}
+use Rattle.ode_codec.specs.declared.record.Counters.{Counters}
+use Rattle.ode_codec.specs.declared.record.Entry.{Entry}
 use Rattle.ode_formed_laws.proofs.AmongLaws.{IsOf, all_more, among_all, not_among}
 use Rattle.ode_formed_laws.proofs.SpelledLaws.{Bytes, spells_again}
 use Rattle.ode_formed_laws.specs.Staying.{IsStored, StaysFormed}
 use Rattle.ode_keep.proofs.Maps.{lookup_put}
 use Rattle.ode_keep.specs.Entries.{Entries, value_under}
 use Rattle.ode_objects.specs.Records.{object_becomes}
+use Rattle.ode_objects.specs.Values.{are_args}
 use Rattle.ode_objects.specs.declared.object.Object.{Object}
 use Rattle.ode_objects.specs.declared.tracked.Tracked.{Tracked}
 use Rattle.ode_overlay.specs.After.{held_after, is_among, value_after}
@@ -20,7 +23,7 @@ use Rattle.ode_overlay.specs.Answers.{Answer, ◌>>=◌}
 use Rattle.ode_overlay.specs.Changing.{live_of, needs, next_number, now_tracked, object_of, with_now}
 use Rattle.ode_overlay.specs.Layers.{Layer, begun, holding, key_count, tracked_at}
 use Rattle.ode_overlay.specs.Records.{becomes, becomes_of}
-use Rattle.ode_codec.specs.declared.record.Counters.{Counters}
+use Rattle.ode_overlay.specs.Settling.{collect, has_room, with_entry}
 use Rattle.ode_overlay.specs.declared.error.OverlayError.{OverlayError}
 use Rattle.ode_overlay.specs.declared.error.OverlayError.TheVariants.{NoNumber, NoObject, TooManyChanges}
 use Rattle.ode_overlay.specs.declared.origin.Origin.{Origin}
@@ -156,3 +159,14 @@ module _ (base : Entries) (x : Layer) (id : ℕ) (new : Option Tracked) (formed 
 
 pub formed_begun : (base : Entries) (counters : Counters) (queued : ℕ) (origin : Origin) → IsFormed base (begun counters queued origin)
 formed_begun base counters queued origin = record { keys = tt; each = λ n t q is own at. absurd (cc is) }
+
+-- ---- a firing is collected
+
+collected_stays : (base : Entries) (x : Layer) (e : Entry) (independent : Bool) → IsFormed base x → (b : Bool) → IsFormed base (cond {A = Bool × Layer} b (true, with_entry e independent x) (false, x)).1
+unfolding becomes
+collected_stays base x e independent formed true = record { keys = formed.keys; each = formed.each }
+collected_stays base x e independent formed false = formed
+
+pub collect_stays : (base : Entries) (x : Layer) (e : Entry) (independent : Bool) → IsFormed base x → IsFormed base (collect e independent x).1
+unfolding collect
+collect_stays base x e independent formed = collected_stays base x e independent formed (has_room x && are_args e.args)

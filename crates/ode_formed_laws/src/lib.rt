@@ -2,8 +2,9 @@
 //! that does nothing.
 #![tactic(auto)]
 
-ghost use Rattle.std.specs.Prelude.{◌≡◌, ℕ, List as Items, map, Option, Ok};
+ghost use Rattle.std.specs.Prelude.{◌≡◌, ℕ, List as Items, map, Bool, Option, Ok};
 ghost use Rattle.ode_codec.specs.declared.record.Counters.{Counters};
+ghost use Rattle.ode_codec.specs.declared.record.Entry.{Entry};
 ghost use Rattle.ode_formed_laws.specs.Staying.{IsStored, IsUnused, StaysFormed};
 ghost use Rattle.ode_heap.specs.Answering.{class_of};
 ghost use Rattle.ode_heap_laws.specs.Few.{HoldsCounted};
@@ -11,6 +12,7 @@ ghost use Rattle.ode_keep.specs.Entries.{Entries};
 ghost use Rattle.ode_objects.specs.declared.tracked.Tracked.{Tracked};
 ghost use Rattle.ode_overlay.specs.Changing.{activate_with, create, deactivate_with, fresh, put_with, remove_with, touch_with};
 ghost use Rattle.ode_overlay.specs.Layers.{Layer, begun};
+ghost use Rattle.ode_overlay.specs.Settling.{collect};
 ghost use Rattle.ode_overlay.specs.declared.origin.Origin.{Origin};
 ghost use Rattle.ode_settling_laws.specs.Formed.{IsFormed};
 ghost use Rattle.ode_types.specs.declared.running.Running.{Running};
@@ -34,7 +36,7 @@ pub fn overlays_begin_formed()
 {}
 
 /// Touching, making and removing objects, and switching activations on and off or giving them states, leave it so, where what was read of
-/// an object stands under its keys and nothing stands under those of a new number.
+/// an object stands under its keys and nothing stands under those of a new number. So does collecting a firing.
 pub fn changes_stay_formed()
     ensures touch { (base : Entries) (x : Layer) (id : ℕ) (new : Option Tracked) → IsFormed base x → IsStored base id new → StaysFormed base (touch_with new id x) }
     ensures make { (base : Entries) (x : Layer) (class : ℕ) (fields : Items Value) → IsFormed base x → IsUnused base x.next → StaysFormed base (create class fields x) }
@@ -43,4 +45,5 @@ pub fn changes_stay_formed()
         → StaysFormed base (activate_with new id class trigger args x) }
     ensures deactivate { (base : Entries) (x : Layer) (id number : ℕ) (new : Option Tracked) → IsFormed base x → IsStored base id new → StaysFormed base (deactivate_with new id number x) }
     ensures put { (base : Entries) (x : Layer) (id : ℕ) (acts : Items Running) (new : Option Tracked) → IsFormed base x → IsStored base id new → StaysFormed base (put_with new id acts x) }
+    ensures collect { (base : Entries) (x : Layer) (e : Entry) (independent : Bool) → IsFormed base x → IsFormed base (collect e independent x).1 }
 {}

@@ -1,4 +1,5 @@
 use Rattle.ode_formed_laws.proofs.ActiveLaws.{activate_stays, deactivate_stays, put_stays}
+use Rattle.ode_formed_laws.proofs.FormedLaws.{collect_stays}
 use Rattle.ode_formed_laws.proofs.ObjectLaws.{create_stays, remove_stays, touch_stays}
 use Rattle.ode_formed_laws.proofs.changes_stay_formed.Goals as goal
 
@@ -19,3 +20,6 @@ returns-clause-deactivate c = λ base x id number new formed read. deactivate_st
 
 pub returns-clause-put : goal.returns-clause-put
 returns-clause-put c = λ base x id acts new formed read. put_stays base x id new formed read acts
+
+pub returns-clause-collect : goal.returns-clause-collect
+returns-clause-collect c = collect_stays
