@@ -36,7 +36,8 @@ use Rattle.ode_value.specs.declared.reason.Refusal.TheVariants as refusal
 use Rattle.ode_value.specs.declared.statement.ClassDecl.{ClassDecl}
 use Rattle.ode_value.specs.declared.statement.Statement.{Statement}
 use Rattle.ode_value.specs.declared.statement.Statement.TheVariants as statement
-use Rattle.ode_opening_laws.specs.Holding.{HasNoTriggers, IsPlain, class_of}
+use Rattle.ode_opening_laws.specs.Holding.{HasNoTriggers, class_of}
+use Rattle.ode_opening_laws.proofs.Plain.{IsPlain}
 use Rattle.ode_opening_laws.proofs.Back.{IsCutBack, IsOwn, bound, cut_back, cut_pieces, found_cut, there}
 use Rattle.ode_opening_laws.proofs.Expecting.{keys}
 use Rattle.ode_opening_laws.proofs.Founds.{head_found, heads_found, pieces_found, pieces_of_class}

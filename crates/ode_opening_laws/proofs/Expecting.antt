@@ -23,7 +23,7 @@ use Rattle.ode_value.specs.PrintedClasses.{decl_text}
 use Rattle.ode_value.specs.Worlds.{Declared}
 use Rattle.ode_value.specs.declared.key.Key.{Key}
 use Rattle.ode_value.specs.declared.member.TriggerDecl.{TriggerDecl}
-use Rattle.ode_opening_laws.specs.Holding.{IsPlain}
+use Rattle.ode_opening_laws.proofs.Plain.{IsPlain}
 use Rattle.ode_opening_laws.proofs.Founds.{found_of, head_found, heads_found, pieces_found, pieces_of_class}
 use Rattle.ode_opening_laws.proofs.Pieces.{bytes_of, found_piece, found_pieces}
 

@@ -10,7 +10,8 @@ use Rattle.ode_value.specs.PrintedClasses.{decl_text}
 use Rattle.ode_value.specs.Worlds.{Declared}
 use Rattle.ode_value.specs.declared.key.Key.{Key}
 use Rattle.ode_codec.specs.declared.record.Record.{Record}
-use Rattle.ode_opening_laws.specs.Holding.{IsPlain, class_rows, head_of}
+use Rattle.ode_opening_laws.specs.Holding.{class_rows, head_of}
+use Rattle.ode_opening_laws.proofs.Plain.{IsPlain}
 use Rattle.ode_opening_laws.proofs.Decoding.{Again, Decode, decode_append, decodes_all, decodes_one}
 use Rattle.ode_opening_laws.proofs.Pieces.{found_pieces, pieces_decode}
 

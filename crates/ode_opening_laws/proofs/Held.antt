@@ -93,7 +93,7 @@ held_back only entries cs bytes read none =
     let back : AreOf records cs = classes_back records cs own none whole.1 whole.2 in
     let rows : within 2 5 entries ≡ class_rows back.ds =
     spelled_.rows ∙ ap (map row_of) (sym spelled_.whole ∙ back.whole) ∙ rows_are back.ds in
-    (back.ds, back.classes, record { rows = rows; classes = back.are; plain = back.plain })
+    (back.ds, back.classes, record { rows = rows; classes = back.are; no_triggers = subst (AllByRecursion HasNoTriggers) back.classes none })
   where
     subst_own : (records fs : Found) → records ≡ fs → AllByRecursion IsOwn fs → AllByRecursion IsOwn records
     subst_own records fs same own = subst (AllByRecursion IsOwn) (sym same) own

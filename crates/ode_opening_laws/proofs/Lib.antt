@@ -1,3 +1,4 @@
+pub mod Plain
 pub mod Decoding
 pub mod Pieces
 pub mod Founds
@@ -9,3 +10,5 @@ pub mod Back
 pub mod Declared
 pub mod Splits
 pub mod Held
+pub mod Named
+pub mod Heads

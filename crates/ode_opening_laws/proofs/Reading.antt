@@ -2,6 +2,7 @@
 use Rattle.std.proofs.Common.{◌≡◌, ℕ, zero, suc, ◌+◌, List, [], ◌∷◌, ◌++◌, map, length, drop, Ok, refl, sym, ap, ◌∙◌, append_assoc}
 use Rattle.std.proofs.Math.Seq.{drop-append_seam}
 use Rattle.std.proofs.lemmas.List.{append-nil, length-map, map-append}
+use Rattle.std.specs.List.{AllByRecursion}
 use Rattle.ode_keep.specs.Entries.{Entries}
 use Rattle.ode_language.specs.Languages.{ode}
 use Rattle.ode_opening.specs.Classes.{classes_in}
@@ -16,6 +17,8 @@ use Rattle.ode_value.specs.PrintedClasses.{decl_text}
 use Rattle.ode_value.specs.Worlds.{Declared}
 use Rattle.ode_value.specs.declared.class.Class.{Class}
 use Rattle.ode_opening_laws.specs.Holding.{HoldClasses, class_of, class_rows, head_of}
+use Rattle.ode_opening_laws.proofs.Plain.{IsPlain}
+use Rattle.ode_opening_laws.proofs.Heads.{are_plain}
 use Rattle.ode_opening_laws.proofs.Accepting.{are_small, is_added}
 use Rattle.ode_opening_laws.proofs.Decoding.{Again}
 use Rattle.ode_opening_laws.proofs.Expecting.{complete_is, count_is}
@@ -75,9 +78,10 @@ declared_is ds classes =
 pub classes_are_read : Again → (entries : Entries) (ds : List Declared) → HoldClasses entries ds → classes_in ode entries ≡ Ok (map class_of ds)
 unfolding classes_in
 classes_are_read again entries ds held =
-    let found : decoded (class_rows ds) ≡ Ok (found_of ds) = classes_decode again ds held.plain (are_small [] ds held.classes) in
+    let plain : AllByRecursion IsPlain ds = are_plain ds held.classes held.no_triggers in
+    let found : decoded (class_rows ds) ≡ Ok (found_of ds) = classes_decode again ds plain (are_small [] ds held.classes) in
     let behind : Ruled Found → Ruled (List Class) = λ m. m >>= λ records. complete records >>= λ _. declared_in ode records in
     ap (λ (es : Entries). behind (decoded es)) held.rows
     ∙ ap behind found
-    ∙ ap (λ (m : Ruled (Unit {0})). m >>= λ _. declared_in ode (found_of ds)) (complete_is ds held.classes held.plain)
+    ∙ ap (λ (m : Ruled (Unit {0})). m >>= λ _. declared_in ode (found_of ds)) (complete_is ds held.classes plain)
     ∙ declared_is ds held.classes

@@ -19,7 +19,9 @@ use Rattle.ode_value.specs.Tables.{Table}
 use Rattle.ode_value.specs.Worlds.{Bones, Declared, Entry, Object, World}
 use Rattle.ode_value.specs.declared.key.Key.{Key}
 use Rattle.ode_value.specs.declared.member.TriggerDecl.{TriggerDecl}
-use Rattle.ode_opening_laws.specs.Holding.{HoldClasses, IsPlain, class_rows}
+use Rattle.ode_opening_laws.specs.Holding.{HasNoTriggers, HoldClasses, class_of, class_rows}
+use Rattle.ode_opening_laws.proofs.Plain.{IsPlain}
+use Rattle.ode_opening_laws.proofs.Heads.{are_plain}
 use Rattle.ode_opening_laws.proofs.Accepting.{are_small}
 use Rattle.ode_opening_laws.proofs.Founds.{IsSmall}
 use Rattle.ode_opening_laws.proofs.Pieces.{stored_pieces}
@@ -142,8 +144,9 @@ rows_of_classes s plain small =
     without (counters_row b ∷ heads ++ texts ++ table_heads_ ++ tables_ ++ objects_ ++ versions_ ++ activations_) queue_ (heads ++ texts) to_activations
     (none_of queue_ (queue_later b.queue))
 
-pub classes_are_held : (records : Entries) (w : ListWorld) → HoldsWorld ode records w → AllByRecursion IsPlain w.bones.classes → HoldClasses records w.bones.classes
-classes_are_held records w held plain =
+pub classes_are_held : (records : Entries) (w : ListWorld) → HoldsWorld ode records w → AllByRecursion HasNoTriggers (map class_of w.bones.classes) → HoldClasses records w.bones.classes
+classes_are_held records w held none =
+    let plain : AllByRecursion IsPlain w.bones.classes = are_plain w.bones.classes held.good.bones.classes none in
     let bones : held.stored.world.bones ≡ w.bones = held.stands.bones in
     let small : AllByRecursion IsSmall w.bones.classes = are_small [] w.bones.classes held.good.bones.classes in
     record {
@@ -152,5 +155,5 @@ classes_are_held records w held plain =
           ∙ rows_of_classes held.stored (subst (λ (b : Bones). AllByRecursion IsPlain b.classes) (sym bones) plain) (subst (λ (b : Bones). AllByRecursion IsSmall b.classes) (sym bones) small)
           ∙ ap (λ (b : Bones). class_rows b.classes) bones;
       classes = held.good.bones.classes;
-      plain = plain;
+      no_triggers = none;
     }

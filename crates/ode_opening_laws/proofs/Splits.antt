@@ -30,7 +30,8 @@ use Rattle.ode_value.specs.Records.{Row}
 use Rattle.ode_value.specs.Worlds.{Declared}
 use Rattle.ode_value.specs.declared.class.Class.{Class}
 use Rattle.ode_value.specs.declared.key.Key.{Key}
-use Rattle.ode_opening_laws.specs.Holding.{HasNoTriggers, IsPlain, class_of, class_rows}
+use Rattle.ode_opening_laws.specs.Holding.{HasNoTriggers, class_of, class_rows}
+use Rattle.ode_opening_laws.proofs.Plain.{IsPlain}
 use Rattle.ode_opening_laws.proofs.Back.{IsOwn, bound}
 use Rattle.ode_opening_laws.proofs.Declared.{AreDeclaredBy, AreNumberedFrom, AreRecords, Head, as_found, head_record, heads_back, ok_same, text_keys}
 use Rattle.ode_opening_laws.proofs.Expecting.{keys, none_of_pieces, table_heads_of_heads, tables_of_heads}

@@ -2,7 +2,6 @@
 use Rattle.std.specs.Prelude.{◌≡◌, ◌<◌, ◌^◌, ℕ, slice_index, List, [], ◌++◌, map, length}
 use Rattle.std.specs.List.{AllByRecursion, flat_map}
 use Rattle.std.specs.Option.{unwrap_or}
-use Rattle.ode_codec.specs.Rules.{IsRecord}
 use Rattle.ode_codec.specs.StoredRows.{head_row, text_rows}
 use Rattle.ode_codec.specs.declared.record.Record.{Record}
 use Rattle.ode_codec.specs.declared.record.Record.TheVariants as of
@@ -34,13 +33,8 @@ head_of d = of.ClassHead d.class.number d.class.name (unwrap_or d.class.parent 0
 abbrev pub class_rows : List Declared → List Row
 class_rows ds = map head_row ds ++ flat_map text_rows ds
 
--- a class whose head has a spelling, and which declares no trigger
-pub record IsPlain (d : Declared) : Type 0 where
-  pub spelled : IsRecord (head_of d)
-  pub no_triggers : HasNoTriggers d.class
-
 -- the records of classes and tables are those of these classes and no others, and each is accepted after the earlier ones
 pub record HoldClasses (entries : Entries) (ds : List Declared) : Type 0 where
   pub rows : within class_head_kind table_piece_kind entries ≡ class_rows ds
   pub classes : AreClasses ode [] ds
-  pub plain : AllByRecursion IsPlain ds
+  pub no_triggers : AllByRecursion HasNoTriggers (map class_of ds)

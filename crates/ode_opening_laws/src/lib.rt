@@ -1,16 +1,19 @@
 //! What an opening reads of records is what they hold: laws of definitions, each carried by the contract of a function that does nothing.
 #![tactic(auto)]
 
-ghost use Rattle.std.specs.Prelude.{◌≡◌, List as Items, Ok, map};
+ghost use Rattle.std.specs.Prelude.{◌≡◌, ℕ, List as Items, Ok, map, true};
 ghost use Rattle.std.specs.List.{AllByRecursion};
 ghost use Rattle.ode_codec.specs.Standing.{HoldsWorld};
 ghost use Rattle.ode_keep.specs.Entries.{Entries};
-ghost use Rattle.ode_language.specs.Languages.{ode};
+ghost use Rattle.ode_language.specs.Languages.{ode, statement_of};
 ghost use Rattle.ode_opening.specs.Classes.{classes_in};
-ghost use Rattle.ode_opening_laws.specs.Holding.{AreBytes, HasNoTriggers, HoldClasses, IsPlain, class_of};
+ghost use Rattle.ode_opening_laws.specs.Holding.{AreBytes, HasNoTriggers, HoldClasses, class_of};
 ghost use Rattle.ode_value.specs.Language.{ListWorld};
 ghost use Rattle.ode_value.specs.Worlds.{Declared};
+ghost use Rattle.ode_value.specs.Words.{is_free};
 ghost use Rattle.ode_value.specs.declared.class.Class.{Class};
+ghost use Rattle.ode_value.specs.declared.statement.ClassDecl.{ClassDecl};
+ghost use Rattle.ode_value.specs.declared.statement.Statement.TheVariants as statement;
 
 use ode_codec::one_spelling;
 
@@ -23,12 +26,12 @@ pub fn held_classes_are_read()
 
 /// Records that hold a world whose classes declare no trigger hold these classes.
 pub fn held_worlds_hold_classes()
-    ensures { (records : Entries) (w : ListWorld) → HoldsWorld ode records w → AllByRecursion IsPlain w.bones.classes → HoldClasses records w.bones.classes }
+    ensures { (records : Entries) (w : ListWorld) → HoldsWorld ode records w → AllByRecursion HasNoTriggers (map class_of w.bones.classes) → HoldClasses records w.bones.classes }
 {}
 
 /// So such records are read as the world's classes.
 pub fn held_worlds_open_to_their_classes()
-    ensures { (records : Entries) (w : ListWorld) → HoldsWorld ode records w → AllByRecursion IsPlain w.bones.classes
+    ensures { (records : Entries) (w : ListWorld) → HoldsWorld ode records w → AllByRecursion HasNoTriggers (map class_of w.bones.classes)
         → classes_in ode records ≡ Ok (map class_of w.bones.classes) }
 {
     held_worlds_hold_classes();
@@ -42,3 +45,8 @@ pub fn read_classes_are_held()
 {
     one_spelling();
 }
+
+/// The name of a class that is read is a word that isn't reserved.
+pub fn read_classes_are_named()
+    ensures { (piece : Items ℕ) (d : ClassDecl) → statement_of piece ≡ Ok (statement.Class d) → is_free d.name ≡ true }
+{}
