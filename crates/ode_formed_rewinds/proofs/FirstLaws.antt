@@ -6,12 +6,11 @@ use Rattle.ode_codec.specs.StoredRows.{Stored, activation_row, activation_rows, 
 use Rattle.ode_formed_laws.proofs.ObjectLaws.{by_form}
 use Rattle.ode_keep.specs.Entries.{value_under}
 use Rattle.ode_laws.proofs.AlikePairs.{all_found}
-use Rattle.ode_laws.proofs.Each.{all-then}
 use Rattle.ode_laws.proofs.Rows.{find-map}
 use Rattle.ode_objects.specs.Objects.{has_number, is_numbered}
 use Rattle.ode_objects.specs.declared.object.Active.{Active}
 use Rattle.ode_objects.specs.declared.object.Object as tracked
-use Rattle.ode_overlay_laws.specs.Standing.{IsIn, active_as, kept_as, object_as}
+use Rattle.ode_overlay_laws.specs.Standing.{IsIn, active_as, object_as}
 use Rattle.ode_settling_laws.proofs.KindLaws.{activation_stands, object_stands, version_stands}
 use Rattle.ode_settling_laws.proofs.PartLaws.{activations_stand, number_found, of_number, state_found, versions_stand}
 use Rattle.ode_settling_laws.specs.Formed.{IsOwn, active_value, object_value, value_in, version_value}
@@ -20,7 +19,7 @@ use Rattle.ode_value.specs.Keys.{activation_key, object_key, version_key}
 use Rattle.ode_value.specs.Language.{Language}
 use Rattle.ode_value.specs.Objects.{Activation}
 use Rattle.ode_value.specs.Pasts.{Kept}
-use Rattle.ode_value.specs.Worlds.{Object, kept_at}
+use Rattle.ode_value.specs.Worlds.{Object}
 use Rattle.ode_value.specs.declared.key.Key.{Key}
 
 abbrev NumberKept : Type 0

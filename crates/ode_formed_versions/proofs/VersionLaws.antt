@@ -1,11 +1,11 @@
 -- Fields are set, and versions derived and removed.
-use Rattle.std.proofs.Common.{◌≡◌, ◌==◌, ◌+◌, ℕ, List, [], ◌∷◌, ◌++◌, Bool, true, false, cond, length, Option, Some, None, Ok, Err, refl, sym, ap, subst, ◌∙◌, inr, arith}
+use Rattle.std.proofs.Common.{◌≡◌, ◌==◌, ◌+◌, ℕ, List, [], ◌∷◌, Bool, true, false, cond, length, Option, Some, Ok, Err, refl, sym, ap, subst, ◌∙◌, inr, arith}
 use Rattle.std.proofs.lemmas.Bool.{eqb-true, false≢true}
 use Rattle.std.proofs.lemmas.Bool.Decides.{nat_tests}
 use Rattle.std.specs.Prelude.{◌||◌, nat_lt}
 use Rattle.std.specs.BTreeMap.{is_at}
-use Rattle.std.specs.List.{AllByRecursion, find, fold}
-use Rattle.ode_formed_laws.proofs.AmongLaws.{IsOf, first_out, second_out, version_at}
+use Rattle.std.specs.List.{find, fold}
+use Rattle.ode_formed_laws.proofs.AmongLaws.{first_out, version_at}
 use Rattle.ode_formed_laws.proofs.FormedLaws.{after_by, by_few, by_live, by_need, formed_then, put_here, put_others, was_formed}
 use Rattle.ode_formed_laws.proofs.ObjectLaws.{by_form, own_object, own_version}
 use Rattle.ode_formed_laws.proofs.SpelledLaws.{IsWritten, same_active, same_object, same_version, spells_active, spells_object, spells_written}

@@ -19,7 +19,6 @@ use Rattle.ode_value.specs.declared.statement.Statement.TheVariants as statement
 use Rattle.ode_passes.specs.Complete.{class_count, of_head}
 use Rattle.ode_passes.specs.Records.{Found}
 use Rattle.ode_passes.specs.Rules.{Ruled, ◌>>=◌, found, needs, through}
-use Rattle.ode_passes.specs.declared.cause.Cause.{Cause}
 use Rattle.ode_passes.specs.declared.cause.Cause.TheVariants as cause
 
 -- ---- the text of a class

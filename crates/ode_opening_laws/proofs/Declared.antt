@@ -1,7 +1,7 @@
 -- From the classes that were declared back to the records.
-use Rattle.std.proofs.Common.{◌≡◌, ℕ, zero, suc, ◌+◌, ◌*◌, ◌<◌, ◌^◌, List, [], ◌∷◌, ◌++◌, map, length, drop, codes, Bool, true, false, cond, Option, Some, None, Result, Ok, Err, refl, sym, ap, subst, ◌∙◌, append_assoc, arith, length-append}
+use Rattle.std.proofs.Common.{◌≡◌, ℕ, ◌+◌, ◌*◌, ◌<◌, ◌^◌, List, [], ◌∷◌, ◌++◌, map, length, drop, codes, Bool, true, false, cond, Option, Some, None, Result, Ok, Err, refl, sym, ap, subst, ◌∙◌, append_assoc, arith, length-append}
 use Rattle.std.specs.Prelude.{nat_le, nat_lt, ◌==◌, ◌&&◌}
-use Rattle.std.specs.List.{AllByRecursion, flat_map, range_with_len, sum_by}
+use Rattle.std.specs.List.{AllByRecursion, sum_by}
 use Rattle.std.specs.Option.{unwrap_or}
 use Rattle.std.specs.Str.{bytes_eq}
 use Rattle.std.proofs.lemmas.Bool.Decides.{nat_tests}
@@ -18,7 +18,7 @@ use Rattle.ode_passes.specs.Rules.{Ruled, ◌>>=◌, found, needs, through}
 use Rattle.ode_passes.specs.declared.cause.Cause.{Cause}
 use Rattle.ode_passes.specs.declared.cause.Cause.TheVariants as cause
 use Rattle.ode_types.specs.Static.{check_class}
-use Rattle.ode_value.specs.Answers.{Answer, ◌>>◌, refuses}
+use Rattle.ode_value.specs.Answers.{◌>>◌, refuses}
 use Rattle.ode_value.specs.ClassLimits.{limits_class, limits_triggers}
 use Rattle.ode_value.specs.GoodWorlds.{AreClasses, IsClass}
 use Rattle.ode_value.specs.Keys.{class_head_key, class_piece_kind}
@@ -36,11 +36,10 @@ use Rattle.ode_value.specs.declared.reason.Refusal.TheVariants as refusal
 use Rattle.ode_value.specs.declared.statement.ClassDecl.{ClassDecl}
 use Rattle.ode_value.specs.declared.statement.Statement.{Statement}
 use Rattle.ode_value.specs.declared.statement.Statement.TheVariants as statement
-use Rattle.ode_opening_laws.specs.Holding.{HasNoTriggers, IsPlain, class_of, head_of}
+use Rattle.ode_opening_laws.specs.Holding.{HasNoTriggers, IsPlain, class_of}
 use Rattle.ode_opening_laws.proofs.Back.{IsCutBack, IsOwn, bound, cut_back, cut_pieces, found_cut, there}
 use Rattle.ode_opening_laws.proofs.Expecting.{keys}
-use Rattle.ode_opening_laws.proofs.Founds.{found_of, head_found, heads_found, pieces_found, pieces_of_class}
-use Rattle.ode_opening_laws.proofs.Pieces.{found_pieces}
+use Rattle.ode_opening_laws.proofs.Founds.{head_found, heads_found, pieces_found, pieces_of_class}
 
 -- ---- the head of a class, in parts
 

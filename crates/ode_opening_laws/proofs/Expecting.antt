@@ -1,6 +1,6 @@
 -- The keys of the records of classes are those that are expected.
-use Rattle.std.proofs.Common.{◌≡◌, ℕ, zero, suc, ◌+◌, List, [], ◌∷◌, ◌++◌, map, length, true, false, cond, Ok, Err, refl, sym, ap, ◌∙◌, append_assoc, arith, length-append}
-use Rattle.std.specs.List.{AllByRecursion, count_by, flat_map, range_with_len}
+use Rattle.std.proofs.Common.{◌≡◌, ℕ, zero, suc, ◌+◌, List, [], ◌∷◌, ◌++◌, map, length, true, false, cond, Ok, Err, refl, sym, ap, ◌∙◌, arith, length-append}
+use Rattle.std.specs.List.{AllByRecursion, range_with_len}
 use Rattle.std.specs.Ordering.{match_ordering}
 use Rattle.std.proofs.lemmas.Cmp.{tied_itself}
 use Rattle.std.proofs.lemmas.Grind.{flat_map-append}
@@ -17,7 +17,7 @@ use Rattle.ode_passes.specs.declared.cause.Cause.TheVariants as cause
 use Rattle.ode_passes.specs.declared.completeness.Part.{Part}
 use Rattle.ode_passes.specs.declared.completeness.Part.TheVariants as part
 use Rattle.ode_value.specs.GoodWorlds.{AreClasses}
-use Rattle.ode_value.specs.Keys.{class_head_key, class_piece_kind, key_cmp, table_head_kind}
+use Rattle.ode_value.specs.Keys.{class_head_key, class_piece_kind, table_head_kind}
 use Rattle.ode_value.specs.Lengths.{piece_count}
 use Rattle.ode_value.specs.PrintedClasses.{decl_text}
 use Rattle.ode_value.specs.Worlds.{Declared}

@@ -1,14 +1,12 @@
 -- What is read of the records of classes.
-use Rattle.std.proofs.Common.{◌≡◌, ℕ, zero, suc, ◌+◌, ◌<◌, ◌≤◌, ◌^◌, List, [], ◌∷◌, ◌++◌, map, length, Ok, refl, sym, ap, ◌∙◌, append_assoc, arith}
-use Rattle.std.specs.List.{AllByRecursion, flat_map, range_with_len}
-use Rattle.std.specs.Option.{unwrap_or}
+use Rattle.std.proofs.Common.{◌≡◌, ◌<◌, ◌^◌, List, [], ◌∷◌, ◌++◌, map, length, Ok, refl, append_assoc, arith}
+use Rattle.std.specs.List.{AllByRecursion, flat_map}
 use Rattle.ode_codec.specs.Spelling.{key_of, value_of}
 use Rattle.ode_codec.specs.StoredRows.{head_row, text_rows}
 use Rattle.ode_passes.specs.Records.{Found, decoded}
 use Rattle.ode_value.specs.Keys.{class_head_key}
 use Rattle.ode_value.specs.Lengths.{piece_count}
 use Rattle.ode_value.specs.PrintedClasses.{decl_text}
-use Rattle.ode_value.specs.Records.{Row}
 use Rattle.ode_value.specs.Worlds.{Declared}
 use Rattle.ode_value.specs.declared.key.Key.{Key}
 use Rattle.ode_codec.specs.declared.record.Record.{Record}

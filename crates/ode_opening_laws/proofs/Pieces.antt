@@ -2,7 +2,6 @@
 use Rattle.std.proofs.Common.{◌≡◌, ℕ, zero, suc, ◌+◌, ◌-◌, ◌*◌, ◌<◌, ◌≤◌, ◌^◌, min, List, [], ◌∷◌, ◌++◌, map, length, take, drop, true, cond, Some, None, Ok, refl, sym, ap, ◌∙◌, arith, length-drop}
 use Rattle.std.specs.Prelude.{◌==◌}
 use Rattle.std.specs.List.{range_with_len}
-use Rattle.std.specs.Option.{option_and_then}
 use Rattle.std.proofs.lemmas.Bool.Decides.{nat_tests}
 use Rattle.std.proofs.lemmas.List.{drop-drop, length-take, take-append-drop}
 use Rattle.ode_codec.specs.Rules.{HasRanges, IsKept, IsRecord}
@@ -13,7 +12,6 @@ use Rattle.ode_codec.specs.declared.record.Record.TheVariants as of
 use Rattle.ode_opening.specs.Declaring.{piece_in, text_in}
 use Rattle.ode_opening.proofs.Cut.{cut_ends, cut_goes, no_front, with_front}
 use Rattle.ode_passes.specs.Records.{Found}
-use Rattle.ode_passes.specs.Rules.{Ruled}
 use Rattle.ode_value.specs.Keys.{class_piece_key}
 use Rattle.ode_value.specs.Lengths.{piece_count}
 use Rattle.ode_value.specs.Limits.{value_limit}

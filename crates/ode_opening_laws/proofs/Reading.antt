@@ -1,12 +1,11 @@
 -- The classes of records are read as the records say.
 use Rattle.std.proofs.Common.{◌≡◌, ℕ, zero, suc, ◌+◌, List, [], ◌∷◌, ◌++◌, map, length, drop, Ok, refl, sym, ap, ◌∙◌, append_assoc}
-use Rattle.std.specs.List.{AllByRecursion}
 use Rattle.std.proofs.Math.Seq.{drop-append_seam}
 use Rattle.std.proofs.lemmas.List.{append-nil, length-map, map-append}
 use Rattle.ode_keep.specs.Entries.{Entries}
 use Rattle.ode_language.specs.Languages.{ode}
 use Rattle.ode_opening.specs.Classes.{classes_in}
-use Rattle.ode_opening.specs.Declaring.{adds, declared_in, declares_next, text_in}
+use Rattle.ode_opening.specs.Declaring.{adds, declared_in, declares_next}
 use Rattle.ode_passes.specs.Complete.{class_count, complete}
 use Rattle.ode_passes.specs.Records.{Found, decoded}
 use Rattle.ode_passes.specs.Rules.{Ruled, ◌>>=◌, through}
@@ -16,8 +15,6 @@ use Rattle.ode_value.specs.Lengths.{piece_count}
 use Rattle.ode_value.specs.PrintedClasses.{decl_text}
 use Rattle.ode_value.specs.Worlds.{Declared}
 use Rattle.ode_value.specs.declared.class.Class.{Class}
-use Rattle.ode_value.specs.declared.key.Key.{Key}
-use Rattle.ode_codec.specs.declared.record.Record.{Record}
 use Rattle.ode_opening_laws.specs.Holding.{HoldClasses, class_of, class_rows, head_of}
 use Rattle.ode_opening_laws.proofs.Accepting.{are_small, is_added}
 use Rattle.ode_opening_laws.proofs.Decoding.{Again}

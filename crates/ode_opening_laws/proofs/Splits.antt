@@ -1,5 +1,5 @@
 -- From complete records back to the heads and pieces of classes.
-use Rattle.std.proofs.Common.{◌≡◌, ℕ, zero, suc, ◌+◌, ◌<◌, ◌≤◌, List, [], ◌∷◌, ◌++◌, map, length, drop, true, Some, None, Option, Ok, Err, refl, sym, ap, subst, ◌∙◌, append_assoc, arith}
+use Rattle.std.proofs.Common.{◌≡◌, ℕ, zero, suc, ◌+◌, ◌<◌, List, [], ◌∷◌, ◌++◌, map, length, drop, None, Option, Ok, Err, refl, sym, ap, subst, ◌∙◌, append_assoc, arith}
 use Rattle.std.specs.List.{AllByRecursion, flat_map, range_with_len}
 use Rattle.std.specs.Ordering.{is_eq, match_ordering}
 use Rattle.std.specs.declared.cmp.Ordering.{Ordering}
@@ -34,7 +34,7 @@ use Rattle.ode_opening_laws.specs.Holding.{HasNoTriggers, IsPlain, class_of, cla
 use Rattle.ode_opening_laws.proofs.Back.{IsOwn, bound}
 use Rattle.ode_opening_laws.proofs.Declared.{AreDeclaredBy, AreNumberedFrom, AreRecords, Head, as_found, head_record, heads_back, ok_same, text_keys}
 use Rattle.ode_opening_laws.proofs.Expecting.{keys, none_of_pieces, table_heads_of_heads, tables_of_heads}
-use Rattle.ode_opening_laws.proofs.Founds.{found_of, head_found, head_spelled, heads_found, pieces_found, pieces_of_class}
+use Rattle.ode_opening_laws.proofs.Founds.{found_of, head_spelled, heads_found, pieces_found, pieces_of_class}
 use Rattle.ode_opening_laws.proofs.Pieces.{found_pieces, stored_pieces}
 
 -- ---- the keys are those that were expected

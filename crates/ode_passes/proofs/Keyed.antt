@@ -1,5 +1,5 @@
 -- Of records whose keys rise, those at or above a key begin with the one of the least such key.
-use Rattle.std.proofs.Common.{◌≡◌, ℕ, ◌<◌, ◌≤◌, ◌^◌, List, [], ◌∷◌, Bool, true, false, cond, Option, Some, None, refl, sym, ap, subst, ◌∙◌, arith}
+use Rattle.std.proofs.Common.{◌≡◌, ℕ, ◌<◌, List, [], ◌∷◌, Bool, true, false, cond, Some, None, refl, sym, ap, subst, ◌∙◌, arith}
 use Rattle.std.specs.Prelude.{◌&&◌, nat_le}
 use Rattle.std.specs.BTreeMap.{is_at}
 use Rattle.std.specs.List.{AllByRecursion}
@@ -14,7 +14,7 @@ use Rattle.ode_keep.proofs.Keys.{key_total}
 use Rattle.ode_value.specs.Keys.{key_cmp}
 use Rattle.ode_value.specs.Records.{Row}
 use Rattle.ode_value.specs.declared.key.Key.{Key}
-use Rattle.ode_passes.specs.Walking.{IsNext, follows, has_range, is_above, is_from, records_above, records_from}
+use Rattle.ode_passes.specs.Walking.{follows, has_range, is_above, is_from, records_above, records_from}
 
 abbrev AllAbove : Key → Entries → Type 0
 AllAbove q es = AllByRecursion (λ k. key_cmp q k ≡ Less) (keys_of es)

@@ -1,5 +1,5 @@
 -- Steps that follow one another, as a loop makes them.
-use Rattle.std.proofs.Common.{◌≡◌, List, [], ◌∷◌, ◌++◌, Result, Ok, Err, refl, sym, ap, ◌∙◌}
+use Rattle.std.proofs.Common.{◌≡◌, List, [], ◌∷◌, ◌++◌, Ok, Err, refl, sym, ap, ◌∙◌}
 use Rattle.ode_passes.specs.Answers.{Answers, Leaves}
 use Rattle.ode_passes.specs.Rules.{Ruled, ◌>>=◌, through}
 use Rattle.ode_passes.specs.declared.error.OpenError.{OpenError}

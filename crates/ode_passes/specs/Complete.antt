@@ -1,5 +1,5 @@
 -- Classes are numbered from 1, and each has exactly its pieces, its tables' heads and their pieces.
-use Rattle.std.specs.Prelude.{ℕ, ◌*◌, List, [], ◌∷◌, ◌++◌, map, Bool, Option, Some, None, Ok, Err, drop}
+use Rattle.std.specs.Prelude.{ℕ, ◌*◌, List, [], ◌∷◌, ◌++◌, map, Bool, Option, Some, None, Ok, Err}
 use Rattle.std.specs.List.{count_by, flat_map, range_with_len}
 use Rattle.std.specs.Option.{is_some}
 use Rattle.std.specs.Ordering.{match_ordering}

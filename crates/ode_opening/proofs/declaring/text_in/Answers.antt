@@ -1,4 +1,4 @@
-use Rattle.std.proofs.Common.{◌≡◌, ◌++◌, ◌+◌, ◌-◌, ◌<◌, ℕ, List, Ok, drop, length, ap, sym, ◌∙◌, arith}
+use Rattle.std.proofs.Common.{◌≡◌, ◌+◌, ◌-◌, ◌<◌, ℕ, List, Ok, drop, length, ap, sym, ◌∙◌, arith}
 use Rattle.ode_opening.specs.Declaring.{text_in}
 use Rattle.ode_opening.proofs.Cut.{cut_ends, cut_goes, cut_stops, no_front, with_front}
 use Rattle.ode_opening.proofs.declaring.text_in.Goals as goal

@@ -1,6 +1,5 @@
-use Rattle.std.proofs.Common.{◌≡◌, ◌<◌, ◌∷◌, ◌∙◌, Option, Some, Ok, true, sym, ap, subst, ⊎_elim, arith}
+use Rattle.std.proofs.Common.{◌≡◌, ◌<◌, ◌∷◌, ◌∙◌, Option, Some, true, sym, ap, subst, ⊎_elim, arith}
 use Rattle.ode_host.proofs.Moments.{looks_joined}
-use Rattle.ode_keep.specs.Entries.{Entries}
 use Rattle.ode_value.specs.Records.{Row}
 use Rattle.ode_value.specs.declared.key.Key.{Key}
 use Rattle.ode_passes.specs.Rules.{through}
