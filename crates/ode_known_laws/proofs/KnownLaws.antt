@@ -1,5 +1,10 @@
 -- What is known of an overlay goes on behind a call.
-use Rattle.std.proofs.Common.{◌≡◌, ◌<◌, ℕ, Option, List, [], ◌∷◌, map, Ok, Err, refl, sym, ap, subst, ◌∙◌}
+use Rattle.std.specs.Prelude.{◌&&◌}
+use Rattle.ode_codec.specs.declared.record.Entry.{Entry}
+use Rattle.ode_objects.specs.Values.{are_args}
+use Rattle.ode_overlay.specs.Settling.{collect, has_room, with_entry}
+use Rattle.ode_view_laws.proofs.ShowLaws.{ordered_by}
+use Rattle.std.proofs.Common.{Bool, true, false, cond, ◌≡◌, ◌<◌, ℕ, Option, List, [], ◌∷◌, map, Ok, Err, refl, sym, ap, subst, ◌∙◌}
 use Rattle.std.specs.List.{AllByRecursion}
 use Rattle.ode_act_laws.specs.Unless.{ShowsUnless}
 use Rattle.ode_codec.specs.Standing.{ArePasts}
@@ -28,7 +33,7 @@ use Rattle.ode_version_laws.specs.Denoting.{HaveVersions, IsRead}
 use Rattle.ode_version_laws.specs.Leaving.{StillHaveVersions, StillRemembers}
 use Rattle.ode_view_laws.proofs.ViewLaws.{view_stands}
 use Rattle.ode_view_laws.specs.Ordering.{IsOrdered, number_of, row_number}
-use Rattle.ode_view_laws.specs.Showing.{Shows, StaysViewed}
+use Rattle.ode_view_laws.specs.Showing.{IsViewed, Shows, StaysViewed}
 use Rattle.ode_view_laws.specs.Viewing.{Beside, began_over, running, world_now}
 
 -- ---- the world that records hold
@@ -121,3 +126,26 @@ module _ (classes : List Declared) (first : NumberWorld) (beside : Beside) (base
     known_unless D (Ok done) shows remembers versions = known_then (Ok done) shows remembers versions
     known_unless D (Err (error.Damaged key)) shows remembers versions = (shows.0, tt)
     known_unless D (Err why) shows remembers versions = (shows.0, tt)
+
+-- ---- firings
+
+entry_versions : (e : Entry) (independent : Bool) (first : NumberWorld) (x : Layer) → HaveVersions (world_now first.bones.classes first x).bones
+    → HaveVersions (world_now first.bones.classes first (with_entry e independent x)).bones
+unfolding world_now
+entry_versions e independent first x versions = versions
+
+module _ (base : Entries) (first : NumberWorld) (x : Layer) (known : IsKnown base first x) (e : Entry) (independent : Bool) where
+  abbrev collected : Bool → Bool × Layer
+  collected b = cond b (true, with_entry e independent x) (false, x)
+
+  by_room : (b : Bool) → IsViewed first (collected b).1 → IsKnown base first (collected b).1
+  by_room true viewed = record { held = known.held; viewed = viewed; remembers = known.remembers; versions = entry_versions e independent first x known.versions }
+  by_room false viewed = known
+
+  pub collected_known : IsViewed first (collect e independent x).1 → IsKnown base first (collect e independent x).1
+  unfolding collect
+  collected_known viewed = by_room (has_room x && are_args e.args) viewed
+
+-- the parts of the view are in order
+pub ordered_now : (classes : List Declared) (first : NumberWorld) (beside : Beside) (base : Entries) (x : Layer) → IsKnown base first x → IsOrdered (running classes first x beside).now
+ordered_now classes first beside base x known = ordered_by first.bones.classes classes first x known.viewed.now

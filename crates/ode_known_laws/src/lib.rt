@@ -4,10 +4,12 @@
 
 mod activations;
 mod beginning;
+mod firings;
 mod objects;
 mod versions;
 
 pub use activations::{activations_known, deactivations_known};
 pub use beginning::{transactions_begin_known, views_read_known};
+pub use firings::collections_known;
 pub use objects::{makings_known, removals_known, touches_known};
 pub use versions::{derivations_known, version_removals_known, writes_known};
