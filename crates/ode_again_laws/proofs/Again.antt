@@ -46,7 +46,7 @@ use Rattle.ode_relex.proofs.WordTokens.{either_false}
 use Rattle.ode_reread.proofs.Effects.{spelt}
 use Rattle.ode_reread.proofs.Marked.{marked}
 use Rattle.ode_reread.proofs.Prints.{Ds}
-use Rattle.ode_reread.proofs.Readings.{at_start}
+use Rattle.ode_reread.proofs.Readings.{at_start, same_seen}
 use Rattle.ode_reread.proofs.Sounds.{text_sounds, Sounds}
 use Rattle.ode_reread.proofs.Spells.{Spells}
 use Rattle.ode_reread_classes.proofs.AllParts.{does}
@@ -55,7 +55,7 @@ use Rattle.ode_reread_classes.proofs.Derivations.{next_mark}
 use Rattle.ode_reread_classes.proofs.MemberRows.{declared}
 use Rattle.ode_reread_classes.proofs.Pieces.{closing_mark, join, of_spells, to_spells}
 use Rattle.ode_reread_classes.proofs.Puts.{with_class}
-use Rattle.ode_reread_classes.proofs.Readings.{class_olds, cut_whole, plain_own, same_seen}
+use Rattle.ode_reread_classes.proofs.Readings.{cut_whole, plain_own}
 use Rattle.ode_again_laws.proofs.Counts.{class_count, count, script_count, seven, total}
 use Rattle.ode_again_laws.proofs.Derived.{all_cool, all_plain, AreCool, BeginNothing}
 use Rattle.ode_again_laws.proofs.First.{first_of, opened, IsFirst, Third, WithParent, Without}
@@ -226,7 +226,7 @@ good_read text d c =
     let begins = subst BeginNothing all (begin_nothing Class text false c.tokens marks.0) in
     let zero = by_third out f.first o.name o.third o.more f.class o.named reads all marks.1 begins.1.1.1 o.opens in
     let sounds = subst (Sounds Class) f.is (text_sounds Class text c.tokens c.lexed_as) in
-    let made = declared Class (item.Token terminal.Semi ∷ item.Build action.Declare ∷ []) at_start out (does Class class_olds f.rest sounds.1) in
+    let made = declared Class (item.Token terminal.Semi ∷ item.Build action.Declare ∷ []) at_start out (does Class f.rest sounds.1) in
     let a = made.class in
     let b = made.behind in
     let is : out ≡ declares a.x a.n = sym b.3 ∙ (ap (make action.Declare) (semi_kept made.mid b.0 b.1) ∙ ap (make action.Declare) a.is) in

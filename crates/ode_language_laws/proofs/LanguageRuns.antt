@@ -14,18 +14,18 @@ use Rattle.ode_good_runs.proofs.Fresh.{fresh_well}
 use Rattle.ode_good_runs.proofs.GoodRuns.{run_well}
 use Rattle.ode_language.specs.Languages.{ode}
 use Rattle.ode_sound_laws.specs.Typed.{AreFromOne}
-use Rattle.ode_language_laws.specs.Again.{AreReadAgain}
+use Rattle.ode_again_laws.proofs.Again.{again}
 use Rattle.ode_language_laws.proofs.ReadRefs.{literals_are}
 use Rattle.ode_language_laws.proofs.Seconds.{instants_fit}
 
 pub sound_rules : HasSoundRules ode
 sound_rules = rules_sound ode (record { class_of = refl; checked = refl })
 
-reads_well : AreReadAgain → ReadsWell ode
-reads_well again = record { literals = literals_are; again = again; instants = instants_fit }
+pub reads_well : ReadsWell ode
+reads_well = record { literals = literals_are; again = again; instants = instants_fit }
 
-pub fresh_runs_well : AreReadAgain → (script : List ℕ) → AllByRecursion (IsWell ode) (worlds (trace ode empty_world script))
-fresh_runs_well again script = run_well ode sound_rules (reads_well again) empty_world (fresh_well ode sound_rules) script
+pub fresh_runs_well : (script : List ℕ) → AllByRecursion (IsWell ode) (worlds (trace ode empty_world script))
+fresh_runs_well script = run_well ode sound_rules reads_well empty_world (fresh_well ode sound_rules) script
 
-pub runs_well : AreReadAgain → (w : ListWorld) → IsGood ode w → AreFromOne w.bones → (script : List ℕ) → AllByRecursion (IsWell ode) (worlds (trace ode w script))
-runs_well again w good ones script = run_well ode sound_rules (reads_well again) w (well_of ode sound_rules w good ones) script
+pub runs_well : (w : ListWorld) → IsGood ode w → AreFromOne w.bones → (script : List ℕ) → AllByRecursion (IsWell ode) (worlds (trace ode w script))
+runs_well w good ones script = run_well ode sound_rules reads_well w (well_of ode sound_rules w good ones) script

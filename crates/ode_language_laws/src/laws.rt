@@ -13,9 +13,9 @@ ghost use Rattle.ode_top.specs.Runs.{trace, worlds};
 ghost use Rattle.ode_types.specs.Literals.{literals};
 ghost use Rattle.ode_accepted_laws.specs.Languages.{HasSoundRules};
 ghost use Rattle.ode_good_laws.specs.Well.{IsWell};
+ghost use Rattle.ode_good_runs.specs.Reading.{ReadsWell};
 ghost use Rattle.ode_language.specs.Languages.{ode, statement_of};
 ghost use Rattle.ode_sound_laws.specs.Typed.{AreFromOne};
-ghost use Rattle.ode_language_laws.specs.Again.{AreReadAgain};
 
 /// The language of scripts has sound rules.
 pub fn language_has_sound_rules()
@@ -28,9 +28,15 @@ pub fn what_is_read_is_in_range()
     ensures instants { (text : Items ℕ) (t : ℤ) → instant_of text ≡ Some t → FitsSigned w64 t }
 {}
 
-/// Where each class that is read is read from its printed text too, a run of any script from a fresh database, or from a good world whose
-/// versions' numbers begin at 1, has good worlds alone, of sound classes.
+/// The language of scripts reads well: the literals of what is read are references, a class that is read is read again from its printed
+/// text, and instants have 64 bits.
+pub fn language_reads_well()
+    ensures { ReadsWell ode }
+{}
+
+/// A run of any script from a fresh database, or from a good world whose versions' numbers begin at 1, has good worlds alone, of sound
+/// classes.
 pub fn runs_of_the_language_stay_good()
-    ensures fresh { AreReadAgain → (script : Items ℕ) → AllByRecursion (IsWell ode) (worlds (trace ode empty_world script)) }
-    ensures good { AreReadAgain → (w : ListWorld) → IsGood ode w → AreFromOne w.bones → (script : Items ℕ) → AllByRecursion (IsWell ode) (worlds (trace ode w script)) }
+    ensures fresh { (script : Items ℕ) → AllByRecursion (IsWell ode) (worlds (trace ode empty_world script)) }
+    ensures good { (w : ListWorld) → IsGood ode w → AreFromOne w.bones → (script : Items ℕ) → AllByRecursion (IsWell ode) (worlds (trace ode w script)) }
 {}
