@@ -46,11 +46,15 @@ impl Method {
     pub fn copy(&self, alloc: Global) -> Result<Method, AllocError>
         ensures { IfOk result (λ copy. copy ≡ self.now) }
     {
+        let name = self.name.copy(alloc)?;
+        let result = self.result.copy(alloc)?;
+        let params = self.params.copy(alloc)?;
+        let body = self.body.copy(alloc)?;
         Ok(Method {
-            name: self.name.copy(alloc)?,
-            result: self.result.copy(alloc)?,
-            params: self.params.copy(alloc)?,
-            body: self.body.copy(alloc)?,
+            name,
+            result,
+            params,
+            body,
         })
     }
 }

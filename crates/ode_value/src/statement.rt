@@ -263,12 +263,46 @@ impl Call {
     pub fn copy(&self, alloc: Global) -> Result<Call, AllocError>
         ensures { IfOk result (λ copy. copy ≡ self.now) }
     {
-        Ok(Call {
-            of: self.of.copy_in(alloc)?,
-            method: self.method.copy(alloc)?,
-            args: self.args.copy(alloc)?,
-        })
+        let of = self.of.copy_in(alloc)?;
+        let (method, args) = copy_named(alloc, &self.method, &self.args)?;
+        Ok(Call { of, method, args })
     }
+}
+
+// A name and its arguments.
+fn copy_named(
+    alloc: Global,
+    name: &Name,
+    args: &List<Expr>,
+) -> Result<(Name, List<Expr>), AllocError>
+    ensures { IfOk result (λ parts. parts ≡ (name.now, args.now)) }
+{
+    let name = name.copy(alloc)?;
+    let args = args.copy(alloc)?;
+    Ok((name, args))
+}
+
+// A class and the fields that are set.
+fn copy_new(alloc: Global, class: &Name, fields: &List<(Name, Expr)>) -> Result<Rhs, AllocError>
+    ensures { IfOk result (λ copy. copy ≡ Rhs.New class.now fields.now) }
+{
+    let class = class.copy(alloc)?;
+    let fields = fields.copy(alloc)?;
+    Ok(Rhs::New { class, fields })
+}
+
+// An object's trigger and its arguments.
+fn copy_activation(
+    alloc: Global,
+    of: &Expr,
+    trigger: &Name,
+    args: &List<Expr>,
+) -> Result<Rhs, AllocError>
+    ensures { IfOk result (λ copy. copy ≡ Rhs.Activate of.now trigger.now args.now) }
+{
+    let of = of.copy(alloc)?;
+    let (trigger, args) = copy_named(alloc, trigger, args)?;
+    Ok(Rhs::Activate { of, trigger, args })
 }
 
 impl Rhs {
@@ -279,16 +313,9 @@ impl Rhs {
         match self {
             Rhs::Plain(expr) => Ok(Rhs::Plain(expr.copy(alloc)?)),
             Rhs::Call(call) => Ok(Rhs::Call(call.copy(alloc)?)),
-            Rhs::New { class, fields } => Ok(Rhs::New {
-                class: class.copy(alloc)?,
-                fields: fields.copy(alloc)?,
-            }),
+            Rhs::New { class, fields } => copy_new(alloc, class, fields),
             Rhs::NewVersion(of) => Ok(Rhs::NewVersion(of.copy(alloc)?)),
-            Rhs::Activate { of, trigger, args } => Ok(Rhs::Activate {
-                of: of.copy(alloc)?,
-                trigger: trigger.copy(alloc)?,
-                args: args.copy(alloc)?,
-            }),
+            Rhs::Activate { of, trigger, args } => copy_activation(alloc, of, trigger, args),
         }
     }
 }
