@@ -1,5 +1,6 @@
 mod Levels
 mod Locals
 mod Rounds
+mod Stays
 mod Touches
 mod Values

@@ -34,7 +34,7 @@ module _ {O A : Type 0} (past : Past O A) (d : Option (Body O A)) (id : ℕ) whe
   by_live x true = by_touched x (is_touched id x)
   by_live x false = refl
 
-  touch_is : (x : Tx O A) → touches past d id x ≡ go_on (joins_first id x) (λ first. when first (posts past d id TBegin []))
+  pub touch_is : (x : Tx O A) → touches past d id x ≡ go_on (joins_first id x) (λ first. when first (posts past d id TBegin []))
   unfolding touches
   touch_is x = by_live x (is_live id x)
 

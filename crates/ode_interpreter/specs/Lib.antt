@@ -1,3 +1,4 @@
+pub mod Calling
 pub mod Seen
 pub mod Settled
 pub mod Touching

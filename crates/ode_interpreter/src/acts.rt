@@ -11,7 +11,7 @@ ghost use Rattle.ode_value.specs.Expressions.{evaluates, stands, text_in};
 ghost use Rattle.ode_value.specs.Firings.{arises, both_lists, whole_list};
 ghost use Rattle.ode_value.specs.Making.{derives, drops, makes, removes, sets_field};
 ghost use Rattle.ode_value.specs.Pasts.{numbers};
-ghost use Rattle.ode_value.specs.Posting.{collects, defers, fired_text, is_listed};
+ghost use Rattle.ode_value.specs.Posting.{collects, defers, fired_text, is_listed, is_touched};
 ghost use Rattle.ode_value.specs.Settling.{says};
 ghost use Rattle.ode_value.specs.Statements.{activates_initial, switches_off_numbered, switches_on_named};
 ghost use Rattle.ode_value.specs.Texts.{said_line, value_line};
@@ -99,7 +99,7 @@ pub trait Acts<S: Schema> {
         ensures acts { (classes : Items Declared) (g : Known) → S.declares schema.now classes → knows self.old schema.now g → Ends result (with_classes classes (view self.new g)) (is_listed id kind.now (with_classes classes (view self.old g))) }
         ensures kept { (g : Known) → knows self.old schema.now g → Leaves result (knows self.new schema.now g) (failed self.new g) };
 
-    /// A point arises: the activations that fire there, in order.
+    /// A point of a touched object arises: the activations that fire there, in order.
     fn arise(
         &mut self,
         schema: &S,
@@ -107,7 +107,7 @@ pub trait Acts<S: Schema> {
         kind: &Kind,
         args: &[Value],
     ) -> Result<List<Firing>, Stop>
-        ensures acts { (classes : Items Declared) (g : Known) → S.declares schema.now classes → knows self.old schema.now g → EndsBy (map (firing (S.trigger schema.now))) result (with_classes classes (view self.new g)) (arises (numbers (S.tables schema.now)) (both_lists (numbers (S.tables schema.now))) id kind.now args.now (with_classes classes (view self.old g))) }
+        ensures acts { (classes : Items Declared) (g : Known) → S.declares schema.now classes → knows self.old schema.now g → is_touched id (view self.old g) ≡ true → EndsBy (map (firing (S.trigger schema.now))) result (with_classes classes (view self.new g)) (arises (numbers (S.tables schema.now)) (both_lists (numbers (S.tables schema.now))) id kind.now args.now (with_classes classes (view self.old g))) }
         ensures kept { (g : Known) → knows self.old schema.now g → Leaves result (knows self.new schema.now g) (failed self.new g) }
         ensures declared { IfOk result (All (λ f. S.has_trigger schema.now f.trigger.class f.trigger.place)) };
 
@@ -119,7 +119,7 @@ pub trait Acts<S: Schema> {
         kind: &Kind,
         args: &[Value],
     ) -> Result<List<Firing>, Stop>
-        ensures acts { (classes : Items Declared) (g : Known) → S.declares schema.now classes → knows self.old schema.now g → EndsBy (map (firing (S.trigger schema.now))) result (with_classes classes (view self.new g)) (arises (numbers (S.tables schema.now)) (whole_list (numbers (S.tables schema.now))) id kind.now args.now (with_classes classes (view self.old g))) }
+        ensures acts { (classes : Items Declared) (g : Known) → S.declares schema.now classes → knows self.old schema.now g → is_touched id (view self.old g) ≡ true → EndsBy (map (firing (S.trigger schema.now))) result (with_classes classes (view self.new g)) (arises (numbers (S.tables schema.now)) (whole_list (numbers (S.tables schema.now))) id kind.now args.now (with_classes classes (view self.old g))) }
         ensures kept { (g : Known) → knows self.old schema.now g → Leaves result (knows self.new schema.now g) (failed self.new g) }
         ensures declared { IfOk result (All (λ f. S.has_trigger schema.now f.trigger.class f.trigger.place)) };
 

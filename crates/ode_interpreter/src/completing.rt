@@ -1,7 +1,8 @@
 //! The end of a transaction's work.
-ghost use Rattle.std.specs.Prelude.{◌≡◌, List as Items};
+ghost use Rattle.std.specs.Prelude.{◌≡◌, List as Items, true};
 ghost use Rattle.ode_value.specs.Completing.{completes, goes_round, posts_tcomplete};
 ghost use Rattle.ode_value.specs.Pasts.{numbers};
+ghost use Rattle.ode_value.specs.Posting.{is_touched};
 ghost use Rattle.ode_value.specs.Worlds.{Declared};
 ghost use Rattle.ode_interpreter.specs.Seen.{Ends, Leaves, with_classes};
 
@@ -12,7 +13,7 @@ use crate::stop::Stop;
 use ode_value::Kind;
 use std::alloc::Global;
 
-// The last point of an object that is still there.
+// The last point of a touched object that is still there.
 #[tactic(auto, unfolding(ode_value::specs::Completing::posts_tcomplete))]
 fn post_tcomplete<S: Schema, T: Acts<S>>(
     alloc: Global,
@@ -20,7 +21,7 @@ fn post_tcomplete<S: Schema, T: Acts<S>>(
     tx: &mut T,
     id: u64,
 ) -> Result<(), Stop>
-    ensures acts { (classes : Items Declared) (g : T.Known) → S.declares schema.now classes → T.knows tx.old schema.now g → Ends result (with_classes classes (T.view tx.new g)) (posts_tcomplete (numbers (S.tables schema.now)) id (with_classes classes (T.view tx.old g))) }
+    ensures acts { (classes : Items Declared) (g : T.Known) → S.declares schema.now classes → T.knows tx.old schema.now g → is_touched id (T.view tx.old g) ≡ true → Ends result (with_classes classes (T.view tx.new g)) (posts_tcomplete (numbers (S.tables schema.now)) id (with_classes classes (T.view tx.old g))) }
     ensures kept { (g : T.Known) → T.knows tx.old schema.now g → Leaves result (T.knows tx.new schema.now g) (T.failed tx.new g) }
 {
     if !tx.is_live(schema, id)? {
@@ -30,7 +31,7 @@ fn post_tcomplete<S: Schema, T: Acts<S>>(
 }
 
 // The rounds of last points and deferred actions.
-#[tactic(auto, using(crate::proofs::Rounds::one_round, crate::proofs::Rounds::no_round))]
+#[tactic(auto, using(crate::proofs::Rounds::one_round, crate::proofs::Rounds::no_round, crate::proofs::Stays::at_touched))]
 fn go_round<S: Schema, T: Acts<S>>(
     alloc: Global,
     schema: &S,

@@ -1,9 +1,11 @@
 //! How statements take their values from expressions.
 ghost use Rattle.std.specs.Prelude.{◌≡◌, List as Items, IfOk};
+ghost use Rattle.std.specs.Option.{unwrap_or};
 ghost use Rattle.ode_value.specs.Classes.{default_of};
 ghost use Rattle.ode_value.specs.Executing.{Goes, sets};
 ghost use Rattle.ode_value.specs.Expressions.{evaluates_all, holds, is_true, receiver, ref_in, reference, text_in};
 ghost use Rattle.ode_value.specs.Worlds.{Declared};
+ghost use Rattle.ode_interpreter.specs.Calling.{tells};
 ghost use Rattle.ode_interpreter.specs.Seen.{Ends, EndsBy, Leaves, scene, with_classes};
 
 use crate::acts::Acts;
@@ -89,6 +91,20 @@ pub(crate) fn receiver<S: Schema, T: Acts<S>>(
     }
 }
 
+/// The line of a text.
+pub(crate) fn say<S: Schema, T: Acts<S>>(
+    schema: &S,
+    tx: &mut T,
+    on: &Scene,
+    e: &Expr,
+) -> Result<(), Stop>
+    ensures acts { (classes : Items Declared) (g : T.Known) → S.declares schema.now classes → T.knows tx.old schema.now g → EndsBy (λ _. Goes (scene on.now)) result (with_classes classes (T.view tx.new g)) (tells e.now (scene on.now) (with_classes classes (T.view tx.old g))) }
+    ensures kept { (g : T.Known) → T.knows tx.old schema.now g → Leaves result (T.knows tx.new schema.now g) (T.failed tx.new g) }
+{
+    let v = tx.evaluate(schema, on, e)?;
+    tx.say(schema, &v)
+}
+
 /// What a `let` makes or a statement sets.
 pub(crate) fn set<S: Schema, T: Acts<S>>(
     schema: &S,
@@ -122,5 +138,15 @@ pub(crate) fn default_value(alloc: Global, sort: &Sort) -> Result<Value, AllocEr
             Err(_) => Err(AllocError),
         },
         Sort::Reference(_) | Sort::Void => Ok(null()),
+    }
+}
+
+/// What a call gives: the value that its body returned, or its sort's default.
+pub(crate) fn given(alloc: Global, v: Option<Value>, sort: &Sort) -> Result<Value, AllocError>
+    ensures { IfOk result (λ answer. answer ≡ unwrap_or v (default_of sort.now)) }
+{
+    match v {
+        Some(v) => Ok(v),
+        None => default_value(alloc, sort),
     }
 }

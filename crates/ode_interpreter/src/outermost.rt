@@ -1,8 +1,8 @@
 //! Statements, calls and points at the first level: those of a script, of the queue and of the clock.
-ghost use Rattle.std.specs.Prelude.{◌≡◌, List as Items};
+ghost use Rattle.std.specs.Prelude.{◌≡◌, List as Items, true};
 ghost use Rattle.ode_value.specs.Executing.{commands, first_actions, outermost};
 ghost use Rattle.ode_value.specs.Pasts.{numbers};
-ghost use Rattle.ode_value.specs.Posting.{posts, runs, touches};
+ghost use Rattle.ode_value.specs.Posting.{is_touched, posts, runs, touches};
 ghost use Rattle.ode_value.specs.Statements.{calls_deeper};
 ghost use Rattle.ode_value.specs.Worlds.{Declared};
 ghost use Rattle.ode_interpreter.specs.Seen.{Ends, Leaves, firing, with_classes};
@@ -52,7 +52,7 @@ pub fn call<S: Schema, T: Acts<S>>(
     ensures acts { (classes : Items Declared) (g : T.Known) → S.declares schema.now classes → T.knows tx.old schema.now g → Ends result (with_classes classes (T.view tx.new g)) (calls_deeper (numbers (S.tables schema.now)) (outermost (numbers (S.tables schema.now))) of method.now args (with_classes classes (T.view tx.old g))) }
     ensures kept { (g : T.Known) → T.knows tx.old schema.now g → Leaves result (T.knows tx.new schema.now g) (T.failed tx.new g) }
 {
-    statements::call(alloc, schema, tx, DEPTH_LIMIT, of, method, args)
+    statements::call(alloc, schema, tx, DEPTH_LIMIT, of, method, &args)
 }
 
 /// A touch of an object that is there.
@@ -69,7 +69,7 @@ pub fn touch<S: Schema, T: Acts<S>>(
     statements::touch(alloc, schema, tx, DEPTH_LIMIT, id)
 }
 
-/// A point of an object, where its kind is listed.
+/// A point of a touched object, where its kind is listed.
 #[tactic(auto, unfolding(ode_value::specs::Executing::outermost, ode_value::specs::Limits::depth_limit))]
 pub fn post<S: Schema, T: Acts<S>>(
     alloc: Global,
@@ -79,7 +79,7 @@ pub fn post<S: Schema, T: Acts<S>>(
     kind: &Kind,
     args: &[Value],
 ) -> Result<(), Stop>
-    ensures acts { (classes : Items Declared) (g : T.Known) → S.declares schema.now classes → T.knows tx.old schema.now g → Ends result (with_classes classes (T.view tx.new g)) (posts (numbers (S.tables schema.now)) (first_actions (numbers (S.tables schema.now))) id kind.now args.now (with_classes classes (T.view tx.old g))) }
+    ensures acts { (classes : Items Declared) (g : T.Known) → S.declares schema.now classes → T.knows tx.old schema.now g → is_touched id (T.view tx.old g) ≡ true → Ends result (with_classes classes (T.view tx.new g)) (posts (numbers (S.tables schema.now)) (first_actions (numbers (S.tables schema.now))) id kind.now args.now (with_classes classes (T.view tx.old g))) }
     ensures kept { (g : T.Known) → T.knows tx.old schema.now g → Leaves result (T.knows tx.new schema.now g) (T.failed tx.new g) }
 {
     statements::post(alloc, schema, tx, DEPTH_LIMIT, id, kind, args)

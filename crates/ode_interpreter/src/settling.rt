@@ -4,7 +4,7 @@ ghost use Rattle.std.specs.List.{All};
 ghost use Rattle.ode_value.specs.Acts.{each};
 ghost use Rattle.ode_value.specs.Firings.{arises, both_lists, whole_list};
 ghost use Rattle.ode_value.specs.Pasts.{numbers};
-ghost use Rattle.ode_value.specs.Posting.{collects};
+ghost use Rattle.ode_value.specs.Posting.{collects, is_touched};
 ghost use Rattle.ode_value.specs.Settling.{posted, posts_last, says};
 ghost use Rattle.ode_value.specs.Worlds.{Declared};
 ghost use Rattle.ode_interpreter.specs.Seen.{Ends, EndsBy, IsFault, Leaves, firing, with_classes};
@@ -32,7 +32,7 @@ fn collect_all<S: Schema, T: Acts<S>>(
     Ok(())
 }
 
-// The point arises in both lists, or in the list of all points alone.
+// The point of a touched object arises in both lists, or in the list of all points alone.
 fn arise_last<S: Schema, T: Acts<S>>(
     schema: &S,
     tx: &mut T,
@@ -40,7 +40,7 @@ fn arise_last<S: Schema, T: Acts<S>>(
     kind: &Kind,
     id: u64,
 ) -> Result<List<Firing>, Stop>
-    ensures acts { (classes : Items Declared) (g : T.Known) → S.declares schema.now classes → T.knows tx.old schema.now g → EndsBy (map (firing (S.trigger schema.now))) result (with_classes classes (T.view tx.new g)) (arises (numbers (S.tables schema.now)) (last_place (numbers (S.tables schema.now)) kept) id kind.now [] (with_classes classes (T.view tx.old g))) }
+    ensures acts { (classes : Items Declared) (g : T.Known) → S.declares schema.now classes → T.knows tx.old schema.now g → is_touched id (T.view tx.old g) ≡ true → EndsBy (map (firing (S.trigger schema.now))) result (with_classes classes (T.view tx.new g)) (arises (numbers (S.tables schema.now)) (last_place (numbers (S.tables schema.now)) kept) id kind.now [] (with_classes classes (T.view tx.old g))) }
     ensures kept { (g : T.Known) → T.knows tx.old schema.now g → Leaves result (T.knows tx.new schema.now g) (T.failed tx.new g) }
     ensures declared { IfOk result (All (λ f. S.has_trigger schema.now f.trigger.class f.trigger.place)) }
 {
@@ -51,7 +51,7 @@ fn arise_last<S: Schema, T: Acts<S>>(
     }
 }
 
-// The last point of an object, where it is there and its class lists the kind.
+// The last point of a touched object, where it is there and its class lists the kind.
 #[tactic(auto, unfolding(ode_value::specs::Settling::posts_last))]
 fn post_last<S: Schema, T: Acts<S>>(
     schema: &S,
@@ -60,7 +60,7 @@ fn post_last<S: Schema, T: Acts<S>>(
     kind: &Kind,
     id: u64,
 ) -> Result<(), Stop>
-    ensures acts { (classes : Items Declared) (g : T.Known) → S.declares schema.now classes → T.knows tx.old schema.now g → Ends result (with_classes classes (T.view tx.new g)) (posts_last (numbers (S.tables schema.now)) (last_place (numbers (S.tables schema.now)) kept) kind.now id (with_classes classes (T.view tx.old g))) }
+    ensures acts { (classes : Items Declared) (g : T.Known) → S.declares schema.now classes → T.knows tx.old schema.now g → is_touched id (T.view tx.old g) ≡ true → Ends result (with_classes classes (T.view tx.new g)) (posts_last (numbers (S.tables schema.now)) (last_place (numbers (S.tables schema.now)) kept) kind.now id (with_classes classes (T.view tx.old g))) }
     ensures kept { (g : T.Known) → T.knows tx.old schema.now g → Leaves result (T.knows tx.new schema.now g) (T.failed tx.new g) }
 {
     if !tx.is_live(schema, id)? {
@@ -73,7 +73,7 @@ fn post_last<S: Schema, T: Acts<S>>(
     collect_all(schema, tx, firings.as_slice())
 }
 
-// The last points of objects, in order.
+// The last points of touched objects, in order.
 fn post_each<S: Schema, T: Acts<S>>(
     schema: &S,
     tx: &mut T,
@@ -81,13 +81,27 @@ fn post_each<S: Schema, T: Acts<S>>(
     kind: &Kind,
     ids: &[u64],
 ) -> Result<(), Stop>
-    ensures acts { (classes : Items Declared) (g : T.Known) → S.declares schema.now classes → T.knows tx.old schema.now g → Ends result (with_classes classes (T.view tx.new g)) (each (posts_last (numbers (S.tables schema.now)) (last_place (numbers (S.tables schema.now)) kept) kind.now) ids.now (with_classes classes (T.view tx.old g))) }
+    ensures acts { (classes : Items Declared) (g : T.Known) → S.declares schema.now classes → T.knows tx.old schema.now g → All (λ id. is_touched id (T.view tx.old g) ≡ true) ids.now → Ends result (with_classes classes (T.view tx.new g)) (each (posts_last (numbers (S.tables schema.now)) (last_place (numbers (S.tables schema.now)) kept) kind.now) ids.now (with_classes classes (T.view tx.old g))) }
     ensures kept { (g : T.Known) → T.knows tx.old schema.now g → Leaves result (T.knows tx.new schema.now g) (T.failed tx.new g) }
 {
     for id in ids {
         post_last(schema, tx, kept, kind, *id)?;
     }
     Ok(())
+}
+
+// The last points of the touched objects, in the order of touching, up to one that aborts.
+fn post_all<S: Schema, T: Acts<S>>(
+    schema: &S,
+    tx: &mut T,
+    kept: bool,
+    kind: &Kind,
+) -> Result<(), Stop>
+    ensures acts { (classes : Items Declared) (g : T.Known) → S.declares schema.now classes → T.knows tx.old schema.now g → Ends result (with_classes classes (T.view tx.new g)) (each (posts_last (numbers (S.tables schema.now)) (last_place (numbers (S.tables schema.now)) kept) kind.now) (T.view tx.old g).touched (with_classes classes (T.view tx.old g))) }
+    ensures kept { (g : T.Known) → T.knows tx.old schema.now g → Leaves result (T.knows tx.new schema.now g) (T.failed tx.new g) }
+{
+    let ids = tx.touched(schema)?;
+    post_each(schema, tx, kept, kind, ids.as_slice())
 }
 
 // The last points of the touched objects, in the order of touching.
@@ -102,8 +116,7 @@ fn post_touched<S: Schema, T: Acts<S>>(
     ensures kept { (g : T.Known) → T.knows tx.old schema.now g → Leaves result (T.knows tx.new schema.now g) (T.failed tx.new g) }
     ensures settled { IfErr result IsFault }
 {
-    let ids = tx.touched(schema)?;
-    match post_each(schema, tx, kept, kind, ids.as_slice()) {
+    match post_all(schema, tx, kept, kind) {
         Ok(()) => Ok(()),
         Err(Stop::Abort(_)) => Ok(()),
         Err(fault) => Err(fault),

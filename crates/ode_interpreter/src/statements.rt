@@ -1,22 +1,23 @@
 //! Statements, calls and points.
-ghost use Rattle.std.specs.Prelude.{◌≡◌, List as Items, map};
+ghost use Rattle.std.specs.Prelude.{◌≡◌, List as Items, map, true};
 ghost use Rattle.std.specs.List.{All};
 ghost use Rattle.ode_value.specs.Acts.{each};
-ghost use Rattle.ode_value.specs.Executing.{actions_of, deeper, execute, executes, in_turn, level, right};
+ghost use Rattle.ode_value.specs.Executing.{Goes, actions_of, deeper, execute, executes, in_turn, level, right};
 ghost use Rattle.ode_value.specs.Pasts.{numbers};
-ghost use Rattle.ode_value.specs.Posting.{enters, posts, runs, touches, treats};
+ghost use Rattle.ode_value.specs.Posting.{enters, is_touched, posts, runs, touches, treats};
 ghost use Rattle.ode_value.specs.Statements.{activates, calls_behind, calls_deeper, calls_inside, copies, creates, deactivates, deletes, drops_version};
 ghost use Rattle.ode_value.specs.Worlds.{Declared};
+ghost use Rattle.ode_interpreter.specs.Calling.{binds, runs_method, shows};
 ghost use Rattle.ode_interpreter.specs.Seen.{Ends, EndsBy, Leaves, firing, flow_of, scene, with_classes};
 
 use crate::acts::Acts;
 use crate::creating::make_named;
-use crate::expressions::{default_value, evaluate_all, holds, receiver, reference, set};
+use crate::expressions::{evaluate_all, given, holds, receiver, reference, say, set};
 use crate::firing::Firing;
 use crate::scene::{Scene, null};
 use crate::schema::Schema;
 use crate::stop::Stop;
-use ode_value::{Expr, Kind, List, Mode, Name, Reason, Ref, Rhs, Stmt, Value};
+use ode_value::{Expr, Kind, List, Method, Mode, Name, Reason, Ref, Rhs, Stmt, Value, Var};
 use std::alloc::Global;
 
 /// Statements in turn, up to the first that gives a value.
@@ -79,13 +80,11 @@ pub(crate) fn exec<S: Schema, T: Acts<S>>(
     tx.count(schema)?;
     match s {
         Stmt::Let(var, rhs) => {
-            let v = right(alloc, schema, tx, levels, on, rhs)?;
-            set(schema, tx, on, var, v)?;
+            bind(alloc, schema, tx, levels, on, var, rhs)?;
             Ok(None)
         }
         Stmt::Set(var, rhs) => {
-            let v = right(alloc, schema, tx, levels, on, rhs)?;
-            set(schema, tx, on, var, v)?;
+            bind(alloc, schema, tx, levels, on, var, rhs)?;
             Ok(None)
         }
         Stmt::Do(rhs) => {
@@ -114,17 +113,50 @@ pub(crate) fn exec<S: Schema, T: Acts<S>>(
             Ok(None)
         }
         Stmt::Show(rhs) => {
-            let v = right(alloc, schema, tx, levels, on, rhs)?;
-            tx.show(schema, &v)?;
+            show(alloc, schema, tx, levels, on, rhs)?;
             Ok(None)
         }
         Stmt::Say(e) => {
-            let v = tx.evaluate(schema, on, e)?;
-            tx.say(schema, &v)?;
+            say(schema, tx, on, e)?;
             Ok(None)
         }
         Stmt::TAbort => Err(Stop::Abort(Reason::Asked)),
     }
+}
+
+/// What a `let` or a statement makes of a right side.
+#[cycle(go)]
+pub(crate) fn bind<S: Schema, T: Acts<S>>(
+    alloc: Global,
+    schema: &S,
+    tx: &mut T,
+    levels: u8,
+    on: &mut Scene,
+    var: &Var,
+    rhs: &Rhs,
+) -> Result<(), Stop>
+    ensures acts { (classes : Items Declared) (g : T.Known) → S.declares schema.now classes → T.knows tx.old schema.now g → EndsBy (λ _. Goes (scene on.new)) result (with_classes classes (T.view tx.new g)) (binds (numbers (S.tables schema.now)) (deeper (numbers (S.tables schema.now)) levels) var.now rhs.now (scene on.old) (with_classes classes (T.view tx.old g))) }
+    ensures kept { (g : T.Known) → T.knows tx.old schema.now g → Leaves result (T.knows tx.new schema.now g) (T.failed tx.new g) }
+{
+    let v = right(alloc, schema, tx, levels, on, rhs)?;
+    set(schema, tx, on, var, v)
+}
+
+/// The line of a right side's value.
+#[cycle(go)]
+pub(crate) fn show<S: Schema, T: Acts<S>>(
+    alloc: Global,
+    schema: &S,
+    tx: &mut T,
+    levels: u8,
+    on: &Scene,
+    rhs: &Rhs,
+) -> Result<(), Stop>
+    ensures acts { (classes : Items Declared) (g : T.Known) → S.declares schema.now classes → T.knows tx.old schema.now g → EndsBy (λ _. Goes (scene on.now)) result (with_classes classes (T.view tx.new g)) (shows (numbers (S.tables schema.now)) (deeper (numbers (S.tables schema.now)) levels) rhs.now (scene on.now) (with_classes classes (T.view tx.old g))) }
+    ensures kept { (g : T.Known) → T.knows tx.old schema.now g → Leaves result (T.knows tx.new schema.now g) (T.failed tx.new g) }
+{
+    let v = right(alloc, schema, tx, levels, on, rhs)?;
+    tx.show(schema, &v)
 }
 
 /// A right side.
@@ -146,7 +178,7 @@ pub(crate) fn right<S: Schema, T: Acts<S>>(
         Rhs::Call(c) => {
             let r = receiver(schema, tx, on, &c.of)?;
             let args = evaluate_all(alloc, schema, tx, on, c.args.as_slice())?;
-            call(alloc, schema, tx, levels, r, &c.method, args)
+            call(alloc, schema, tx, levels, r, &c.method, &args)
         }
         Rhs::New { class, fields } => create(
             alloc,
@@ -309,9 +341,9 @@ pub(crate) fn call<S: Schema, T: Acts<S>>(
     levels: u8,
     r: Ref,
     name: &Name,
-    args: List<Value>,
+    args: &List<Value>,
 ) -> Result<Value, Stop>
-    ensures acts { (classes : Items Declared) (g : T.Known) → S.declares schema.now classes → T.knows tx.old schema.now g → Ends result (with_classes classes (T.view tx.new g)) (calls_deeper (numbers (S.tables schema.now)) (deeper (numbers (S.tables schema.now)) levels) r name.now args (with_classes classes (T.view tx.old g))) }
+    ensures acts { (classes : Items Declared) (g : T.Known) → S.declares schema.now classes → T.knows tx.old schema.now g → Ends result (with_classes classes (T.view tx.new g)) (calls_deeper (numbers (S.tables schema.now)) (deeper (numbers (S.tables schema.now)) levels) r name.now args.now (with_classes classes (T.view tx.old g))) }
     ensures kept { (g : T.Known) → T.knows tx.old schema.now g → Leaves result (T.knows tx.new schema.now g) (T.failed tx.new g) }
 {
     if levels == 0 {
@@ -330,41 +362,47 @@ pub(crate) fn call_inside<S: Schema, T: Acts<S>>(
     levels: u8,
     r: Ref,
     name: &Name,
-    args: List<Value>,
+    args: &List<Value>,
 ) -> Result<Value, Stop>
-    ensures acts { (classes : Items Declared) (g : T.Known) → S.declares schema.now classes → T.knows tx.old schema.now g → Ends result (with_classes classes (T.view tx.new g)) (calls_inside (numbers (S.tables schema.now)) (level (numbers (S.tables schema.now)) (deeper (numbers (S.tables schema.now)) levels)) r name.now args (with_classes classes (T.view tx.old g))) }
+    ensures acts { (classes : Items Declared) (g : T.Known) → S.declares schema.now classes → T.knows tx.old schema.now g → Ends result (with_classes classes (T.view tx.new g)) (calls_inside (numbers (S.tables schema.now)) (level (numbers (S.tables schema.now)) (deeper (numbers (S.tables schema.now)) levels)) r name.now args.now (with_classes classes (T.view tx.old g))) }
     ensures kept { (g : T.Known) → T.knows tx.old schema.now g → Leaves result (T.knows tx.new schema.now g) (T.failed tx.new g) }
 {
     touch(alloc, schema, tx, levels, r.object)?;
     tx.stand(schema, r)?;
-    let before = Kind::Before(name.copy(alloc)?);
-    post(
-        alloc,
-        schema,
-        tx,
-        levels,
-        r.object,
-        &before,
-        args.as_slice(),
-    )?;
+    post_before(alloc, schema, tx, levels, r.object, name, args)?;
     tx.live(schema, r.object)?;
     let class = tx.class_of(schema, r.object)?;
     let Some(method) = schema.method(class, name) else {
         return Err(Stop::Abort(Reason::NoObject(0)));
     };
+    run_method(alloc, schema, tx, levels, r, method, name, args)
+}
+
+/// The body of a method, and what follows it; its object was touched.
+#[cycle(go)]
+pub(crate) fn run_method<S: Schema, T: Acts<S>>(
+    alloc: Global,
+    schema: &S,
+    tx: &mut T,
+    levels: u8,
+    r: Ref,
+    method: &Method,
+    name: &Name,
+    args: &List<Value>,
+) -> Result<Value, Stop>
+    ensures acts { (classes : Items Declared) (g : T.Known) → S.declares schema.now classes → T.knows tx.old schema.now g → is_touched r.object (T.view tx.old g) ≡ true → Ends result (with_classes classes (T.view tx.new g)) (runs_method (numbers (S.tables schema.now)) (level (numbers (S.tables schema.now)) (deeper (numbers (S.tables schema.now)) levels)) r name.now args.now method.now (with_classes classes (T.view tx.old g))) }
+    ensures kept { (g : T.Known) → T.knows tx.old schema.now g → Leaves result (T.knows tx.new schema.now g) (T.failed tx.new g) }
+{
     let on = Scene {
         this: r,
         locals: args.copy(alloc)?,
     };
     let v = run_body(alloc, schema, tx, on, levels, method.body.as_slice())?;
-    call_after(alloc, schema, tx, levels, r, name, args.as_slice())?;
-    match v {
-        Some(v) => Ok(v),
-        None => Ok(default_value(alloc, &method.result)?),
-    }
+    call_after(alloc, schema, tx, levels, r, name, args)?;
+    Ok(given(alloc, v, &method.result)?)
 }
 
-/// What follows the body of a call.
+/// What follows the body of a call of a touched object.
 #[cycle(go)]
 #[tactic(auto, unfolding(ode_value::specs::Statements::calls_behind))]
 pub(crate) fn call_after<S: Schema, T: Acts<S>>(
@@ -374,18 +412,52 @@ pub(crate) fn call_after<S: Schema, T: Acts<S>>(
     levels: u8,
     r: Ref,
     name: &Name,
-    args: &[Value],
+    args: &List<Value>,
 ) -> Result<(), Stop>
-    ensures acts { (classes : Items Declared) (g : T.Known) → S.declares schema.now classes → T.knows tx.old schema.now g → Ends result (with_classes classes (T.view tx.new g)) (calls_behind (numbers (S.tables schema.now)) (actions_of (deeper (numbers (S.tables schema.now)) levels)) r name.now args.now (with_classes classes (T.view tx.old g))) }
+    ensures acts { (classes : Items Declared) (g : T.Known) → S.declares schema.now classes → T.knows tx.old schema.now g → is_touched r.object (T.view tx.old g) ≡ true → Ends result (with_classes classes (T.view tx.new g)) (calls_behind (numbers (S.tables schema.now)) (actions_of (deeper (numbers (S.tables schema.now)) levels)) r name.now args.now (with_classes classes (T.view tx.old g))) }
     ensures kept { (g : T.Known) → T.knows tx.old schema.now g → Leaves result (T.knows tx.new schema.now g) (T.failed tx.new g) }
 {
     if !tx.denotes(schema, r)? {
         return Ok(());
     }
     tx.test_hard(schema, r)?;
+    post_after(alloc, schema, tx, levels, r.object, name, args)
+}
+
+/// The point before a call.
+#[cycle(go)]
+pub(crate) fn post_before<S: Schema, T: Acts<S>>(
+    alloc: Global,
+    schema: &S,
+    tx: &mut T,
+    levels: u8,
+    id: u64,
+    name: &Name,
+    args: &List<Value>,
+) -> Result<(), Stop>
+    ensures acts { (classes : Items Declared) (g : T.Known) → S.declares schema.now classes → T.knows tx.old schema.now g → is_touched id (T.view tx.old g) ≡ true → Ends result (with_classes classes (T.view tx.new g)) (posts (numbers (S.tables schema.now)) (actions_of (deeper (numbers (S.tables schema.now)) levels)) id (Kind.Before name.now) args.now (with_classes classes (T.view tx.old g))) }
+    ensures kept { (g : T.Known) → T.knows tx.old schema.now g → Leaves result (T.knows tx.new schema.now g) (T.failed tx.new g) }
+{
+    let before = Kind::Before(name.copy(alloc)?);
+    post(alloc, schema, tx, levels, id, &before, args.as_slice())
+}
+
+/// The point after one.
+#[cycle(go)]
+pub(crate) fn post_after<S: Schema, T: Acts<S>>(
+    alloc: Global,
+    schema: &S,
+    tx: &mut T,
+    levels: u8,
+    id: u64,
+    name: &Name,
+    args: &List<Value>,
+) -> Result<(), Stop>
+    ensures acts { (classes : Items Declared) (g : T.Known) → S.declares schema.now classes → T.knows tx.old schema.now g → is_touched id (T.view tx.old g) ≡ true → Ends result (with_classes classes (T.view tx.new g)) (posts (numbers (S.tables schema.now)) (actions_of (deeper (numbers (S.tables schema.now)) levels)) id (Kind.After name.now) args.now (with_classes classes (T.view tx.old g))) }
+    ensures kept { (g : T.Known) → T.knows tx.old schema.now g → Leaves result (T.knows tx.new schema.now g) (T.failed tx.new g) }
+{
     let after = Kind::After(name.copy(alloc)?);
-    post(alloc, schema, tx, levels, r.object, &after, args)?;
-    Ok(())
+    post(alloc, schema, tx, levels, id, &after, args.as_slice())
 }
 
 /// An object is touched. The first touch posts a point.
@@ -407,7 +479,7 @@ pub(crate) fn touch<S: Schema, T: Acts<S>>(
     Ok(())
 }
 
-/// A point is posted.
+/// A point of a touched object is posted.
 #[cycle(go)]
 #[tactic(auto, unfolding(ode_value::specs::Posting::posts))]
 pub(crate) fn post<S: Schema, T: Acts<S>>(
@@ -419,7 +491,7 @@ pub(crate) fn post<S: Schema, T: Acts<S>>(
     kind: &Kind,
     args: &[Value],
 ) -> Result<(), Stop>
-    ensures acts { (classes : Items Declared) (g : T.Known) → S.declares schema.now classes → T.knows tx.old schema.now g → Ends result (with_classes classes (T.view tx.new g)) (posts (numbers (S.tables schema.now)) (actions_of (deeper (numbers (S.tables schema.now)) levels)) id kind.now args.now (with_classes classes (T.view tx.old g))) }
+    ensures acts { (classes : Items Declared) (g : T.Known) → S.declares schema.now classes → T.knows tx.old schema.now g → is_touched id (T.view tx.old g) ≡ true → Ends result (with_classes classes (T.view tx.new g)) (posts (numbers (S.tables schema.now)) (actions_of (deeper (numbers (S.tables schema.now)) levels)) id kind.now args.now (with_classes classes (T.view tx.old g))) }
     ensures kept { (g : T.Known) → T.knows tx.old schema.now g → Leaves result (T.knows tx.new schema.now g) (T.failed tx.new g) }
 {
     if tx.is_listed(schema, id, kind)? {

@@ -1,4 +1,9 @@
+use Rattle.std.proofs.Common.{arith, rules}
+use Rattle.std.proofs.lemmas.Grind.{common_steps}
+use Rattle.ode_value.specs.Statements.{calls_behind, calls_inside, creates, deletes, generic}
+use Rattle.ode_interpreter.specs.Seen.{with_classes}
 use Rattle.ode_interpreter.proofs.Levels.{execute_if}
+use Rattle.ode_interpreter.proofs.Stays.{body_stays, class_stays, denotes_stays, hard_stays, joins_touch, live_stays, makes_touch, post_stays, stand_stays, touches_touch}
 use Rattle.ode_interpreter.proofs.Touches.{touched_anew}
 use Rattle.ode_interpreter.proofs.statements.+go.Goals as goal
 
@@ -22,4 +27,220 @@ pub touch-returns-then-branch-clause-acts : goal.touch-returns-then-branch-claus
 touch-returns-then-branch-clause-acts g t c = λ classes k d known.
     let joined = c.in_ok-join.ensures.acts classes k d known in
     let kept = c.in_ok-join.ensures.kept k known in
-    touched_anew _ _ _ _ _ _ _ _ c.if-branch.true joined (c.post.ensures.acts classes k d kept)
+    touched_anew _ _ _ _ _ _ _ _ c.if-branch.true joined (c.post.ensures.acts classes k d kept (joins_touch _ _ _ _ joined))
+
+pub create-returns-in_err-post-clause-acts : goal.create-returns-in_err-post-clause-acts
+unfolding creates
+create-returns-in_err-post-clause-acts g t c = λ classes k d known.
+    let a1 = c.in_ok-object.ensures.acts classes k d known in
+    let x1 = with_classes classes (g.T.Acts.view c.make_named.new.tx k) in
+    let t1 = makes_touch _ _ _ _ _ _ _ a1 in
+    let k1 = c.in_ok-object.ensures.kept k known in
+    let a2 = c.in_ok-test_hard.ensures.acts classes k d k1 in
+    let x2 = with_classes classes (g.T.Acts.view c.test_hard.new.self k) in
+    let t2 = hard_stays c.in_ok-object.object (generic c.in_ok-object.object) x1 x2 a2 t1 in
+    let k2 = c.in_ok-test_hard.ensures.kept k k1 in
+    let e = c.in_err-post.ensures.acts classes k d k2 t2 in
+    first_of (search rules, grind (arith, common_steps))
+
+pub create-returns-clause-acts : goal.create-returns-clause-acts
+unfolding creates
+create-returns-clause-acts g t c = λ classes k d known.
+    let a1 = c.in_ok-object.ensures.acts classes k d known in
+    let x1 = with_classes classes (g.T.Acts.view c.make_named.new.tx k) in
+    let t1 = makes_touch _ _ _ _ _ _ _ a1 in
+    let k1 = c.in_ok-object.ensures.kept k known in
+    let a2 = c.in_ok-test_hard.ensures.acts classes k d k1 in
+    let x2 = with_classes classes (g.T.Acts.view c.test_hard.new.self k) in
+    let t2 = hard_stays c.in_ok-object.object (generic c.in_ok-object.object) x1 x2 a2 t1 in
+    let k2 = c.in_ok-test_hard.ensures.kept k k1 in
+    let a3 = c.in_ok-post.ensures.acts classes k d k2 t2 in
+    let k3 = c.in_ok-post.ensures.kept k k2 in
+    first_of (search rules, grind (arith, common_steps))
+
+pub delete-returns-in_err-post-clause-acts : goal.delete-returns-in_err-post-clause-acts
+unfolding deletes
+delete-returns-in_err-post-clause-acts g t c = λ classes k d known.
+    let r = c.in_ok-r.r in
+    let a1 = c.in_ok-r.ensures.acts classes k d known in
+    let k1 = c.in_ok-r.ensures.kept k known in
+    let a2 = c.in_ok-touch.ensures.acts classes k d k1 in
+    let x2 = with_classes classes (g.T.Acts.view c.touch.new.tx k) in
+    let t2 = touches_touch _ _ _ _ _ a2 in
+    let k2 = c.in_ok-touch.ensures.kept k k1 in
+    let a3 = c.in_ok-stand.ensures.acts classes k d k2 in
+    let x3 = with_classes classes (g.T.Acts.view c.stand.new.self k) in
+    let t3 = stand_stays r.object r x2 x3 a3 t2 in
+    let k3 = c.in_ok-stand.ensures.kept k k2 in
+    let e = c.in_err-post.ensures.acts classes k d k3 t3 in
+    first_of (search rules, grind (arith, common_steps))
+
+pub delete-returns-in_err-live-clause-acts : goal.delete-returns-in_err-live-clause-acts
+unfolding deletes
+delete-returns-in_err-live-clause-acts g t c = λ classes k d known.
+    let r = c.in_ok-r.r in
+    let a1 = c.in_ok-r.ensures.acts classes k d known in
+    let k1 = c.in_ok-r.ensures.kept k known in
+    let a2 = c.in_ok-touch.ensures.acts classes k d k1 in
+    let x2 = with_classes classes (g.T.Acts.view c.touch.new.tx k) in
+    let t2 = touches_touch _ _ _ _ _ a2 in
+    let k2 = c.in_ok-touch.ensures.kept k k1 in
+    let a3 = c.in_ok-stand.ensures.acts classes k d k2 in
+    let x3 = with_classes classes (g.T.Acts.view c.stand.new.self k) in
+    let t3 = stand_stays r.object r x2 x3 a3 t2 in
+    let k3 = c.in_ok-stand.ensures.kept k k2 in
+    let a4 = c.in_ok-post.ensures.acts classes k d k3 t3 in
+    let k4 = c.in_ok-post.ensures.kept k k3 in
+    let e = c.in_err-live.ensures.acts classes k d k4 in
+    first_of (search rules, grind (arith, common_steps))
+
+pub delete-returns-clause-acts : goal.delete-returns-clause-acts
+unfolding deletes
+delete-returns-clause-acts g t c = λ classes k d known.
+    let r = c.in_ok-r.r in
+    let a1 = c.in_ok-r.ensures.acts classes k d known in
+    let k1 = c.in_ok-r.ensures.kept k known in
+    let a2 = c.in_ok-touch.ensures.acts classes k d k1 in
+    let x2 = with_classes classes (g.T.Acts.view c.touch.new.tx k) in
+    let t2 = touches_touch _ _ _ _ _ a2 in
+    let k2 = c.in_ok-touch.ensures.kept k k1 in
+    let a3 = c.in_ok-stand.ensures.acts classes k d k2 in
+    let x3 = with_classes classes (g.T.Acts.view c.stand.new.self k) in
+    let t3 = stand_stays r.object r x2 x3 a3 t2 in
+    let k3 = c.in_ok-stand.ensures.kept k k2 in
+    let a4 = c.in_ok-post.ensures.acts classes k d k3 t3 in
+    let k4 = c.in_ok-post.ensures.kept k k3 in
+    let a5 = c.in_ok-live.ensures.acts classes k d k4 in
+    let k5 = c.in_ok-live.ensures.kept k k4 in
+    let e = c.remove.ensures.acts classes k d k5 in
+    first_of (search rules, grind (arith, common_steps))
+
+pub call_inside-returns-in_err-post_before-clause-acts : goal.call_inside-returns-in_err-post_before-clause-acts
+unfolding calls_inside
+call_inside-returns-in_err-post_before-clause-acts g t c = λ classes k d known.
+    let r = c.args.r in
+    let a1 = c.in_ok-touch.ensures.acts classes k d known in
+    let x1 = with_classes classes (g.T.Acts.view c.touch.new.tx k) in
+    let t1 = touches_touch _ _ _ _ _ a1 in
+    let k1 = c.in_ok-touch.ensures.kept k known in
+    let a2 = c.in_ok-stand.ensures.acts classes k d k1 in
+    let x2 = with_classes classes (g.T.Acts.view c.stand.new.self k) in
+    let t2 = stand_stays r.object r x1 x2 a2 t1 in
+    let k2 = c.in_ok-stand.ensures.kept k k1 in
+    let e = c.in_err-post_before.ensures.acts classes k d k2 t2 in
+    first_of (search rules, grind (arith, common_steps))
+
+pub call_inside-returns-in_err-live-clause-acts : goal.call_inside-returns-in_err-live-clause-acts
+unfolding calls_inside
+call_inside-returns-in_err-live-clause-acts g t c = λ classes k d known.
+    let r = c.args.r in
+    let a1 = c.in_ok-touch.ensures.acts classes k d known in
+    let x1 = with_classes classes (g.T.Acts.view c.touch.new.tx k) in
+    let t1 = touches_touch _ _ _ _ _ a1 in
+    let k1 = c.in_ok-touch.ensures.kept k known in
+    let a2 = c.in_ok-stand.ensures.acts classes k d k1 in
+    let x2 = with_classes classes (g.T.Acts.view c.stand.new.self k) in
+    let t2 = stand_stays r.object r x1 x2 a2 t1 in
+    let k2 = c.in_ok-stand.ensures.kept k k1 in
+    let a3 = c.in_ok-post_before.ensures.acts classes k d k2 t2 in
+    let k3 = c.in_ok-post_before.ensures.kept k k2 in
+    let e = c.in_err-live.ensures.acts classes k d k3 in
+    first_of (search rules, grind (arith, common_steps))
+
+pub call_inside-returns-in_err-class-clause-acts : goal.call_inside-returns-in_err-class-clause-acts
+unfolding calls_inside
+call_inside-returns-in_err-class-clause-acts g t c = λ classes k d known.
+    let r = c.args.r in
+    let a1 = c.in_ok-touch.ensures.acts classes k d known in
+    let x1 = with_classes classes (g.T.Acts.view c.touch.new.tx k) in
+    let t1 = touches_touch _ _ _ _ _ a1 in
+    let k1 = c.in_ok-touch.ensures.kept k known in
+    let a2 = c.in_ok-stand.ensures.acts classes k d k1 in
+    let x2 = with_classes classes (g.T.Acts.view c.stand.new.self k) in
+    let t2 = stand_stays r.object r x1 x2 a2 t1 in
+    let k2 = c.in_ok-stand.ensures.kept k k1 in
+    let a3 = c.in_ok-post_before.ensures.acts classes k d k2 t2 in
+    let k3 = c.in_ok-post_before.ensures.kept k k2 in
+    let a4 = c.in_ok-live.ensures.acts classes k d k3 in
+    let k4 = c.in_ok-live.ensures.kept k k3 in
+    let e = c.in_err-class.ensures.acts classes k d k4 in
+    first_of (search rules, grind (arith, common_steps))
+
+pub call_inside-returns-in_default-clause-acts : goal.call_inside-returns-in_default-clause-acts
+unfolding calls_inside
+call_inside-returns-in_default-clause-acts g t c = λ classes k d known.
+    let r = c.args.r in
+    let a1 = c.in_ok-touch.ensures.acts classes k d known in
+    let x1 = with_classes classes (g.T.Acts.view c.touch.new.tx k) in
+    let t1 = touches_touch _ _ _ _ _ a1 in
+    let k1 = c.in_ok-touch.ensures.kept k known in
+    let a2 = c.in_ok-stand.ensures.acts classes k d k1 in
+    let x2 = with_classes classes (g.T.Acts.view c.stand.new.self k) in
+    let t2 = stand_stays r.object r x1 x2 a2 t1 in
+    let k2 = c.in_ok-stand.ensures.kept k k1 in
+    let a3 = c.in_ok-post_before.ensures.acts classes k d k2 t2 in
+    let k3 = c.in_ok-post_before.ensures.kept k k2 in
+    let a4 = c.in_ok-live.ensures.acts classes k d k3 in
+    let k4 = c.in_ok-live.ensures.kept k k3 in
+    let a5 = c.in_ok-class.ensures.acts classes k d k4 in
+    let k5 = c.in_ok-class.ensures.kept k k4 in
+    first_of (search rules, grind (arith, common_steps))
+
+pub call_inside-returns-clause-acts : goal.call_inside-returns-clause-acts
+unfolding calls_inside
+call_inside-returns-clause-acts g t c = λ classes k d known.
+    let r = c.args.r in
+    let a1 = c.in_ok-touch.ensures.acts classes k d known in
+    let x1 = with_classes classes (g.T.Acts.view c.touch.new.tx k) in
+    let t1 = touches_touch _ _ _ _ _ a1 in
+    let k1 = c.in_ok-touch.ensures.kept k known in
+    let a2 = c.in_ok-stand.ensures.acts classes k d k1 in
+    let x2 = with_classes classes (g.T.Acts.view c.stand.new.self k) in
+    let t2 = stand_stays r.object r x1 x2 a2 t1 in
+    let k2 = c.in_ok-stand.ensures.kept k k1 in
+    let a3 = c.in_ok-post_before.ensures.acts classes k d k2 t2 in
+    let x3 = with_classes classes (g.T.Acts.view c.post_before.new.tx k) in
+    let t3 = post_stays _ r.object c.args.levels _ _ _ _ _ a3 t2 in
+    let k3 = c.in_ok-post_before.ensures.kept k k2 in
+    let a4 = c.in_ok-live.ensures.acts classes k d k3 in
+    let x4 = with_classes classes (g.T.Acts.view c.live.new.self k) in
+    let t4 = live_stays r.object r.object x3 x4 a4 t3 in
+    let k4 = c.in_ok-live.ensures.kept k k3 in
+    let a5 = c.in_ok-class.ensures.acts classes k d k4 in
+    let x5 = with_classes classes (g.T.Acts.view c.class_of.new.self k) in
+    let t5 = class_stays r.object r.object c.in_ok-class.class x4 x5 a5 t4 in
+    let k5 = c.in_ok-class.ensures.kept k k4 in
+    let e = c.run_method.ensures.acts classes k d k5 t5 in
+    first_of (search rules, grind (arith, common_steps))
+
+pub run_method-returns-in_err-call_after-clause-acts : goal.run_method-returns-in_err-call_after-clause-acts
+run_method-returns-in_err-call_after-clause-acts g t c = λ classes k d known touched.
+    let a1 = c.in_ok-v.ensures.acts classes k d known in
+    let t1 = body_stays _ c.args.r.object c.args.levels _ _ _ _ _ a1 touched in
+    let k1 = c.in_ok-v.ensures.kept k known in
+    let e = c.in_err-call_after.ensures.acts classes k d k1 t1 in
+    first_of (search rules, grind (arith, common_steps))
+
+pub run_method-returns-clause-acts : goal.run_method-returns-clause-acts
+run_method-returns-clause-acts g t c = λ classes k d known touched.
+    let a1 = c.in_ok-v.ensures.acts classes k d known in
+    let t1 = body_stays _ c.args.r.object c.args.levels _ _ _ _ _ a1 touched in
+    let k1 = c.in_ok-v.ensures.kept k known in
+    let a2 = c.in_ok-call_after.ensures.acts classes k d k1 t1 in
+    let k2 = c.in_ok-call_after.ensures.kept k k1 in
+    first_of (search rules, grind (arith, common_steps))
+
+pub call_after-returns-clause-acts : goal.call_after-returns-clause-acts
+unfolding calls_behind
+call_after-returns-clause-acts g t c = λ classes k d known touched.
+    let x0 = with_classes classes (g.T.Acts.view c.args.tx.now k) in
+    let a1 = c.in_ok-denotes.ensures.acts classes k d known in
+    let x1 = with_classes classes (g.T.Acts.view c.denotes.new.self k) in
+    let t1 = denotes_stays c.args.r.object c.args.r _ x0 x1 a1 touched in
+    let k1 = c.in_ok-denotes.ensures.kept k known in
+    let a2 = c.in_ok-test_hard.ensures.acts classes k d k1 in
+    let x2 = with_classes classes (g.T.Acts.view c.test_hard.new.self k) in
+    let t2 = hard_stays c.args.r.object c.args.r x1 x2 a2 t1 in
+    let k2 = c.in_ok-test_hard.ensures.kept k k1 in
+    let e = c.post_after.ensures.acts classes k d k2 t2 in
+    first_of (search rules, grind (arith, common_steps))

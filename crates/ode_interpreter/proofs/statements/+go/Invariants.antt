@@ -39,7 +39,7 @@ abbrev pub decreases-activate : goal.decreases-activate
 decreases-activate g l = let t = g.S.Schema.longest l.schema.now the_size in l.levels * room t + 2 * t + 9
 
 abbrev pub decreases-call_inside : goal.decreases-call_inside
-decreases-call_inside g l = let t = g.S.Schema.longest l.schema.now the_size in l.levels * room t + 4 * t + 14
+decreases-call_inside g l = let t = g.S.Schema.longest l.schema.now the_size in l.levels * room t + 4 * t + 16
 
 abbrev pub decreases-enter : goal.decreases-enter
 decreases-enter g l = let t = g.S.Schema.longest l.schema.now the_size in l.levels * room t + 2 * most the_size l.body.now + 1
@@ -63,13 +63,28 @@ abbrev pub decreases-right : goal.decreases-right
 decreases-right g l = let t = g.S.Schema.longest l.schema.now the_size in l.levels * room t + 2 * t + 10
 
 abbrev pub decreases-exec : goal.decreases-exec
-decreases-exec g l = let t = g.S.Schema.longest l.schema.now the_size in l.levels * room t + 2 * t + 11 + 2 * the_size l.s.now
+decreases-exec g l = let t = g.S.Schema.longest l.schema.now the_size in l.levels * room t + 2 * t + 12 + 2 * the_size l.s.now
 
 abbrev pub decreases-exec_all : goal.decreases-exec_all
-decreases-exec_all g l = let t = g.S.Schema.longest l.schema.now the_size in l.levels * room t + 2 * t + 12 + 2 * most the_size l.body.now
+decreases-exec_all g l = let t = g.S.Schema.longest l.schema.now the_size in l.levels * room t + 2 * t + 13 + 2 * most the_size l.body.now
 
 abbrev pub decreases-run_body : goal.decreases-run_body
-decreases-run_body g l = let t = g.S.Schema.longest l.schema.now the_size in l.levels * room t + 2 * t + 13 + 2 * most the_size l.body.now
+decreases-run_body g l = let t = g.S.Schema.longest l.schema.now the_size in l.levels * room t + 2 * t + 14 + 2 * most the_size l.body.now
+
+abbrev pub decreases-post_before : goal.decreases-post_before
+decreases-post_before g l = let t = g.S.Schema.longest l.schema.now the_size in l.levels * room t + 2 * t + 7
+
+abbrev pub decreases-post_after : goal.decreases-post_after
+decreases-post_after g l = let t = g.S.Schema.longest l.schema.now the_size in l.levels * room t + 2 * t + 7
+
+abbrev pub decreases-bind : goal.decreases-bind
+decreases-bind g l = let t = g.S.Schema.longest l.schema.now the_size in l.levels * room t + 2 * t + 11
+
+abbrev pub decreases-show : goal.decreases-show
+decreases-show g l = let t = g.S.Schema.longest l.schema.now the_size in l.levels * room t + 2 * t + 11
+
+abbrev pub decreases-run_method : goal.decreases-run_method
+decreases-run_method g l = let t = g.S.Schema.longest l.schema.now the_size in l.levels * room t + 2 * t + 15 + 2 * most the_size l.method.now.body
 
 abbrev pub invariant-exec_all-loop-s : goal.invariant-exec_all-loop-s
 invariant-exec_all-loop-s g l =
