@@ -3,8 +3,3 @@ pub mod Carried
 pub mod Weights
 pub mod Puts
 pub mod Settling
-pub mod Sessions
-pub mod TimeRows
-pub mod Refusals
-pub mod Works
-pub mod Commands

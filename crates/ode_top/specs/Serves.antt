@@ -11,7 +11,7 @@ use Rattle.ode_script.specs.Cutting.{Pieces, ending_of}
 use Rattle.ode_value.specs.OneIntGood.{IsOneIntGood}
 use Rattle.ode_value.specs.OneIntRecords.{rows}
 use Rattle.ode_value.specs.OneIntWorld.{OneIntWorld}
-use Rattle.ode_top.specs.Runs.{status_at}
+use Rattle.ode_machine.specs.Runs.{status_at}
 use Rattle.ode_top.specs.Trace.{Item, trace, final, after, text_of, text_until, any_refused}
 
 -- what a keeper holds on a host of which something is known, and what an image stands for

@@ -3,8 +3,8 @@ ghost use Rattle.std.specs.Prelude.{◌≡◌, [], ◌∷◌, ◌++◌, ℕ, Lis
 ghost use Rattle.ode_host.specs.declared.status.Status.TheVariants as status;
 ghost use Rattle.ode_value.specs.Language.{Language, ListWorld};
 ghost use Rattle.ode_value.specs.Worlds.{Bones, empty_world};
-ghost use Rattle.ode_top.specs.Runs.{Refuses, Settles, final, run_status, run_text, run_world, text_until, world_at, worlds};
-ghost use Rattle.ode_top.specs.Stability.{IsStable};
+ghost use Rattle.ode_machine.specs.Runs.{Refuses, Settles, final, run_status, run_text, run_world, text_until, world_at, worlds};
+ghost use Rattle.ode_machine.specs.Stability.{IsStable};
 
 /// A script of no bytes over a fresh database prints nothing and leaves it.
 pub fn empty_scripts()

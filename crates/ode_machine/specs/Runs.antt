@@ -5,12 +5,12 @@ use Rattle.ode_host.specs.declared.status.Status.TheVariants as status
 use Rattle.ode_value.specs.Objects.{Histories, Starts}
 use Rattle.ode_value.specs.Pasts.{lists}
 use Rattle.ode_value.specs.Texts.{refused_line}
-use Rattle.ode_engine.specs.Commands.{Step, after, command, finish}
+use Rattle.ode_machine.specs.Commands.{Step, after, command, finish}
 use Rattle.ode_script.specs.Cutting.{Ending, End, LongStatement, LongScript, Pieces, Then, Ended, pieces, ending_of}
 use Rattle.ode_value.specs.Draining.{drain}
 use Rattle.ode_value.specs.Limits.{drain_limit}
 use Rattle.ode_value.specs.Language.{ListWorld, Language}
-use Rattle.ode_engine.specs.Sessions.{Session}
+use Rattle.ode_machine.specs.Sessions.{Session}
 use Rattle.ode_value.specs.Answers.{Answer}
 use Rattle.ode_value.specs.Settling.{Settled}
 

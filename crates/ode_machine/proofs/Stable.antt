@@ -7,7 +7,7 @@ use Rattle.ode_value.specs.declared.value.Ref.{Ref}
 use Rattle.ode_value.specs.Denoting.{denotes, object_of}
 use Rattle.ode_value.specs.Versions.{Version, version_numbered, version_of}
 use Rattle.ode_value.specs.Worlds.{Bones, Object}
-use Rattle.ode_top.specs.Stability.{IsHeld, IsStable, IsStableFor, SameVersion}
+use Rattle.ode_machine.specs.Stability.{IsHeld, IsStable, IsStableFor, SameVersion}
 
 first_or_later : (n : ℕ) (w v : Version) (later : Option Version) → (later ≡ Some v → v.number ≡ n) → (b : Bool) → (w.number == n) ≡ b
     → cond b (Some w) later ≡ Some v → v.number ≡ n

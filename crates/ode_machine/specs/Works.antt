@@ -6,7 +6,7 @@ use Rattle.ode_value.specs.Worlds.{Declared, Position, World}
 use Rattle.ode_value.specs.Acts.{Deed, ◌>>=◌, ◌>>◌, finds, alters, prints, nothing}
 use Rattle.ode_value.specs.Changes.{object, lives}
 use Rattle.ode_value.specs.Draining.{with_drain, world_after}
-use Rattle.ode_engine.specs.TimeRows.{kinds_of}
+use Rattle.ode_machine.specs.TimeRows.{kinds_of}
 use Rattle.ode_value.specs.Executing.{first_actions}
 use Rattle.ode_value.specs.Posting.{posts, touches}
 use Rattle.ode_value.specs.Settling.{Settled, transaction}

@@ -6,9 +6,9 @@ ghost use Rattle.ode_value.specs.Language.{Language, ListTx, ListWorld};
 ghost use Rattle.ode_value.specs.Texts.{committed_line};
 ghost use Rattle.ode_value.specs.Worlds.{empty_bones, empty_world};
 ghost use Rattle.ode_timer.specs.Due.{behind};
-ghost use Rattle.ode_engine.specs.Commands.{command, does_clock, finish};
-ghost use Rattle.ode_engine.specs.Refusals.{placed, ticks_in};
-ghost use Rattle.ode_engine.specs.Sessions.{Session, closed, opened};
+ghost use Rattle.ode_machine.specs.Commands.{command, does_clock, finish};
+ghost use Rattle.ode_machine.specs.Refusals.{placed, ticks_in};
+ghost use Rattle.ode_machine.specs.Sessions.{Session, closed, opened};
 
 /// What stands in the wrong place is refused; `;` stands everywhere, and needs no number.
 pub fn places_are_tested()

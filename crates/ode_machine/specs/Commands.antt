@@ -13,13 +13,13 @@ use Rattle.ode_value.specs.Draining.{with_drain, world_after}
 use Rattle.ode_timer.specs.Due.{behind}
 use Rattle.ode_value.specs.Executing.{commands}
 use Rattle.ode_value.specs.Limits.{drain_limit}
-use Rattle.ode_engine.specs.Refusals.{placed, checked_in, declared_in, ticks_in}
+use Rattle.ode_machine.specs.Refusals.{placed, checked_in, declared_in, ticks_in}
 use Rattle.ode_value.specs.Language.{ListWorld, ListTx, Settlings, Language}
-use Rattle.ode_engine.specs.Sessions.{Session, closed, opened}
+use Rattle.ode_machine.specs.Sessions.{Session, closed, opened}
 use Rattle.ode_value.specs.Answers.{Answer, ◌>>=◌, ◌>>◌}
 use Rattle.ode_value.specs.Settling.{Settled, transaction, settle, abort}
 use Rattle.ode_value.specs.Transactions.{Script, begun}
-use Rattle.ode_engine.specs.Works.{declares, clock_run}
+use Rattle.ode_machine.specs.Works.{declares, clock_run}
 
 -- the session behind a piece, and the transactions that it settled, in order
 abbrev pub Step : Type 0

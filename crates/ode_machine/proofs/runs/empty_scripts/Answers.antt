@@ -1,8 +1,8 @@
 use Rattle.std.proofs.Common.{refl}
 use Rattle.ode_value.specs.Draining.{drain}
 use Rattle.ode_value.specs.Limits.{drain_limit, script_limit}
-use Rattle.ode_top.specs.Runs.{pieces_items}
-use Rattle.ode_top.proofs.definitions.empty_scripts.Goals as goal
+use Rattle.ode_machine.specs.Runs.{pieces_items}
+use Rattle.ode_machine.proofs.runs.empty_scripts.Goals as goal
 
 pub returns-clause-text : goal.returns-clause-text
 unfolding drain drain_limit script_limit pieces_items

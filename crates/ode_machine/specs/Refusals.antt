@@ -11,10 +11,10 @@ use Rattle.ode_value.specs.declared.value.Ref.{Ref}
 use Rattle.ode_value.specs.Worlds.{Declared, Position, Object, Bones}
 use Rattle.ode_value.specs.Versions.{version_of}
 use Rattle.ode_timer.specs.Due.{due}
-use Rattle.ode_engine.specs.TimeRows.{time_rows}
+use Rattle.ode_machine.specs.TimeRows.{time_rows}
 use Rattle.ode_value.specs.Limits.{number_limit, due_limit}
 use Rattle.ode_value.specs.Language.{Language}
-use Rattle.ode_engine.specs.Sessions.{Session}
+use Rattle.ode_machine.specs.Sessions.{Session}
 use Rattle.ode_value.specs.Answers.{Answer, ◌>>=◌, ◌>>◌, refuses, checks}
 use Rattle.ode_value.specs.ClassLimits.{limits_class}
 use Rattle.ode_value.specs.Denoting.{object_of}
