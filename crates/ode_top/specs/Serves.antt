@@ -6,7 +6,7 @@ use Rattle.ode_host.specs.View.{View}
 use Rattle.ode_host.specs.declared.status.Status.{Status}
 use Rattle.ode_host.specs.declared.status.Status.TheVariants.{Ok, Refused, Usage, BadFile, DiskFault, ReadFault, WriteFault, Memory, LongStatement, LongScript}
 use Rattle.ode_keep.specs.Entries.{Changes, Entries, applied}
-use Rattle.ode_open.specs.Holds.{HoldsBy}
+use Rattle.ode_first_open.specs.Holds.{HoldsBy}
 use Rattle.ode_script.specs.Cutting.{Pieces, ending_of}
 use Rattle.ode_value.specs.OneIntGood.{IsOneIntGood}
 use Rattle.ode_value.specs.OneIntRecords.{rows}
