@@ -68,8 +68,8 @@ impl Trees {
 }
 
 impl Trees {
-    // Lets all trees go, so that the twenty stacks are dropped at one place.
-    fn let_go(self) {}
+    /// Lets all trees go, so that the twenty stacks are dropped at one place.
+    pub(crate) fn let_go(self) {}
 
     /// The expression on top.
     pub fn into_expr(self) -> Expr
