@@ -104,6 +104,11 @@ pub fn read(
     ensures { IfOk result (λ read. (made : Trees) → Makes start (map (spelled place text.now) tokens.now) made → read ≡ made) }
 {
     let mut made = Trees::new(alloc);
-    read_into(alloc, start, place, text, tokens, &mut made)?;
-    Ok(made)
+    match read_into(alloc, start, place, text, tokens, &mut made) {
+        Ok(()) => Ok(made),
+        Err(why) => {
+            made.let_go();
+            Err(why)
+        }
+    }
 }

@@ -68,12 +68,17 @@ impl Trees {
 }
 
 impl Trees {
+    /// Lets all trees go, so that the twenty stacks are dropped at one place.
+    pub(crate) fn let_go(self) {}
+
     /// The expression on top.
     pub fn into_expr(self) -> Expr
         ensures { result ≡ tree self.exprs }
     {
         let mut made = self;
-        take_expr(&mut made.exprs)
+        let e = take_expr(&mut made.exprs);
+        made.let_go();
+        e
     }
 
     /// The event expression on top.
@@ -81,7 +86,9 @@ impl Trees {
         ensures { result ≡ event_tree self.events }
     {
         let mut made = self;
-        take_event(&mut made.events)
+        let e = take_event(&mut made.events);
+        made.let_go();
+        e
     }
 
     /// The class on top.
@@ -89,7 +96,9 @@ impl Trees {
         ensures { IfOk result (λ class. class ≡ class_tree self.classes) }
     {
         let mut made = self;
-        take_class(alloc, &mut made.classes)
+        let class = take_class(alloc, &mut made.classes);
+        made.let_go();
+        class
     }
 
     /// The statement of a script on top.
@@ -97,6 +106,8 @@ impl Trees {
         ensures { result ≡ script_tree self.scripts }
     {
         let mut made = self;
-        take(&mut made.scripts, Statement::Empty)
+        let statement = take(&mut made.scripts, Statement::Empty);
+        made.let_go();
+        statement
     }
 }
