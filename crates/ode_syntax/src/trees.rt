@@ -3,8 +3,7 @@ ghost use Rattle.std.specs.Prelude.{◌≡◌, IfOk};
 ghost use Rattle.ode_syntax.specs.Built.{class_tree, event_tree, script_tree, tree};
 ghost use Rattle.ode_syntax.specs.Trees.{no_trees};
 
-use crate::top::{take, take_event, take_expr};
-use crate::words::name_of;
+use crate::top::{take, take_class, take_event, take_expr};
 use ode_grammar::Stack;
 use ode_lex::Mark;
 use ode_value::{
@@ -90,14 +89,7 @@ impl Trees {
         ensures { IfOk result (λ class. class ≡ class_tree self.classes) }
     {
         let mut made = self;
-        match made.classes.pop() {
-            Some(class) => Ok(class),
-            None => Ok(ClassDecl {
-                name: name_of(alloc, b"x")?,
-                parent: None,
-                members: List::new(alloc),
-            }),
-        }
+        take_class(alloc, &mut made.classes)
     }
 
     /// The statement of a script on top.

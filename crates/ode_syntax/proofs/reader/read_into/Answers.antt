@@ -1,6 +1,6 @@
 use Rattle.std.proofs.Common.{arith}
 use Rattle.ode_syntax.proofs.Readings.{read_token, refused_token, all_read}
-use Rattle.ode_syntax.proofs.reader.read.Goals as goal
+use Rattle.ode_syntax.proofs.reader.read_into.Goals as goal
 
 pub returns-then-not-branch : goal.returns-then-not-branch
 returns-then-not-branch c = λ made w.

@@ -3,7 +3,7 @@ use Rattle.ode_grammar.specs.Grammar.{items_of}
 use Rattle.ode_grammar.specs.Reading.{run}
 use Rattle.ode_syntax.specs.Kept.{spelled}
 use Rattle.ode_syntax.specs.Trees.{trees, no_trees}
-use Rattle.ode_syntax.proofs.reader.read.Given as goal
+use Rattle.ode_syntax.proofs.reader.read_into.Given as goal
 
 -- what is made of the tokens so far
 abbrev pub invariant-loop-at : goal.invariant-loop-at
