@@ -34,7 +34,7 @@ module _ (holds : Holding) where
   pub at_start : (items : List Item) (w : ListWorld) (text image : List ℕ) → holds image w → IsAfterSome holds items w text image text
   at_start items w text image held = record {
     settled = 0;
-    holds = subst (λ (u : ListWorld). holds image u) (sym (after_none w items)) held;
+    held = subst (λ (u : ListWorld). holds image u) (sym (after_none w items)) held;
     front = [];
     rest = text_until 0 items;
     is_front = refl;
@@ -46,7 +46,7 @@ module _ (holds : Holding) where
       → IsAfterSome holds (Refuses line ∷ more) w text image out
   in_refusal n line more w text image out held printed = record {
     settled = 0;
-    holds = subst (λ (u : ListWorld). holds image u) (sym (after_none w more)) held;
+    held = subst (λ (u : ListWorld). holds image u) (sym (after_none w more)) held;
     front = take n line;
     rest = drop n line ++ text_until 0 more;
     is_front = ap (λ (l : List ℕ). l ++ text_until 0 more) (sym (take-append-drop n line)) ∙ append_assoc (take n line) (drop n line) (text_until 0 more);
@@ -58,7 +58,7 @@ module _ (holds : Holding) where
       → IsAfterSome holds (Settles v said ∷ more) w text image out
   in_settled n said more w v text image out held printed = record {
     settled = 1;
-    holds = subst (λ (u : ListWorld). holds image u) (sym (after_none v more)) held;
+    held = subst (λ (u : ListWorld). holds image u) (sym (after_none v more)) held;
     front = take n said;
     rest = drop n said ++ text_until 0 more;
     is_front = ap (λ (l : List ℕ). l ++ text_until 0 more) (sym (take-append-drop n said)) ∙ append_assoc (take n said) (drop n said) (text_until 0 more);
@@ -78,7 +78,7 @@ module _ (holds : Holding) where
       → IsAfterSome holds (before ++ items) w text image out
   behind before items w text image out some = record {
     settled = settled_with before some.settled;
-    holds = subst (λ (u : ListWorld). holds image u) (sym (after_behind some.settled w before items)) some.holds;
+    held = subst (λ (u : ListWorld). holds image u) (sym (after_behind some.settled w before items)) some.held;
     front = text_of before ++ some.front;
     rest = some.rest;
     is_front = text_behind some.settled before items ∙ ap (λ (l : List ℕ). text_of before ++ l) some.is_front ∙ sym (append_assoc (text_of before) some.front some.rest);

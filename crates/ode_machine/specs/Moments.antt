@@ -11,7 +11,7 @@ Holding = List ℕ → ListWorld → Type 0
 -- behind this text is a front of what is printed up to the next one, never more than the image has.
 pub record IsAfterSome (holds : Holding) (items : List Item) (w : ListWorld) (text image out : List ℕ) : Type 0 where
   pub settled : ℕ
-  pub holds : holds image (world_at settled w items)
+  pub held : holds image (world_at settled w items)
   pub front : List ℕ
   pub rest : List ℕ
   pub is_front : text_until settled items ≡ front ++ rest

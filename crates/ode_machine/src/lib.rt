@@ -2,9 +2,7 @@
 #![tactic(auto)]
 
 mod commands;
-mod moments;
 mod runs;
 
 pub use commands::{clock_commands_begin, ends_without_a_transaction, places_are_tested};
-pub use moments::moments_join;
 pub use runs::{empty_scripts, texts_go_with_worlds};
