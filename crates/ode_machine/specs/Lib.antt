@@ -5,3 +5,4 @@ pub mod Works
 pub mod Commands
 pub mod Runs
 pub mod Stability
+pub mod Moments
