@@ -12,9 +12,13 @@ use Rattle.ode_passes.specs.declared.cause.Cause.TheVariants as cause
 abbrev pub Found : Type 0
 Found = List (Key × Record)
 
+-- a record decodes
+abbrev pub record_in : Row → Ruled Record
+record_in e = found (cause.Record e.0) (record_under e.0 e.1)
+
 -- every record decodes
 abbrev pub with_record : Found → Row → Ruled Found
-with_record records e = found (cause.Record e.0) (record_under e.0 e.1) >>= λ r. Ok (records ++ (e.0, r) ∷ [])
+with_record records e = record_in e >>= λ r. Ok (records ++ (e.0, r) ∷ [])
 
 abbrev pub decoded : Entries → Ruled Found
 decoded entries = through with_record [] entries

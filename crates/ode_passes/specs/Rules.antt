@@ -20,6 +20,11 @@ abbrev pub found : {X : Type 0} → Cause → Option X → Ruled X
 found cause (Some x) = Ok x
 found cause None = Err cause
 
+-- all keep it
+abbrev pub each : {X : Type 0} → (X → Ruled (Unit {0})) → List X → Ruled (Unit {0})
+each rule [] = Ok tt
+each rule (x ∷ xs) = rule x >>= λ _. each rule xs
+
 -- each goes on from what the one before it left
 abbrev pub through : {S X : Type 0} → (S → X → Ruled S) → S → List X → Ruled S
 through step s [] = Ok s

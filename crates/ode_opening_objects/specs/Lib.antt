@@ -1,0 +1,4 @@
+pub mod Heads
+pub mod Fitting
+pub mod Objects
+pub mod Scenes

@@ -1,0 +1,90 @@
+-- The rules of objects, of their versions and of the references in these, one behind the other.
+use Rattle.std.specs.Prelude.{ℕ, List, Bool, true, false, nat_le, nat_lt, ◌==◌, ◌&&◌, ◌||◌, Option, Ok, Err}
+use Rattle.std.specs.Option.{is_some, option_map_or}
+use Rattle.ode_codec.specs.declared.record.Record.{Record}
+use Rattle.ode_codec.specs.declared.record.Record.TheVariants as of
+use Rattle.ode_keep.specs.Entries.{Entries}
+use Rattle.ode_passes.specs.Records.{record_in}
+use Rattle.ode_passes.specs.Rules.{Ruled, ◌>>=◌, each, found, needs}
+use Rattle.ode_passes.specs.Walking.{within}
+use Rattle.ode_passes.specs.declared.cause.Cause.TheVariants as cause
+use Rattle.ode_types.specs.Families.{class_numbered}
+use Rattle.ode_value.specs.Keys.{activation_kind, entry_kind, object_kind, version_kind}
+use Rattle.ode_value.specs.Records.{Row}
+use Rattle.ode_value.specs.declared.class.Class.{Class}
+use Rattle.ode_value.specs.declared.value.Value.{Value}
+use Rattle.ode_opening_objects.specs.Fitting.{fit_references, have_sorts}
+use Rattle.ode_opening_objects.specs.Heads.{has_version, head_in, of_object}
+use Rattle.ode_opening_objects.specs.declared.head.Head.{Head}
+
+-- ---- objects
+
+-- an object has a number below the next one, a known class and at least one version
+abbrev pub object_fits : ℕ → List Class → (ℕ → Bool) → Row → Head → Bool
+object_fits next classes versions e h = nat_lt e.0.a next && (is_some (class_numbered classes h.class) && versions e.0.a)
+
+abbrev pub object_head : ℕ → List Class → (ℕ → Bool) → Row → Ruled Head
+object_head next classes versions e = do
+  r ← record_in e
+  h ← found (cause.Record e.0) (of_object r)
+  _ ← needs (cause.Record e.0) (object_fits next classes versions e h)
+  Ok h
+
+abbrev pub object_keeps : ℕ → List Class → (ℕ → Bool) → Row → Ruled (Unit {0})
+object_keeps next classes versions e = object_head next classes versions e >>= λ _. Ok tt
+
+-- ---- versions
+
+-- values have the sorts of the fields of a class
+abbrev pub fields_fit : List Class → ℕ → List Value → Bool
+fields_fit classes number values = option_map_or (λ (c : Class). have_sorts c.fields values) (class_numbered classes number) false
+
+-- a version has a number up to the last one of its object, a parent below its own number, and fields of its class's sorts
+abbrev pub fits_head : List Class → ℕ → ℕ → List Value → Head → Bool
+fits_head classes number parent fields h = nat_le number h.last && ((parent == 0 || nat_lt parent number) && fields_fit classes h.class fields)
+
+-- it has its object
+abbrev pub version_fits : List Class → (ℕ → Option Head) → Record → Bool
+version_fits classes heads (of.Version object number parent fields) = option_map_or (fits_head classes number parent fields) (heads object) false
+version_fits classes heads _ = false
+
+abbrev pub version_keeps : List Class → (ℕ → Option Head) → Row → Ruled (Unit {0})
+version_keeps classes heads e = record_in e >>= λ r. needs (cause.Record e.0) (version_fits classes heads r)
+
+-- ---- what isn't there yet
+
+-- no class has a trigger, so there are neither activations nor entries
+abbrev pub is_not_built : Row → Ruled (Unit {0})
+is_not_built e = Err (cause.Record e.0)
+
+-- ---- references
+
+module _ (next : ℕ) (classes : List Class) (heads : ℕ → Option Head) where
+  -- the references in fields of a class fit
+  abbrev pub references_in : ℕ → List Value → Bool
+  references_in number values = option_map_or (λ (c : Class). fit_references next classes heads c.fields values) (class_numbered classes number) true
+
+  -- the references of a version fit
+  abbrev pub references_fit : Record → Bool
+  references_fit (of.Version object number parent fields) = option_map_or (λ (h : Head). references_in h.class fields) (heads object) true
+  references_fit _ = true
+
+  abbrev pub references_keep : Row → Ruled (Unit {0})
+  references_keep e = record_in e >>= λ r. needs (cause.Record e.0) (references_fit r)
+
+-- ---- all rules
+
+-- all objects, then all versions, then what isn't there yet, then all references
+unfoldable pub objects_keep : ℕ → List Class → Entries → Ruled (Unit {0})
+objects_keep next classes entries =
+    let objects : Entries = within object_kind object_kind entries in
+    let versions : Entries = within version_kind version_kind entries in
+    let heads : ℕ → Option Head = head_in objects in do
+      _ ← each (object_keeps next classes (has_version versions)) objects
+      _ ← each (version_keeps classes heads) versions
+      _ ← each is_not_built (within activation_kind entry_kind entries)
+      each (references_keep next classes heads) versions
+
+-- and the classes again
+abbrev pub classes_kept : ℕ → List Class → Entries → Ruled (List Class)
+classes_kept next classes entries = objects_keep next classes entries >>= λ _. Ok classes

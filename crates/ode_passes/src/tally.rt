@@ -1,0 +1,127 @@
+//! All records: each decodes, and how many bytes they take together.
+ghost use Rattle.std.specs.Prelude.{◌≡◌, IsErrOf, IsTrue};
+ghost use Rattle.ode_host.specs.Causes.{RoseIf};
+ghost use Rattle.ode_host.specs.Host.{Looks};
+ghost use Rattle.ode_keep.specs.Entries.{Entries};
+ghost use Rattle.ode_value.specs.Keys.{counters_key};
+ghost use Rattle.ode_passes.specs.Answers.{Answers, Leaves, UnlessFault, is_usable};
+ghost use Rattle.ode_passes.specs.Rules.{found};
+ghost use Rattle.ode_passes.specs.Tally.{counted, counters_or, is_built, is_light, tally_in};
+ghost use Rattle.ode_passes.specs.declared.cause.Cause.TheVariants as cause;
+
+use crate::cause::Cause;
+use crate::error::OpenError;
+use crate::records::record_in;
+use crate::walking::{Pass, walk};
+use ode_codec::{Counters, Record};
+use ode_host::Host;
+use ode_keep::{KEY_LEN, Keep};
+use ode_value::limits::WEIGHT_LIMIT;
+use ode_value::{Key, List};
+use std::alloc::Global;
+
+/// What the records so far come to.
+#[derive(Clone, Copy, Debug)]
+pub struct Tally {
+    /// Their bytes, the entries of the queue not counted.
+    total: u64,
+    /// The counters, where their record was there.
+    counters: Option<Counters>,
+}
+
+// There is no clock yet, so none is set.
+fn is_built(row: &Record) -> bool
+    ensures { result ≡ is_built row.now }
+{
+    match row {
+        Record::Counters(counters) => !counters.clock_set,
+        _ => true,
+    }
+}
+
+fn counters_or(before: Option<Counters>, row: &Record) -> Option<Counters>
+    ensures { result ≡ counters_or before row.now }
+{
+    match row {
+        Record::Counters(counters) => Some(*counters),
+        _ => before,
+    }
+}
+
+fn counted(total: u64, key: Key, value: &[u8]) -> u64
+    ensures { result ≡ counted total (key, value.now) }
+{
+    if key.kind == Key::ENTRY {
+        return total;
+    }
+    total
+        .saturating_add(KEY_LEN as u64)
+        .saturating_add(value.len() as u64)
+}
+
+impl Pass for Tally {
+    ghost use Rattle.ode_passes.specs.Tally.{tallied};
+
+    ghost takes = { tallied };
+
+    fn take(&mut self, alloc: Global, key: Key, value: List<u8>) -> Result<(), OpenError> {
+        let record = record_in(alloc, key, value.as_slice())?;
+        if !is_built(&record) {
+            return Err(OpenError::BadFile(Cause::Record(key)));
+        }
+        self.total = counted(self.total, key, value.as_slice());
+        self.counters = counters_or(self.counters, &record);
+        Ok(())
+    }
+}
+
+// The counters, which are to be there.
+fn counters_of(tally: Tally) -> Result<Counters, Cause>
+    ensures { result ≡ found (cause.Missing counters_key) tally.counters }
+{
+    match tally.counters {
+        Some(counters) => Ok(counters),
+        None => Err(Cause::Missing(Key {
+            kind: Key::COUNTERS,
+            a: 0,
+            b: 0,
+        })),
+    }
+}
+
+/// The counters, and the bytes of all records but for the queue's entries; or the first record that doesn't decode or has a clock
+/// that is set, or that there are no counters. Nothing is written.
+#[tactic(auto, unfolding(crate::specs::Tally::tally_in))]
+pub fn read_tally<H: Host, K: Keep<H>>(
+    alloc: Global,
+    keeper: &mut K,
+    host: &mut H,
+) -> Result<(Counters, u64), OpenError>
+    requires live { IsTrue (K.live keeper.old) }
+    ensures meant { (entries : Entries) → K.holds keeper.old (H.view host.old) entries
+        → Answers (tally_in entries) result }
+    ensures holds { UnlessFault result ((entries : Entries) → K.holds keeper.old (H.view host.old) entries
+        → K.holds keeper.new (H.view host.new) entries) }
+    ensures looks { Looks (H.view host.old) (H.view host.new) }
+    ensures usable { K.live keeper.new ≡ is_usable result }
+    ensures cause { RoseIf (IsErrOf result OpenError.DiskFault) (H.view host.old).disk_faults (H.view host.new).disk_faults }
+{
+    let mut tally = Tally {
+        total: 0,
+        counters: None,
+    };
+    walk(alloc, keeper, host, 0, 255, &mut tally)?;
+    let counters = counters_of(tally)?;
+    Ok((counters, tally.total))
+}
+
+/// Whether so many bytes are within the limit.
+pub fn is_light(total: u64) -> Result<(), Cause>
+    ensures { result ≡ is_light total }
+{
+    if total <= WEIGHT_LIMIT {
+        Ok(())
+    } else {
+        Err(Cause::Size(total))
+    }
+}
