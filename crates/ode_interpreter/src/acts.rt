@@ -41,6 +41,9 @@ pub trait Acts<S: Schema> {
     /// The transaction that it stands for, but for the classes in its world now.
     ghost view: { Self → Known → NumberTx };
 
+    /// The classes of the world that is known, with their trees.
+    ghost declared: { Known → Items Declared };
+
     /// One more statement.
     fn count(&mut self, schema: &S) -> Result<(), Stop>
         ensures acts { (classes : Items Declared) (g : Known) → S.declares schema.now classes → knows self.old schema.now g → Ends result (with_classes classes (view self.new g)) (counts (with_classes classes (view self.old g))) }
@@ -230,6 +233,6 @@ pub trait Acts<S: Schema> {
 
     /// What is to be kept isn't too heavy.
     fn weigh(&mut self, schema: &S) -> Result<(), Stop>
-        ensures acts { (classes : Items Declared) (g : Known) → S.declares schema.now classes → knows self.old schema.now g → Ends result (with_classes classes (view self.new g)) (weighs (with_classes classes (view self.old g))) }
+        ensures acts { (classes : Items Declared) (g : Known) → S.declares schema.now classes → knows self.old schema.now g → classes ≡ declared g → Ends result (with_classes classes (view self.new g)) (weighs (with_classes classes (view self.old g))) }
         ensures kept { (g : Known) → knows self.old schema.now g → Leaves result (knows self.new schema.now g) (failed self.new g) };
 }

@@ -64,7 +64,7 @@ fn go_round<S: Schema, T: Acts<S>>(
 /// The whole completion: last points and deferred actions, soft constraints, and the weight of what is to be kept.
 #[tactic(auto, unfolding(ode_value::specs::Completing::completes))]
 pub fn complete<S: Schema, T: Acts<S>>(alloc: Global, schema: &S, tx: &mut T) -> Result<(), Stop>
-    ensures acts { (classes : Items Declared) (g : T.Known) → S.declares schema.now classes → T.knows tx.old schema.now g → Ends result (with_classes classes (T.view tx.new g)) (completes (numbers (S.tables schema.now)) (with_classes classes (T.view tx.old g))) }
+    ensures acts { (classes : Items Declared) (g : T.Known) → S.declares schema.now classes → T.knows tx.old schema.now g → classes ≡ T.declared g → Ends result (with_classes classes (T.view tx.new g)) (completes (numbers (S.tables schema.now)) (with_classes classes (T.view tx.old g))) }
     ensures kept { (g : T.Known) → T.knows tx.old schema.now g → Leaves result (T.knows tx.new schema.now g) (T.failed tx.new g) }
 {
     let rounds = tx.rounds(schema)?;
