@@ -5,7 +5,7 @@ use Rattle.std.specs.List.{AllByRecursion, fold}
 use Rattle.std.specs.Ordering.{match_ordering}
 use Rattle.std.specs.declared.cmp.Ordering.{Ordering}
 use Rattle.std.specs.declared.cmp.Ordering.TheVariants.{Less, Equal, Greater}
-use Rattle.ode_touched_laws.specs.Touched.{IsHeld}
+use Rattle.ode_key_laws.specs.Keys.{IsHeld}
 use Rattle.ode_value.specs.Changes.{with_key}
 use Rattle.ode_value.specs.Keys.{key_cmp}
 use Rattle.ode_value.specs.declared.key.Key.{Key}

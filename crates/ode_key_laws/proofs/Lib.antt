@@ -1,0 +1,6 @@
+pub mod PlaceLaws
+mod NumberLaws
+mod StayLaws
+mod CallLaws
+mod KeepLaws
+pub mod RewoundLaws

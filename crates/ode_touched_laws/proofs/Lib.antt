@@ -1,3 +1,0 @@
-mod PlaceLaws
-mod TouchedLaws
-mod ChangeLaws
