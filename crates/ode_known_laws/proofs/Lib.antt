@@ -1,5 +1,6 @@
 pub mod HeldLaws
 pub mod FormedLaws
 pub mod KnownLaws
+mod LightLaws
 mod RewoundLaws
 mod TakenLaws
