@@ -1,5 +1,5 @@
 -- What is light by the growth that is told is light.
-use Rattle.std.proofs.Common.{◌≡◌, ◌+◌, ◌≤◌, ℕ, Bool, true, false, pos, ◌-ℤ◌, refl, sym, ap, subst, arith}
+use Rattle.std.proofs.Common.{◌≡◌, ◌+◌, ◌≤◌, ℕ, Bool, true, false, pos, ◌-ℤ◌, refl, sym, subst, arith}
 use Rattle.std.specs.Prelude.{◌+ℤ◌, int_le, nat_le}
 use Rattle.std.proofs.lemmas.Bool.Decides.{nat_tests}
 use Rattle.std.proofs.lemmas.Int.{ints}
