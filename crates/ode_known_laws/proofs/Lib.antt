@@ -1,1 +1,5 @@
+pub mod HeldLaws
+pub mod FormedLaws
 pub mod KnownLaws
+mod RewoundLaws
+mod TakenLaws

@@ -24,7 +24,10 @@ ghost use Rattle.ode_view_laws.specs.Showing.{Shows};
 ghost use Rattle.ode_view_laws.specs.Viewing.{Beside, running};
 
 use ode_act_laws::{activations_show, deactivations_show};
+use ode_formed_laws::{changes_stay_formed, objects_are_read_as_stored};
 use ode_held_laws::objects_are_read_fresh;
+use ode_key_laws::calls_keep_keys;
+use ode_object_laws::{calls_keep_numbers, calls_keep_values};
 use ode_version_laws::{calls_keep_versions, calls_remember_firsts};
 use ode_view_laws::overlays_have_views;
 
@@ -48,6 +51,11 @@ pub fn activations_known()
     activations_show();
     calls_remember_firsts();
     calls_keep_versions();
+    calls_keep_values();
+    calls_keep_numbers();
+    objects_are_read_as_stored();
+    changes_stay_formed();
+    calls_keep_keys();
 }
 
 /// An activation that goes off, where there is one of the number that is on.
@@ -62,4 +70,9 @@ pub fn deactivations_known()
     deactivations_show();
     calls_remember_firsts();
     calls_keep_versions();
+    calls_keep_values();
+    calls_keep_numbers();
+    objects_are_read_as_stored();
+    changes_stay_formed();
+    calls_keep_keys();
 }

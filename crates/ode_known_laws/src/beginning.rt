@@ -14,7 +14,10 @@ ghost use Rattle.ode_value.specs.Worlds.{Declared};
 ghost use Rattle.ode_view_laws.specs.Viewing.{Beside, began_over, running};
 
 use ode_act_laws::views_are_read;
+use ode_formed_laws::overlays_begin_formed;
+use ode_key_laws::calls_keep_keys;
 use ode_laws::good_worlds_are_numbered;
+use ode_object_laws::values_can_be_held;
 use ode_version_laws::{
     firsts_are_remembered, good_worlds_are_settled, held_worlds_are_shown, reads_follow,
 };
@@ -28,6 +31,9 @@ pub fn transactions_begin_known()
     firsts_are_remembered();
     good_worlds_are_numbered();
     good_worlds_are_settled();
+    values_can_be_held();
+    overlays_begin_formed();
+    calls_keep_keys();
 }
 
 /// Through an overlay of which this is known the bones of its view are read, and an object's head is that of the live object.

@@ -15,6 +15,8 @@ ghost use Rattle.ode_value.specs.Worlds.{Declared};
 ghost use Rattle.ode_view_laws.specs.Showing.{ShowsCollected};
 ghost use Rattle.ode_view_laws.specs.Viewing.{Beside, running};
 
+use ode_formed_laws::changes_stay_formed;
+use ode_key_laws::calls_keep_keys;
 use ode_view_laws::collections_show;
 
 /// A firing that is collected, or dropped, in a transaction [`running`] and at a point of its settling, where lines have no limit
@@ -34,4 +36,6 @@ pub fn collections_known()
         × IsKnown base first (collect e independent x).1 }
 {
     collections_show();
+    changes_stay_formed();
+    calls_keep_keys();
 }

@@ -18,7 +18,10 @@ ghost use Rattle.ode_value.specs.declared.value.Value.{Value};
 ghost use Rattle.ode_view_laws.specs.Showing.{Shows};
 ghost use Rattle.ode_view_laws.specs.Viewing.{Beside, running};
 
+use ode_formed_laws::{changes_stay_formed, objects_are_read_as_stored};
 use ode_held_laws::objects_are_read_fresh;
+use ode_key_laws::calls_keep_keys;
+use ode_object_laws::{calls_keep_numbers, calls_keep_values};
 use ode_version_laws::{calls_keep_versions, calls_remember_firsts};
 use ode_view_laws::{makings_show, overlays_have_views, removals_show, touches_show};
 
@@ -33,6 +36,11 @@ pub fn touches_known()
     touches_show();
     calls_remember_firsts();
     calls_keep_versions();
+    calls_keep_values();
+    calls_keep_numbers();
+    objects_are_read_as_stored();
+    changes_stay_formed();
+    calls_keep_keys();
 }
 
 /// The removal of an object.
@@ -46,6 +54,11 @@ pub fn removals_known()
     removals_show();
     calls_remember_firsts();
     calls_keep_versions();
+    calls_keep_values();
+    calls_keep_numbers();
+    objects_are_read_as_stored();
+    changes_stay_formed();
+    calls_keep_keys();
 }
 
 /// The making of an object, up to its line, where a record can hold every reference among the fields.
@@ -59,4 +72,8 @@ pub fn makings_known()
     makings_show();
     calls_remember_firsts();
     calls_keep_versions();
+    calls_keep_values();
+    calls_keep_numbers();
+    changes_stay_formed();
+    calls_keep_keys();
 }

@@ -17,7 +17,11 @@ ghost use Rattle.ode_view_laws.specs.Showing.{Shows};
 ghost use Rattle.ode_view_laws.specs.Viewing.{Beside, running};
 
 use ode_act_laws::{derivations_show, version_removals_show, writes_show};
+use ode_formed_laws::objects_are_read_as_stored;
+use ode_formed_versions::versions_stay_formed;
 use ode_held_laws::objects_are_read_fresh;
+use ode_key_laws::calls_keep_keys;
+use ode_object_laws::{calls_keep_numbers, calls_keep_values};
 use ode_version_laws::{calls_keep_versions, calls_remember_firsts};
 use ode_view_laws::overlays_have_views;
 
@@ -33,6 +37,11 @@ pub fn derivations_known()
     derivations_show();
     calls_remember_firsts();
     calls_keep_versions();
+    calls_keep_values();
+    calls_keep_numbers();
+    objects_are_read_as_stored();
+    versions_stay_formed();
+    calls_keep_keys();
 }
 
 /// The removal of a version.
@@ -46,6 +55,11 @@ pub fn version_removals_known()
     version_removals_show();
     calls_remember_firsts();
     calls_keep_versions();
+    calls_keep_values();
+    calls_keep_numbers();
+    objects_are_read_as_stored();
+    versions_stay_formed();
+    calls_keep_keys();
 }
 
 /// A field that is set, where a record can hold each reference; the records are damaged only where the version hasn't the slot.
@@ -61,4 +75,9 @@ pub fn writes_known()
     writes_show();
     calls_remember_firsts();
     calls_keep_versions();
+    calls_keep_values();
+    calls_keep_numbers();
+    objects_are_read_as_stored();
+    versions_stay_formed();
+    calls_keep_keys();
 }

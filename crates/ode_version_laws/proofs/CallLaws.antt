@@ -8,7 +8,7 @@ use Rattle.ode_objects.specs.declared.object.Object.{Object}
 use Rattle.ode_objects.specs.declared.object.Version.{Version}
 use Rattle.ode_objects.specs.declared.tracked.Tracked.{Tracked}
 use Rattle.ode_overlay.specs.Answers.{Answer, ◌>>=◌}
-use Rattle.ode_overlay.specs.Changing.{activate, activate_with, create, created, deactivate, deactivate_with, denoted_in, derive, derive_with, drop_version, drop_with, fields_with, fresh, live_of, needs, next_drawn, next_number, object_of, put_acts, put_of, put_with, remove, remove_with, switch_off, touch, touch_first, touch_with, touched_with, with_now, write, write_with}
+use Rattle.ode_overlay.specs.Changing.{activate, activate_with, create, created, deactivate, deactivate_with, denoted_in, derive, derive_with, drop_version, drop_with, fields_with, fresh, live_of, needs, next_drawn, next_number, object_of, put_acts, put_of, put_with, remove, remove_with, switch_off, touch, touch_first, touch_with, touched_with, with_now, with_value, write, write_with}
 use Rattle.ode_overlay.specs.Layers.{Layer, holding, is_touched}
 use Rattle.ode_overlay.specs.Reading.{not_null}
 use Rattle.ode_overlay.specs.declared.error.OverlayError.{OverlayError}
@@ -43,6 +43,25 @@ module _ {R : Type 0} (P : Layer → Type 0) where
     by_live true = each t refl
     by_live false = tt
 
+  -- fields that a record can hold
+  fields_bound : (r : Ref) (slot : ℕ) (value : Value) (v : Version) (next : List Value → Answer (R × Layer)) → ((fields : List Value) → are_fields fields ≡ true → IfDone P (next fields))
+      → IfDone P (fields_with r slot value v >>= next)
+  unfolding fields_with
+  fields_bound r slot value v next each = by_value (with_value (version_key r.object v.number) slot value (values_of v.fields)) where
+    by_fit : (fields : List Value) (b : Bool) → are_fields fields ≡ b → IfDone P ((needs TooLong b >>= λ _. Ok fields) >>= next)
+    by_fit fields true fit = each fields fit
+    by_fit fields false fit = tt
+
+    by_value : (a : Answer (List Value)) → IfDone P ((a >>= λ fields. needs TooLong (are_fields fields) >>= λ _. Ok fields) >>= next)
+    by_value (Ok fields) = by_fit fields (are_fields fields) refl
+    by_value (Err why) = tt
+
+  number_bound : (x : Layer) (next : ℕ → Answer (R × Layer)) → IfDone P (next x.next) → IfDone P (next_number x >>= next)
+  number_bound x next leaves = by_test (nat_lt x.next number_limit) where
+    by_test : (b : Bool) → IfDone P (cond b (Ok x.next) (Err NoNumber) >>= next)
+    by_test true = leaves
+    by_test false = tt
+
   choice_bound : (b : Bool) (a c : Answer (R × Layer)) → IfDone P a → IfDone P c → IfDone P (cond b a c)
   choice_bound true a c first second = first
   choice_bound false a c first second = second
@@ -57,20 +76,20 @@ module _ (P : Layer → Type 0) (classes : List Class) (base : Entries) (x : Lay
   abbrev Puts : ℕ → Option Tracked → Tracked → Object → Type 0
   Puts id new t o = (keys : List Key) → object_of new id x ≡ Some t → P (with_now id new o keys x)
 
-  pub write_leaves : (r : Ref) (slot : ℕ) (value : Value) (new : Option Tracked) → Reads r.object new → ((t : Tracked) (v : Version) (fields : List Value) → Puts r.object new t (written v.number fields t.current))
-      → IfDone P (write classes base r slot value x)
+  pub write_leaves : (r : Ref) (slot : ℕ) (value : Value) (new : Option Tracked) → Reads r.object new
+      → ((t : Tracked) (v : Version) (fields : List Value) → are_fields fields ≡ true → Puts r.object new t (written v.number fields t.current)) → IfDone P (write classes base r slot value x)
   unfolding write write_with
   write_leaves r slot value new read put =
       bound P (not_null r) _ (λ _. read_bound P (fresh classes base r.object x) new _ read (live_bound P r.object (object_of new r.object x) _
-      (λ t is. bound P (denoted_in r t.current) _ (λ v. bound P (fields_with r slot value v) _ (λ fields. bound P (holding (version_key r.object v.number ∷ []) x) _ (λ keys. put t v fields keys is))))))
+      (λ t is. bound P (denoted_in r t.current) _ (λ v. fields_bound P r slot value v _ (λ fields fit. bound P (holding (version_key r.object v.number ∷ []) x) _ (λ keys. put t v fields fit keys is))))))
 
-  pub derive_leaves : (r : Ref) (new : Option Tracked) → Reads r.object new → ((t : Tracked) (v : Version) → Puts r.object new t (derived v.number (values_of v.fields) t.current))
+  pub derive_leaves : (r : Ref) (new : Option Tracked) → Reads r.object new → ((t : Tracked) (v : Version) → are_fields (values_of v.fields) ≡ true → Puts r.object new t (derived v.number (values_of v.fields) t.current))
       → IfDone P (derive classes base r x)
   unfolding derive derive_with
   derive_leaves r new read put =
       bound P (not_null r) _ (λ _. read_bound P (fresh classes base r.object x) new _ read (live_bound P r.object (object_of new r.object x) _
-      (λ t is. bound P (denoted_in r t.current) _ (λ v. bound P (needs TooLong (are_fields (values_of v.fields))) _
-      (λ _. bound P (holding (object_key r.object ∷ version_key r.object (t.current.last + 1) ∷ []) x) _ (λ keys. bound P (needs NoNumber (nat_lt t.current.last version_limit)) _ (λ _. put t v keys is)))))))
+      (λ t is. bound P (denoted_in r t.current) _ (λ v. asked P TooLong (are_fields (values_of v.fields)) _
+      (λ fit. bound P (holding (object_key r.object ∷ version_key r.object (t.current.last + 1) ∷ []) x) _ (λ keys. bound P (needs NoNumber (nat_lt t.current.last version_limit)) _ (λ _. put t v fit keys is)))))))
 
   pub drop_leaves : (r : Ref) (new : Option Tracked) → Reads r.object new → ((t : Tracked) (v : Version) → nat_lt 1 (length t.current.versions) ≡ true → Puts r.object new t (without v.number t.current))
       → IfDone P (drop_version classes base r x)
@@ -93,12 +112,12 @@ module _ (P : Layer → Type 0) (classes : List Class) (base : Entries) (x : Lay
       read_bound P (fresh classes base id x) new _ read (live_bound P id (object_of new id x) _ (λ t is. bound P (holding (object_keys id t.current) x) _ (λ keys. put t keys is)))
 
   pub activate_leaves : (id class trigger : ℕ) (args : List Value) (new : Option Tracked) → Reads id new
-      → ((t : Tracked) (number : ℕ) (keys : List Key) → object_of new id x ≡ Some t → P (next_drawn (with_now id new (activated (new_active number class trigger args) t.current) keys x)))
+      → ((t : Tracked) (keys : List Key) → object_of new id x ≡ Some t → P (next_drawn (with_now id new (activated (new_active x.next class trigger args) t.current) keys x)))
       → IfDone P (activate classes base id class trigger args x)
   unfolding activate activate_with
   activate_leaves id class trigger args new read put =
       read_bound P (fresh classes base id x) new _ read (live_bound P id (object_of new id x) _ (λ t is. bound P (needs TooLong (are_args args)) _
-      (λ _. bound P (holding (activation_key id x.next ∷ []) x) _ (λ keys. bound P (next_number x) _ (λ number. put t number keys is)))))
+      (λ _. bound P (holding (activation_key id x.next ∷ []) x) _ (λ keys. number_bound P x _ (put t keys is)))))
 
   pub deactivate_leaves : (id number : ℕ) (new : Option Tracked) → Reads id new → P x → ((t : Tracked) → Puts id new t (switched_off number t.current))
       → IfDone P (deactivate classes base id number x)
@@ -114,10 +133,7 @@ module _ (P : Layer → Type 0) (classes : List Class) (base : Entries) (x : Lay
     by_found None is = stays
     by_found (Some t) is = bound P (holding (activation_keys id t.current.activations) x) _ (λ keys. put t keys is)
 
-pub create_leaves : (P : Layer → Type 0) (class : ℕ) (fields : List Value) (x : Layer) → ((keys : List Key) → P (created class fields keys x)) → IfDone P (create class fields x)
+pub create_leaves : (P : Layer → Type 0) (class : ℕ) (fields : List Value) (x : Layer) → (are_fields fields ≡ true → (keys : List Key) → P (created class fields keys x)) → IfDone P (create class fields x)
 unfolding create
 create_leaves P class fields x put =
-    bound P (needs TooLong (are_fields fields)) _ (λ _. bound P (holding (object_key x.next ∷ version_key x.next 1 ∷ []) x) _ (λ keys. makes (nat_lt x.next number_limit) keys)) where
-      makes : (b : Bool) (keys : List Key) → IfDone P (cond b (Ok x.next) (Err NoNumber) >>= λ id. Ok (id, created class fields keys x))
-      makes true keys = put keys
-      makes false keys = tt
+    asked P TooLong (are_fields fields) _ (λ fit. bound P (holding (object_key x.next ∷ version_key x.next 1 ∷ []) x) _ (λ keys. number_bound P x _ (put fit keys)))

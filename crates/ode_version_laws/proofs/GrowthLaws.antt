@@ -1,5 +1,5 @@
 -- The growth that an overlay tells is that of the world.
-use Rattle.std.proofs.Common.{◌≡◌, ◌+◌, ◌<◌, ◌≤◌, ◌==◌, ℕ, List, [], ◌∷◌, Bool, true, false, cond, find, map, sum_by, pos, ◌-ℤ◌, Option, Some, None, refl, sym, ap, ◌∙◌, arith}
+use Rattle.std.proofs.Common.{◌≡◌, ◌+◌, ◌<◌, ◌≤◌, ◌==◌, ℕ, List, [], ◌∷◌, Bool, true, false, cond, find, map, sum_by, pos, ◌-ℤ◌, Option, Some, None, refl, sym, ap, ◌∙◌, le_of_eq, arith}
 use Rattle.std.proofs.lemmas.Bool.Decides.{nat_tests}
 use Rattle.std.proofs.lemmas.Int.{ints}
 use Rattle.std.proofs.lemmas.List.Sums.{sum_by-cons}
@@ -29,7 +29,7 @@ use Rattle.ode_value.specs.Lengths.{counters_length}
 use Rattle.ode_value.specs.Weights.{class_weight, object_weight, weight}
 use Rattle.ode_value.specs.Worlds as worlds
 use Rattle.ode_value.specs.Worlds.{Declared}
-use Rattle.ode_version_laws.proofs.SumLaws.{all_numbered, total, total_of, total_same, total_sum, weight_at}
+use Rattle.ode_version_laws.proofs.SumLaws.{all_numbered, total, total_most, total_of, total_same, total_sum, weight_at}
 use Rattle.ode_version_laws.proofs.TrackedMaps.{all_found}
 use Rattle.ode_version_laws.proofs.WeightLaws.{all_kept, kept_weight, object_weighs, settled_weighs}
 use Rattle.ode_version_laws.specs.Growing.{GoesOnNumbered}
@@ -185,3 +185,21 @@ module _ (x : Layer) (y : NumberTx) (stands : Stands x y) (remembers : Remembers
       differs (bytes_after x) (bytes_before x) (weight (kept_bones y.now.bones)) (weight y.first.bones)
       (weighed (bytes_after x) (bytes_before x) counters_length (sum_by class_weight y.now.bones.classes) (sum_by class_weight y.first.bones.classes) (sum_by object_weight y.first.bones.objects)
       (sum_by kept_weight y.now.bones.objects) (sum_by object_weight (kept_bones y.now.bones).objects) grown (ap (λ (cs : List Declared). sum_by class_weight cs) numbered.classes) (all_kept y.now.bones.objects))
+
+  -- ---- what changed objects took is part of the first world
+
+  first_part : (id : ℕ) (now : Object) (f : First) → WasFirst y.first id now f → seen.first_weight f ≤ weighs_by object_weight (first_at id)
+  first_part id now Same was = omega arith
+  first_part id now (Other o) was = le_of_eq (sym (first_weighs id o was.is))
+  first_part id now Absent was = omega arith
+
+  each_part : (id : ℕ) (f : Option Tracked) → tracked_at id x ≡ f → weighs seen.weight_before f ≤ weighs_by object_weight (first_at id)
+  each_part id None is = omega arith
+  each_part id (Some t) is = first_part id t.current t.first (remembers.first id t is)
+
+  pub before_law : bytes_before x ≤ weight y.first.bones
+  unfolding weight
+  before_law =
+      let part = total_most n (λ id. weighs seen.weight_before (tracked_at id x)) (λ id. weighs_by object_weight (first_at id)) (λ id. each_part id (tracked_at id x) refl) in
+      let before = tracked_total seen.weight_before in
+      omega (arith, part, before, first_total)

@@ -46,7 +46,7 @@ value_held b sort.Text (value.Text t) fits = refl
 value_held b (sort.Reference class) (value.Reference r) fits = version_held r.object r.version fits.is.version
 value_held b s v fits = absurd fits
 
-values_held : {X : Type 0} (b : Bones) (sort_of : X → Sort) (xs : List X) (values : List Value) → AllZip (λ x. FitsSort b (sort_of x)) xs values → are_kept values ≡ true
+pub values_held : {X : Type 0} (b : Bones) (sort_of : X → Sort) (xs : List X) (values : List Value) → AllZip (λ x. FitsSort b (sort_of x)) xs values → are_kept values ≡ true
 values_held b sort_of [] [] fit = refl
 values_held b sort_of (x ∷ xs) (v ∷ values) fit = both_true (value_held b (sort_of x) v fit.0) (values_held b sort_of xs values fit.1)
 values_held b sort_of [] (v ∷ values) fit = absurd fit
@@ -84,7 +84,7 @@ version_of_all P None vs v all is = newest_of_all P vs v all is
 version_of_all P (Some n) vs v all is = all_numbered_versions P n vs v all is
 
 -- what holds of all versions of a world holds of it
-denoted_of_all : (P : Version → Type 0) (b : Bones) (r : Ref) (v : Version) → ((o : Object) → object_at b r.object ≡ Some o → AllByRecursion P o.versions) → denoted b r ≡ Ok v → P v
+pub denoted_of_all : (P : Version → Type 0) (b : Bones) (r : Ref) (v : Version) → ((o : Object) → object_at b r.object ≡ Some o → AllByRecursion P o.versions) → denoted b r ≡ Ok v → P v
 denoted_of_all P b r v all is = by_null (r.object == 0) is where
   by_version : (o : Object) (f : Option Version) → AllByRecursion P o.versions → version_of r.version o.versions ≡ f → ok_or f (fault.NoVersion r) ≡ Ok v → P v
   by_version o None each at e = absurd (cc)

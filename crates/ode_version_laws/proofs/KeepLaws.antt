@@ -63,11 +63,11 @@ module _ (classes : List Class) (base : Entries) (x : Layer) (y : NumberTx) (id 
 
 pub write_keeps : (classes : List Class) (base : Entries) (x : Layer) (y : NumberTx) (r : Ref) (slot : ℕ) (value : Value) → Stands x y → Remembers x.objects y.first → IsRead classes base x y r.object → StillRemembers y.first (write classes base r slot value x)
 write_keeps classes base x y r slot value stands remembers found =
-    write_leaves (λ (x : Layer). Remembers x.objects y.first) classes base x r slot value found.object found.read (λ t v fields keys is. put classes base x y r.object stands remembers found t is (written v.number fields t.current) (le_refl t.current.last) keys)
+    write_leaves (λ (x : Layer). Remembers x.objects y.first) classes base x r slot value found.object found.read (λ t v fields fit keys is. put classes base x y r.object stands remembers found t is (written v.number fields t.current) (le_refl t.current.last) keys)
 
 pub derive_keeps : (classes : List Class) (base : Entries) (x : Layer) (y : NumberTx) (r : Ref) → Stands x y → Remembers x.objects y.first → IsRead classes base x y r.object → StillRemembers y.first (derive classes base r x)
 derive_keeps classes base x y r stands remembers found =
-    derive_leaves (λ (x : Layer). Remembers x.objects y.first) classes base x r found.object found.read (λ t v keys is. put classes base x y r.object stands remembers found t is (derived v.number (values_of v.fields) t.current) (omega arith) keys)
+    derive_leaves (λ (x : Layer). Remembers x.objects y.first) classes base x r found.object found.read (λ t v fit keys is. put classes base x y r.object stands remembers found t is (derived v.number (values_of v.fields) t.current) (omega arith) keys)
 
 pub drop_keeps : (classes : List Class) (base : Entries) (x : Layer) (y : NumberTx) (r : Ref) → Stands x y → Remembers x.objects y.first → IsRead classes base x y r.object → StillRemembers y.first (drop_version classes base r x)
 drop_keeps classes base x y r stands remembers found =
@@ -83,7 +83,7 @@ remove_keeps classes base x y id stands remembers found =
 
 pub activate_keeps : (classes : List Class) (base : Entries) (x : Layer) (y : NumberTx) (id class trigger : ℕ) (args : List Value) → Stands x y → Remembers x.objects y.first → IsRead classes base x y id → StillRemembers y.first (activate classes base id class trigger args x)
 activate_keeps classes base x y id class trigger args stands remembers found =
-    activate_leaves (λ (x : Layer). Remembers x.objects y.first) classes base x id class trigger args found.object found.read (λ t number keys is. put classes base x y id stands remembers found t is (activated (new_active number class trigger args) t.current) (le_refl t.current.last) keys)
+    activate_leaves (λ (x : Layer). Remembers x.objects y.first) classes base x id class trigger args found.object found.read (λ t keys is. put classes base x y id stands remembers found t is (activated (new_active x.next class trigger args) t.current) (le_refl t.current.last) keys)
 
 pub deactivate_keeps : (classes : List Class) (base : Entries) (x : Layer) (y : NumberTx) (id number : ℕ) → Stands x y → Remembers x.objects y.first → IsRead classes base x y id → StillRemembers y.first (deactivate classes base id number x)
 deactivate_keeps classes base x y id number stands remembers found =
@@ -95,7 +95,7 @@ put_keeps classes base x y id rs stands remembers found =
 
 pub create_keeps : (class : ℕ) (fields : List Value) (x : Layer) (y : NumberTx) → Stands x y → Remembers x.objects y.first → IsNewNumber x y x.next → StillRemembers y.first (create class fields x)
 create_keeps class fields x y stands remembers new =
-    create_leaves (λ (x : Layer). Remembers x.objects y.first) class fields x (λ keys. remembers_changed y.first x.objects x.next remembers None (made class fields) (new_known (tracked_at x.next x) refl) (new_falls (tracked_at x.next x) refl)) where
+    create_leaves (λ (x : Layer). Remembers x.objects y.first) class fields x (λ fit keys. remembers_changed y.first x.objects x.next remembers None (made class fields) (new_known (tracked_at x.next x) refl) (new_falls (tracked_at x.next x) refl)) where
       new_known : (f : Option Tracked) → tracked_at x.next x ≡ f → IsKnown y.first x.next f
       new_known None is = let same = stands.others x.next is in record { object = sym same.object ∙ new.object; kept = sym same.kept ∙ new.kept }
       new_known (Some t) is = remembers.first x.next t is

@@ -6,17 +6,18 @@ mod DropLaws
 mod WriteLaws
 mod HeadLaws
 mod ReadLaws
-mod SumLaws
+pub mod SumLaws
 mod SettledLaws
 mod HeldLaws
 pub mod TrackedMaps
 mod RememberLaws
-mod CallLaws
+pub mod CallLaws
 mod KeepLaws
+pub mod EachLaws
 mod HaveLaws
-mod RewoundRows
+pub mod RewoundRows
 mod RewindLaws
 mod RewoundVersions
 mod WeightLaws
 mod GrowthLaws
-mod HoldingLaws
+pub mod HoldingLaws

@@ -21,6 +21,13 @@ total_same (suc n) f g same =
     let last : f n ≡ g n = same n (omega arith) in
     omega arith
 
+pub total_most : (n : ℕ) (f g : ℕ → ℕ) → ((i : ℕ) → f i ≤ g i) → total n f ≤ total n g
+total_most zero f g most = omega arith
+total_most (suc n) f g most =
+    let rest : total n f ≤ total n g = total_most n f g most in
+    let last : f n ≤ g n = most n in
+    omega arith
+
 pub total_sum : (n : ℕ) (f g : ℕ → ℕ) → total n (λ i. f i + g i) ≡ total n f + total n g
 total_sum zero f g = refl
 total_sum (suc n) f g = let rest : total n (λ i. f i + g i) ≡ total n f + total n g = total_sum n f g in omega arith

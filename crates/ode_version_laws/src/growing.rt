@@ -1,8 +1,8 @@
 //! The growth that an overlay tells is that of the world.
-ghost use Rattle.std.specs.Prelude.{◌≡◌, pos, ◌-ℤ◌};
+ghost use Rattle.std.specs.Prelude.{◌≡◌, ◌≤◌, pos, ◌-ℤ◌};
 ghost use Rattle.ode_laws.specs.Alike.{NumberTx};
 ghost use Rattle.ode_overlay.specs.Layers.{Layer};
-ghost use Rattle.ode_overlay.specs.Settling.{growth};
+ghost use Rattle.ode_overlay.specs.Settling.{bytes_before, growth};
 ghost use Rattle.ode_overlay_laws.specs.Standing.{Stands};
 ghost use Rattle.ode_value.specs.Keeping.{kept_bones};
 ghost use Rattle.ode_value.specs.Weights.{weight};
@@ -14,4 +14,9 @@ ghost use Rattle.ode_version_laws.specs.Showing.{AreSettled};
 pub fn growths_are_the_worlds()
     ensures { (x : Layer) (y : NumberTx) → Stands x y → Remembers x.objects y.first → AreSettled y.first → GoesOnNumbered y
         → growth x ≡ pos (weight (kept_bones y.now.bones)) -ℤ pos (weight y.first.bones) }
+{}
+
+/// What the records of changed objects took is part of what the first world weighs.
+pub fn changed_objects_weighed_less()
+    ensures { (x : Layer) (y : NumberTx) → Stands x y → Remembers x.objects y.first → AreSettled y.first → GoesOnNumbered y → bytes_before x ≤ weight y.first.bones }
 {}

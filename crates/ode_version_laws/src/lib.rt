@@ -8,7 +8,7 @@ mod reading;
 mod rewinding;
 mod versions;
 
-pub use growing::growths_are_the_worlds;
+pub use growing::{changed_objects_weighed_less, growths_are_the_worlds};
 pub use holding::values_that_fit_can_be_held;
 pub use reading::{held_worlds_are_shown, reads_follow};
 pub use rewinding::{

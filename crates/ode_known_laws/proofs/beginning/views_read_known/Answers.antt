@@ -1,4 +1,5 @@
-use Rattle.ode_known_laws.proofs.KnownLaws.{on_first, versions_now}
+use Rattle.ode_known_laws.proofs.HeldLaws.{on_first}
+use Rattle.ode_known_laws.proofs.KnownLaws.{versions_now}
 use Rattle.ode_known_laws.proofs.beginning.views_read_known.Goals as goal
 use Rattle.ode_version_laws.specs.Showing.{AreSettled, Shows}
 use Rattle.ode_view_laws.specs.Viewing.{running}

@@ -1,0 +1,3 @@
+mod ValueLaws
+pub mod NumberLaws
+mod FirstLaws
