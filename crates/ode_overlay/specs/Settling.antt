@@ -1,5 +1,5 @@
 -- What is collected for the queue, and how much the records grow.
-use Rattle.std.specs.Prelude.{ℕ, ℤ, pos, ◌+◌, ◌-ℤ◌, [], ◌∷◌, ◌++◌, length, Bool, true, false, cond, nat_le, nat_lt, ◌&&◌}
+use Rattle.std.specs.Prelude.{ℕ, ℤ, pos, ◌+◌, ◌-◌, ◌^◌, ◌-ℤ◌, [], ◌∷◌, ◌++◌, length, Bool, true, false, cond, min, nat_le, nat_lt, ◌&&◌}
 use Rattle.std.specs.List.{sum_by}
 use Rattle.std.specs.Map.{values_of}
 use Rattle.ode_codec.specs.declared.record.Entry.{Entry}
@@ -40,3 +40,11 @@ bytes_after x = sum_by weight_after (values_of x.objects)
 
 abbrev pub growth : Layer → ℤ
 growth x = pos (bytes_after x) -ℤ pos (bytes_before x)
+
+-- a sum, or the greatest number of 63 bits
+abbrev pub within : ℕ → ℕ
+within n = min (2 ^ 63 - 1) n
+
+-- the growth that is told
+abbrev pub growth_told : Layer → ℤ
+growth_told x = pos (within (bytes_after x)) -ℤ pos (within (bytes_before x))

@@ -1,9 +1,9 @@
 //! Firings are collected for the queue; and how much the records grow.
-ghost use Rattle.std.specs.Prelude.{◌≡◌, ◌+◌, ◌<◌, ◌^◌, Ok, IfOk, OnErr, length, nat_le, nat_lt};
+ghost use Rattle.std.specs.Prelude.{◌≡◌, ◌+◌, Ok, IfOk, OnErr, length, nat_le, nat_lt};
 ghost use Rattle.ode_objects.specs.Weights.{capped};
 ghost use Rattle.ode_overlay.specs.Layers.{generation_of, key_count};
 ghost use Rattle.ode_value.specs.Limits.{change_limit, generation_limit, number_limit, queue_limit};
-ghost use Rattle.ode_overlay.specs.Settling.{bytes_after, bytes_before, collect, growth, has_room};
+ghost use Rattle.ode_overlay.specs.Settling.{bytes_after, bytes_before, collect, growth_told, has_room};
 
 use crate::error::OverlayError;
 use crate::overlay::{Collected, Overlay};
@@ -109,14 +109,15 @@ impl Overlay {
         bytes
     }
 
-    /// By how many bytes the records grow that are not entries. Changed objects are weighed, and no others.
+    /// By how many bytes the records grow that are not entries, where a sum counts as 2^63 - 1 at most. Changed objects are weighed, and no
+    /// others.
     pub fn grown<H: Host, K: Keep<H>>(
         &self,
         _classes: &Classes,
         _heap: &mut Heap<K>,
         _host: &mut H,
     ) -> Result<i64, OverlayError>
-        ensures grows { bytes_before self.now < 2 ^ 63 → bytes_after self.now < 2 ^ 63 → result ≡ Ok (growth self.now) }
+        ensures grows { result ≡ Ok (growth_told self.now) }
         ensures heap { _heap.new ≡ _heap.old }
         ensures host { _host.new ≡ _host.old }
     {
