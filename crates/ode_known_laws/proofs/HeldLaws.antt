@@ -1,6 +1,5 @@
 -- The world that records hold, and what is read of it.
 use Rattle.std.proofs.Common.{◌≡◌, ◌<◌, ℕ, List, [], ◌∷◌, map, Option, Some, None, Ok, Err, refl, sym, ap, subst, ◌∙◌}
-use Rattle.std.specs.List.{AllByRecursion}
 use Rattle.std.specs.Option.{option_and_then, option_map}
 use Rattle.ode_codec.specs.Standing.{ArePasts}
 use Rattle.ode_codec.specs.StoredRows.{Stored, activation_rows, object_row, rows, version_rows}
@@ -22,7 +21,6 @@ use Rattle.ode_overlay.specs.Layers.{Layer, tracked_at}
 use Rattle.ode_overlay_laws.specs.Following.{IsNewNumber}
 use Rattle.ode_overlay_laws.specs.Standing.{Stands}
 use Rattle.ode_settling_laws.proofs.KindLaws.{activation_stands, object_stands, version_stands}
-use Rattle.ode_settling_laws.specs.Formed.{IsOwn}
 use Rattle.ode_value.specs.Denoting.{object_numbered}
 use Rattle.ode_value.specs.GoodWorlds.{RiseFrom}
 use Rattle.ode_value.specs.Keys.{activation_key, version_key}

@@ -6,7 +6,7 @@ use Rattle.ode_codec.specs.declared.record.Entry.{Entry}
 use Rattle.ode_formed_laws.specs.Staying.{StaysFormed}
 use Rattle.ode_keep.specs.Entries.{Entries}
 use Rattle.ode_key_laws.specs.Keys.{HoldsKeys, StillHoldsKeys}
-use Rattle.ode_known_laws.specs.Knowing.{IsHeld, IsKnown, StaysKnown, declared_in}
+use Rattle.ode_known_laws.specs.Knowing.{IsKnown, StaysKnown}
 use Rattle.ode_laws.specs.Alike.{NumberTx, NumberWorld}
 use Rattle.ode_laws.specs.Numbered.{AreNumbered}
 use Rattle.ode_object_laws.proofs.NumberLaws.{are_numbered, numbers_of}

@@ -1,6 +1,5 @@
 -- What is known behind what an abort takes back.
 use Rattle.std.proofs.Common.{◌≡◌, ◌<◌, ◌≤◌, ℕ, List, [], ◌∷◌, map, refl, sym, ap, subst, ◌∙◌, arith, le_refl}
-use Rattle.std.specs.List.{AllByRecursion}
 use Rattle.ode_keep.specs.Entries.{Entries}
 use Rattle.ode_key_laws.specs.Keys.{HoldsKeys}
 use Rattle.ode_known_laws.proofs.KnownLaws.{goes_numbered}

@@ -1,7 +1,6 @@
 -- Activations take over states.
 use Rattle.std.proofs.Common.{◌≡◌, ◌==◌, ◌<◌, ℕ, Bool, true, false, cond, List, [], ◌∷◌, map, Option, Ok, Err, refl, sym, ap, ◌∙◌, arith}
 use Rattle.std.specs.Prelude.{nat_lt}
-use Rattle.std.specs.List.{AllByRecursion}
 use Rattle.ode_keep.specs.Entries.{Entries}
 use Rattle.ode_known_laws.proofs.KnownLaws.{Leaves, known_behind, numbered_by, views_go_on}
 use Rattle.ode_known_laws.specs.Knowing.{IsKnown, StaysKnown}

@@ -9,7 +9,7 @@ use Rattle.ode_laws.proofs.Each.{all-then}
 use Rattle.ode_object_laws.proofs.NumberLaws.{later_numbers}
 use Rattle.ode_object_laws.specs.Objects.{HasValues, HaveNumbers, HaveValues}
 use Rattle.ode_objects.specs.Values.{are_kept}
-use Rattle.ode_value.specs.Denoting.{object_at, object_numbered}
+use Rattle.ode_value.specs.Denoting.{object_numbered}
 use Rattle.ode_value.specs.GoodWorlds.{IsGood, IsObject, IsVersion}
 use Rattle.ode_value.specs.Keeping.{with_last}
 use Rattle.ode_value.specs.Language.{Language, ListWorld}

@@ -1,5 +1,5 @@
 -- Objects go on having versions.
-use Rattle.std.proofs.Common.{◌≡◌, ◌+◌, ◌<◌, ◌≤◌, ◌==◌, ℕ, List, [], ◌∷◌, Bool, true, false, cond, length, map, not, nat_lt, Option, Some, None, refl, sym, ap, subst, ◌∙◌, arith}
+use Rattle.std.proofs.Common.{◌≡◌, ◌+◌, ◌<◌, ◌≤◌, ◌==◌, ℕ, List, [], ◌∷◌, Bool, true, false, cond, length, map, not, nat_lt, Some, refl, sym, ap, subst, ◌∙◌, arith}
 use Rattle.std.proofs.lemmas.Bool.{eqb-true}
 use Rattle.std.proofs.lemmas.Bool.Decides.{nat_tests}
 use Rattle.std.proofs.lemmas.List.{length-append, length-map, map-append}
@@ -8,7 +8,7 @@ use Rattle.ode_keep.specs.Entries.{Entries}
 use Rattle.ode_laws.proofs.Each.{all-append, all-filter, all-map, all-then}
 use Rattle.ode_laws.proofs.Numbers.{rise_filter, rise_more}
 use Rattle.ode_laws.specs.Alike.{NumberTx}
-use Rattle.ode_objects.specs.Objects.{activated, dead, derived, made, new_active, switched_off, values_of, with_states, without, written}
+use Rattle.ode_objects.specs.Objects.{derived, made, values_of, without, written}
 use Rattle.ode_objects.specs.declared.object.Object.{Object}
 use Rattle.ode_objects.specs.declared.object.Version.{Version}
 use Rattle.ode_overlay.specs.Answers.{Answer}

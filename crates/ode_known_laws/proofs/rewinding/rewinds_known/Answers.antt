@@ -1,4 +1,4 @@
-use Rattle.std.proofs.Common.{◌∙◌, refl, subst}
+use Rattle.std.proofs.Common.{◌∙◌, subst}
 use Rattle.ode_known_laws.proofs.HeldLaws.{on_first}
 use Rattle.ode_known_laws.proofs.RewoundLaws.{left_by, left_known, left_viewed, more_drawn}
 use Rattle.ode_known_laws.proofs.rewinding.rewinds_known.Goals as goal
