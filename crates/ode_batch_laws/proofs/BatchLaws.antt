@@ -1,5 +1,5 @@
 -- The records behind a batch hold the world that is left.
-use Rattle.std.proofs.Common.{◌≡◌, List, ◌∷◌, sym, ap, subst, ◌∙◌}
+use Rattle.std.proofs.Common.{◌≡◌, List, ◌∷◌, refl, sym, ap, subst, ◌∙◌}
 use Rattle.ode_areas.proofs.Splitting.{same_map}
 use Rattle.ode_batch_laws.proofs.ClimbLaws.{Climb}
 use Rattle.ode_batch_laws.proofs.RowLaws.{front_climbs, rows_rise}
@@ -24,7 +24,7 @@ use Rattle.ode_value.specs.declared.key.Key.{Key}
 pub batch_holds : (l : Language) (base : Entries) (changes : Changes) (v w : ListWorld) (x : Layer) (y : NumberTx) (held : HoldsWorld l base v) → HasRisingKeys base
     → y.first ≡ held.stored.world → Stands x y → AreNumbered y.now.bones → y.now.bones.classes ≡ y.first.bones.classes → IsFormed base x
     → ((q : Key) → value_under (applied changes base) q ≡ stands_after x base q)
-    → StandsAs held.stored.tables (settled_world y) w → IsGood l w → HoldsWorld l (applied changes base) w
+    → StandsAs held.stored.tables (settled_world y) w → IsGood l w → (after : HoldsWorld l (applied changes base) w) × (after.stored.tables ≡ held.stored.tables)
 batch_holds l base changes v w x y held rising first stands numbered classes formed made left good =
     let s = held.stored in
     let after : Stored = record { world = settled_world y; tables = s.tables } in
@@ -32,11 +32,13 @@ batch_holds l base changes v w x y held rising first stands numbered classes for
     let bones : AreBones l (settled_world y).bones = subst (AreBones l) (sym left.bones) good.bones in
     let rises : HasRisingKeys (rows after) =
     rows_rise l after bones
-    (subst (λ (cs : List Declared). Climb (counters_row (settled_world y).bones ∷ class_rows s.tables cs)) (sym (classes ∙ ap (λ (u : NumberWorld). u.bones.classes) first)) front) in
-    record {
-      stored = after;
-      rows = same_map (applied changes base) (rows after) (applied_rising changes base rising) rises
-          (λ q. made q ∙ settled_held l base v x y held first stands numbered classes formed q);
-      stands = left;
-      good = good;
-    }
+    (subst (λ (cs : List Declared). Climb (counters_row (settled_world y).bones ∷ class_rows s.tables cs)) (sym (classes ∙ ap (λ (u : NumberWorld). u.bones.classes) first)) front) in (
+      record {
+        stored = after;
+        rows = same_map (applied changes base) (rows after) (applied_rising changes base rising) rises
+            (λ q. made q ∙ settled_held l base v x y held first stands numbered classes formed q);
+        stands = left;
+        good = good;
+      },
+      refl,
+    )

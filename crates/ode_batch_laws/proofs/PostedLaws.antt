@@ -115,7 +115,7 @@ module _ (l : Language) (base : Entries) (changes : Changes) (v : ListWorld) (x 
 
   pub committed_holds : Stands x (posted (numbers tables) (both_lists (numbers tables)) TCommit y) → SettledAs tables (commit (numbers tables) y) (commit lists t)
       → commit (numbers tables) y ≡ settled (numbers tables) (both_lists (numbers tables)) TCommit (committed_line y.first.bones.transaction) y
-      → IsGood l (commit lists t).0 → HoldsWorld l (applied changes base) (commit lists t).0
+      → IsGood l (commit lists t).0 → (after : HoldsWorld l (applied changes base) (commit lists t).0) × (after.stored.tables ≡ held.stored.tables)
   committed_holds stands alike last good =
       let z = posted (numbers tables) (both_lists (numbers tables)) TCommit y in
       let stays = posted_stays (numbers tables) (both_lists (numbers tables)) y.first.bones.classes y.first TCommit y (same_classes, refl) in
@@ -124,7 +124,8 @@ module _ (l : Language) (base : Entries) (changes : Changes) (v : ListWorld) (x 
       (subst (λ (end : Settled (Unit {0}) ℕ). StandsAs tables end.0 (commit lists t).0) last alike.world.stands) good
 
   pub aborted_holds : (reason : Reason) → Stands x (posted (numbers tables) (whole_list (numbers tables)) TAbort (aborted (numbers tables) y))
-      → SettledAs tables (abort (numbers tables) reason y) (abort lists reason t) → IsGood l (abort lists reason t).0 → HoldsWorld l (applied changes base) (abort lists reason t).0
+      → SettledAs tables (abort (numbers tables) reason y) (abort lists reason t) → IsGood l (abort lists reason t).0
+      → (after : HoldsWorld l (applied changes base) (abort lists reason t).0) × (after.stored.tables ≡ held.stored.tables)
   aborted_holds reason stands alike good =
       let z = posted (numbers tables) (whole_list (numbers tables)) TAbort (aborted (numbers tables) y) in
       let stays = posted_stays (numbers tables) (whole_list (numbers tables)) y.first.bones.classes y.first TAbort (aborted (numbers tables) y) (refl, refl) in

@@ -69,16 +69,18 @@ own_sized c own alphabets all limits =
 
 pub class_held : (l : Language) (records : List Row) (w : ListWorld) (held : HoldsWorld l records w) (c : Declared) (own : List Table) (alphabets : List (List MaskedKind))
     → IsClass l w.bones.classes c → AreCompiled c.class.triggers own alphabets → weight (bones_with c w.bones) ≤ weight_limit
-    → HoldsWorld l (applied (puts (class_rows (stored_with c own held.stored).tables c)) records) (world_with c w)
+    → (after : HoldsWorld l (applied (puts (class_rows (stored_with c own held.stored).tables c)) records) (world_with c w)) × (after.stored ≡ stored_with c own held.stored)
 class_held l records w held c own alphabets is made light =
     let s : Stored = held.stored in
     let before = classes_before l w.bones.classes c held.good.bones.classes is in
-    let stored_before = subst (λ b. AllByRecursion (λ (d : Declared). d.class.number < c.class.number) b.classes) (sym held.stands.bones) before in
-    record {
-      stored = stored_with c own s;
-      rows =
-          ap (applied (puts (class_rows (stored_with c own s).tables c))) held.rows
-          ∙ class_stored s c own (as_many c.class.triggers own alphabets made) (own_sized c own alphabets made is.limits) stored_before;
-      stands = stands_with s.tables s.world w c own alphabets held.stands (good_numbered l w held.good) before made;
-      good = good_with l w c held.good is light;
-    }
+    let stored_before = subst (λ b. AllByRecursion (λ (d : Declared). d.class.number < c.class.number) b.classes) (sym held.stands.bones) before in (
+      record {
+        stored = stored_with c own s;
+        rows =
+            ap (applied (puts (class_rows (stored_with c own s).tables c))) held.rows
+            ∙ class_stored s c own (as_many c.class.triggers own alphabets made) (own_sized c own alphabets made is.limits) stored_before;
+        stands = stands_with s.tables s.world w c own alphabets held.stands (good_numbered l w held.good) before made;
+        good = good_with l w c held.good is light;
+      },
+      refl,
+    )

@@ -1,0 +1,3 @@
+mod FiringLaws
+pub mod GoingLaws
+mod ShownLaws
