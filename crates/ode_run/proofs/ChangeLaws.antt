@@ -1,0 +1,83 @@
+-- Fields are set, and lines behind new versions.
+use Rattle.std.proofs.Common.{◌≡◌, ℕ, Bool, true, false, cond, pos, List, Result, Ok, Err, refl, sym, ap, subst, ◌∙◌}
+use Rattle.std.specs.Prelude.{◌+ℤ◌, ℤ, OnErr, int_le, nat_le}
+use Rattle.std.specs.Result.{result_unwrap_or}
+use Rattle.ode_act_laws.specs.Unless.{ShowsUnless}
+use Rattle.ode_interpreter.specs.Seen.{Ends}
+use Rattle.ode_interpreter.specs.declared.stop.Stop.{Stop}
+use Rattle.ode_interpreter.specs.declared.stop.Stop.TheVariants as stop
+use Rattle.ode_laws.specs.Alike.{NumberTx}
+use Rattle.ode_overlay.specs.Answers.{Answer, Leaves}
+use Rattle.ode_overlay.specs.Layers.{Layer}
+use Rattle.ode_overlay.specs.declared.error.OverlayError.{OverlayError}
+use Rattle.ode_overlay.specs.declared.error.OverlayError.TheVariants as error
+use Rattle.ode_run.proofs.EndLaws.{shown_ends}
+use Rattle.ode_run.specs.Stopping.{ended}
+use Rattle.ode_run.specs.Telling.{EndsThen}
+use Rattle.ode_value.specs.Acts.{Outcome, Done, Aborted, gives, go_on, prints}
+use Rattle.ode_value.specs.Completing.{weighs}
+use Rattle.ode_value.specs.Keeping.{kept_bones}
+use Rattle.ode_value.specs.Limits.{weight_limit}
+use Rattle.ode_value.specs.Texts.{version_line}
+use Rattle.ode_value.specs.Weights.{weight}
+use Rattle.ode_value.specs.declared.reason.Reason.TheVariants as reason
+use Rattle.ode_value.specs.declared.value.Ref.{Ref}
+use Rattle.ode_version_laws.specs.Denoting.{tells_version}
+
+-- ---- a call of which nothing is said where a record is damaged
+
+module _ {R : Type 0} (D : Type 0) (view : Layer → NumberTx) (x : Layer) (outcome : Outcome (Unit {0}) ℕ R) where
+  abbrev Says : Answer (R × Layer) → Type 0
+  Says answer = ShowsUnless D view gives x answer outcome
+
+  pub unless_ends : (x' : Layer) (result : Result R OverlayError) (answer : Answer (R × Layer)) → Leaves result x' answer → OnErr result (x' ≡ x) → Says answer → Ends (ended result) (view x') outcome
+  unless_ends x' (Err error.Memory) answer leaves same shows = tt
+  unless_ends x' (Err error.DiskFault) answer leaves same shows = tt
+  unless_ends x' (Err (error.Damaged key)) answer leaves same shows = tt
+  unless_ends x' (Ok v) answer leaves same shows = shown_ends view x x' (Ok v) (Ok (v, x')) outcome refl same (subst Says leaves shows)
+  unless_ends x' (Err (error.NoObject id)) answer leaves same shows = shown_ends view x x' (Err (error.NoObject id)) (Err (error.NoObject id)) outcome refl same (subst Says leaves shows)
+  unless_ends x' (Err (error.NoVersion r)) answer leaves same shows = shown_ends view x x' (Err (error.NoVersion r)) (Err (error.NoVersion r)) outcome refl same (subst Says leaves shows)
+  unless_ends x' (Err (error.LastVersion id)) answer leaves same shows = shown_ends view x x' (Err (error.LastVersion id)) (Err (error.LastVersion id)) outcome refl same (subst Says leaves shows)
+  unless_ends x' (Err error.TooManyChanges) answer leaves same shows = shown_ends view x x' (Err error.TooManyChanges) (Err error.TooManyChanges) outcome refl same (subst Says leaves shows)
+  unless_ends x' (Err error.TooLong) answer leaves same shows = shown_ends view x x' (Err error.TooLong) (Err error.TooLong) outcome refl same (subst Says leaves shows)
+  unless_ends x' (Err error.NoNumber) answer leaves same shows = shown_ends view x x' (Err error.NoNumber) (Err error.NoNumber) outcome refl same (subst Says leaves shows)
+
+-- ---- new versions
+
+pub told_version : (y z : NumberTx) (r : Ref) (text : List ℕ) (o : Outcome (Unit {0}) ℕ Ref) → o ≡ tells_version r y → text ≡ version_line r → prints text y ≡ Done tt z → o ≡ Done r z
+told_version y z r text o is line done = is ∙ ap (λ t. go_on (prints t y) (λ _. gives r)) (sym line) ∙ ap (λ q. go_on q (λ _. gives r)) done
+
+pub not_told_version : (y z : NumberTx) (r : Ref) (text : List ℕ) (o : Outcome (Unit {0}) ℕ Ref) (why : Stop) (result : Result (Unit {0}) Stop) → o ≡ tells_version r y → text ≡ version_line r → result ≡ Err why
+    → Ends result z (prints text y) → Ends {R = Ref} (Err why) z o
+not_told_version y z r text o stop.Memory result is line e ends = tt
+not_told_version y z r text o stop.DiskFault result is line e ends = tt
+not_told_version y z r text o (stop.Damaged key) result is line e ends = tt
+not_told_version y z r text o (stop.Abort why) result is line e ends =
+    let aborted : prints text y ≡ Aborted why z = subst (λ (q : Result (Unit {0}) Stop). Ends q z (prints text y)) e ends in
+    is ∙ ap (λ t. go_on (prints t y) (λ _. gives r)) (sym line) ∙ ap (λ q. go_on q (λ _. gives r)) aborted
+
+pub not_derived : (z : NumberTx) (o : Outcome (Unit {0}) ℕ Ref) (why : Stop) (result : Result Ref Stop) → result ≡ Err why → EndsThen tells_version result z o → Ends {R = Ref} (Err why) z o
+not_derived z o stop.Memory result e ends = tt
+not_derived z o stop.DiskFault result e ends = tt
+not_derived z o (stop.Damaged key) result e ends = tt
+not_derived z o (stop.Abort why) result e ends = subst (λ (q : Result Ref Stop). EndsThen tells_version q z o) e ends
+
+-- ---- the weight
+
+abbrev tested : NumberTx → Bool → Outcome (Unit {0}) ℕ (Unit {0})
+tested y b = cond b (Done tt y) (Aborted reason.Space y)
+
+weighed : (y : NumberTx) (b : Bool) → nat_le (weight (kept_bones y.now.bones)) weight_limit ≡ b → weighs y ≡ tested y b
+unfolding weighs
+weighed y b is = ap (tested y) is
+
+pub told_is : (answer : Result ℤ OverlayError) (grown told : ℤ) → grown ≡ result_unwrap_or answer (pos 0) → answer ≡ Ok told → grown ≡ told
+told_is answer grown told is tells = is ∙ ap (λ (a : Result ℤ OverlayError). result_unwrap_or a (pos 0)) tells
+
+pub light_is : (y : NumberTx) (bytes : ℕ) (grown told : ℤ) → grown ≡ told → int_le (pos bytes +ℤ told) (pos weight_limit) ≡ nat_le (weight (kept_bones y.now.bones)) weight_limit
+    → int_le (pos bytes +ℤ grown) (pos weight_limit) ≡ true → weighs y ≡ Done tt y
+light_is y bytes grown told is law light = weighed y true (sym law ∙ ap (λ n. int_le (pos bytes +ℤ n) (pos weight_limit)) (sym is) ∙ light)
+
+pub heavy_is : (y : NumberTx) (bytes : ℕ) (grown told : ℤ) → grown ≡ told → int_le (pos bytes +ℤ told) (pos weight_limit) ≡ nat_le (weight (kept_bones y.now.bones)) weight_limit
+    → int_le (pos bytes +ℤ grown) (pos weight_limit) ≡ false → weighs y ≡ Aborted reason.Space y
+heavy_is y bytes grown told is law heavy = weighed y false (sym law ∙ ap (λ n. int_le (pos bytes +ℤ n) (pos weight_limit)) (sym is) ∙ heavy)

@@ -1,0 +1,56 @@
+-- Firings that are collected, or dropped.
+use Rattle.std.proofs.Common.{◌≡◌, ◌++◌, ℕ, Bool, true, false, cond, List, Result, Some, None, sym, ap, subst, ◌∙◌}
+use Rattle.ode_interpreter.specs.Seen.{Ends}
+use Rattle.ode_interpreter.specs.declared.stop.Stop.{Stop}
+use Rattle.ode_laws.specs.Alike.{NumberTx, NumberWorld}
+use Rattle.ode_objects.specs.Values.{are_args}
+use Rattle.ode_overlay.specs.Layers.{Layer}
+use Rattle.ode_run.specs.Collecting.{Gathers}
+use Rattle.ode_run.specs.Knowing.{beside}
+use Rattle.ode_states.specs.declared.fired.Fired.{Fired}
+use Rattle.ode_value.specs.Acts.{Deed, Outcome, Done, prints}
+use Rattle.ode_value.specs.Posting.{collects, dropped_text}
+use Rattle.ode_value.specs.Settling.{says}
+use Rattle.ode_value.specs.Transactions.{Firing}
+use Rattle.ode_value.specs.Worlds.{Declared}
+use Rattle.ode_value.specs.declared.value.Value.{Value}
+use Rattle.ode_view_laws.specs.Showing.{ShowsCollected}
+use Rattle.ode_view_laws.specs.Viewing.{running}
+
+pub kept_is : (values kept : List Value) → Some kept ≡ cond (are_args values) (Some values) None → kept ≡ values
+kept_is values kept is = by_test (are_args values) is where
+  by_test : (b : Bool) → Some kept ≡ cond b (Some values) None → kept ≡ values
+  by_test true e = cc e
+  by_test false e = absurd (cc e)
+
+-- what the overlay answers
+pub gathers : (tells : List ℕ → Deed (Unit {0}) ℕ) (independent : Bool) (f : Firing) (view : Layer → NumberTx) (x x' : Layer) (b : Bool) (pair : Bool × Layer) → (b, x') ≡ pair
+    → ShowsCollected pair.0 view pair.1 (view x) (tells (dropped_text f) (view x)) (collects tells independent f (view x)) → Gathers tells independent f (view x) (view x') b
+gathers tells independent f view x x' b pair is shows =
+    by_test b (subst (λ (p : Bool × Layer). ShowsCollected p.0 view p.1 (view x) (tells (dropped_text f) (view x)) (collects tells independent f (view x))) (sym is) shows) where
+      by_test : (d : Bool) → ShowsCollected d view x' (view x) (tells (dropped_text f) (view x)) (collects tells independent f (view x)) → Gathers tells independent f (view x) (view x') d
+      by_test true s = s
+      by_test false s = s.1 ∙ ap (tells (dropped_text f)) (sym s.0)
+
+-- what follows
+pub gathered_then : (tells : List ℕ → Deed (Unit {0}) ℕ) (independent : Bool) (f : Firing) (y z : NumberTx) (b : Bool) → b ≡ true → Gathers tells independent f y z b → collects tells independent f y ≡ Done tt z
+gathered_then tells independent f y z b is gathers = subst (Gathers tells independent f y z) is gathers
+
+told_then : (tells : List ℕ → Deed (Unit {0}) ℕ) (independent : Bool) (f : Firing) (y z w : NumberTx) (b : Bool) (text : List ℕ) (result : Result (Unit {0}) Stop) → b ≡ false → Gathers tells independent f y z b
+    → text ≡ dropped_text f → Ends result w (tells text z) → Ends result w (collects tells independent f y)
+told_then tells independent f y z w b text result is gathers line ends =
+    let dropped : collects tells independent f y ≡ tells (dropped_text f) z = subst (Gathers tells independent f y z) is gathers in
+    subst (λ (o : Outcome (Unit {0}) ℕ (Unit {0})). Ends result w o) (ap (λ t. tells t z) line ∙ sym dropped) ends
+
+pub dropped_then : (independent : Bool) (f : Firing) (y z w : NumberTx) (b : Bool) (text : List ℕ) (result : Result (Unit {0}) Stop) → b ≡ false → Gathers prints independent f y z b → text ≡ dropped_text f
+    → Ends result w (prints text z) → Ends result w (collects prints independent f y)
+dropped_then = told_then prints
+
+pub dropped_last : (f : Firing) (y z w : NumberTx) (b : Bool) (text : List ℕ) (result : Result (Unit {0}) Stop) → b ≡ false → Gathers says true f y z b → text ≡ dropped_text f → Ends result w (says text z)
+    → Ends result w (collects says true f y)
+dropped_last = told_then says true
+
+-- a line that has no limit
+pub said : (all : List Declared) (first : NumberWorld) (x : Layer) (ds : List (ℕ × Fired)) (text t line : List ℕ) (left : ℕ) → t ≡ text ++ line
+    → says line (running all first x (beside first ds text left)) ≡ Done tt (running all first x (beside first ds t left))
+said all first x ds text t line left is = ap (λ (s : List ℕ). Done tt (running all first x (beside first ds s left))) (sym is)

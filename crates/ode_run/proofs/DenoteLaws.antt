@@ -1,0 +1,146 @@
+-- What a reference denotes, by the head of its object.
+use Rattle.std.proofs.Common.{◌≡◌, ◌<◌, ◌==◌, ℕ, Bool, true, false, cond, List, Result, Option, Some, None, Ok, Err, refl, sym, ap, subst, ◌∙◌, arith}
+use Rattle.std.specs.Prelude.{is_some}
+use Rattle.std.specs.Option.{option_and_then, option_map, ok_or}
+use Rattle.std.proofs.lemmas.Bool.Decides.{nat_tests}
+use Rattle.ode_expr.specs.Answers.{number_in, number_of}
+use Rattle.ode_heap.specs.Answering.{head_of_object}
+use Rattle.ode_heap.specs.declared.object.ObjectHead.{ObjectHead}
+use Rattle.ode_interpreter.specs.Seen.{Ends}
+use Rattle.ode_interpreter.specs.declared.stop.Stop.{Stop}
+use Rattle.ode_interpreter.specs.declared.stop.Stop.TheVariants as stop
+use Rattle.ode_laws.specs.Alike.{NumberTx, NumberWorld}
+use Rattle.ode_overlay.specs.Layers.{Layer}
+use Rattle.ode_value.specs.Acts.{Outcome, Done, Aborted, computes, found, go_on, nothing, reached, sees, valued}
+use Rattle.ode_value.specs.Classes.{lists_kind}
+use Rattle.ode_value.specs.Denoting.{denoted, denotes, object_at, object_of, version_in}
+use Rattle.ode_value.specs.Expressions.{stands}
+use Rattle.ode_value.specs.Posting.{is_listed}
+use Rattle.ode_value.specs.Versions.{Version, version_of}
+use Rattle.ode_value.specs.Worlds.{Declared, Object}
+use Rattle.ode_value.specs.declared.arithmetic.Fault.{Fault}
+use Rattle.ode_value.specs.declared.arithmetic.Fault.TheVariants as fault
+use Rattle.ode_value.specs.declared.event.Kind.{Kind}
+use Rattle.ode_value.specs.declared.reason.Reason.{Reason}
+use Rattle.ode_value.specs.declared.reason.Reason.TheVariants as reason
+use Rattle.ode_value.specs.declared.value.Ref.{Ref}
+use Rattle.ode_view_laws.specs.Viewing.{Beside, running, world_now}
+
+-- ---- the number of a version
+
+abbrev number_as : NumberTx → Ref → Option Object → Outcome (Unit {0}) ℕ ℕ
+number_as y r o = valued (number_in (version_in r o)) y
+
+-- as the head of an object has it
+abbrev counted : NumberTx → Ref → Option ℕ → Outcome (Unit {0}) ℕ ℕ
+counted y r (Some n) = Done n y
+counted y r None = Aborted (reason.NoVersion r) y
+
+by_null : (y : NumberTx) (r : Ref) (b : Bool) → (r.object == 0) ≡ b → computes (λ b. number_of b r) y ≡ number_as y r (cond b None (object_at y.now.bones r.object))
+by_null y r b is = ap (λ t. number_as y r (cond t None (object_at y.now.bones r.object))) is
+
+pub of_null : (y : NumberTx) (r : Ref) → r.object ≡ 0 → computes (λ b. number_of b r) y ≡ Aborted (reason.NoObject 0) y
+of_null y r is =
+    let test : (r.object == 0) ≡ true = grind (arith, nat_tests) in
+    by_null y r true test ∙ ap (λ n. Aborted (reason.NoObject n) y) is
+
+by_object : (y : NumberTx) (r : Ref) → 0 < r.object → computes (λ b. number_of b r) y ≡ number_as y r (object_at y.now.bones r.object)
+by_object y r some =
+    let test : (r.object == 0) ≡ false = grind (arith, nat_tests) in
+    by_null y r false test
+
+pub of_none : (y : NumberTx) (r : Ref) → 0 < r.object → None ≡ option_map head_of_object (object_at y.now.bones r.object) → computes (λ b. number_of b r) y ≡ Aborted (reason.NoObject r.object) y
+of_none y r some is = by_object y r some ∙ by_cases (object_at y.now.bones r.object) is where
+  by_cases : (o : Option Object) → None ≡ option_map head_of_object o → number_as y r o ≡ Aborted (reason.NoObject r.object) y
+  by_cases None is = refl
+  by_cases (Some o) is = absurd (cc is)
+
+by_version : (y : NumberTx) (r : Ref) (v : Option Version) → valued (number_in (ok_or v (fault.NoVersion r))) y ≡ counted y r (option_map (λ (v : Version). v.number) v)
+by_version y r None = refl
+by_version y r (Some v) = refl
+
+by_head : (y : NumberTx) (r : Ref) (head : ObjectHead) (number : Option ℕ) → 0 < r.object → Some head ≡ option_map head_of_object (object_at y.now.bones r.object)
+    → ((o : Object) → head ≡ head_of_object o → number ≡ option_map (λ (v : Version). v.number) (version_of r.version o.versions)) → computes (λ b. number_of b r) y ≡ counted y r number
+by_head y r head number some is found = by_object y r some ∙ by_cases (object_at y.now.bones r.object) is where
+  by_cases : (o : Option Object) → Some head ≡ option_map head_of_object o → number_as y r o ≡ counted y r number
+  by_cases None is = absurd (cc is)
+  by_cases (Some o) is = let e : head ≡ head_of_object o = cc is in by_version y r (version_of r.version o.versions) ∙ ap (counted y r) (sym (found o e))
+
+pub of_version : (y : NumberTx) (r : Ref) (head : ObjectHead) (number : Option ℕ) (n : ℕ) → 0 < r.object → Some head ≡ option_map head_of_object (object_at y.now.bones r.object)
+    → ((o : Object) → head ≡ head_of_object o → number ≡ option_map (λ (v : Version). v.number) (version_of r.version o.versions)) → number ≡ Some n → computes (λ b. number_of b r) y ≡ Done n y
+of_version y r head number n some is found e = by_head y r head number some is found ∙ ap (counted y r) e
+
+pub of_no_version : (y : NumberTx) (r : Ref) (head : ObjectHead) (number : Option ℕ) → 0 < r.object → Some head ≡ option_map head_of_object (object_at y.now.bones r.object)
+    → ((o : Object) → head ≡ head_of_object o → number ≡ option_map (λ (v : Version). v.number) (version_of r.version o.versions)) → number ≡ None → computes (λ b. number_of b r) y ≡ Aborted (reason.NoVersion r) y
+of_no_version y r head number some is found e = by_head y r head number some is found ∙ ap (counted y r) e
+
+-- ---- whether there is one
+
+same_act : (y : NumberTx) (d : Result Version Fault) → go_on (valued d y) (λ _. nothing) ≡ go_on (valued (number_in d) y) (λ _. nothing)
+same_act y (Ok v) = refl
+same_act y (Err why) = refl
+
+pub stood : (y z : NumberTx) (r : Ref) (n : ℕ) → computes (λ b. number_of b r) y ≡ Done n z → stands r y ≡ Done tt z
+stood y z r n is = same_act y (denoted y.now.bones r) ∙ ap (λ o. go_on o (λ _. nothing)) is
+
+pub fell : (y z : NumberTx) (r : Ref) (why : Stop) (result : Result ℕ Stop) → result ≡ Err why → Ends result z (computes (λ b. number_of b r) y) → Ends {R = Unit {0}} (Err why) z (stands r y)
+fell y z r stop.Memory result e ends = tt
+fell y z r stop.DiskFault result e ends = tt
+fell y z r (stop.Damaged key) result e ends = tt
+fell y z r (stop.Abort why) result e ends =
+    let is : computes (λ b. number_of b r) y ≡ Aborted why z = subst (λ (q : Result ℕ Stop). Ends q z (computes (λ b. number_of b r) y)) e ends in
+    same_act y (denoted y.now.bones r) ∙ ap (λ o. go_on o (λ _. nothing)) is
+
+-- the transaction is the same, and this it is
+abbrev sees_so : NumberTx → Bool → Outcome (Unit {0}) ℕ Bool
+sees_so y b = Done b y
+
+abbrev is_denoted : Result Version Fault → Bool
+is_denoted (Ok v) = true
+is_denoted (Err why) = false
+
+denoted_is : (y : NumberTx) (r : Ref) → is_some (denotes y.now.bones r) ≡ is_denoted (denoted y.now.bones r)
+denoted_is y r = by_cases (object_of y.now.bones r) where
+  by_found : (v : Option Version) → is_some v ≡ is_denoted (ok_or v (fault.NoVersion r))
+  by_found None = refl
+  by_found (Some v) = refl
+
+  by_cases : (o : Option Object) → is_some (option_and_then (λ (o : Object). version_of r.version o.versions) o) ≡ is_denoted (version_in r o)
+  by_cases None = refl
+  by_cases (Some o) = by_found (version_of r.version o.versions)
+
+number_done : (y z : NumberTx) (n : ℕ) (d : Result Version Fault) → valued (number_in d) y ≡ Done n z → sees_so y (is_denoted d) ≡ Done true z
+number_done y z n (Ok v) is = ap (λ o. go_on o (λ _. sees (λ _. true))) is
+number_done y z n (Err why) is = absurd (cc is)
+
+number_aborted : (y z : NumberTx) (why : Reason) (d : Result Version Fault) → valued (number_in d) y ≡ Aborted why z → sees_so y (is_denoted d) ≡ Done false z
+number_aborted y z why (Ok v) is = absurd (cc is)
+number_aborted y z why (Err fault) is = ap (λ o. Done false (reached o)) is
+
+pub denotes_one : (y z : NumberTx) (r : Ref) (n : ℕ) → computes (λ b. number_of b r) y ≡ Done n z → sees (λ b. is_some (denotes b r)) y ≡ Done true z
+denotes_one y z r n is = ap (sees_so y) (denoted_is y r) ∙ number_done y z n (denoted y.now.bones r) is
+
+pub denotes_none : (y z : NumberTx) (r : Ref) (why : Reason) → computes (λ b. number_of b r) y ≡ Aborted why z → sees (λ b. is_some (denotes b r)) y ≡ Done false z
+denotes_none y z r why is = ap (sees_so y) (denoted_is y r) ∙ number_aborted y z why (denoted y.now.bones r) is
+
+-- ---- what a class lists
+
+module _ (all : List Declared) (first : NumberWorld) (x : Layer) (b : Beside) (id : ℕ) (kind : Kind) where
+  abbrev y : NumberTx
+  y = running all first x b
+
+  abbrev asked : Option Object → Outcome (Unit {0}) ℕ Bool
+  asked o = go_on (found o y) (λ q. sees (λ b. lists_kind b.classes q.class kind))
+
+  pub listed_is : (head : ObjectHead) (listed : Bool) → Some head ≡ option_map head_of_object (object_at y.now.bones id) → listed ≡ lists_kind all head.class kind → is_listed id kind y ≡ Done listed y
+  unfolding world_now
+  listed_is head listed is same = by_object (object_at y.now.bones id) is where
+    by_object : (o : Option Object) → Some head ≡ option_map head_of_object o → asked o ≡ Done listed y
+    by_object None is = absurd (cc is)
+    by_object (Some o) is = let e : head ≡ head_of_object o = cc is in ap (λ (h : ObjectHead). Done (lists_kind all h.class kind) y) (sym e) ∙ ap (λ t. Done t y) (sym same)
+
+  pub lists_none : None ≡ option_map head_of_object (object_at y.now.bones id) → is_listed id kind y ≡ Aborted (reason.NoObject 0) y
+  lists_none is = by_object (object_at y.now.bones id) is where
+    by_object : (o : Option Object) → None ≡ option_map head_of_object o → asked o ≡ Aborted (reason.NoObject 0) y
+    by_object None is = refl
+    by_object (Some o) is = absurd (cc is)

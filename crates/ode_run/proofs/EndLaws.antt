@@ -1,0 +1,288 @@
+-- A call of the overlay that does what an act does ends as the act does.
+use Rattle.std.proofs.Common.{◌≡◌, ◌⊎◌, IsErrOf, ℕ, Bool, true, List, Result, Option, Some, None, Ok, Err, refl, sym, ap, subst, ◌∙◌, inl, inr}
+use Rattle.std.specs.Prelude.{IfOk, OnErr, is_some}
+use Rattle.std.specs.Option.{option_map}
+use Rattle.ode_heap.specs.Answering.{head_of_object}
+use Rattle.ode_heap.specs.declared.object.ObjectHead.{ObjectHead}
+use Rattle.ode_interpreter.specs.Seen.{Ends}
+use Rattle.ode_interpreter.specs.declared.stop.Stop.TheVariants as stop
+use Rattle.ode_interpreter.specs.Seen as interpreter
+use Rattle.ode_expr.specs.Answers as expr
+use Rattle.ode_expr.specs.declared.stop.EvalStop.{EvalStop}
+use Rattle.ode_expr.specs.declared.stop.EvalStop.TheVariants as eval
+use Rattle.ode_run_frame.specs.Knowing.{Behind}
+use Rattle.ode_run_frame.specs.declared.unread.Unread.{Unread}
+use Rattle.ode_run_frame.specs.declared.unread.Unread.TheVariants as unread
+use Rattle.ode_value.specs.declared.arithmetic.Fault.{Fault}
+use Rattle.ode_value.specs.declared.value.Value.{Value}
+use Rattle.ode_host.specs.Causes.{Rose, RoseIf}
+use Rattle.ode_host.specs.Host.{Looks}
+use Rattle.ode_host.specs.View.{View}
+use Rattle.ode_host.proofs.Moments.{looks_joined}
+use Rattle.ode_keep.specs.Entries.{Entries}
+use Rattle.ode_known_laws.specs.Knowing.{IsKnown, StaysKnown}
+use Rattle.ode_laws.specs.Alike.{NumberTx, NumberWorld}
+use Rattle.ode_overlay.specs.Answers.{Answer, Answers, Leaves, UnlessFault, is_usable}
+use Rattle.ode_overlay.specs.Layers.{Layer}
+use Rattle.ode_overlay.specs.declared.error.OverlayError.{OverlayError}
+use Rattle.ode_overlay.specs.declared.error.OverlayError.TheVariants as error
+use Rattle.ode_run.specs.Knowing.{Failed, Holds, Known, beside}
+use Rattle.ode_run.specs.Stopping.{ended, read, read_as}
+use Rattle.ode_run.specs.Telling.{EndsThen, calm}
+use Rattle.ode_value.specs.Acts.{Act, Outcome, Done, Aborted, found, gives, go_on, valued}
+use Rattle.ode_value.specs.Changes.{class_of, is_live}
+use Rattle.ode_value.specs.Denoting.{object_at}
+use Rattle.ode_value.specs.Worlds.{Declared, Object}
+use Rattle.ode_value.specs.declared.reason.Reason.TheVariants as reason
+use Rattle.ode_value.specs.declared.key.Key.{Key}
+use Rattle.ode_value.specs.declared.reason.Reason.{Reason}
+use Rattle.ode_states.specs.declared.fired.Fired.{Fired}
+use Rattle.ode_view_laws.specs.Showing.{Shows}
+use Rattle.ode_view_laws.specs.Viewing.{running}
+
+-- refused with this reason
+refused : {R : Type 0} (view : Layer → NumberTx) (x x' : Layer) (r s : Reason) (outcome : Outcome (Unit {0}) ℕ R) → x' ≡ x → Some s ≡ Some r → outcome ≡ Aborted r (view x) → outcome ≡ Aborted s (view x')
+refused view x x' r s outcome same is ends = ends ∙ ap (λ q. Aborted q (view x)) (sym (cc is)) ∙ ap (λ l. Aborted s (view l)) (sym same)
+
+pub shown_ends : {R : Type 0} (view : Layer → NumberTx) (x x' : Layer) (result : Result R OverlayError) (answer : Answer (R × Layer)) (outcome : Outcome (Unit {0}) ℕ R)
+    → Leaves result x' answer → OnErr result (x' ≡ x) → Shows view gives x answer outcome → Ends (ended result) (view x') outcome
+shown_ends {R} view x x' (Ok v) answer outcome leaves same shows = subst (λ a. Shows view gives x a outcome) leaves shows
+shown_ends {R} view x x' (Err error.Memory) answer outcome leaves same shows = tt
+shown_ends {R} view x x' (Err error.DiskFault) answer outcome leaves same shows = tt
+shown_ends {R} view x x' (Err (error.Damaged key)) answer outcome leaves same shows = tt
+shown_ends {R} view x x' (Err (error.NoObject id)) answer outcome leaves same shows =
+    let s = subst (λ a. Shows view gives x a outcome) leaves shows in refused view x x' s.0 _ outcome same s.1.0 s.1.1
+shown_ends {R} view x x' (Err (error.NoVersion r)) answer outcome leaves same shows =
+    let s = subst (λ a. Shows view gives x a outcome) leaves shows in refused view x x' s.0 _ outcome same s.1.0 s.1.1
+shown_ends {R} view x x' (Err (error.LastVersion id)) answer outcome leaves same shows =
+    let s = subst (λ a. Shows view gives x a outcome) leaves shows in refused view x x' s.0 _ outcome same s.1.0 s.1.1
+shown_ends {R} view x x' (Err error.TooManyChanges) answer outcome leaves same shows =
+    let s = subst (λ a. Shows view gives x a outcome) leaves shows in refused view x x' s.0 _ outcome same s.1.0 s.1.1
+shown_ends {R} view x x' (Err error.TooLong) answer outcome leaves same shows =
+    let s = subst (λ a. Shows view gives x a outcome) leaves shows in refused view x x' s.0 _ outcome same s.1.0 s.1.1
+shown_ends {R} view x x' (Err error.NoNumber) answer outcome leaves same shows =
+    let s = subst (λ a. Shows view gives x a outcome) leaves shows in refused view x x' s.0 _ outcome same s.1.0 s.1.1
+
+pub shown_then : {R S : Type 0} (next : R → Act (Unit {0}) ℕ S) (view : Layer → NumberTx) (x x' : Layer) (result : Result R OverlayError) (answer : Answer (R × Layer)) (outcome : Outcome (Unit {0}) ℕ S)
+    → Leaves result x' answer → OnErr result (x' ≡ x) → Shows view next x answer outcome → EndsThen next (ended result) (view x') outcome
+shown_then {R} {S} next view x x' (Ok v) answer outcome leaves same shows = subst (λ a. Shows view next x a outcome) leaves shows
+shown_then {R} {S} next view x x' (Err error.Memory) answer outcome leaves same shows = tt
+shown_then {R} {S} next view x x' (Err error.DiskFault) answer outcome leaves same shows = tt
+shown_then {R} {S} next view x x' (Err (error.Damaged key)) answer outcome leaves same shows = tt
+shown_then {R} {S} next view x x' (Err (error.NoObject id)) answer outcome leaves same shows =
+    let s = subst (λ a. Shows view next x a outcome) leaves shows in refused view x x' s.0 _ outcome same s.1.0 s.1.1
+shown_then {R} {S} next view x x' (Err (error.NoVersion r)) answer outcome leaves same shows =
+    let s = subst (λ a. Shows view next x a outcome) leaves shows in refused view x x' s.0 _ outcome same s.1.0 s.1.1
+shown_then {R} {S} next view x x' (Err (error.LastVersion id)) answer outcome leaves same shows =
+    let s = subst (λ a. Shows view next x a outcome) leaves shows in refused view x x' s.0 _ outcome same s.1.0 s.1.1
+shown_then {R} {S} next view x x' (Err error.TooManyChanges) answer outcome leaves same shows =
+    let s = subst (λ a. Shows view next x a outcome) leaves shows in refused view x x' s.0 _ outcome same s.1.0 s.1.1
+shown_then {R} {S} next view x x' (Err error.TooLong) answer outcome leaves same shows =
+    let s = subst (λ a. Shows view next x a outcome) leaves shows in refused view x x' s.0 _ outcome same s.1.0 s.1.1
+shown_then {R} {S} next view x x' (Err error.NoNumber) answer outcome leaves same shows =
+    let s = subst (λ a. Shows view next x a outcome) leaves shows in refused view x x' s.0 _ outcome same s.1.0 s.1.1
+
+-- a call that asks nothing of the disk
+pub calm_then : {R S : Type 0} (next : R → Act (Unit {0}) ℕ S) (view : Layer → NumberTx) (x x' : Layer) (result : Result R OverlayError) (answer : Answer (R × Layer)) (outcome : Outcome (Unit {0}) ℕ S)
+    → Leaves result x' answer → OnErr result (x' ≡ x) → Shows view next x answer outcome → EndsThen next (ended (calm result)) (view x') outcome
+calm_then next view x x' (Err error.DiskFault) answer outcome leaves same shows = tt
+calm_then next view x x' (Ok v) answer outcome leaves same shows = shown_then next view x x' (Ok v) answer outcome leaves same shows
+calm_then next view x x' (Err error.Memory) answer outcome leaves same shows = shown_then next view x x' (Err error.Memory) answer outcome leaves same shows
+calm_then next view x x' (Err (error.Damaged key)) answer outcome leaves same shows = shown_then next view x x' (Err (error.Damaged key)) answer outcome leaves same shows
+calm_then next view x x' (Err (error.NoObject id)) answer outcome leaves same shows = shown_then next view x x' (Err (error.NoObject id)) answer outcome leaves same shows
+calm_then next view x x' (Err (error.NoVersion r)) answer outcome leaves same shows = shown_then next view x x' (Err (error.NoVersion r)) answer outcome leaves same shows
+calm_then next view x x' (Err (error.LastVersion id)) answer outcome leaves same shows = shown_then next view x x' (Err (error.LastVersion id)) answer outcome leaves same shows
+calm_then next view x x' (Err error.TooManyChanges) answer outcome leaves same shows = shown_then next view x x' (Err error.TooManyChanges) answer outcome leaves same shows
+calm_then next view x x' (Err error.TooLong) answer outcome leaves same shows = shown_then next view x x' (Err error.TooLong) answer outcome leaves same shows
+calm_then next view x x' (Err error.NoNumber) answer outcome leaves same shows = shown_then next view x x' (Err error.NoNumber) answer outcome leaves same shows
+
+-- what is known of the overlay that a call leaves
+pub known_left : {R : Type 0} (base : Entries) (first : NumberWorld) (x x' : Layer) (result : Result R OverlayError) (answer : Answer (R × Layer)) → Leaves result x' answer → OnErr result (x' ≡ x)
+    → IsKnown base first x → StaysKnown base first answer → IsKnown base first x'
+known_left base first x x' (Ok v) answer leaves same known stays = subst (StaysKnown base first) leaves stays
+known_left base first x x' (Err why) answer leaves same known stays = subst (IsKnown base first) (sym same) known
+
+-- ---- what a call leaves
+
+module _ {H K : Type 0} (seen : H → View) (held : K → View → Entries → Type 0) (live : K → Bool) where
+  module _ (h h' : H) (q q' : K) (x x' : Layer) (left bytes : ℕ) (k : Known H) (holds : Holds seen (held q (seen h)) (live q) h x left bytes k) (looks : Looks (seen h) (seen h')) where
+    abbrev After : Type 0
+    After = Holds seen (held q' (seen h')) (live q') h' x' left bytes k
+
+    looked : Looks (seen k.began) (seen h')
+    looked = looks_joined (seen k.began) (seen h) (seen h') holds.looks looks
+
+    goes_on : live q' ≡ true → held q' (seen h') k.entries → (seen h').disk_faults ≡ (seen h).disk_faults → IsKnown k.entries k.first x' → After
+    goes_on usable records calm known = record {
+      usable = usable;
+      records = records;
+      looks = looked;
+      faults = calm ∙ holds.faults;
+      known = known;
+      budget = holds.budget;
+      bytes = holds.bytes;
+    }
+
+    no_fault : {R : Type 0} (result : Result R OverlayError) → (result ≡ Err error.DiskFault → ⊥) → RoseIf (IsErrOf result error.DiskFault) (seen h).disk_faults (seen h').disk_faults
+        → (seen h').disk_faults ≡ (seen h).disk_faults
+    no_fault result other cause = by_calm cause.calm where
+      by_calm : (result ≡ Err error.DiskFault) ⊎ ((seen h').disk_faults ≡ (seen h).disk_faults) → (seen h').disk_faults ≡ (seen h).disk_faults
+      by_calm (inl is) = absurd (other is)
+      by_calm (inr same) = same
+
+    faulted : {R : Type 0} (result : Result R OverlayError) → result ≡ Err error.DiskFault → RoseIf (IsErrOf result error.DiskFault) (seen h).disk_faults (seen h').disk_faults
+        → Failed seen h' k stop.DiskFault
+    faulted result is cause = record {
+      looks = looked;
+      faults = record {
+        later = looked.keeps.disk_faults;
+        rose = λ e. subst (λ n. Rose n (seen h').disk_faults) holds.faults (cause.rose is);
+        calm = inl refl;
+      };
+    }
+
+    damaged : (key : Key) → (seen h').disk_faults ≡ (seen h).disk_faults → Failed seen h' k (stop.Damaged key)
+    damaged key same = record {
+      looks = looked;
+      faults = record { later = looked.keeps.disk_faults; rose = λ e. absurd (cc e); calm = inr (same ∙ holds.faults) };
+    }
+
+    pub call_leaves : {R : Type 0} (result : Result R OverlayError) → IsKnown k.entries k.first x' → UnlessFault result ((base : Entries) → held q (seen h) base → held q' (seen h') base)
+        → live q' ≡ is_usable result → RoseIf (IsErrOf result error.DiskFault) (seen h).disk_faults (seen h').disk_faults → interpreter.Leaves (ended result) After (Failed seen h' k)
+    call_leaves (Ok v) known keeps usable cause = goes_on usable (keeps k.entries holds.records) (no_fault (Ok v) (λ is. absurd (cc is)) cause) known
+    call_leaves (Err error.DiskFault) known keeps usable cause = faulted (Err error.DiskFault) refl cause
+    call_leaves (Err (error.Damaged key)) known keeps usable cause = damaged key (no_fault (Err (error.Damaged key)) (λ is. absurd (cc is)) cause)
+    call_leaves (Err error.Memory) known keeps usable cause = goes_on usable (keeps k.entries holds.records) (no_fault (Err error.Memory) (λ is. absurd (cc is)) cause) known
+    call_leaves (Err (error.NoObject id)) known keeps usable cause = goes_on usable (keeps k.entries holds.records) (no_fault (Err (error.NoObject id)) (λ is. absurd (cc is)) cause) known
+    call_leaves (Err (error.NoVersion r)) known keeps usable cause = goes_on usable (keeps k.entries holds.records) (no_fault (Err (error.NoVersion r)) (λ is. absurd (cc is)) cause) known
+    call_leaves (Err (error.LastVersion id)) known keeps usable cause = goes_on usable (keeps k.entries holds.records) (no_fault (Err (error.LastVersion id)) (λ is. absurd (cc is)) cause) known
+    call_leaves (Err error.TooManyChanges) known keeps usable cause = goes_on usable (keeps k.entries holds.records) (no_fault (Err error.TooManyChanges) (λ is. absurd (cc is)) cause) known
+    call_leaves (Err error.TooLong) known keeps usable cause = goes_on usable (keeps k.entries holds.records) (no_fault (Err error.TooLong) (λ is. absurd (cc is)) cause) known
+    call_leaves (Err error.NoNumber) known keeps usable cause = goes_on usable (keeps k.entries holds.records) (no_fault (Err error.NoNumber) (λ is. absurd (cc is)) cause) known
+
+    pub reading_leaves : {R : Type 0} (result : Result R OverlayError) → IsKnown k.entries k.first x' → UnlessFault result ((base : Entries) → held q (seen h) base → held q' (seen h') base)
+        → live q' ≡ is_usable result → RoseIf (IsErrOf result error.DiskFault) (seen h).disk_faults (seen h').disk_faults → interpreter.Leaves (read result) After (Failed seen h' k)
+    reading_leaves (Ok v) known keeps usable cause = call_leaves (Ok v) known keeps usable cause
+    reading_leaves (Err error.DiskFault) known keeps usable cause = call_leaves (Err error.DiskFault) known keeps usable cause
+    reading_leaves (Err (error.Damaged key)) known keeps usable cause = call_leaves (Err (error.Damaged key)) known keeps usable cause
+    reading_leaves (Err error.Memory) known keeps usable cause = call_leaves (Err error.Memory) known keeps usable cause
+    reading_leaves (Err (error.NoObject id)) known keeps usable cause = call_leaves (Err (error.NoObject id)) known keeps usable cause
+    reading_leaves (Err (error.NoVersion r)) known keeps usable cause = call_leaves (Err (error.NoVersion r)) known keeps usable cause
+    reading_leaves (Err (error.LastVersion id)) known keeps usable cause = call_leaves (Err (error.LastVersion id)) known keeps usable cause
+    reading_leaves (Err error.TooManyChanges) known keeps usable cause = call_leaves (Err error.TooManyChanges) known keeps usable cause
+    reading_leaves (Err error.TooLong) known keeps usable cause = call_leaves (Err error.TooLong) known keeps usable cause
+    reading_leaves (Err error.NoNumber) known keeps usable cause = call_leaves (Err error.NoNumber) known keeps usable cause
+
+-- ---- what is read
+
+-- what a call reads is known
+pub read_is : {R : Type 0} (result : Result R OverlayError) (answer : Answer R) (value : R) → Answers result answer → answer ≡ Ok value → IfOk (read result) (λ v. v ≡ value)
+read_is (Ok v) answer value gives is = let e : Ok v ≡ Ok value = sym gives ∙ is in cc e
+read_is (Err why) answer value gives is = tt
+
+-- whether an object is there, and its class
+pub live_is : (y : NumberTx) (id : ℕ) (head : Option ObjectHead) → head ≡ option_map head_of_object (object_at y.now.bones id) → is_live id y ≡ is_some head
+live_is y id head is = by_object (object_at y.now.bones id) ∙ sym (ap is_some is) where
+  by_object : (o : Option Object) → is_some o ≡ is_some (option_map head_of_object o)
+  by_object None = refl
+  by_object (Some o) = refl
+
+pub class_is : (y : NumberTx) (id : ℕ) (head : ObjectHead) → Some head ≡ option_map head_of_object (object_at y.now.bones id) → class_of id y ≡ Done head.class y
+class_is y id head is = by_object (object_at y.now.bones id) is where
+  by_object : (o : Option Object) → Some head ≡ option_map head_of_object o → go_on (found o y) (λ q. gives q.class) ≡ Done head.class y
+  by_object None is = absurd (cc is)
+  by_object (Some o) is = let e : head ≡ head_of_object o = cc is in ap (λ (h : ObjectHead). Done h.class y) (sym e)
+
+pub no_class : (y : NumberTx) (id : ℕ) → None ≡ option_map head_of_object (object_at y.now.bones id) → class_of id y ≡ Aborted (reason.NoObject 0) y
+no_class y id is = by_object (object_at y.now.bones id) is where
+  by_object : (o : Option Object) → None ≡ option_map head_of_object o → go_on (found o y) (λ q. gives q.class) ≡ Aborted (reason.NoObject 0) y
+  by_object None is = refl
+  by_object (Some o) is = absurd (cc is)
+
+-- ---- what an evaluation leaves
+
+pub value_ends : (meant : Result Value Fault) (result : Result Value (EvalStop Unread)) (y : NumberTx) → expr.Answers meant result → Ends (read_as result) y (valued meant y)
+value_ends meant (Ok v) y is = ap (λ (m : Result Value Fault). valued m y) is
+value_ends meant (Err (eval.Fault fault)) y is = ap (λ (m : Result Value Fault). valued m y) is
+value_ends meant (Err eval.Memory) y is = tt
+value_ends meant (Err (eval.Frame unread.DiskFault)) y is = tt
+value_ends meant (Err (eval.Frame (unread.Damaged key))) y is = tt
+
+module _ {H K : Type 0} (seen : H → View) (held : K → View → Entries → Type 0) (live : K → Bool) where
+  module _ (h h' : H) (q q' : K) (x : Layer) (left bytes : ℕ) (k : Known H) (holds : Holds seen (held q (seen h)) (live q) h x left bytes k) where
+    abbrev Still : Type 0
+    Still = Holds seen (held q' (seen h')) (live q') h' x left bytes k
+
+    abbrev Left : Option Unread → Type 0
+    Left s = Behind (seen h) (seen h') (held q' (seen h')) (live q') s k.entries
+
+    calm_at : (s : Option Unread) → (s ≡ Some unread.DiskFault → ⊥) → Left s → (seen h').disk_faults ≡ (seen h).disk_faults
+    calm_at s other behind = by_calm behind.faults.calm where
+      by_calm : (s ≡ Some unread.DiskFault) ⊎ ((seen h').disk_faults ≡ (seen h).disk_faults) → (seen h').disk_faults ≡ (seen h).disk_faults
+      by_calm (inl is) = absurd (other is)
+      by_calm (inr same) = same
+
+    still : Left None → Still
+    still behind = record {
+      usable = behind.keeps.usable;
+      records = behind.keeps.records;
+      looks = looks_joined (seen k.began) (seen h) (seen h') holds.looks behind.looks;
+      faults = calm_at None (λ is. absurd (cc is)) behind ∙ holds.faults;
+      known = holds.known;
+      budget = holds.budget;
+      bytes = holds.bytes;
+    }
+
+    pub evaluation_leaves : (result : Result Value (EvalStop Unread)) → Left (expr.stopped_by result None) → interpreter.Leaves (read_as result) Still (Failed seen h' k)
+    evaluation_leaves (Ok v) behind = still behind
+    evaluation_leaves (Err (eval.Fault fault)) behind = still behind
+    evaluation_leaves (Err eval.Memory) behind = still behind
+    evaluation_leaves (Err (eval.Frame unread.DiskFault)) behind =
+        let looked = looks_joined (seen k.began) (seen h) (seen h') holds.looks behind.looks in
+        record {
+          looks = looked;
+          faults = record { later = looked.keeps.disk_faults; rose = λ e. subst (λ n. Rose n (seen h').disk_faults) holds.faults (behind.faults.rose refl); calm = inl refl };
+        }
+    evaluation_leaves (Err (eval.Frame (unread.Damaged key))) behind =
+        let looked = looks_joined (seen k.began) (seen h) (seen h') holds.looks behind.looks in
+        record {
+          looks = looked;
+          faults = record {
+            later = looked.keeps.disk_faults;
+            rose = λ e. absurd (cc e);
+            calm = inr (calm_at (Some (unread.Damaged key)) (λ is. absurd (cc is)) behind ∙ holds.faults);
+          };
+        }
+
+-- where nothing changed, the view is the same
+pub same_view : (all : List Declared) (first : NumberWorld) (x x' : Layer) (ds ds' : List (ℕ × Fired)) (text text' : List ℕ) (left left' : ℕ) → x' ≡ x → ds' ≡ ds → text' ≡ text → left' ≡ left
+    → running all first x (beside first ds text left) ≡ running all first x' (beside first ds' text' left')
+same_view all first x x' ds ds' text text' left left' e1 e2 e3 e4 =
+    ap (λ q. running all first q (beside first ds text left)) (sym e1)
+    ∙ ap (λ q. running all first x' (beside first q text left)) (sym e2)
+    ∙ ap (λ q. running all first x' (beside first ds' q left)) (sym e3)
+    ∙ ap (λ q. running all first x' (beside first ds' text' q)) (sym e4)
+
+-- ---- what a call leaves that asks nothing of the disk
+
+module _ {H K : Type 0} (seen : H → View) (held : K → View → Entries → Type 0) (live : K → Bool) where
+  moved : (h h' : H) (q q' : K) (x x' : Layer) (left bytes : ℕ) (k : Known H) → q' ≡ q → h' ≡ h → Holds seen (held q (seen h)) (live q) h x left bytes k → IsKnown k.entries k.first x'
+      → Holds seen (held q' (seen h')) (live q') h' x' left bytes k
+  moved h h' q q' x x' left bytes k same_heap same_host holds known =
+      let there = subst (λ p. Holds seen (held p (seen h')) (live p) h' x left bytes k) (sym same_heap) (subst (λ n. Holds seen (held q (seen n)) (live q) n x left bytes k) (sym same_host) holds) in
+      record { usable = there.usable; records = there.records; looks = there.looks; faults = there.faults; known = known; budget = there.budget; bytes = there.bytes }
+
+  pub calm_leaves : {R : Type 0} (h h' : H) (q q' : K) (x x' : Layer) (left bytes : ℕ) (k : Known H) (result : Result R OverlayError) → q' ≡ q → h' ≡ h → Holds seen (held q (seen h)) (live q) h x left bytes k
+      → IsKnown k.entries k.first x' → interpreter.Leaves (ended (calm result)) (Holds seen (held q' (seen h')) (live q') h' x' left bytes k) (Failed seen h' k)
+  calm_leaves h h' q q' x x' left bytes k (Ok v) e1 e2 holds known = moved h h' q q' x x' left bytes k e1 e2 holds known
+  calm_leaves h h' q q' x x' left bytes k (Err error.Memory) e1 e2 holds known = moved h h' q q' x x' left bytes k e1 e2 holds known
+  calm_leaves h h' q q' x x' left bytes k (Err error.DiskFault) e1 e2 holds known = moved h h' q q' x x' left bytes k e1 e2 holds known
+  calm_leaves h h' q q' x x' left bytes k (Err (error.NoObject id)) e1 e2 holds known = moved h h' q q' x x' left bytes k e1 e2 holds known
+  calm_leaves h h' q q' x x' left bytes k (Err (error.NoVersion r)) e1 e2 holds known = moved h h' q q' x x' left bytes k e1 e2 holds known
+  calm_leaves h h' q q' x x' left bytes k (Err (error.LastVersion id)) e1 e2 holds known = moved h h' q q' x x' left bytes k e1 e2 holds known
+  calm_leaves h h' q q' x x' left bytes k (Err error.TooManyChanges) e1 e2 holds known = moved h h' q q' x x' left bytes k e1 e2 holds known
+  calm_leaves h h' q q' x x' left bytes k (Err error.TooLong) e1 e2 holds known = moved h h' q q' x x' left bytes k e1 e2 holds known
+  calm_leaves h h' q q' x x' left bytes k (Err error.NoNumber) e1 e2 holds known = moved h h' q q' x x' left bytes k e1 e2 holds known
+  calm_leaves h h' q q' x x' left bytes k (Err (error.Damaged key)) e1 e2 holds known =
+      let there = moved h h' q q' x x' left bytes k e1 e2 holds known in
+      record { looks = there.looks; faults = record { later = there.looks.keeps.disk_faults; rose = λ e. absurd (cc e); calm = inr there.faults } }

@@ -1,0 +1,16 @@
+pub mod ActLaws
+pub mod ArisingLaws
+pub mod ChangeLaws
+pub mod CollectLaws
+pub mod ConstraintLaws
+pub mod ContextLaws
+pub mod CountLaws
+pub mod DenoteLaws
+pub mod EndLaws
+pub mod FirstLaws
+pub mod LineLaws
+pub mod MakeLaws
+pub mod ObjectLaws
+pub mod OffLaws
+pub mod PlaceLaws
+pub mod WholeLaws

@@ -1,0 +1,12 @@
+use Rattle.ode_schema.specs.Parts.{table_by}
+use Rattle.ode_run.proofs.ActLaws.{known_behind}
+use Rattle.ode_run.proofs.acts.WorkActsProgram.activate.Goals as goal
+use Rattle.ode_view_laws.specs.Viewing.{world_now}
+
+pub returns-clause-acts : goal.returns-clause-acts
+unfolding world_now
+returns-clause-acts g c = λ all k declares known. c.activate.ensures.acts all k (table_by c.args.schema.now.tables c.args.schema.now.maps) declares known.classes known.runs
+
+pub returns-clause-kept : goal.returns-clause-kept
+returns-clause-kept g c = λ k known.
+    known_behind g.H.Host.view g.K.Keep.holds g.K.Keep.live c.activate.result c.args.self.now c.activate.new.self c.args.schema.now k known (c.activate.ensures.lent k) (c.activate.ensures.kept k known.classes known.runs)

@@ -1,0 +1,11 @@
+use Rattle.ode_run.proofs.ActLaws.{known_behind}
+use Rattle.ode_run.proofs.acts.WorkActsProgram.collect.Goals as goal
+use Rattle.ode_view_laws.specs.Viewing.{world_now}
+
+pub returns-clause-acts : goal.returns-clause-acts
+unfolding world_now
+returns-clause-acts g c = λ all k declares known. c.collect.ensures.acts all k declares known.classes known.runs
+
+pub returns-clause-kept : goal.returns-clause-kept
+returns-clause-kept g c = λ k known.
+    known_behind g.H.Host.view g.K.Keep.holds g.K.Keep.live c.collect.result c.args.self.now c.collect.new.self c.args.schema.now k known (c.collect.ensures.lent k) (c.collect.ensures.kept k known.classes known.runs)

@@ -1,0 +1,11 @@
+use Rattle.ode_run.proofs.ActLaws.{known_behind}
+use Rattle.ode_run.proofs.acts.WorkActsProgram.defer.Goals as goal
+use Rattle.ode_view_laws.specs.Viewing.{world_now}
+
+pub returns-clause-acts : goal.returns-clause-acts
+unfolding world_now
+returns-clause-acts g c = λ all k declares known. c.defer.ensures.acts all k known.classes known.runs
+
+pub returns-clause-kept : goal.returns-clause-kept
+returns-clause-kept g c = λ k known.
+    known_behind g.H.Host.view g.K.Keep.holds g.K.Keep.live c.defer.result c.args.self.now c.defer.new.self c.args.schema.now k known (c.defer.ensures.lent k) (c.defer.ensures.kept k known.classes known.runs)

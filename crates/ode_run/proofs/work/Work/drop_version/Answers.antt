@@ -1,0 +1,34 @@
+use Rattle.std.proofs.Common.{sym, subst}
+use Rattle.std.specs.Prelude.{List, Result}
+use Rattle.ode_interpreter.specs.Seen.{Ends}
+use Rattle.ode_interpreter.specs.Seen as interpreter
+use Rattle.ode_value.specs.Making.{drops}
+use Rattle.ode_interpreter.specs.declared.stop.Stop.{Stop}
+use Rattle.ode_known_laws.specs.Knowing.{declared_in}
+use Rattle.ode_overlay.specs.Answers.{Leaves}
+use Rattle.ode_overlay.specs.Changing.{drop_version}
+use Rattle.ode_run.proofs.EndLaws.{call_leaves, known_left, shown_ends}
+use Rattle.ode_run.proofs.work.Work.drop_version.Goals as goal
+use Rattle.ode_run.specs.Knowing.{Failed, Holds, beside}
+use Rattle.ode_value.specs.declared.class.Class.{Class}
+use Rattle.ode_view_laws.specs.Viewing.{running}
+
+pub returns-clause-acts : goal.returns-clause-acts
+returns-clause-acts g c = λ all k same holds.
+    let b = beside k.first c.args.self.now.deferred.now c.args.self.now.text.now c.args.self.now.budget.now in
+    let x = c.args.self.now.overlay.now in
+    let law = c.version_removals_known.ensures all k.first b k.entries x holds.known c.args.of in
+    let leaves = subst (λ (cs : List Class). Leaves c.drop_version.result c.drop_version.new.self (drop_version cs k.entries c.args.of x)) same (c.drop_version.ensures.acts k.entries holds.records) in
+    subst (λ (r : Result (Unit {0}) Stop). Ends r (running all k.first c.drop_version.new.self b) (drops c.args.of (running all k.first x b))) (sym c.ended.ensures)
+    (shown_ends (λ now. running all k.first now b) x c.drop_version.new.self c.drop_version.result (drop_version (declared_in k.first) k.entries c.args.of x) (drops c.args.of (running all k.first x b)) leaves c.drop_version.ensures.err law.0)
+
+pub returns-clause-kept : goal.returns-clause-kept
+returns-clause-kept g c = λ k same holds.
+    let b = beside k.first c.args.self.now.deferred.now c.args.self.now.text.now c.args.self.now.budget.now in
+    let x = c.args.self.now.overlay.now in
+    let law = c.version_removals_known.ensures k.first.bones.classes k.first b k.entries x holds.known c.args.of in
+    let leaves = subst (λ (cs : List Class). Leaves c.drop_version.result c.drop_version.new.self (drop_version cs k.entries c.args.of x)) same (c.drop_version.ensures.acts k.entries holds.records) in
+    let known = known_left k.entries k.first x c.drop_version.new.self c.drop_version.result (drop_version (declared_in k.first) k.entries c.args.of x) leaves c.drop_version.ensures.err holds.known law.1 in
+    subst (λ (r : Result (Unit {0}) Stop). interpreter.Leaves r (Holds g.H.Host.view (g.K.Keep.holds c.drop_version.new.heap (g.H.Host.view c.drop_version.new.host)) (g.K.Keep.live c.drop_version.new.heap) c.drop_version.new.host c.drop_version.new.self c.args.self.now.budget.now c.args.self.now.bytes k) (Failed g.H.Host.view c.drop_version.new.host k)) (sym c.ended.ensures)
+    (call_leaves g.H.Host.view g.K.Keep.holds g.K.Keep.live c.args.self.now.host.now c.drop_version.new.host c.args.self.now.heap.now c.drop_version.new.heap x c.drop_version.new.self c.args.self.now.budget.now c.args.self.now.bytes k holds c.drop_version.ensures.looks
+    c.drop_version.result known c.drop_version.ensures.holds c.drop_version.ensures.usable c.drop_version.ensures.cause)

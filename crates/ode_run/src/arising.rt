@@ -1,0 +1,273 @@
+//! Points arise.
+ghost use Rattle.std.specs.Prelude.{◌≡◌, ℕ, List as Items, All, IfErr, IfOk, OnOk, Ok, Some, map, true};
+ghost use Rattle.std.specs.List.{AllByRecursion};
+ghost use Rattle.std.specs.Option.{IsSome, option_copied, option_map};
+ghost use Rattle.ode_arising_laws.specs.Arising.{IsDeclared, IsGoing, firing_by, live_in};
+ghost use Rattle.ode_interpreter.specs.Seen.{EndsBy, IsFault, Leaves, firing};
+ghost use Rattle.ode_known_laws.specs.Knowing.{declared_in};
+ghost use Rattle.ode_objects.specs.declared.object.Object.{Object as Held};
+ghost use Rattle.ode_overlay.specs.Changing.{put_acts};
+ghost use Rattle.ode_overlay.specs.Reading.{acts};
+ghost use Rattle.ode_overlay_laws.specs.Standing.{object_as};
+ghost use Rattle.ode_point_laws.specs.Points.{point_of};
+ghost use Rattle.ode_run.specs.Knowing.{Failed, IsRunning, Known, Lent, tx};
+ghost use Rattle.ode_schema.specs.Parts.{table_by, trigger_of, trigger_under};
+ghost use Rattle.ode_states.specs.Advance.{IsReady, advanced, fired_in};
+ghost use Rattle.ode_states.specs.Machine.{checked};
+ghost use Rattle.ode_value.specs.Firings.{arises, both_lists, current_fields};
+ghost use Rattle.ode_value.specs.Pasts.{numbers};
+ghost use Rattle.ode_value.specs.Posting.{is_touched};
+ghost use Rattle.ode_value.specs.Worlds.{Declared};
+
+use crate::stopping::read;
+use crate::work::Work;
+use ode_arising_laws::points_show;
+use ode_host::Host;
+use ode_interpreter::{Firing, Stop, Trigger};
+use ode_keep::Keep;
+use ode_known_laws::puts_known;
+use ode_objects::Object;
+use ode_overlay::Overlay;
+use ode_schema::Program;
+use ode_states::{Fired, advance};
+use ode_types::{Classes, Running};
+use ode_value::{Key, Kind, List, Reason, Value};
+use std::alloc::{AllocError, Global};
+
+// ---- the object of a point
+
+// A tracked object, where it is there.
+fn live_in(overlay: &Overlay, id: u64) -> Option<&Object>
+    ensures { option_copied result ≡ live_in id overlay.now }
+{
+    let tracked = overlay.tracked(id)?;
+    if tracked.current.live {
+        Some(&tracked.current)
+    } else {
+        None
+    }
+}
+
+pub(crate) fn class_in(overlay: &Overlay, id: u64) -> Option<u32>
+    ensures { result ≡ option_map (λ (o : Held). o.class) (live_in id overlay.now) }
+{
+    match live_in(overlay, id) {
+        Some(object) => Some(object.class),
+        None => None,
+    }
+}
+
+// The fields of an object's current version.
+#[tactic(auto, using(crate::proofs::ArisingLaws::fields_of, crate::proofs::ArisingLaws::no_fields))]
+fn fields_now(object: &Object) -> &[Value]
+    ensures { result.now ≡ current_fields (object_as 0 object.now) }
+{
+    match object.version(None) {
+        Some(version) => version.fields.values().as_slice(),
+        None => &[],
+    }
+}
+
+fn fields_in(overlay: &Overlay, id: u64) -> &[Value]
+    ensures { (o : Held) → live_in id overlay.now ≡ Some o → result.now ≡ current_fields (object_as id o) }
+{
+    match live_in(overlay, id) {
+        Some(object) => fields_now(object),
+        None => &[],
+    }
+}
+
+// ---- its activations
+
+// Whether an activation of an object of a class goes on by its trigger's table.
+#[tactic(auto, using(ode_arising_laws::proofs::GoingLaws::going))]
+fn goes_on(program: &Program, class: u32, a: &Running) -> bool
+    ensures { result ≡ true → IsGoing program.now class a.now }
+{
+    let _fit = program.tables();
+    let _checked = program.classes().as_slice();
+    let of = Trigger {
+        class: a.class,
+        place: a.trigger,
+    };
+    let Some(trigger) = program.trigger_at(of) else {
+        return false;
+    };
+    let Some(named) = program.trigger_named(class, &trigger.name) else {
+        return false;
+    };
+    if named.class != a.class || named.place != a.trigger || program.place(of) != a.table {
+        return false;
+    }
+    if program.table(of).states() <= a.state {
+        return false;
+    }
+    true
+}
+
+fn all_go_on(program: &Program, class: u32, acts: &[Running]) -> bool
+    ensures { result ≡ true → AllByRecursion (IsGoing program.now class) acts.now }
+{
+    for a in acts {
+        if !goes_on(program, class, a) {
+            return false;
+        }
+    }
+    true
+}
+
+// The activations of an object go on by a point: those that fire there.
+#[tactic(auto, using(ode_arising_laws::proofs::GoingLaws::fired_known))]
+pub(crate) fn go_on(
+    alloc: Global,
+    program: &Program,
+    overlay: &Overlay,
+    id: u64,
+    there: &mut List<Running>,
+    kind: &Kind,
+    args: &[Value],
+) -> Result<List<Fired>, AllocError>
+    requires { All (IsReady program.now.tables program.now.alphabets) there.old }
+    ensures acts { (o : Held) → live_in id overlay.now ≡ Some o
+        → OnOk result (there.new ≡ map (advanced program.now.tables program.now.alphabets program.now.classes (point_of id o kind.now args.now)) there.old) }
+    ensures fired { (o : Held) → live_in id overlay.now ≡ Some o
+        → IfOk result (λ fired. fired ≡ fired_in program.now.tables program.now.alphabets program.now.classes (point_of id o kind.now args.now) there.old) }
+    ensures known { (class : ℕ) → AllByRecursion (IsGoing program.now class) there.old → IfOk result (AllByRecursion (IsDeclared program.now)) }
+{
+    advance(
+        alloc,
+        program.tables(),
+        program.alphabets(),
+        there,
+        program.classes(),
+        kind,
+        args,
+        fields_in(overlay, id),
+    )
+}
+
+// The firings of an object.
+pub(crate) fn firings_of(
+    alloc: Global,
+    id: u64,
+    fired: List<Fired>,
+) -> Result<List<Firing>, AllocError>
+    ensures { IfOk result (λ firings. firings ≡ map (firing_by id) fired) }
+{
+    let mut firings = List::new(alloc);
+    for f in fired.into_vec() {
+        firings.push(Firing {
+            object: id,
+            activation: f.activation,
+            trigger: Trigger {
+                class: f.class,
+                place: f.trigger,
+            },
+            args: f.args,
+        })?;
+    }
+    Ok(firings)
+}
+
+impl<'a, H: Host, K: Keep<H>> Work<'a, H, K> {
+    // The activations of an object of a class, where each goes on by its trigger's table.
+    pub(crate) fn activations(
+        &mut self,
+        program: &Program,
+        class: u32,
+        id: u64,
+    ) -> Result<List<Running>, Stop>
+        ensures value { (k : Known H) → program.now.classes ≡ declared_in k.first → IsRunning H.view K.holds K.live self.old k
+            → IfOk result (λ there. acts program.now.classes k.entries id program.now.maps self.old.overlay.now ≡ Ok there) }
+        ensures going { IfOk result (AllByRecursion (IsGoing program.now class)) }
+        ensures fault { IfErr result IsFault }
+        ensures same { (self.new.overlay.now ≡ self.old.overlay.now) × (self.new.deferred.now ≡ self.old.deferred.now) × (self.new.text.now ≡ self.old.text.now) × (self.new.budget.now ≡ self.old.budget.now) }
+        ensures kept { (k : Known H) → program.now.classes ≡ declared_in k.first → IsRunning H.view K.holds K.live self.old k
+            → Leaves result (IsRunning H.view K.holds K.live self.new k) (Failed H.view self.new.host.now k) }
+        ensures lent { (k : Known H) → Lent k self.old → Lent k self.new }
+    {
+        let there = self.stored(program, id)?;
+        if all_go_on(program, class, there.as_slice()) {
+            Ok(there)
+        } else {
+            Err(Stop::Damaged {
+                key: Key {
+                    kind: Key::COUNTERS,
+                    a: 0,
+                    b: 0,
+                },
+            })
+        }
+    }
+
+    // All activations of an object.
+    fn stored(&mut self, program: &Program, id: u64) -> Result<List<Running>, Stop>
+        ensures value { (k : Known H) → program.now.classes ≡ declared_in k.first → IsRunning H.view K.holds K.live self.old k
+            → IfOk result (λ there. acts program.now.classes k.entries id program.now.maps self.old.overlay.now ≡ Ok there) }
+        ensures fault { IfErr result IsFault }
+        ensures same { (self.new.overlay.now ≡ self.old.overlay.now) × (self.new.deferred.now ≡ self.old.deferred.now) × (self.new.text.now ≡ self.old.text.now) × (self.new.budget.now ≡ self.old.budget.now) }
+        ensures kept { (k : Known H) → program.now.classes ≡ declared_in k.first → IsRunning H.view K.holds K.live self.old k
+            → Leaves result (IsRunning H.view K.holds K.live self.new k) (Failed H.view self.new.host.now k) }
+        ensures lent { (k : Known H) → Lent k self.old → Lent k self.new }
+    {
+        if !self.heap.live() {
+            return Err(Stop::DiskFault);
+        }
+        read(self.overlay.acts(program.classes(), self.heap, self.host, id, program.maps()))
+    }
+
+    // The activations of an object are these from now on. It is never refused.
+    pub(crate) fn put_back(
+        &mut self,
+        classes: &Classes,
+        id: u64,
+        there: List<Running>,
+    ) -> Result<(), Stop>
+        ensures puts { (k : Known H) → classes.now ≡ declared_in k.first → IsRunning H.view K.holds K.live self.old k
+            → IfOk result (λ done. put_acts classes.now k.entries id there self.old.overlay.now ≡ Ok (tt, self.new.overlay.now)) }
+        ensures fault { IfErr result IsFault }
+        ensures same { (self.new.deferred.now ≡ self.old.deferred.now) × (self.new.text.now ≡ self.old.text.now) × (self.new.budget.now ≡ self.old.budget.now) }
+        ensures kept { (k : Known H) → classes.now ≡ declared_in k.first → IsRunning H.view K.holds K.live self.old k
+            → Leaves result (IsRunning H.view K.holds K.live self.new k) (Failed H.view self.new.host.now k) }
+        ensures lent { (k : Known H) → Lent k self.old → Lent k self.new }
+    {
+        puts_known();
+        if !self.heap.live() {
+            return Err(Stop::DiskFault);
+        }
+        read(
+            self.overlay
+                .put_acts(classes, self.heap, self.host, id, there),
+        )
+    }
+
+    /// A point of a touched object arises: the activations that fire there, in order.
+    pub fn arise(
+        &mut self,
+        alloc: Global,
+        program: &Program,
+        id: u64,
+        kind: &Kind,
+        args: &[Value],
+    ) -> Result<List<Firing>, Stop>
+        ensures acts { (all : Items Declared) (k : Known H) → checked all ≡ program.now.classes → program.now.classes ≡ declared_in k.first → IsRunning H.view K.holds K.live self.old k
+            → is_touched id (tx all k self.old) ≡ true
+            → EndsBy (map (firing (trigger_of program.now.classes))) result (tx all k self.new)
+            (arises (numbers (table_by program.now.tables program.now.maps)) (both_lists (numbers (table_by program.now.tables program.now.maps))) id kind.now args.now (tx all k self.old)) }
+        ensures kept { (k : Known H) → program.now.classes ≡ declared_in k.first → IsRunning H.view K.holds K.live self.old k
+            → Leaves result (IsRunning H.view K.holds K.live self.new k) (Failed H.view self.new.host.now k) }
+        ensures lent { (k : Known H) → Lent k self.old → Lent k self.new }
+        ensures declared { IfOk result (All (λ f. IsSome (trigger_under program.now.classes f.trigger.class f.trigger.place))) }
+    {
+        points_show();
+        let _checked = program.classes().as_slice();
+        let Some(class) = class_in(self.overlay, id) else {
+            return Err(Stop::Abort(Reason::NoObject(0)));
+        };
+        let mut there = self.activations(program, class, id)?;
+        let fired = go_on(alloc, program, self.overlay, id, &mut there, kind, args)?;
+        self.put_back(program.classes(), id, there)?;
+        let firings = firings_of(alloc, id, fired)?;
+        Ok(firings)
+    }
+}

@@ -1,0 +1,151 @@
+//! Detached firings are collected.
+ghost use Rattle.std.specs.Prelude.{◌≡◌, ◌+◌, List as Items, IfErr, IfOk, true};
+ghost use Rattle.std.specs.Option.{IfSome, IsSome};
+ghost use Rattle.ode_interpreter.specs.Seen.{Ends, IsFault, Leaves, firing};
+ghost use Rattle.ode_known_laws.specs.Knowing.{declared_in};
+ghost use Rattle.ode_objects.specs.Values.{are_args};
+ghost use Rattle.ode_overlay.specs.Layers.{generation_of};
+ghost use Rattle.ode_run.specs.Collecting.{Gathers};
+ghost use Rattle.ode_run.specs.Knowing.{Failed, IsRunning, Known, Lent, tx};
+ghost use Rattle.ode_schema.specs.Parts.{trigger_of, trigger_under};
+ghost use Rattle.ode_states.specs.Machine.{checked};
+ghost use Rattle.ode_value.specs.Acts.{prints};
+ghost use Rattle.ode_value.specs.Posting.{collects};
+ghost use Rattle.ode_value.specs.Settling.{says};
+ghost use Rattle.ode_value.specs.Worlds.{Declared};
+
+use crate::printing::add;
+use crate::work::Work;
+use ode_codec::Entry;
+use ode_host::Host;
+use ode_interpreter::{Firing, Schema, Stop};
+use ode_keep::Keep;
+use ode_known_laws::collections_known;
+use ode_lines::dropped_line;
+use ode_objects::KeptArgs;
+use ode_overlay::Overlay;
+use ode_schema::Program;
+use ode_types::Classes;
+use ode_value::{Key, List, Value};
+use std::alloc::{AllocError, Global};
+
+// The arguments again, where a record can hold them.
+#[tactic(auto, using(crate::proofs::CollectLaws::kept_is))]
+fn kept_again(alloc: Global, args: &List<Value>) -> Result<Option<List<Value>>, AllocError>
+    ensures same { IfOk result (λ found. IfSome found (λ again. again ≡ args.now)) }
+    ensures kept { IfOk result (λ found. IfSome found (λ again. are_args again ≡ true)) }
+{
+    match KeptArgs::new(args.copy(alloc)?) {
+        Some(kept) => Ok(Some(kept.values().copy(alloc)?)),
+        None => Ok(None),
+    }
+}
+
+// The generation of what is collected.
+fn next_generation(overlay: &Overlay) -> Option<u8>
+    ensures { IfSome result (λ n. n ≡ generation_of overlay.now.origin + 1) }
+{
+    overlay.generation().checked_add(1)
+}
+
+impl<'a, H: Host, K: Keep<H>> Work<'a, H, K> {
+    // A firing is collected, where there is room for it; whether it is.
+    fn gather(
+        &mut self,
+        alloc: Global,
+        classes: &Classes,
+        independent: bool,
+        f: &Firing,
+    ) -> Result<bool, Stop>
+        ensures running { (all : Items Declared) (k : Known H) → classes.now ≡ declared_in k.first → IsRunning H.view K.holds K.live self.old k
+            → IfOk result (Gathers prints independent (firing (trigger_of classes.now) f.now) (tx all k self.old) (tx all k self.new)) }
+        ensures settling { (all : Items Declared) (k : Known H) → classes.now ≡ declared_in k.first → IsRunning H.view K.holds K.live self.old k
+            → IfOk result (Gathers says independent (firing (trigger_of classes.now) f.now) (tx all k self.old) (tx all k self.new)) }
+        ensures fault { IfErr result IsFault }
+        ensures kept { (k : Known H) → classes.now ≡ declared_in k.first → IsRunning H.view K.holds K.live self.old k
+            → Leaves result (IsRunning H.view K.holds K.live self.new k) (Failed H.view self.new.host.now k) }
+        ensures lent { (k : Known H) → Lent k self.old → Lent k self.new }
+    {
+        collections_known();
+        let Some(args) = kept_again(alloc, &f.args)? else {
+            return Err(Stop::Damaged {
+                key: Key {
+                    kind: Key::COUNTERS,
+                    a: 0,
+                    b: 0,
+                },
+            });
+        };
+        let Some(generation) = next_generation(self.overlay) else {
+            return Err(Stop::Damaged {
+                key: Key {
+                    kind: Key::COUNTERS,
+                    a: 0,
+                    b: 0,
+                },
+            });
+        };
+        let entry = Entry {
+            object: f.object,
+            class: f.trigger.class,
+            trigger: f.trigger.place,
+            generation,
+            args,
+        };
+        let collected = self.overlay.collect(entry, independent)?;
+        Ok(collected)
+    }
+
+    /// A detached firing.
+    #[tactic(auto, using(crate::proofs::CollectLaws::gathered_then, crate::proofs::CollectLaws::dropped_then))]
+    pub fn collect(
+        &mut self,
+        alloc: Global,
+        program: &Program,
+        independent: bool,
+        f: &Firing,
+    ) -> Result<(), Stop>
+        requires { IsSome (trigger_under program.now.classes f.now.trigger.class f.now.trigger.place) }
+        ensures acts { (all : Items Declared) (k : Known H) → checked all ≡ program.now.classes → program.now.classes ≡ declared_in k.first → IsRunning H.view K.holds K.live self.old k
+            → Ends result (tx all k self.new) (collects prints independent (firing (trigger_of program.now.classes) f.now) (tx all k self.old)) }
+        ensures kept { (k : Known H) → program.now.classes ≡ declared_in k.first → IsRunning H.view K.holds K.live self.old k
+            → Leaves result (IsRunning H.view K.holds K.live self.new k) (Failed H.view self.new.host.now k) }
+        ensures lent { (k : Known H) → Lent k self.old → Lent k self.new }
+    {
+        if self.gather(alloc, program.classes(), independent, f)? {
+            return Ok(());
+        }
+        let line = dropped_line(alloc, &program.trigger(f.trigger).name, f.object)?;
+        self.print(program.classes(), line.as_slice())
+    }
+
+    // A line of the settling, which has no limit.
+    #[tactic(auto, using(crate::proofs::CollectLaws::said))]
+    fn settling_line(&mut self, classes: &Classes, line: &[u8]) -> Result<(), Stop>
+        ensures acts { (all : Items Declared) (k : Known H) → classes.now ≡ declared_in k.first → IsRunning H.view K.holds K.live self.old k
+            → Ends result (tx all k self.new) (says line.now (tx all k self.old)) }
+        ensures kept { (k : Known H) → classes.now ≡ declared_in k.first → IsRunning H.view K.holds K.live self.old k
+            → Leaves result (IsRunning H.view K.holds K.live self.new k) (Failed H.view self.new.host.now k) }
+        ensures lent { (k : Known H) → Lent k self.old → Lent k self.new }
+    {
+        add(self.text, line)?;
+        Ok(())
+    }
+
+    /// One at a point of the settling, where lines have no limit.
+    #[tactic(auto, using(crate::proofs::CollectLaws::gathered_then, crate::proofs::CollectLaws::dropped_last))]
+    pub fn collect_last(&mut self, alloc: Global, program: &Program, f: &Firing) -> Result<(), Stop>
+        requires { IsSome (trigger_under program.now.classes f.now.trigger.class f.now.trigger.place) }
+        ensures acts { (all : Items Declared) (k : Known H) → checked all ≡ program.now.classes → program.now.classes ≡ declared_in k.first → IsRunning H.view K.holds K.live self.old k
+            → Ends result (tx all k self.new) (collects says true (firing (trigger_of program.now.classes) f.now) (tx all k self.old)) }
+        ensures kept { (k : Known H) → program.now.classes ≡ declared_in k.first → IsRunning H.view K.holds K.live self.old k
+            → Leaves result (IsRunning H.view K.holds K.live self.new k) (Failed H.view self.new.host.now k) }
+        ensures lent { (k : Known H) → Lent k self.old → Lent k self.new }
+    {
+        if self.gather(alloc, program.classes(), true, f)? {
+            return Ok(());
+        }
+        let line = dropped_line(alloc, &program.trigger(f.trigger).name, f.object)?;
+        self.settling_line(program.classes(), line.as_slice())
+    }
+}

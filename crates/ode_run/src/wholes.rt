@@ -1,0 +1,125 @@
+//! Points arise in the list of all points alone.
+ghost use Rattle.std.specs.Prelude.{◌≡◌, ◌∷◌, List as Items, All, IfOk, drop, filter, map, true};
+ghost use Rattle.std.specs.Option.{IsSome};
+ghost use Rattle.ode_interpreter.specs.Seen.{EndsBy, Leaves, firing};
+ghost use Rattle.ode_known_laws.specs.Knowing.{declared_in};
+ghost use Rattle.ode_point_laws.specs.Points.{sees_whole};
+ghost use Rattle.ode_run.specs.Knowing.{Failed, IsRunning, Known, Lent, tx};
+ghost use Rattle.ode_run.specs.Wholes.{merged, standing_as};
+ghost use Rattle.ode_schema.specs.Parts.{table_by, trigger_of, trigger_under};
+ghost use Rattle.ode_states.specs.Machine.{checked};
+ghost use Rattle.ode_types.specs.declared.running.Running.{Running as Going};
+ghost use Rattle.ode_value.specs.Firings.{arises, whole_list};
+ghost use Rattle.ode_value.specs.Pasts.{numbers};
+ghost use Rattle.ode_value.specs.Posting.{is_touched};
+ghost use Rattle.ode_value.specs.Worlds.{Declared};
+
+use crate::arising::{class_in, firings_of, go_on};
+use crate::work::Work;
+use ode_arising_laws::points_show;
+use ode_host::Host;
+use ode_interpreter::{Firing, Stop};
+use ode_keep::Keep;
+use ode_schema::Program;
+use ode_types::Running;
+use ode_value::{Kind, List, Reason, Value};
+use std::alloc::{AllocError, Global};
+
+// Whether an activation is of a trigger that sees whole histories.
+fn sees_whole(program: &Program, a: &Running) -> bool
+    ensures { result ≡ sees_whole program.now.classes a.now }
+{
+    match program.classes().class(a.class) {
+        Some(class) => match class.triggers.as_slice().get(usize::from(a.trigger)) {
+            Some(trigger) => trigger.whole,
+            None => false,
+        },
+        None => false,
+    }
+}
+
+// Those that are.
+fn wholes_in(
+    alloc: Global,
+    program: &Program,
+    there: &[Running],
+) -> Result<List<Running>, AllocError>
+    ensures { IfOk result (λ wholes. wholes ≡ filter (sees_whole program.now.classes) there.now) }
+{
+    let mut wholes = List::new(alloc);
+    for a in there {
+        if sees_whole(program, a) {
+            wholes.push(a.copy(alloc)?)?;
+        }
+    }
+    Ok(wholes)
+}
+
+// An activation stands as another.
+fn stand_as(a: &mut Running, other: &Running)
+    ensures { a.new ≡ standing_as other.now a.old }
+{
+    a.state = other.state;
+    a.on = other.on;
+}
+
+// One of those stands as the next of these, which is at a place; the place of the one behind.
+#[tactic(auto, using(crate::proofs::WholeLaws::next_stands, crate::proofs::WholeLaws::others_stay, crate::proofs::WholeLaws::none_left))]
+fn stand_as_next(program: &Program, a: &mut Running, wholes: &[Running], at: usize) -> usize
+    ensures { (rest : Items Going) → merged (sees_whole program.now.classes) (a.old ∷ rest) (drop at wholes.now) ≡ a.new ∷ merged (sees_whole program.now.classes) rest (drop result wholes.now) }
+{
+    if wholes.len() <= at {
+        return at;
+    }
+    if !sees_whole(program, a) {
+        return at;
+    }
+    stand_as(a, &wholes[at]);
+    at + 1
+}
+
+// They stand as these, one from each in order.
+fn merged(program: &Program, there: List<Running>, wholes: &[Running]) -> List<Running>
+    ensures { result ≡ merged (sees_whole program.now.classes) there wholes.now }
+{
+    let mut items = there.into_vec();
+    let mut at = 0;
+    for i in 0..items.len() {
+        at = stand_as_next(program, &mut items[i], wholes, at);
+    }
+    List::from_vec(items)
+}
+
+impl<'a, H: Host, K: Keep<H>> Work<'a, H, K> {
+    /// A point of a touched object arises in the list of all points alone.
+    pub fn arise_whole(
+        &mut self,
+        alloc: Global,
+        program: &Program,
+        id: u64,
+        kind: &Kind,
+        args: &[Value],
+    ) -> Result<List<Firing>, Stop>
+        ensures acts { (all : Items Declared) (k : Known H) → checked all ≡ program.now.classes → program.now.classes ≡ declared_in k.first → IsRunning H.view K.holds K.live self.old k
+            → is_touched id (tx all k self.old) ≡ true
+            → EndsBy (map (firing (trigger_of program.now.classes))) result (tx all k self.new)
+            (arises (numbers (table_by program.now.tables program.now.maps)) (whole_list (numbers (table_by program.now.tables program.now.maps))) id kind.now args.now (tx all k self.old)) }
+        ensures kept { (k : Known H) → program.now.classes ≡ declared_in k.first → IsRunning H.view K.holds K.live self.old k
+            → Leaves result (IsRunning H.view K.holds K.live self.new k) (Failed H.view self.new.host.now k) }
+        ensures lent { (k : Known H) → Lent k self.old → Lent k self.new }
+        ensures declared { IfOk result (All (λ f. IsSome (trigger_under program.now.classes f.trigger.class f.trigger.place))) }
+    {
+        points_show();
+        let _checked = program.classes().as_slice();
+        let Some(class) = class_in(self.overlay, id) else {
+            return Err(Stop::Abort(Reason::NoObject(0)));
+        };
+        let there = self.activations(program, class, id)?;
+        let mut wholes = wholes_in(alloc, program, there.as_slice())?;
+        let fired = go_on(alloc, program, self.overlay, id, &mut wholes, kind, args)?;
+        let there = merged(program, there, wholes.as_slice());
+        self.put_back(program.classes(), id, there)?;
+        let firings = firings_of(alloc, id, fired)?;
+        Ok(firings)
+    }
+}
