@@ -7,3 +7,4 @@ pub mod Lexed
 pub mod Words
 pub mod First
 pub mod Again
+pub mod Numbered

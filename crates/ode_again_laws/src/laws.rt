@@ -1,5 +1,7 @@
-//! What holds of printed classes.
+//! What holds of classes that are read.
 ghost use Rattle.std.specs.Prelude.{◌≡◌, ◌++◌, ℕ, codes, List as Items, Ok};
+ghost use Rattle.ode_classyn.specs.Texts.{IsClassOf};
+ghost use Rattle.ode_compile.specs.Compiling.{HaveNumbers};
 ghost use Rattle.ode_language.specs.Languages.{statement_of};
 ghost use Rattle.ode_value.specs.PrintedClasses.{decl_text};
 ghost use Rattle.ode_value.specs.declared.statement.ClassDecl.{ClassDecl};
@@ -10,4 +12,12 @@ ghost use Rattle.ode_value.specs.declared.statement.Statement.TheVariants.{Class
 #[tactic(auto, using(crate::proofs::Again::again))]
 pub fn statements_of_classes_are_read_again()
     ensures { (piece : Items ℕ) (d : ClassDecl) → statement_of piece ≡ Ok (Class d) → statement_of (decl_text d ++ codes ";") ≡ Ok (Class d) }
+{}
+
+/// Each number of a `choose` or an `every` in a trigger's event is in its range, where the class is a piece's, or a text's within the limit
+/// of heights.
+#[tactic(auto, using(crate::proofs::Numbered::piece_numbers, crate::proofs::Numbered::text_numbers))]
+pub fn numbers_of_classes_are_in_range()
+    ensures piece { (piece : Items ℕ) (d : ClassDecl) → statement_of piece ≡ Ok (Class d) → HaveNumbers d }
+    ensures text { (text : Items ℕ) (d : ClassDecl) → IsClassOf text d → HaveNumbers d }
 {}

@@ -32,6 +32,7 @@ use Rattle.ode_syntax.specs.declared.trees.Trees.{Trees}
 use Rattle.ode_syntax.specs.Built.{count_of, second_of}
 use Rattle.ode_syntax.specs.Kept.{kept_as, Spelled}
 use Rattle.ode_reread.proofs.Cuts.{spell}
+use Rattle.ode_reread.proofs.EventNumbers.{and_numbered, any_numbered, choose_numbered, every_numbered, fa_numbered, first_numbered, leaf_numbered, not_numbered, or_numbered, prior_numbered, relative_numbered, sequence_numbered, IsNumbered}
 use Rattle.ode_reread.proofs.EventPrints.{after_begins, after_method, and_prints, any_prints, before_begins, before_method, choose_counts, counted_prints, create_what, delete_what, every_counts, every_tail, fa_prints, first_prints, folded_prints, kind_prints, leaf_prints, masked_prints, named_tail, not_prints, or_prints, prior_folds, relative_folds, sequence_folds, tabort_what, tbegin_what, tcommit_what, tcomplete_what, time_begins, word_tail, EventPrints, IsCount, IsPeriod, IsWord, KindPrints}
 use Rattle.ode_reread.proofs.EventSpells.{between_spells, call_spells, comma_spells, counted_spells, mask_spells, not_spells, number_spells, words_spell}
 use Rattle.ode_reread.proofs.Goods.{free_word, named, shown_as, Good}
@@ -270,6 +271,7 @@ pub record GoodEvent (place : Place) (e : EventExpr) (h : Height) : Type 0 where
   pub spells : Spells place text tokens
   pub prints : EventPrints e is_operator low tokens
   pub no_higher : low.own ≤ h.own
+  pub numbers : IsNumbered e
 
 pub event_up : (place : Place) (e : EventExpr) (h k : Height) → h.own ≤ k.own → GoodEvent place e h → GoodEvent place e k
 event_up place e h k l g = let m = g.no_higher in record {
@@ -281,6 +283,7 @@ event_up place e h k l g = let m = g.no_higher in record {
   spells = g.spells;
   prints = g.prints;
   no_higher = omega arith;
+  numbers = g.numbers;
 }
 
 pub plain_good : (place : Place) (k : Kind) → GoodKind place k → GoodEvent place (event.Leaf k None) leaf
@@ -293,6 +296,7 @@ plain_good place k g = record {
   spells = g.spells;
   prints = leaf_prints k g.tokens g.prints;
   no_higher = omega arith;
+  numbers = leaf_numbered k None;
 }
 
 pub masked_good : (place : Place) (k : Kind) (x : Expr) (h : Height) → GoodKind place k → Good place x h → GoodEvent place (event.Leaf k (Some x)) (above (max 1 h.own))
@@ -305,6 +309,7 @@ masked_good place k x h g r = let m = r.no_higher in record {
   spells = mask_spells place (kind_text k) _ g.tokens _ g.spells (operand_spells place r.is_operator r.text r.tokens r.spells);
   prints = masked_prints k g.tokens x r.is_operator r.low r.tokens g.prints r.prints;
   no_higher = omega arith;
+  numbers = leaf_numbered k (Some x);
 }
 
 event-Any : printed_event event.Any ≡ shown_as (codes "any") false
@@ -325,6 +330,7 @@ any_good place = record {
   spells = word_spells place (codes "any") refl;
   prints = any_prints _ (is_any place);
   no_higher = omega arith;
+  numbers = any_numbered;
 }
 
 pub first_good : (place : Place) → GoodEvent place event.First leaf
@@ -337,6 +343,7 @@ first_good place = record {
   spells = word_spells place (codes "first") refl;
   prints = first_prints _ (is_first place);
   no_higher = omega arith;
+  numbers = first_numbered;
 }
 
 event-Not : (x : EventExpr) (p : Printed) → printed_event x ≡ p → printed_event (event.Not x) ≡ printed_event_of (shape.Not p)
@@ -353,6 +360,7 @@ not_good place e h g = let m = g.no_higher in record {
   spells = not_spells place _ _ (operand_spells place g.is_operator g.text g.tokens g.spells);
   prints = not_prints e g.is_operator g.low g.tokens g.prints;
   no_higher = omega arith;
+  numbers = not_numbered e g.numbers;
 }
 
 pub and_good : (place : Place) (e f : EventExpr) (h k : Height) → GoodEvent place e h → GoodEvent place f k → GoodEvent place (event.And e f) (above (max h.own k.own))
@@ -365,6 +373,7 @@ and_good place e f h k g r = let m = g.no_higher in let n = r.no_higher in recor
   spells = between_spells place (codes "and") _ _ _ _ refl (operand_spells place g.is_operator g.text g.tokens g.spells) (operand_spells place r.is_operator r.text r.tokens r.spells);
   prints = and_prints e f g.is_operator r.is_operator g.low r.low g.tokens r.tokens _ (is_and place) g.prints r.prints;
   no_higher = omega arith;
+  numbers = and_numbered e f g.numbers r.numbers;
 }
 
 pub or_good : (place : Place) (e f : EventExpr) (h k : Height) → GoodEvent place e h → GoodEvent place f k → GoodEvent place (event.Or e f) (above (max h.own k.own))
@@ -377,6 +386,7 @@ or_good place e f h k g r = let m = g.no_higher in let n = r.no_higher in record
   spells = between_spells place (codes "or") _ _ _ _ refl (operand_spells place g.is_operator g.text g.tokens g.spells) (operand_spells place r.is_operator r.text r.tokens r.spells);
   prints = or_prints e f g.is_operator r.is_operator g.low r.low g.tokens r.tokens _ (is_or place) g.prints r.prints;
   no_higher = omega arith;
+  numbers = or_numbered e f g.numbers r.numbers;
 }
 
 event-Relative : (x y : EventExpr) (p q : Printed) → printed_event x ≡ p → printed_event y ≡ q → printed_event (event.Relative x y) ≡ printed_event_of (shape.Relative p q)
@@ -395,6 +405,7 @@ relative_good place e f h k g r = let m = g.no_higher in let n = r.no_higher in 
   prints = folded_prints terminal.Relative action.Relative (item.Part part.MoreRelative) event.Relative relative_folds e f g.is_operator r.is_operator g.low r.low g.tokens r.tokens _
       (is_relative place) g.prints r.prints;
   no_higher = omega arith;
+  numbers = relative_numbered e f g.numbers r.numbers;
 }
 
 event-Prior : (x y : EventExpr) (p q : Printed) → printed_event x ≡ p → printed_event y ≡ q → printed_event (event.Prior x y) ≡ printed_event_of (shape.Prior p q)
@@ -413,6 +424,7 @@ prior_good place e f h k g r = let m = g.no_higher in let n = r.no_higher in rec
   prints = folded_prints terminal.Prior action.Prior (item.Part part.MorePrior) event.Prior prior_folds e f g.is_operator r.is_operator g.low r.low g.tokens r.tokens _
       (is_prior place) g.prints r.prints;
   no_higher = omega arith;
+  numbers = prior_numbered e f g.numbers r.numbers;
 }
 
 event-Sequence : (x y : EventExpr) (p q : Printed) → printed_event x ≡ p → printed_event y ≡ q → printed_event (event.Sequence x y) ≡ printed_event_of (shape.Sequence p q)
@@ -431,6 +443,7 @@ sequence_good place e f h k g r = let m = g.no_higher in let n = r.no_higher in 
   prints = folded_prints terminal.Sequence action.Sequence (item.Part part.MoreSequence) event.Sequence sequence_folds e f g.is_operator r.is_operator g.low r.low g.tokens r.tokens _
       (is_sequence place) g.prints r.prints;
   no_higher = omega arith;
+  numbers = sequence_numbered e f g.numbers r.numbers;
 }
 
 event-Choose : (n : ℕ) (x : EventExpr) (p : Printed) → printed_event x ≡ p → printed_event (event.Choose n x) ≡ printed_event_of (shape.Choose n p)
@@ -447,6 +460,7 @@ choose_good place n e h some small g = let m = g.no_higher in record {
   spells = words_spell place (codes "choose") (digits_of n ++ codes " " ++ (codes "(" ++ g.text ++ codes ")")) _ refl (counted_spells place n g.text g.tokens (omega arith) g.spells);
   prints = counted_prints terminal.Choose action.Choose event.Choose choose_counts n e g.is_operator g.low g.tokens _ _ (is_choose place) (a_count place n some small) g.prints;
   no_higher = omega arith;
+  numbers = choose_numbered n e some small g.numbers;
 }
 
 event-Every : (n : ℕ) (x : EventExpr) (p : Printed) → printed_event x ≡ p → printed_event (event.Every n x) ≡ printed_event_of (shape.Every n p)
@@ -463,6 +477,7 @@ every_good place n e h some small g = let m = g.no_higher in record {
   spells = words_spell place (codes "every") (digits_of n ++ codes " " ++ (codes "(" ++ g.text ++ codes ")")) _ refl (counted_spells place n g.text g.tokens (omega arith) g.spells);
   prints = counted_prints terminal.Every action.Every event.Every every_counts n e g.is_operator g.low g.tokens _ _ (is_every place) (a_count place n some small) g.prints;
   no_higher = omega arith;
+  numbers = every_numbered n e some small g.numbers;
 }
 
 event-Fa : (x y z : EventExpr) (p q r : Printed) → printed_event x ≡ p → printed_event y ≡ q → printed_event z ≡ r
@@ -483,4 +498,5 @@ fa_good place e f g h k l x y z = let m = x.no_higher in let n = y.no_higher in 
       (comma_spells place (x.text ++ codes ", " ++ y.text) z.text (x.tokens ++ marked mark.Comma ∷ y.tokens) z.tokens (comma_spells place x.text y.text x.tokens y.tokens x.spells y.spells) z.spells);
   prints = fa_prints e f g x.is_operator y.is_operator z.is_operator x.low y.low z.low x.tokens y.tokens z.tokens _ (is_fa place) x.prints y.prints z.prints;
   no_higher = omega arith;
+  numbers = fa_numbered e f g x.numbers y.numbers z.numbers;
 }

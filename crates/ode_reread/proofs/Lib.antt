@@ -9,6 +9,7 @@ pub mod Goods
 pub mod Sounds
 pub mod EventPrints
 pub mod EventSpells
+pub mod EventNumbers
 pub mod EventGoods
 pub mod Leaves
 pub mod Effects

@@ -142,11 +142,16 @@ event_good_again most place e h g l =
     let read = is_read most start.Event place g.text g.tokens out cut derives (one_height g.low most (omega arith)) in
     (out.trees, subst (λ (t : List ℕ). IsRead most start.Event place t out.trees) (ap (λ p. p.text) (sym g.shown)) read, refl)
 
-pub event_again : (most : ℕ) (place : Place) (text : List ℕ) (made : Trees) → GoodInstants place
-    → IsRead most start.Event place text made
-    → (again : Trees) × IsRead most start.Event place (event_text (event_tree made.events)) again × (event_tree again.events ≡ event_tree made.events)
+-- an event expression that was read is good, and no higher than it may be
+pub record GoodRead (most : ℕ) (place : Place) (e : EventExpr) : Type 0 where
+  pub height : Height
+  pub good : GoodEvent place e height
+  pub within : height.own ≤ most
+
+pub event_is_good : (most : ℕ) (place : Place) (text : List ℕ) (made : Trees) → GoodInstants place
+    → IsRead most start.Event place text made → GoodRead most place (event_tree made.events)
 unfolding items_of
-event_again most place text made instants r =
+event_is_good most place text made instants r =
     let x = reading most start.Event place text made r in
     let l = x.leads in
     let a1 = l.1 in
@@ -154,6 +159,15 @@ event_again most place text made instants r =
     let a = l.2.2.1 a2.e a2.h at_start a2.is a2.good in
     let is : x.out ≡ with_event a.e a.h at_start = sym l.2.2.2 ∙ a.is in
     let same : event_tree made.events ≡ a.e = ap (λ (v : Trees). event_tree v.events) (sym x.trees) ∙ ap (λ (b : Both). event_tree b.trees.events) is in
-    let within = own_height a.h most (subst (λ (b : Both). highest b.heights ≤ most) is x.within) in
-    subst (λ e. (again : Trees) × IsRead most start.Event place (event_text e) again × (event_tree again.events ≡ e)) (sym same)
-    (event_good_again most place a.e a.h (a.good instants) within)
+    record {
+      height = a.h;
+      good = subst (λ e. GoodEvent place e a.h) (sym same) (a.good instants);
+      within = own_height a.h most (subst (λ (b : Both). highest b.heights ≤ most) is x.within);
+    }
+
+pub event_again : (most : ℕ) (place : Place) (text : List ℕ) (made : Trees) → GoodInstants place
+    → IsRead most start.Event place text made
+    → (again : Trees) × IsRead most start.Event place (event_text (event_tree made.events)) again × (event_tree again.events ≡ event_tree made.events)
+event_again most place text made instants r =
+    let g = event_is_good most place text made instants r in
+    event_good_again most place (event_tree made.events) g.height g.good g.within

@@ -1,5 +1,5 @@
 //! What holds of printed trees.
-ghost use Rattle.std.specs.Prelude.{◌≡◌, ℕ, List, length};
+ghost use Rattle.std.specs.Prelude.{◌≡◌, ℕ, List, length, true};
 ghost use Rattle.ode_lex.specs.Tokens.{lexed, Tokens};
 ghost use Rattle.ode_lex.specs.declared.token.Token.{Token};
 ghost use Rattle.ode_eventsyn.specs.Parsing.{IsLongest, IsWhy};
@@ -9,6 +9,7 @@ ghost use Rattle.ode_value.specs.declared.event.EventExpr.{EventExpr};
 ghost use Rattle.ode_value.specs.declared.statement.Expr.{Expr};
 ghost use Rattle.ode_grammar.specs.declared.reader.Start.TheVariants as start;
 ghost use Rattle.ode_terminals.specs.declared.seen.Place.TheVariants as place;
+ghost use Rattle.ode_value.specs.Numbers.{has_numbers};
 ghost use Rattle.ode_value.specs.Printing.{event_text, expr_text};
 ghost use Rattle.ode_syntax.specs.declared.trees.Trees.{Trees};
 ghost use Rattle.ode_syntax.specs.Built.{event_tree, tree};
@@ -42,4 +43,9 @@ pub fn printed_events_are_parsed()
         → IsLongest start.Event place.Class (event_text e) tokens end made → (event_tree made.events ≡ e) × (end ≡ length tokens) }
     ensures not_refused { (text : List ℕ) (e : EventExpr) (tokens : List Token) (why : AnyError) → IsEventOf text e → lexed (event_text e) ≡ Tokens tokens
         → IsWhy start.Event place.Class (event_text e) tokens why → why ≡ Memory }
+{}
+
+/// Each number of a `choose` or an `every` of an event expression that some text within the limit of heights has is in its range.
+pub fn event_numbers_are_in_range()
+    ensures { (text : List ℕ) (e : EventExpr) → IsEventOf text e → has_numbers e ≡ true }
 {}
