@@ -36,7 +36,7 @@ def quoted(text):
 
 def spec(crate, name):
     """The file that a cell names: a path, or a name among the definitions of a crate."""
-    homes = (f"crates/{it}/specs" for it in (crate, "ode_engine", "ode_timer"))
+    homes = (f"crates/{it}/specs" for it in (crate, "ode_machine", "ode_timer"))
     for path in (name, f"crates/{name}", f"crates/{crate}/{name}", *(f"{home}/{name}" for home in homes)):
         for end in ("", ".antt"):
             if os.path.isfile(f"{TOP}/{path}{end}"):

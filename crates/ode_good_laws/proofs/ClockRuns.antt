@@ -12,7 +12,7 @@ use Rattle.ode_value.specs.Objects.{Histories, Starts}
 use Rattle.ode_value.specs.Pasts.{lists}
 use Rattle.ode_value.specs.Settling.{Settled}
 use Rattle.ode_value.specs.Worlds.{Entry, Position}
-use Rattle.ode_engine.specs.Works.{tick, move, then_rest, clock_run}
+use Rattle.ode_machine.specs.Works.{tick, move, then_rest, clock_run}
 use Rattle.ode_laws.proofs.Each.{all-append, all-then}
 use Rattle.ode_sound_laws.specs.Fits.{FitsEntry}
 use Rattle.ode_sound_laws.proofs.WorldLaws.{good_typed}

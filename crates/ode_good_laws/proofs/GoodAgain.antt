@@ -25,7 +25,7 @@ use Rattle.ode_value.specs.Transactions.{Origin, Script, Queue, Clock, begun}
 use Rattle.ode_value.specs.Versions.{Version}
 use Rattle.ode_value.specs.Weights.{weight}
 use Rattle.ode_value.specs.Worlds.{Entry, Position, Object, Bones, class_numbered}
-use Rattle.ode_engine.specs.Works.{ticks, tick}
+use Rattle.ode_machine.specs.Works.{ticks, tick}
 use Rattle.ode_laws.specs.Counted.{IsQueued, AreCounted, CountsOn}
 use Rattle.ode_laws.specs.Numbered.{HasNumbers}
 use Rattle.ode_laws.proofs.Alone.{Keeps, Alone, alone}

@@ -3,7 +3,7 @@ ghost use Rattle.std.specs.Prelude.{◌+◌, ◌<◌, ℕ, List as Items, length
 ghost use Rattle.std.specs.List.{AllByRecursion};
 ghost use Rattle.ode_value.specs.declared.statement.Stmt.{Stmt};
 ghost use Rattle.ode_value.specs.declared.value.Ref.{Ref};
-ghost use Rattle.ode_engine.specs.Works.{clock_run, tick};
+ghost use Rattle.ode_machine.specs.Works.{clock_run, tick};
 ghost use Rattle.ode_value.specs.Acts.{nothing};
 ghost use Rattle.ode_value.specs.Draining.{drain, entry_settled};
 ghost use Rattle.ode_value.specs.Executing.{commands};

@@ -25,8 +25,8 @@ use Rattle.ode_value.specs.Texts.{class_line}
 use Rattle.ode_value.specs.Transactions.{Script, begun}
 use Rattle.ode_value.specs.Weights.{weight, record_count}
 use Rattle.ode_value.specs.Worlds.{Declared, Bones, class_numbered}
-use Rattle.ode_engine.specs.Refusals.{classes_in, declared_in}
-use Rattle.ode_engine.specs.Works.{declares}
+use Rattle.ode_machine.specs.Refusals.{classes_in, declared_in}
+use Rattle.ode_machine.specs.Works.{declares}
 use Rattle.ode_accepted_laws.specs.Languages.{AreAccepted, HasSoundRules}
 use Rattle.ode_laws.proofs.Numbers.{apart}
 use Rattle.ode_run_laws.proofs.AlikeClasses.{more_classes, declared, printable, completes_weighs}

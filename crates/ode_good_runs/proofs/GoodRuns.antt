@@ -29,15 +29,15 @@ use Rattle.ode_value.specs.References.{IsRef}
 use Rattle.ode_value.specs.Settling.{Settled, abort, transaction}
 use Rattle.ode_value.specs.Transactions.{Script}
 use Rattle.ode_value.specs.Worlds.{Bones, Declared, Object, Position, class_numbered}
-use Rattle.ode_engine.specs.Commands.{Step, after, settles, bones_now, goes_on, does_simple, ends_open, commits, does_class, does_clock, carried, command, finish}
-use Rattle.ode_engine.specs.Refusals.{classes_behind, classes_in, checked_in, declared_in, due_from, few, is_lone, place_of, placed, spends, ticks_in}
-use Rattle.ode_engine.specs.Sessions.{Session, closed}
-use Rattle.ode_engine.specs.TimeRows.{kinds_of, time_row, time_rows}
-use Rattle.ode_engine.specs.Works.{declares, clock_run}
+use Rattle.ode_machine.specs.Commands.{Step, after, settles, bones_now, goes_on, does_simple, ends_open, commits, does_class, does_clock, carried, command, finish}
+use Rattle.ode_machine.specs.Refusals.{classes_behind, classes_in, checked_in, declared_in, due_from, few, is_lone, place_of, placed, spends, ticks_in}
+use Rattle.ode_machine.specs.Sessions.{Session, closed}
+use Rattle.ode_machine.specs.TimeRows.{kinds_of, time_row, time_rows}
+use Rattle.ode_machine.specs.Works.{declares, clock_run}
 use Rattle.ode_script.specs.Cutting.{Ending, Pieces, Then, Ended, pieces}
 use Rattle.ode_script.specs.Cutting as cutting
 use Rattle.ode_timer.specs.Due.{behind, due}
-use Rattle.ode_top.specs.Runs.{Item, item_of, answered, followed_by, ending_items, pieces_items, trace, worlds}
+use Rattle.ode_machine.specs.Runs.{Item, item_of, answered, followed_by, ending_items, pieces_items, trace, worlds}
 use Rattle.ode_value.specs.Lengths.{key_length, piece_count, record_length}
 use Rattle.ode_value.specs.PrintedClasses.{decl_text}
 use Rattle.ode_value.specs.Weights.{class_weight, trigger_weight, weight}

@@ -11,7 +11,7 @@ use Rattle.ode_value.specs.Fitting.{IsDrawn}
 use Rattle.ode_value.specs.References.{IsRef}
 use Rattle.ode_value.specs.Versions.{Version, version_numbered, version_of}
 use Rattle.ode_value.specs.Worlds.{Object, Bones}
-use Rattle.ode_engine.specs.Refusals.{class_behind, classes_behind}
+use Rattle.ode_machine.specs.Refusals.{class_behind, classes_behind}
 use Rattle.ode_laws.proofs.AlikePairs.{all_found}
 use Rattle.ode_laws.proofs.Rows.{at_numbered, numbered_id}
 use Rattle.ode_sound_laws.specs.Fits.{alive, all_alive, FitsVersion, FitsWorld, FitsLiteral, AreFit}

@@ -4,7 +4,7 @@ use Rattle.std.specs.List.{AllByRecursion}
 use Rattle.ode_value.specs.GoodWorlds.{IsGood}
 use Rattle.ode_value.specs.Language.{ListWorld}
 use Rattle.ode_value.specs.Worlds.{empty_world}
-use Rattle.ode_top.specs.Runs.{trace, worlds}
+use Rattle.ode_machine.specs.Runs.{trace, worlds}
 use Rattle.ode_accepted_laws.specs.Languages.{HasSoundRules}
 use Rattle.ode_accepted_laws.proofs.Rules.{rules_sound}
 use Rattle.ode_good_laws.specs.Well.{IsWell}

@@ -9,7 +9,7 @@ ghost use Rattle.ode_value.specs.Language.{ListWorld};
 ghost use Rattle.ode_value.specs.References.{IsRef};
 ghost use Rattle.ode_value.specs.Worlds.{empty_world};
 ghost use Rattle.ode_timer.specs.Dates.{instant_of};
-ghost use Rattle.ode_top.specs.Runs.{trace, worlds};
+ghost use Rattle.ode_machine.specs.Runs.{trace, worlds};
 ghost use Rattle.ode_types.specs.Literals.{literals};
 ghost use Rattle.ode_accepted_laws.specs.Languages.{HasSoundRules};
 ghost use Rattle.ode_good_laws.specs.Well.{IsWell};

@@ -8,7 +8,8 @@ use ode_value::{List, Value};
 use std::alloc::{AllocError, Global};
 use std::marker::Model;
 
-fn is_kept(value: &Value) -> bool
+/// Whether a record can hold a value: it names no version 0, and none of null.
+pub fn is_kept(value: &Value) -> bool
     ensures { result ≡ is_kept value.now }
 {
     match value {
@@ -20,7 +21,8 @@ fn is_kept(value: &Value) -> bool
     }
 }
 
-fn are_kept(values: &[Value]) -> bool
+/// Whether a record can hold each value.
+pub fn are_kept(values: &[Value]) -> bool
     ensures { result ≡ are_kept values.now }
 {
     match values {

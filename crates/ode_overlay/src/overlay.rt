@@ -4,7 +4,7 @@ ghost use Rattle.std.specs.List.{list_any};
 ghost use Rattle.ode_codec.specs.Rules.{IsKeptCounters};
 ghost use Rattle.ode_overlay.specs.Answers.{Answers, Gives, is_usable};
 ghost use Rattle.ode_overlay.specs.Changing.{live, object_of, put_new, put_now, with_now};
-ghost use Rattle.ode_overlay.specs.Layers.{IsGeneration, begun, first_count, generation_of, holding, is_touched, key_count};
+ghost use Rattle.ode_overlay.specs.Layers.{IsGeneration, begun, first_count, generation_of, holding, is_touched, key_count, tracked_at};
 ghost use Rattle.ode_value.specs.Limits.{change_limit, queue_limit, transaction_limit};
 ghost use Rattle.std.specs.Option.{option_copied};
 
@@ -85,6 +85,13 @@ impl Overlay {
         ensures { result ≡ slice_get self.now.touched at }
     {
         self.touched.get_index(at).copied()
+    }
+
+    /// An object that was read or made, as it was and as it is.
+    pub fn tracked(&self, id: u64) -> Option<&Tracked>
+        ensures { option_copied result ≡ tracked_at id self.now }
+    {
+        self.objects.get(&id)
     }
 
     /// The generation of the transaction: 0 from a script or the clock, else the entry's.

@@ -1,3 +1,3 @@
-mod RunningLaws
+pub mod RunningLaws
 mod WholeLaws
-mod PointLaws
+pub mod PointLaws

@@ -161,25 +161,33 @@ fn put_trigger(alloc: Global, out: &mut Vec<u8>, trigger: &TriggerDecl) -> Resul
     Ok(())
 }
 
+fn put_field(out: &mut Vec<u8>, name: &Name, sort: &Sort) -> Result<(), AllocError>
+    ensures { OnOk result (out.new.items ≡ out.old.items ++ (sort_text sort.now ++ codes " " ++ name.now ++ codes ";")) }
+{
+    put_sort(out, sort)?;
+    put(out, b" ")?;
+    put(out, name.as_bytes())?;
+    put(out, b";")?;
+    Ok(())
+}
+
+fn put_events(alloc: Global, out: &mut Vec<u8>, kinds: &[Kind]) -> Result<(), AllocError>
+    ensures { OnOk result (out.new.items ≡ out.old.items ++ (codes "event " ++ with_commas (map kind_text kinds.now) ++ codes ";")) }
+{
+    put(out, b"event ")?;
+    put_kinds(alloc, out, kinds)?;
+    put(out, b";")?;
+    Ok(())
+}
+
 fn put_member(alloc: Global, out: &mut Vec<u8>, member: &Member) -> Result<(), AllocError>
     ensures { OnOk result (out.new.items ≡ out.old.items ++ member_text member.now) }
 {
     match member {
-        Member::Field(name, sort) => {
-            put_sort(out, sort)?;
-            put(out, b" ")?;
-            put(out, name.as_bytes())?;
-            put(out, b";")?;
-            Ok(())
-        }
+        Member::Field(name, sort) => put_field(out, name, sort),
         Member::Method(method) => put_method(alloc, out, method),
         Member::Constraint(constraint) => put_constraint(alloc, out, constraint),
-        Member::Events(kinds) => {
-            put(out, b"event ")?;
-            put_kinds(alloc, out, kinds.as_slice())?;
-            put(out, b";")?;
-            Ok(())
-        }
+        Member::Events(kinds) => put_events(alloc, out, kinds.as_slice()),
         Member::Trigger(trigger) => put_trigger(alloc, out, trigger),
     }
 }

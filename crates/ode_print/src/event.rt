@@ -58,6 +58,19 @@ fn put_mask(alloc: Global, out: &mut Vec<u8>, mask: &Option<Expr>) -> Result<(),
     }
 }
 
+fn put_leaf(
+    alloc: Global,
+    out: &mut Vec<u8>,
+    kind: &Kind,
+    mask: &Option<Expr>,
+) -> Result<(), AllocError>
+    ensures { OnOk result (out.new.items ≡ out.old.items ++ (kind_text kind.now ++ mask_text mask.now)) }
+{
+    put_kind(alloc, out, kind)?;
+    put_mask(alloc, out, mask)?;
+    Ok(())
+}
+
 /// Puts the text of an event expression at the end.
 #[cycle(events)]
 #[tactic(auto, using(crate::proofs::Levels::joined_events))]
@@ -65,95 +78,113 @@ pub fn put_event(alloc: Global, out: &mut Vec<u8>, e: &EventExpr) -> Result<(), 
     ensures { OnOk result (out.new.items ≡ out.old.items ++ event_text e.now) }
 {
     match e {
-        EventExpr::Leaf(kind, mask) => {
-            put_kind(alloc, out, kind)?;
-            put_mask(alloc, out, mask)?;
-            Ok(())
-        }
+        EventExpr::Leaf(kind, mask) => put_leaf(alloc, out, kind, mask),
         EventExpr::Any => put(out, b"any"),
         EventExpr::First => put(out, b"first"),
-        EventExpr::Not(of) => {
-            put(out, b"!")?;
-            put_event_operand(alloc, out, of.get())?;
-            Ok(())
-        }
+        EventExpr::Not(of) => put_behind(alloc, out, b"!", of.get()),
         EventExpr::And(left, right) => {
             put_event_operand(alloc, out, left.get())?;
-            put(out, b" and ")?;
-            put_event_operand(alloc, out, right.get())?;
+            put_behind(alloc, out, b" and ", right.get())?;
             Ok(())
         }
         EventExpr::Or(left, right) => {
             put_event_operand(alloc, out, left.get())?;
-            put(out, b" or ")?;
-            put_event_operand(alloc, out, right.get())?;
+            put_behind(alloc, out, b" or ", right.get())?;
             Ok(())
         }
         EventExpr::Relative(first, second) => {
-            put(out, b"relative")?;
-            put(out, b"(")?;
-            put_event(alloc, out, first.get())?;
-            put(out, b", ")?;
-            put_event(alloc, out, second.get())?;
-            put(out, b")")?;
+            put_first(alloc, out, b"relative", first.get())?;
+            put_last(alloc, out, second.get())?;
             Ok(())
         }
         EventExpr::Prior(first, second) => {
-            put(out, b"prior")?;
-            put(out, b"(")?;
-            put_event(alloc, out, first.get())?;
-            put(out, b", ")?;
-            put_event(alloc, out, second.get())?;
-            put(out, b")")?;
+            put_first(alloc, out, b"prior", first.get())?;
+            put_last(alloc, out, second.get())?;
             Ok(())
         }
         EventExpr::Sequence(first, second) => {
-            put(out, b"sequence")?;
-            put(out, b"(")?;
-            put_event(alloc, out, first.get())?;
-            put(out, b", ")?;
-            put_event(alloc, out, second.get())?;
-            put(out, b")")?;
+            put_first(alloc, out, b"sequence", first.get())?;
+            put_last(alloc, out, second.get())?;
             Ok(())
         }
-        EventExpr::Choose(count, of) => {
-            put(out, b"choose ")?;
-            put_counted(alloc, out, *count, of.get())?;
-            Ok(())
-        }
-        EventExpr::Every(count, of) => {
-            put(out, b"every ")?;
-            put_counted(alloc, out, *count, of.get())?;
-            Ok(())
-        }
+        EventExpr::Choose(count, of) => put_counted(alloc, out, b"choose ", *count, of.get()),
+        EventExpr::Every(count, of) => put_counted(alloc, out, b"every ", *count, of.get()),
         EventExpr::Fa(first, second, third) => {
-            put(out, b"fa")?;
-            put(out, b"(")?;
-            put_event(alloc, out, first.get())?;
-            put(out, b", ")?;
-            put_event(alloc, out, second.get())?;
-            put(out, b", ")?;
-            put_event(alloc, out, third.get())?;
-            put(out, b")")?;
+            put_first(alloc, out, b"fa", first.get())?;
+            put_next(alloc, out, second.get())?;
+            put_last(alloc, out, third.get())?;
             Ok(())
         }
     }
 }
 
-// Puts a number and a part in brackets at the end.
+// Puts an operand behind an operator at the end.
 #[cycle(events)]
-#[tactic(auto, using(crate::proofs::Levels::joined_events))]
+fn put_behind(
+    alloc: Global,
+    out: &mut Vec<u8>,
+    operator: &[u8],
+    e: &EventExpr,
+) -> Result<(), AllocError>
+    ensures { OnOk result (out.new.items ≡ out.old.items ++ (operator.now ++ operand (printed_event e.now))) }
+{
+    put(out, operator)?;
+    put_event_operand(alloc, out, e)?;
+    Ok(())
+}
+
+// Puts the first part in brackets behind a word at the end.
+#[cycle(events)]
+fn put_first(alloc: Global, out: &mut Vec<u8>, word: &[u8], e: &EventExpr) -> Result<(), AllocError>
+    ensures { OnOk result (out.new.items ≡ out.old.items ++ (word.now ++ codes "(" ++ event_text e.now)) }
+{
+    put_named(out, word, b"(")?;
+    put_event(alloc, out, e)?;
+    Ok(())
+}
+
+// Puts a further part in brackets at the end.
+#[cycle(events)]
+fn put_next(alloc: Global, out: &mut Vec<u8>, e: &EventExpr) -> Result<(), AllocError>
+    ensures { OnOk result (out.new.items ≡ out.old.items ++ (codes ", " ++ event_text e.now)) }
+{
+    put(out, b", ")?;
+    put_event(alloc, out, e)?;
+    Ok(())
+}
+
+// Puts the last part in brackets at the end.
+#[cycle(events)]
+fn put_last(alloc: Global, out: &mut Vec<u8>, e: &EventExpr) -> Result<(), AllocError>
+    ensures { OnOk result (out.new.items ≡ out.old.items ++ (codes ", " ++ event_text e.now ++ codes ")")) }
+{
+    put(out, b", ")?;
+    put_event(alloc, out, e)?;
+    put(out, b")")?;
+    Ok(())
+}
+
+// Puts a word and a number at the end.
+fn put_count(alloc: Global, out: &mut Vec<u8>, word: &[u8], count: u32) -> Result<(), AllocError>
+    ensures { OnOk result (out.new.items ≡ out.old.items ++ (word.now ++ digits_of count)) }
+{
+    put(out, word)?;
+    put_number(alloc, out, u64::from(count))
+}
+
+// Puts a word, a number and a part in brackets at the end.
+#[cycle(events)]
 fn put_counted(
     alloc: Global,
     out: &mut Vec<u8>,
+    word: &[u8],
     count: u32,
     of: &EventExpr,
 ) -> Result<(), AllocError>
-    ensures { OnOk result (out.new.items ≡ out.old.items ++ (digits_of count ++ codes " " ++ in_brackets (event_text of.now))) }
+    ensures { OnOk result (out.new.items ≡ out.old.items ++ (word.now ++ digits_of count ++ codes " " ++ in_brackets (event_text of.now))) }
 {
-    put_number(alloc, out, u64::from(count))?;
-    put(out, b" ")?;
-    put(out, b"(")?;
+    put_count(alloc, out, word, count)?;
+    put_named(out, b" ", b"(")?;
     put_event(alloc, out, of)?;
     put(out, b")")?;
     Ok(())

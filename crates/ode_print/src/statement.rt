@@ -1,7 +1,7 @@
 //! Statements and their right sides.
 ghost use Rattle.std.specs.Prelude.{◌≡◌, ◌++◌, codes, map, OnOk, drop};
 ghost use Rattle.std.specs.List.{join_by};
-ghost use Rattle.ode_value.specs.Printing.{expr_text, in_brackets, with_commas};
+ghost use Rattle.ode_value.specs.Printing.{expr_text, in_brackets, operand_text, with_commas};
 ghost use Rattle.ode_value.specs.PrintedClasses.{args_text, body_text, call_text, else_part, of_text, rhs_text, set_text, stmt_text, value_part, var_text};
 ghost use Rattle.ode_print.specs.Joined.{behind};
 
@@ -95,6 +95,39 @@ fn put_sets(alloc: Global, out: &mut Vec<u8>, sets: &[(Name, Expr)]) -> Result<(
     Ok(())
 }
 
+fn put_new(
+    alloc: Global,
+    out: &mut Vec<u8>,
+    class: &Name,
+    fields: &[(Name, Expr)],
+) -> Result<(), AllocError>
+    ensures { OnOk result (out.new.items ≡ out.old.items ++ (codes "pnew " ++ class.now ++ in_brackets (with_commas (map set_text fields.now)))) }
+{
+    put(out, b"pnew ")?;
+    put(out, class.as_bytes())?;
+    put(out, b"(")?;
+    put_sets(alloc, out, fields)?;
+    put(out, b")")?;
+    Ok(())
+}
+
+fn put_activation(
+    alloc: Global,
+    out: &mut Vec<u8>,
+    of: &Expr,
+    trigger: &Name,
+    args: &[Expr],
+) -> Result<(), AllocError>
+    ensures { OnOk result (out.new.items ≡ out.old.items ++ (codes "activate " ++ operand_text of.now ++ codes "." ++ trigger.now ++ args_text args.now)) }
+{
+    put(out, b"activate ")?;
+    put_operand(alloc, out, of)?;
+    put(out, b".")?;
+    put(out, trigger.as_bytes())?;
+    put_args(alloc, out, args)?;
+    Ok(())
+}
+
 /// Puts the text of a right side at the end.
 pub fn put_rhs(alloc: Global, out: &mut Vec<u8>, rhs: &Rhs) -> Result<(), AllocError>
     ensures { OnOk result (out.new.items ≡ out.old.items ++ rhs_text rhs.now) }
@@ -102,22 +135,10 @@ pub fn put_rhs(alloc: Global, out: &mut Vec<u8>, rhs: &Rhs) -> Result<(), AllocE
     match rhs {
         Rhs::Plain(e) => put_expr(alloc, out, e),
         Rhs::Call(call) => put_call(alloc, out, call),
-        Rhs::New { class, fields } => {
-            put(out, b"pnew ")?;
-            put(out, class.as_bytes())?;
-            put(out, b"(")?;
-            put_sets(alloc, out, fields.as_slice())?;
-            put(out, b")")?;
-            Ok(())
-        }
+        Rhs::New { class, fields } => put_new(alloc, out, class, fields.as_slice()),
         Rhs::NewVersion(e) => put_worded(alloc, out, b"newversion ", e),
         Rhs::Activate { of, trigger, args } => {
-            put(out, b"activate ")?;
-            put_operand(alloc, out, of)?;
-            put(out, b".")?;
-            put(out, trigger.as_bytes())?;
-            put_args(alloc, out, args.as_slice())?;
-            Ok(())
+            put_activation(alloc, out, of, trigger, args.as_slice())
         }
     }
 }
@@ -150,6 +171,39 @@ fn put_set_to(alloc: Global, out: &mut Vec<u8>, var: &Var, rhs: &Rhs) -> Result<
     put_var(out, var)?;
     put(out, b" = ")?;
     put_rhs(alloc, out, rhs)?;
+    put(out, b";")?;
+    Ok(())
+}
+
+fn put_let(alloc: Global, out: &mut Vec<u8>, var: &Var, rhs: &Rhs) -> Result<(), AllocError>
+    ensures { OnOk result (out.new.items ≡ out.old.items ++ (codes "let " ++ var_text var.now ++ codes " = " ++ rhs_text rhs.now ++ codes ";")) }
+{
+    put(out, b"let ")?;
+    put_set_to(alloc, out, var, rhs)?;
+    Ok(())
+}
+
+fn put_do(alloc: Global, out: &mut Vec<u8>, rhs: &Rhs) -> Result<(), AllocError>
+    ensures { OnOk result (out.new.items ≡ out.old.items ++ (rhs_text rhs.now ++ codes ";")) }
+{
+    put_rhs(alloc, out, rhs)?;
+    put(out, b";")?;
+    Ok(())
+}
+
+fn put_show(alloc: Global, out: &mut Vec<u8>, rhs: &Rhs) -> Result<(), AllocError>
+    ensures { OnOk result (out.new.items ≡ out.old.items ++ (codes "show " ++ rhs_text rhs.now ++ codes ";")) }
+{
+    put(out, b"show ")?;
+    put_do(alloc, out, rhs)?;
+    Ok(())
+}
+
+fn put_return(alloc: Global, out: &mut Vec<u8>, value: &Option<Expr>) -> Result<(), AllocError>
+    ensures { OnOk result (out.new.items ≡ out.old.items ++ (codes "return" ++ value_part value.now ++ codes ";")) }
+{
+    put(out, b"return")?;
+    put_value_part(alloc, out, value)?;
     put(out, b";")?;
     Ok(())
 }
@@ -213,38 +267,20 @@ pub fn put_stmt(alloc: Global, out: &mut Vec<u8>, s: &Stmt) -> Result<(), AllocE
     ensures { OnOk result (out.new.items ≡ out.old.items ++ stmt_text s.now) }
 {
     match s {
-        Stmt::Let(var, rhs) => {
-            put(out, b"let ")?;
-            put_set_to(alloc, out, var, rhs)?;
-            Ok(())
-        }
+        Stmt::Let(var, rhs) => put_let(alloc, out, var, rhs),
         Stmt::Set(var, rhs) => put_set_to(alloc, out, var, rhs),
-        Stmt::Do(rhs) => {
-            put_rhs(alloc, out, rhs)?;
-            put(out, b";")?;
-            Ok(())
-        }
+        Stmt::Do(rhs) => put_do(alloc, out, rhs),
         Stmt::If(test, first, second) => {
             put_test(alloc, out, test)?;
             put_body(alloc, out, first.as_slice())?;
             put_else(alloc, out, second.as_slice())?;
             Ok(())
         }
-        Stmt::Return(value) => {
-            put(out, b"return")?;
-            put_value_part(alloc, out, value)?;
-            put(out, b";")?;
-            Ok(())
-        }
+        Stmt::Return(value) => put_return(alloc, out, value),
         Stmt::Delete(e) => put_between(alloc, out, b"pdelete ", e, b";"),
         Stmt::DropVersion(e) => put_between(alloc, out, b"delversion ", e, b";"),
         Stmt::Deactivate(of, number) => put_pair(alloc, out, b"deactivate ", of, number),
-        Stmt::Show(rhs) => {
-            put(out, b"show ")?;
-            put_rhs(alloc, out, rhs)?;
-            put(out, b";")?;
-            Ok(())
-        }
+        Stmt::Show(rhs) => put_show(alloc, out, rhs),
         Stmt::Say(e) => put_between(alloc, out, b"say ", e, b";"),
         Stmt::TAbort => put(out, b"tabort;"),
     }

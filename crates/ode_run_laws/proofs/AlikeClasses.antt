@@ -22,7 +22,7 @@ use Rattle.ode_value.specs.Weights.{weight}
 use Rattle.ode_value.specs.Worlds.{Declared, Object, Bones, World, class_numbered}
 use Rattle.ode_value.specs.Texts.{class_line}
 use Rattle.ode_codec.specs.Standing.{HasTables}
-use Rattle.ode_engine.specs.Works.{declares}
+use Rattle.ode_machine.specs.Works.{declares}
 use Rattle.ode_laws.specs.Alike.{NumberWorld, IsAlike, StaysIn, SettledAs}
 use Rattle.ode_laws.specs.Numbered.{AreNumbered}
 use Rattle.ode_laws.proofs.Sides.{Same}

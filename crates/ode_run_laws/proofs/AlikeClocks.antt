@@ -12,7 +12,7 @@ use Rattle.ode_value.specs.Settling.{Settled}
 use Rattle.ode_value.specs.Tables.{Table}
 use Rattle.ode_value.specs.Transactions.{Clock}
 use Rattle.ode_value.specs.Worlds.{Position, Bones}
-use Rattle.ode_engine.specs.Works.{ticks, tick, move, then_rest, clock_run}
+use Rattle.ode_machine.specs.Works.{ticks, tick, move, then_rest, clock_run}
 use Rattle.ode_laws.specs.Alike.{NumberWorld, IsAlike, SettledAs}
 use Rattle.ode_laws.proofs.AlikeSettling.{the_work, transaction_alike, drains_run}
 use Rattle.ode_laws.proofs.SideActs.{done_alike}

@@ -15,7 +15,7 @@ use Rattle.ode_value.specs.Pasts.{Past}
 use Rattle.ode_value.specs.Transactions.{Tx}
 use Rattle.ode_value.specs.Versions.{Version, version_numbered}
 use Rattle.ode_value.specs.Worlds.{Object, Bones, with_object}
-use Rattle.ode_top.specs.Stability.{StaysObject, IsOldActivation, AreActivations, FollowsObject}
+use Rattle.ode_machine.specs.Stability.{StaysObject, IsOldActivation, AreActivations, FollowsObject}
 use Rattle.ode_laws.specs.Numbered.{HasNumbers, AreNumbered}
 use Rattle.ode_run_laws.specs.Orders.{HasVersions, unclassed}
 use Rattle.ode_laws.proofs.Alone.{Keeps}

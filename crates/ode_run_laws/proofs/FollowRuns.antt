@@ -21,14 +21,14 @@ use Rattle.ode_value.specs.Texts.{class_line}
 use Rattle.ode_value.specs.Transactions.{Script, Queue, Clock, begun}
 use Rattle.ode_value.specs.Worlds.{Declared, Entry, Position, Bones}
 use Rattle.ode_timer.specs.Due.{behind}
-use Rattle.ode_engine.specs.Commands.{Step, after, settles, goes_on, does_simple, ends_open, commits, does_class, does_clock, carried, command, finish, bones_now}
-use Rattle.ode_engine.specs.Refusals.{placed, checked_in, declared_in, ticks_in}
-use Rattle.ode_engine.specs.Sessions.{Session, closed, opened}
-use Rattle.ode_engine.specs.Works.{declares, ticks, tick, move, then_rest, clock_run}
+use Rattle.ode_machine.specs.Commands.{Step, after, settles, goes_on, does_simple, ends_open, commits, does_class, does_clock, carried, command, finish, bones_now}
+use Rattle.ode_machine.specs.Refusals.{placed, checked_in, declared_in, ticks_in}
+use Rattle.ode_machine.specs.Sessions.{Session, closed, opened}
+use Rattle.ode_machine.specs.Works.{declares, ticks, tick, move, then_rest, clock_run}
 use Rattle.ode_script.specs.Cutting.{Pieces, Then, Ended, Ending, pieces}
 use Rattle.ode_script.specs.Cutting as cutting
-use Rattle.ode_top.specs.Runs.{Item, item_of, answered, ending_items, followed_by, pieces_items, trace, worlds}
-use Rattle.ode_top.specs.Stability.{EachFollows, IsStable}
+use Rattle.ode_machine.specs.Runs.{Item, item_of, answered, ending_items, followed_by, pieces_items, trace, worlds}
+use Rattle.ode_machine.specs.Stability.{EachFollows, IsStable}
 use Rattle.ode_laws.proofs.SideActs.{done_alike}
 use Rattle.ode_laws.proofs.SideCompleting.{completes_alike, entry_alike}
 use Rattle.ode_laws.proofs.SideStatements.{commands_alike}

@@ -20,7 +20,7 @@ use Rattle.ode_value.specs.Settling.{settled_world, posted, commit, abort, settl
 use Rattle.ode_value.specs.Transactions.{Tx, Origin, Firing, begun}
 use Rattle.ode_value.specs.Versions.{Version, version_numbered}
 use Rattle.ode_value.specs.Worlds.{Declared, Object, Bones, World}
-use Rattle.ode_top.specs.Stability.{IsOldVersion, StaysObject, IsOldActivation, AreActivations, FollowsObject, Follows}
+use Rattle.ode_machine.specs.Stability.{IsOldVersion, StaysObject, IsOldActivation, AreActivations, FollowsObject, Follows}
 use Rattle.ode_laws.specs.Numbered.{HasNumbers, AreNumbered}
 use Rattle.ode_laws.proofs.Alone.{Alone, alone}
 use Rattle.ode_laws.proofs.AlikePairs.{all_found}

@@ -1,9 +1,9 @@
 -- Runs join, and what is printed before a transaction is the beginning of the whole text.
 use Rattle.std.proofs.Common.{◌≡◌, ℕ, zero, suc, List, [], ◌∷◌, ◌++◌, refl, sym, ap, ◌∙◌}
 use Rattle.std.proofs.lemmas.List.{append_assoc}
-use Rattle.ode_engine.specs.Sessions.{Session}
+use Rattle.ode_machine.specs.Sessions.{Session}
 use Rattle.ode_script.specs.Cutting.{Pieces}
-use Rattle.ode_top.specs.Runs.{Item, Settles, Refuses, piece_stretch, followed_by, pieces_items, text_of, text_until, final, worlds}
+use Rattle.ode_machine.specs.Runs.{Item, Settles, Refuses, piece_stretch, followed_by, pieces_items, text_of, text_until, final, worlds}
 use Rattle.ode_value.specs.Language.{Language, ListWorld}
 use Rattle.ode_run_laws.specs.Joining.{before_pieces, pieces_stretch, BeginsWith}
 

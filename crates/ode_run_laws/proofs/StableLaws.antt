@@ -7,7 +7,7 @@ use Rattle.ode_value.specs.declared.value.Ref.{Ref}
 use Rattle.ode_value.specs.Denoting.{object_numbered, object_at, if_live, denotes}
 use Rattle.ode_value.specs.Versions.{Version, version_numbered, newest, version_of}
 use Rattle.ode_value.specs.Worlds.{Object, Bones}
-use Rattle.ode_top.specs.Stability.{SameVersion, IsGone, IsHeld, IsStableFor, IsOldVersion, StaysObject, IsOldActivation, AreActivations, FollowsObject, Follows, EachFollows, IsStable}
+use Rattle.ode_machine.specs.Stability.{SameVersion, IsGone, IsHeld, IsStableFor, IsOldVersion, StaysObject, IsOldActivation, AreActivations, FollowsObject, Follows, EachFollows, IsStable}
 use Rattle.ode_laws.specs.Numbered.{HasNumbers}
 use Rattle.ode_laws.proofs.AlikePairs.{all_found}
 use Rattle.ode_laws.proofs.Rows.{numbered_id}

@@ -4,8 +4,8 @@ use Rattle.ode_value.specs.Changes.{object, lives}
 use Rattle.ode_value.specs.Executing.{first_actions}
 use Rattle.ode_value.specs.Posting.{touches}
 use Rattle.ode_value.specs.Worlds.{Position}
-use Rattle.ode_engine.specs.TimeRows.{kinds_of}
-use Rattle.ode_engine.specs.Works.{ticks}
+use Rattle.ode_machine.specs.TimeRows.{kinds_of}
+use Rattle.ode_machine.specs.Works.{ticks}
 use Rattle.ode_laws.proofs.Sides.{Sides}
 use Rattle.ode_laws.proofs.SideActs.{Alike, then_alike, next_alike, finds_alike, object_alike, lives_alike}
 use Rattle.ode_laws.proofs.SidePosting.{posts_alike, touches_alike}

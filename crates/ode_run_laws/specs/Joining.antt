@@ -1,8 +1,8 @@
 -- How runs join: some pieces, and then others.
 use Rattle.std.specs.Prelude.{◌≡◌, ℕ, List, [], ◌∷◌, ◌++◌}
-use Rattle.ode_engine.specs.Sessions.{Session}
+use Rattle.ode_machine.specs.Sessions.{Session}
 use Rattle.ode_script.specs.Cutting.{Pieces, Then}
-use Rattle.ode_top.specs.Runs.{Item, Stretch, piece_stretch}
+use Rattle.ode_machine.specs.Runs.{Item, Stretch, piece_stretch}
 use Rattle.ode_value.specs.Language.{Language}
 
 -- pieces by their lines and texts, and others behind them

@@ -2,7 +2,7 @@
 ghost use Rattle.std.specs.Prelude.{ℕ, List as Items, [], ◌∷◌, ◌++◌, map};
 ghost use Rattle.std.specs.List.{AllZip};
 ghost use Rattle.ode_codec.specs.Standing.{HasTables};
-ghost use Rattle.ode_engine.specs.Works.{clock_run, declares, tick};
+ghost use Rattle.ode_machine.specs.Works.{clock_run, declares, tick};
 ghost use Rattle.ode_laws.specs.Alike.{IsAlike, NumberWorld, SettledAs};
 ghost use Rattle.ode_value.specs.GoodWorlds.{RiseFrom};
 ghost use Rattle.ode_value.specs.Language.{ListWorld};

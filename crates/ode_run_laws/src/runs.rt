@@ -1,10 +1,10 @@
 //! Laws of runs, each carried by the contract of a function that does nothing.
 ghost use Rattle.std.specs.Prelude.{◌≡◌, ◌++◌, ℕ, List as Items, map};
 ghost use Rattle.std.specs.List.{AllByRecursion};
-ghost use Rattle.ode_engine.specs.Sessions.{Session};
+ghost use Rattle.ode_machine.specs.Sessions.{Session};
 ghost use Rattle.ode_script.specs.Cutting.{Pieces};
-ghost use Rattle.ode_top.specs.Runs.{Item, final, followed_by, pieces_items, text_of, text_until, trace, worlds};
-ghost use Rattle.ode_top.specs.Stability.{IsStable};
+ghost use Rattle.ode_machine.specs.Runs.{Item, final, followed_by, pieces_items, text_of, text_until, trace, worlds};
+ghost use Rattle.ode_machine.specs.Stability.{IsStable};
 ghost use Rattle.ode_value.specs.GoodWorlds.{IsGood};
 ghost use Rattle.ode_value.specs.Language.{Language, ListWorld};
 ghost use Rattle.ode_value.specs.Worlds.{Bones};

@@ -22,8 +22,8 @@ use Rattle.ode_value.specs.Texts.{class_line}
 use Rattle.ode_value.specs.Transactions.{Script, Clock, begun}
 use Rattle.ode_value.specs.Weights.{weight}
 use Rattle.ode_value.specs.Worlds.{Declared, Position, Object}
-use Rattle.ode_engine.specs.TimeRows.{kinds_of}
-use Rattle.ode_engine.specs.Works.{declares, ticks, tick, move, then_rest, clock_run}
+use Rattle.ode_machine.specs.TimeRows.{kinds_of}
+use Rattle.ode_machine.specs.Works.{declares, ticks, tick, move, then_rest, clock_run}
 use Rattle.ode_laws.proofs.Each.{all-append}
 use Rattle.ode_run_laws.proofs.AlikeClasses.{more_classes, declared, printable, completes_weighs}
 use Rattle.ode_sound_laws.specs.Typed.{IsTypedWorld, IsTyped}

@@ -1,7 +1,7 @@
 //! Worlds behind the clock and behind declarations.
 ghost use Rattle.std.specs.Prelude.{ℕ, List as Items};
 ghost use Rattle.std.specs.List.{AllByRecursion};
-ghost use Rattle.ode_engine.specs.Works.{clock_run, declares, tick};
+ghost use Rattle.ode_machine.specs.Works.{clock_run, declares, tick};
 ghost use Rattle.ode_value.specs.Language.{ListWorld};
 ghost use Rattle.ode_value.specs.Objects.{Histories, Starts};
 ghost use Rattle.ode_value.specs.Pasts.{lists};

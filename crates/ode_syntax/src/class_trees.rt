@@ -1,9 +1,9 @@
 //! Classes, their members, and statements of a script, and what each action makes.
 ghost use Rattle.std.specs.Prelude.{◌≡◌, OnOk, IfOk, [], false};
 ghost use Rattle.ode_grammar.specs.Stacks.{rest, top};
-ghost use Rattle.ode_syntax.specs.Built.{built_class, built_member, built_script, clock_text, declared, event_tree, name, sort_on, tree, with_member};
+ghost use Rattle.ode_syntax.specs.Built.{built_class, built_member, built_script, clock_text, declared, event_tree, name, sort_on, tree};
 
-use crate::top::{take, take_event, take_expr, take_list, take_name, take_statement};
+use crate::top::{add, take, take_event, take_expr, take_list, take_name, take_statement};
 use crate::trees::Trees;
 use crate::words::text_of;
 use ode_grammar::{Action, Stack};
@@ -12,19 +12,6 @@ use ode_value::{
     TriggerDecl, Value,
 };
 use std::alloc::{AllocError, Global};
-
-// Adds a member to the list on top.
-fn add_member(
-    alloc: Global,
-    members: &mut Stack<List<Member>>,
-    member: Member,
-) -> Result<(), AllocError>
-    ensures { OnOk result (members.new ≡ with_member members.old member) }
-{
-    let mut list = take_list(alloc, members);
-    list.push(member)?;
-    members.push(list)
-}
 
 // Takes the class on top away, as a statement.
 fn take_declared(classes: &mut Stack<ClassDecl>) -> Statement
@@ -62,15 +49,12 @@ impl Trees {
             Action::Param => {
                 let name = take_name(alloc, &mut self.names)?;
                 let sort = take(&mut self.sorts, Sort::Void);
-                let mut params = take_list(alloc, &mut self.params);
-                params.push(Param { name, sort })?;
-                self.params.push(params)
+                add(alloc, &mut self.params, Param { name, sort })
             }
             Action::Kinds => self.kind_lists.push(List::new(alloc)),
             Action::Listed => {
-                let mut kinds = take_list(alloc, &mut self.kind_lists);
-                kinds.push(take(&mut self.kinds, Kind::Create))?;
-                self.kind_lists.push(kinds)
+                let kind = take(&mut self.kinds, Kind::Create);
+                add(alloc, &mut self.kind_lists, kind)
             }
             Action::Initial => self.flags.push(true),
             Action::NotInitial | Action::Once | Action::Committed => self.flags.push(false),
@@ -82,9 +66,9 @@ impl Trees {
             }
             Action::NoParent => self.parents.push(None),
             Action::Class => {
+                let name = take_name(alloc, &mut self.names)?;
                 let members = take_list(alloc, &mut self.members);
                 let parent = take(&mut self.parents, None);
-                let name = take_name(alloc, &mut self.names)?;
                 self.classes.push(ClassDecl {
                     name,
                     parent,
@@ -99,9 +83,9 @@ impl Trees {
         ensures method { IfOk result (λ m. m ≡ record { name = name self.old.names; result = sort_on self.old.sorts; params = top [] self.old.params; body = top [] self.old.bodies }) }
         ensures rest { OnOk result (self.new ≡ record self.old { bodies = rest self.old.bodies; params = rest self.old.params; names = rest self.old.names; sorts = rest self.old.sorts }) }
     {
+        let name = take_name(alloc, &mut self.names)?;
         let body = take_list(alloc, &mut self.bodies);
         let params = take_list(alloc, &mut self.params);
-        let name = take_name(alloc, &mut self.names)?;
         let result = take(&mut self.sorts, Sort::Void);
         Ok(Method {
             name,
@@ -115,8 +99,8 @@ impl Trees {
         ensures constraint { IfOk result (λ c. c ≡ record { name = name self.old.names; soft = soft; test = tree self.old.exprs }) }
         ensures rest { OnOk result (self.new ≡ record self.old { exprs = rest self.old.exprs; names = rest self.old.names }) }
     {
-        let test = take_expr(&mut self.exprs);
         let name = take_name(alloc, &mut self.names)?;
+        let test = take_expr(&mut self.exprs);
         Ok(Constraint { name, soft, test })
     }
 
@@ -140,10 +124,10 @@ impl Trees {
           flags = rest (rest (rest self.old.flags));
         }) }
     {
+        let name = take_name(alloc, &mut self.names)?;
         let action = take_list(alloc, &mut self.bodies);
         let event = take_event(&mut self.events);
         let params = take_list(alloc, &mut self.params);
-        let name = take_name(alloc, &mut self.names)?;
         let mode = take(&mut self.modes, Mode::Immediate);
         let whole = take(&mut self.flags, false);
         let perpetual = take(&mut self.flags, false);
@@ -169,27 +153,27 @@ impl Trees {
             Action::FieldMember => {
                 let name = take_name(alloc, &mut self.names)?;
                 let sort = take(&mut self.sorts, Sort::Void);
-                add_member(alloc, &mut self.members, Member::Field(name, sort))
+                add(alloc, &mut self.members, Member::Field(name, sort))
             }
             Action::Method => {
                 let method = self.take_method(alloc)?;
-                add_member(alloc, &mut self.members, Member::Method(method))
+                add(alloc, &mut self.members, Member::Method(method))
             }
             Action::Constraint => {
                 let constraint = self.take_constraint(alloc, false)?;
-                add_member(alloc, &mut self.members, Member::Constraint(constraint))
+                add(alloc, &mut self.members, Member::Constraint(constraint))
             }
             Action::SoftConstraint => {
                 let constraint = self.take_constraint(alloc, true)?;
-                add_member(alloc, &mut self.members, Member::Constraint(constraint))
+                add(alloc, &mut self.members, Member::Constraint(constraint))
             }
             Action::Events => {
                 let kinds = take_list(alloc, &mut self.kind_lists);
-                add_member(alloc, &mut self.members, Member::Events(kinds))
+                add(alloc, &mut self.members, Member::Events(kinds))
             }
             Action::Trigger => {
                 let trigger = self.take_trigger(alloc)?;
-                add_member(alloc, &mut self.members, Member::Trigger(trigger))
+                add(alloc, &mut self.members, Member::Trigger(trigger))
             }
             _ => self.build_script(alloc, action),
         }

@@ -31,6 +31,24 @@ fn second_of(leaf: &Expr) -> i64
     }
 }
 
+// Takes the number on top away.
+fn take_count(leaves: &mut Stack<Expr>) -> u32
+    ensures top { result ≡ count_of (tree leaves.old) }
+    ensures rest { leaves.new ≡ rest leaves.old }
+{
+    let leaf = take_expr(leaves);
+    count_of(&leaf)
+}
+
+// Takes the second on top away.
+fn take_second(leaves: &mut Stack<Expr>) -> i64
+    ensures top { result ≡ second_of (tree leaves.old) }
+    ensures rest { leaves.new ≡ rest leaves.old }
+{
+    let leaf = take_expr(leaves);
+    second_of(&leaf)
+}
+
 // Takes the two event expressions on top away, the lower one first.
 fn take_two(
     alloc: Global,
@@ -43,6 +61,16 @@ fn take_two(
     let right = take_boxed_event(alloc, events)?;
     let left = take_boxed_event(alloc, events)?;
     Ok((left, right))
+}
+
+// Takes the three event expressions on top away, into one.
+fn take_fa(alloc: Global, events: &mut Stack<EventExpr>) -> Result<EventExpr, AllocError>
+    ensures top { IfOk result (λ fa. fa ≡ EventExpr.Fa (event_tree (rest (rest events.old))) (event_tree (rest events.old)) (event_tree events.old)) }
+    ensures rest { OnOk result (events.new ≡ rest (rest (rest events.old))) }
+{
+    let third = take_boxed_event(alloc, events)?;
+    let (first, second) = take_two(alloc, events)?;
+    Ok(EventExpr::Fa(first, second, third))
 }
 
 impl Trees {
@@ -90,19 +118,18 @@ impl Trees {
                 self.events.push(EventExpr::Sequence(left, right))
             }
             Action::Choose => {
-                let count = count_of(&take_expr(&mut self.leaves));
+                let count = take_count(&mut self.leaves);
                 let of = take_boxed_event(alloc, &mut self.events)?;
                 self.events.push(EventExpr::Choose(count, of))
             }
             Action::Every => {
-                let count = count_of(&take_expr(&mut self.leaves));
+                let count = take_count(&mut self.leaves);
                 let of = take_boxed_event(alloc, &mut self.events)?;
                 self.events.push(EventExpr::Every(count, of))
             }
             Action::Fa => {
-                let third = take_boxed_event(alloc, &mut self.events)?;
-                let (first, second) = take_two(alloc, &mut self.events)?;
-                self.events.push(EventExpr::Fa(first, second, third))
+                let fa = take_fa(alloc, &mut self.events)?;
+                self.events.push(fa)
             }
             _ => self.build_kind(alloc, action),
         }
@@ -129,11 +156,11 @@ impl Trees {
             Action::AfterTCommit => self.kinds.push(Kind::TCommit),
             Action::AfterTAbort => self.kinds.push(Kind::TAbort),
             Action::TimeAt => {
-                let second = second_of(&take_expr(&mut self.leaves));
+                let second = take_second(&mut self.leaves);
                 self.kinds.push(Kind::TimeAt(second))
             }
             Action::TimeEvery => {
-                let seconds = count_of(&take_expr(&mut self.leaves));
+                let seconds = take_count(&mut self.leaves);
                 self.kinds.push(Kind::TimeEvery(seconds))
             }
             _ => self.build_class(alloc, action),

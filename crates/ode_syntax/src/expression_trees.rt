@@ -1,12 +1,13 @@
 //! Expressions, and what each action makes.
-ghost use Rattle.std.specs.Prelude.{◌≡◌, OnOk};
-ghost use Rattle.ode_syntax.specs.Built.{binary_of, built, unary_of};
+ghost use Rattle.std.specs.Prelude.{◌≡◌, IfOk, OnOk};
+ghost use Rattle.ode_grammar.specs.Stacks.{rest};
+ghost use Rattle.ode_syntax.specs.Built.{binary_of, built, tree, unary_of};
 
 use crate::top::{take, take_boxed, take_expr, take_name};
 use crate::trees::Trees;
-use ode_grammar::Action;
+use ode_grammar::{Action, Stack};
 use ode_lex::Mark;
-use ode_value::{BinOp, Expr, UnOp};
+use ode_value::{BinOp, Boxed, Expr, UnOp};
 use std::alloc::{AllocError, Global};
 
 // The operator of two operands that a mark is.
@@ -37,6 +38,20 @@ fn unary_of(mark: Mark) -> UnOp
         Mark::Not => UnOp::Not,
         _ => UnOp::Minus,
     }
+}
+
+// Takes the two expressions on top away, the lower one first.
+fn take_operands(
+    alloc: Global,
+    exprs: &mut Stack<Expr>,
+) -> Result<(Boxed<Expr>, Boxed<Expr>), AllocError>
+    ensures top { IfOk result (λ two. two.1 ≡ tree exprs.old) }
+    ensures second { IfOk result (λ two. two.0 ≡ tree (rest exprs.old)) }
+    ensures rest { OnOk result (exprs.new ≡ rest (rest exprs.old)) }
+{
+    let right = take_boxed(alloc, exprs)?;
+    let left = take_boxed(alloc, exprs)?;
+    Ok((left, right))
 }
 
 impl Trees {
@@ -70,8 +85,7 @@ impl Trees {
             }
             Action::Binary => {
                 let op = binary_of(take(&mut self.marks, Mark::Plus));
-                let right = take_boxed(alloc, &mut self.exprs)?;
-                let left = take_boxed(alloc, &mut self.exprs)?;
+                let (left, right) = take_operands(alloc, &mut self.exprs)?;
                 self.exprs.push(Expr::Binary(op, left, right))
             }
             _ => self.build_right_side(alloc, action),

@@ -2,7 +2,7 @@
 ghost use Rattle.std.specs.Prelude.{◌≡◌, IfOk, OnOk, Some, None, map, true, false};
 ghost use Rattle.ode_grammar.specs.Reading.{made_after, made_at_end, next};
 ghost use Rattle.ode_syntax.specs.Kept.{spelled};
-ghost use Rattle.ode_syntax.specs.Trees.{Makes, trees};
+ghost use Rattle.ode_syntax.specs.Trees.{Makes, no_trees, trees};
 
 use crate::trees::Trees;
 use ode_grammar::{Item, Stack, Start, Terminal, after, items_of, skipped};
@@ -67,6 +67,32 @@ fn finish(alloc: Global, items: &mut Stack<Item>, made: &mut Trees) -> Result<()
     Ok(())
 }
 
+// What is made of the tokens, where nothing was made before.
+fn read_into(
+    alloc: Global,
+    start: Start,
+    place: Place,
+    text: &[u8],
+    tokens: &[Token],
+    made: &mut Trees,
+) -> Result<(), AllocError>
+    requires { made.old ≡ no_trees }
+    ensures { OnOk result ((read : Trees) → Makes start (map (spelled place text.now) tokens.now) read → made.new ≡ read) }
+{
+    let mut items = Stack::new(alloc);
+    items.push_all(items_of(start))?;
+    for at in 0..tokens.len() {
+        let token = tokens[at];
+        let terminal = terminal_of(place, text, token);
+        let bytes = slice_of(text, token);
+        if !advance(alloc, &mut items, made, terminal, token.kind, bytes)? {
+            return Ok(());
+        }
+    }
+    finish(alloc, &mut items, made)?;
+    Ok(())
+}
+
 /// What is made of the tokens, where they are a text of this sort, in time linear in their number.
 pub fn read(
     alloc: Global,
@@ -77,17 +103,12 @@ pub fn read(
 ) -> Result<Trees, AllocError>
     ensures { IfOk result (λ read. (made : Trees) → Makes start (map (spelled place text.now) tokens.now) made → read ≡ made) }
 {
-    let mut items = Stack::new(alloc);
-    items.push_all(items_of(start))?;
     let mut made = Trees::new(alloc);
-    for at in 0..tokens.len() {
-        let token = tokens[at];
-        let terminal = terminal_of(place, text, token);
-        let bytes = slice_of(text, token);
-        if !advance(alloc, &mut items, &mut made, terminal, token.kind, bytes)? {
-            return Ok(made);
+    match read_into(alloc, start, place, text, tokens, &mut made) {
+        Ok(()) => Ok(made),
+        Err(why) => {
+            made.let_go();
+            Err(why)
         }
     }
-    finish(alloc, &mut items, &mut made)?;
-    Ok(made)
 }

@@ -2,7 +2,7 @@
 ghost use Rattle.std.specs.Prelude.{◌≡◌, OnOk};
 ghost use Rattle.ode_syntax.specs.Built.{built_right_side, built_statement};
 
-use crate::top::{take_expr, take_list, take_name, take_right_side, take_statement};
+use crate::top::{add, take_expr, take_list, take_name, take_right_side, take_statement};
 use crate::trees::Trees;
 use ode_grammar::Action;
 use ode_value::{Call, List, Rhs, Stmt, Var};
@@ -21,26 +21,24 @@ impl Trees {
         match action {
             Action::Arguments => self.args.push(List::new(alloc)),
             Action::Argument => {
-                let mut args = take_list(alloc, &mut self.args);
-                args.push(take_expr(&mut self.exprs))?;
-                self.args.push(args)
+                let e = take_expr(&mut self.exprs);
+                add(alloc, &mut self.args, e)
             }
             Action::Sets => self.sets.push(List::new(alloc)),
             Action::AddSet => {
                 let name = take_name(alloc, &mut self.names)?;
-                let mut sets = take_list(alloc, &mut self.sets);
-                sets.push((name, take_expr(&mut self.exprs)))?;
-                self.sets.push(sets)
+                let e = take_expr(&mut self.exprs);
+                add(alloc, &mut self.sets, (name, e))
             }
             Action::Call => {
-                let args = take_list(alloc, &mut self.args);
                 let method = take_name(alloc, &mut self.names)?;
+                let args = take_list(alloc, &mut self.args);
                 let of = Some(take_expr(&mut self.exprs));
                 self.right_sides.push(Rhs::Call(Call { of, method, args }))
             }
             Action::OwnCall => {
-                let args = take_list(alloc, &mut self.args);
                 let method = take_name(alloc, &mut self.names)?;
+                let args = take_list(alloc, &mut self.args);
                 self.right_sides.push(Rhs::Call(Call {
                     of: None,
                     method,
@@ -48,8 +46,8 @@ impl Trees {
                 }))
             }
             Action::New => {
-                let fields = take_list(alloc, &mut self.sets);
                 let class = take_name(alloc, &mut self.names)?;
+                let fields = take_list(alloc, &mut self.sets);
                 self.right_sides.push(Rhs::New { class, fields })
             }
             Action::NewVersion => {
@@ -57,8 +55,8 @@ impl Trees {
                 self.right_sides.push(Rhs::NewVersion(of))
             }
             Action::Activate => {
-                let args = take_list(alloc, &mut self.args);
                 let trigger = take_name(alloc, &mut self.names)?;
+                let args = take_list(alloc, &mut self.args);
                 let of = take_expr(&mut self.exprs);
                 self.right_sides.push(Rhs::Activate { of, trigger, args })
             }
@@ -78,9 +76,8 @@ impl Trees {
         match action {
             Action::Body | Action::Absent => self.bodies.push(List::new(alloc)),
             Action::Append => {
-                let mut body = take_list(alloc, &mut self.bodies);
-                body.push(take_statement(&mut self.statements))?;
-                self.bodies.push(body)
+                let statement = take_statement(&mut self.statements);
+                add(alloc, &mut self.bodies, statement)
             }
             Action::Show => {
                 let shown = take_right_side(&mut self.right_sides);

@@ -1,11 +1,11 @@
 //! What stands on top of a stack.
-ghost use Rattle.std.specs.Prelude.{◌≡◌, [], IfOk};
+ghost use Rattle.std.specs.Prelude.{◌≡◌, ◌++◌, ◌∷◌, [], IfOk, None, OnOk, codes};
 ghost use Rattle.ode_grammar.specs.Stacks.{rest, top};
-ghost use Rattle.ode_syntax.specs.Built.{name, tree, event_tree, right, stmt_tree};
+ghost use Rattle.ode_syntax.specs.Built.{class_tree, name, tree, event_tree, right, stmt_tree};
 
 use crate::words::name_of;
 use ode_grammar::Stack;
-use ode_value::{Boxed, EventExpr, Expr, List, Name, Rhs, Stmt};
+use ode_value::{Boxed, ClassDecl, EventExpr, Expr, List, Name, Rhs, Stmt};
 use std::alloc::{AllocError, Global};
 
 /// Takes what is on top away. `none` stands for it where the stack is empty.
@@ -25,6 +25,15 @@ pub fn take_list<T: Drop>(alloc: Global, stack: &mut Stack<List<T>>) -> List<T>
     ensures rest { stack.new ≡ rest stack.old }
 {
     take(stack, List::new(alloc))
+}
+
+/// Adds an item to the list on top.
+pub fn add<T: Drop>(alloc: Global, lists: &mut Stack<List<T>>, item: T) -> Result<(), AllocError>
+    ensures { OnOk result (lists.new ≡ (top [] lists.old ++ item ∷ []) ∷ rest lists.old) }
+{
+    let mut list = take_list(alloc, lists);
+    list.push(item)?;
+    lists.push(list)
 }
 
 /// Takes the name on top away.
@@ -89,4 +98,26 @@ pub fn take_statement(statements: &mut Stack<Stmt>) -> Stmt
     ensures rest { statements.new ≡ rest statements.old }
 {
     take(statements, Stmt::TAbort)
+}
+
+// A class with no members.
+fn empty_class(alloc: Global) -> Result<ClassDecl, AllocError>
+    ensures { IfOk result (λ class. class ≡ record { name = codes "x"; parent = None; members = [] }) }
+{
+    let name = name_of(alloc, b"x")?;
+    Ok(ClassDecl {
+        name,
+        parent: None,
+        members: List::new(alloc),
+    })
+}
+
+/// Takes the class on top away.
+pub fn take_class(alloc: Global, classes: &mut Stack<ClassDecl>) -> Result<ClassDecl, AllocError>
+    ensures { IfOk result (λ class. class ≡ class_tree classes.old) }
+{
+    match classes.pop() {
+        Some(class) => Ok(class),
+        None => empty_class(alloc),
+    }
 }

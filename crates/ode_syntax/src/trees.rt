@@ -3,8 +3,7 @@ ghost use Rattle.std.specs.Prelude.{◌≡◌, IfOk};
 ghost use Rattle.ode_syntax.specs.Built.{class_tree, event_tree, script_tree, tree};
 ghost use Rattle.ode_syntax.specs.Trees.{no_trees};
 
-use crate::top::{take, take_event, take_expr};
-use crate::words::name_of;
+use crate::top::{take, take_class, take_event, take_expr};
 use ode_grammar::Stack;
 use ode_lex::Mark;
 use ode_value::{
@@ -69,12 +68,17 @@ impl Trees {
 }
 
 impl Trees {
+    /// Lets all trees go, so that the twenty stacks are dropped at one place.
+    pub(crate) fn let_go(self) {}
+
     /// The expression on top.
     pub fn into_expr(self) -> Expr
         ensures { result ≡ tree self.exprs }
     {
         let mut made = self;
-        take_expr(&mut made.exprs)
+        let e = take_expr(&mut made.exprs);
+        made.let_go();
+        e
     }
 
     /// The event expression on top.
@@ -82,7 +86,9 @@ impl Trees {
         ensures { result ≡ event_tree self.events }
     {
         let mut made = self;
-        take_event(&mut made.events)
+        let e = take_event(&mut made.events);
+        made.let_go();
+        e
     }
 
     /// The class on top.
@@ -90,14 +96,9 @@ impl Trees {
         ensures { IfOk result (λ class. class ≡ class_tree self.classes) }
     {
         let mut made = self;
-        match made.classes.pop() {
-            Some(class) => Ok(class),
-            None => Ok(ClassDecl {
-                name: name_of(alloc, b"x")?,
-                parent: None,
-                members: List::new(alloc),
-            }),
-        }
+        let class = take_class(alloc, &mut made.classes);
+        made.let_go();
+        class
     }
 
     /// The statement of a script on top.
@@ -105,6 +106,8 @@ impl Trees {
         ensures { result ≡ script_tree self.scripts }
     {
         let mut made = self;
-        take(&mut made.scripts, Statement::Empty)
+        let statement = take(&mut made.scripts, Statement::Empty);
+        made.let_go();
+        statement
     }
 }

@@ -2,7 +2,7 @@
 use Rattle.std.proofs.Common.{◌≡◌, ⊎_elim, ℕ, suc, List, [], ◌∷◌, ◌++◌, take, drop, Bool, refl, sym, ap, ◌∙◌, subst, append_assoc, append-nil}
 use Rattle.std.proofs.lemmas.List.{take-append-drop}
 use Rattle.ode_keep.specs.Entries.{Changes, Entries, applied}
-use Rattle.ode_open.specs.Holds.{HoldsBy}
+use Rattle.ode_first_open.specs.Holds.{HoldsBy}
 use Rattle.ode_host.specs.Host.{LeavesOnly}
 use Rattle.ode_host.specs.View.{View}
 use Rattle.ode_host.proofs.Moments.{joined, weaker}

@@ -8,7 +8,7 @@ use Rattle.ode_host.specs.View.{View}
 use Rattle.ode_host.specs.declared.status.Status.{Status}
 use Rattle.ode_host.specs.declared.status.Status.TheVariants as status
 use Rattle.ode_host.proofs.Moments.{one_call}
-use Rattle.ode_open.specs.Holds.{Holds}
+use Rattle.ode_first_open.specs.Holds.{Holds}
 use Rattle.ode_script.specs.Cutting.{pieces}
 use Rattle.ode_value.specs.OneIntRecords.{rows}
 use Rattle.ode_value.specs.OneIntWorld.{OneIntWorld}

@@ -9,7 +9,7 @@ use Rattle.ode_host.specs.declared.status.Status.{Status}
 use Rattle.ode_host.specs.declared.status.Status.TheVariants as status
 use Rattle.ode_host.proofs.FirstSync.{never_synced, synced_run}
 use Rattle.ode_host.proofs.Moments.{joined, keeps_joined, looks_none, tells_looks}
-use Rattle.ode_open.specs.Holds.{Holds}
+use Rattle.ode_first_open.specs.Holds.{Holds}
 use Rattle.ode_value.specs.OneIntWorld.{OneIntWorld}
 use Rattle.ode_top.specs.Answers.{IsNoRun, IsSilent, SaidFront, SaysWhy}
 use Rattle.ode_top.specs.Claims.{RunsNone, RunsWorld}

@@ -5,4 +5,3 @@ pub mod Claiming
 pub mod Leaving
 pub mod Runs
 pub mod Settles
-pub mod Stable

@@ -11,7 +11,7 @@ use Rattle.ode_top.specs.Halts.{status_of_error}
 use Rattle.ode_script.specs.Left.{EndsBy}
 use Rattle.ode_script.specs.Cutting.{Ending, End, LongStatement, LongScript, Pieces, Then, Ended, ending_of}
 use Rattle.ode_top.specs.Serves.{Carries, Holding, IsEnding, LeavesNothing, RanAs, Serves, SoFar}
-use Rattle.ode_top.specs.Runs.{status_at}
+use Rattle.ode_machine.specs.Runs.{status_at}
 use Rattle.ode_top.specs.Trace.{Item, Settled, Refusal, piece_items, trace, final, text_of, any_refused}
 
 pub text_of-append : (xs ys : List Item) → text_of (xs ++ ys) ≡ text_of xs ++ text_of ys

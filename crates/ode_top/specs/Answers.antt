@@ -10,8 +10,8 @@ use Rattle.ode_value.specs.OneIntRecords.{rows}
 use Rattle.ode_value.specs.Texts.{line}
 use Rattle.ode_value.specs.OneIntWorld.{OneIntWorld, empty_one_int_world}
 use Rattle.ode_top.specs.Calls.{call_of}
-use Rattle.ode_open.specs.Holds.{Holds}
-use Rattle.ode_open.specs.Making.{IsInUse, IsInitialised}
+use Rattle.ode_first_open.specs.Holds.{Holds}
+use Rattle.ode_first_open.specs.Making.{IsInUse, IsInitialised}
 use Rattle.ode_top.specs.Serves.{LeavesNothing}
 use Rattle.ode_top.specs.Trace.{run_status, run_text, run_world}
 use Rattle.ode_top.specs.declared.call.Mode.{Mode}

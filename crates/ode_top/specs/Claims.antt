@@ -7,8 +7,8 @@ use Rattle.ode_host.specs.Host.{Tells}
 use Rattle.ode_host.specs.View.{View}
 use Rattle.ode_host.specs.declared.status.Status.{Status}
 use Rattle.ode_host.specs.declared.status.Status.TheVariants.{Ok, BadFile, DiskFault, WriteFault}
-use Rattle.ode_open.specs.Holds.{Holds}
-use Rattle.ode_open.specs.Making.{IsInUse}
+use Rattle.ode_first_open.specs.Holds.{Holds}
+use Rattle.ode_first_open.specs.Making.{IsInUse}
 use Rattle.ode_value.specs.OneIntWorld.{OneIntWorld}
 use Rattle.ode_top.specs.Answers.{HoldsNone, IsBadFile, IsBadFileCut, IsIdle, IsInitCut, IsInitStatus, IsMachineRun, IsMade, IsNoRun, IsRefused, IsSilent}
 use Rattle.ode_top.specs.Halts.{IsRunStatus}

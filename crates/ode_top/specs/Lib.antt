@@ -4,5 +4,3 @@ pub mod Claims
 pub mod Halts
 pub mod Serves
 pub mod Trace
-pub mod Runs
-pub mod Stability

@@ -6,12 +6,12 @@ use Rattle.ode_host.specs.View.{View}
 use Rattle.ode_host.specs.declared.status.Status.{Status}
 use Rattle.ode_host.specs.declared.status.Status.TheVariants.{Ok, Refused, Usage, BadFile, DiskFault, ReadFault, WriteFault, Memory, LongStatement, LongScript}
 use Rattle.ode_keep.specs.Entries.{Changes, Entries, applied}
-use Rattle.ode_open.specs.Holds.{HoldsBy}
+use Rattle.ode_first_open.specs.Holds.{HoldsBy}
 use Rattle.ode_script.specs.Cutting.{Pieces, ending_of}
 use Rattle.ode_value.specs.OneIntGood.{IsOneIntGood}
 use Rattle.ode_value.specs.OneIntRecords.{rows}
 use Rattle.ode_value.specs.OneIntWorld.{OneIntWorld}
-use Rattle.ode_top.specs.Runs.{status_at}
+use Rattle.ode_machine.specs.Runs.{status_at}
 use Rattle.ode_top.specs.Trace.{Item, trace, final, after, text_of, text_until, any_refused}
 
 -- what a keeper holds on a host of which something is known, and what an image stands for

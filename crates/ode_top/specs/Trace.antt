@@ -8,7 +8,7 @@ use Rattle.ode_value.specs.declared.reason.Refusal.TheVariants.{NotBuilt}
 use Rattle.ode_value.specs.declared.statement.Statement.{Statement}
 use Rattle.ode_script.specs.Cutting.{Pieces, Then, Ended, ending_of, pieces}
 use Rattle.ode_first_syntax.specs.Statements.{statement_of}
-use Rattle.ode_top.specs.Runs.{status_at}
+use Rattle.ode_machine.specs.Runs.{status_at}
 
 -- a settled transaction with its text, or a refusal's line
 pub data Item : Type 0 where

@@ -1,7 +1,7 @@
 //! A run of a script, piece by piece.
 ghost use Rattle.std.specs.Prelude.{◌≡◌, ◌≢◌, ◌≤◌, ◌++◌, ◌⊎◌, ℕ, List as Items, IsTrue, length, Some, OnOk, OnErr, IfOk};
 ghost use Rattle.ode_first_records.specs.State.{world_of};
-ghost use Rattle.ode_engine.specs.Carried.{outcome_of, Keeps as StateKeeps};
+ghost use Rattle.ode_first_engine.specs.Carried.{outcome_of, Keeps as StateKeeps};
 ghost use Rattle.ode_host.specs.Causes.{RoseIf};
 ghost use Rattle.ode_host.specs.Host.{HostCalls, LeavesCut, LeavesOnly, Printed, Stands};
 ghost use Rattle.ode_value.specs.Limits.{statement_limit};
@@ -14,7 +14,7 @@ ghost use Rattle.ode_top.specs.Serves.{Carries, IsAfterSome, IsEnding, RanAs, Se
 ghost use Rattle.ode_top.specs.Trace.{Item as Done, piece_items, piece_outcome, run_items};
 
 use crate::settling::{Halt, settle};
-use ode_engine::{Item, command};
+use ode_first_engine::{Item, command};
 use ode_first_records::State;
 use ode_first_syntax::parse_statement;
 use ode_host::{Failed, Host, Source, Status};

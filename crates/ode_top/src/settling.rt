@@ -1,11 +1,11 @@
 //! A transaction is settled: its changes first, then its text.
 ghost use Rattle.std.specs.Prelude.{◌≡◌, ◌≢◌, ◌≤◌, ℕ, List as Items, IsTrue, OnOk, Some};
-ghost use Rattle.ode_engine.specs.Puts.{IsSmall};
+ghost use Rattle.ode_first_engine.specs.Puts.{IsSmall};
 ghost use Rattle.ode_host.specs.Host.{HostCalls, LeavesOnly, Printed};
 ghost use Rattle.ode_keep.specs.Entries.{Entries, applied, record_bytes};
 ghost use Rattle.ode_top.specs.Serves.{LeavesSettling};
 
-use ode_engine::Settled;
+use ode_first_engine::Settled;
 use ode_host::{Failed, Host};
 use ode_keep::{Keep, KeepError, MAX_RECORD_BYTES};
 use std::alloc::AllocError;

@@ -16,8 +16,8 @@ ghost use Rattle.ode_top.specs.Trace.{run_items};
 
 use crate::call::{Mode, call_of};
 use crate::run::run_script;
+use ode_first_open::{InitError, OpenError, Opened, initialise, open};
 use ode_host::{Failed, Host, Source, Status};
-use ode_open::{InitError, OpenError, Opened, initialise, open};
 use std::alloc::Global;
 
 const USAGE: &[u8] = b"usage: ode (init|run|check|dump) FILE | ode gen FILE N\n";

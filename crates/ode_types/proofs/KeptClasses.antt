@@ -84,7 +84,7 @@ module _ (known : List Class) (d : ClassDecl) where
       let p = bind-ok (declares known d c m) (λ x. through (declares known d) x ms) e h in
       ap (λ (x : Class). fold with_member x ms) (declares-adds c m p.0 p.1) ∙ all-add ms p.0 e p.2
 
-  declared-adds : (start draft : Class) → declared known d start ≡ Ok draft → fold with_member start d.members ≡ draft
+  pub declared-adds : (start draft : Class) → declared known d start ≡ Ok draft → fold with_member start d.members ≡ draft
   unfolding declared
   declared-adds start draft h =
       let p = bind-ok (through (declares known d) start d.members) (λ c. needs (TooMany d.name) (is_small known c) >> Ok c) draft h in
@@ -108,7 +108,7 @@ head-with c (member.Constraint x) = ap (λ (xs : List Constraint). record (head 
 head-with c (member.Events kinds) = refl
 head-with c (member.Trigger t) = ap (λ (ts : List TriggerDecl). record (head c) { triggers = ts }) (map-append trigger_head c.triggers (t ∷ []))
 
-head-fold : (ms : List Member) (c : Class) → head (fold with_member c ms) ≡ fold with_member (head c) (map member_head ms)
+pub head-fold : (ms : List Member) (c : Class) → head (fold with_member c ms) ≡ fold with_member (head c) (map member_head ms)
 head-fold [] c = refl
 head-fold (m ∷ ms) c = head-fold ms (with_member c m) ∙ ap (λ (x : Class). fold with_member x (map member_head ms)) (head-with c m)
 
@@ -141,7 +141,7 @@ module _ (cs : List Class) (c : Class) where
       let two : member.Trigger p.0 ≡ n = cc (p.2) in
       ap member_head (sym two) ∙ ap (λ (x : TriggerDecl). member.Trigger (trigger_head x)) (sym one)
 
-  all-heads : (ms ns : List Member) → each (checked_member cs c) ms ≡ Ok ns → map member_head ns ≡ map member_head ms
+  pub all-heads : (ms ns : List Member) → each (checked_member cs c) ms ≡ Ok ns → map member_head ns ≡ map member_head ms
   all-heads [] ns h = let none : List Member = [] in let same : none ≡ ns = cc in ap (map member_head) (sym same)
   all-heads (m ∷ ms) ns h =
       let p = bind-ok (checked_member cs c m) (λ x. each (checked_member cs c) ms >>= (λ xs. Ok (x ∷ xs))) ns h in

@@ -5,6 +5,7 @@ use Rattle.ode_value.specs.declared.binding.Var.TheVariants as var
 use Rattle.ode_value.specs.declared.reason.CheckError.TheVariants.{UnknownName, Duplicate}
 use Rattle.ode_value.specs.declared.statement.Expr.{Expr}
 use Rattle.ode_value.specs.declared.statement.Rhs.{Rhs}
+use Rattle.ode_value.specs.declared.statement.Sort.{Sort}
 use Rattle.ode_value.specs.declared.statement.Sort.TheVariants as sort
 use Rattle.ode_value.specs.declared.statement.Stmt.{Stmt, fold-Stmt}
 use Rattle.ode_value.specs.declared.statement.Stmt.TheOpen as stmt
@@ -40,13 +41,18 @@ let_checked (var.Name name) rhs scope = do
   Ok (checked.Let (var.Local scope.next) r.rhs, with_local name s scope)
 let_checked _ rhs scope = Err (wrong scope)
 
+-- an assignment to what stands for a name, of this sort
+abbrev pub set_as : Var → Sort → Rhs → Checking
+set_as v s rhs scope = do
+  r ← right rhs scope
+  needs (wrong scope) (fits scope.classes r.sort s)
+  Ok (checked.Set v r.rhs, scope)
+
 -- an assignment; no text sets a slot
 unfoldable pub set_checked : Var → Rhs → Checking
 set_checked (var.Name name) rhs scope = do
   m ← found (UnknownName name) (meaning scope name)
-  r ← right rhs scope
-  needs (wrong scope) (fits scope.classes r.sort m.1)
-  Ok (checked.Set m.0 r.rhs, scope)
+  set_as m.0 m.1 rhs scope
 set_checked _ rhs scope = Err (wrong scope)
 
 unfoldable pub return_checked : Option Expr → Scope → Check Stmt

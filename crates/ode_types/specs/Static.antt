@@ -28,11 +28,15 @@ constraint_checked classes c x = do
   test ← fitting sort.Bool x.test (plain_scope (member_scope classes c x.name [] sort.Void))
   Ok (record x { test = test })
 
-unfoldable pub trigger_checked : List Class → Class → TriggerDecl → Check TriggerDecl
-trigger_checked classes c t = do
-  event ← listed t.event (member_scope classes c t.name t.params sort.Void)
-  action ← body t.action (member_scope classes c t.name t.params sort.Void)
+-- a trigger where it stands: its event before its action
+abbrev pub trigger_within : TriggerDecl → Scope → Check TriggerDecl
+trigger_within t scope = do
+  event ← listed t.event scope
+  action ← body t.action scope
   Ok (record t { event = event; action = action })
+
+unfoldable pub trigger_checked : List Class → Class → TriggerDecl → Check TriggerDecl
+trigger_checked classes c t = trigger_within t (member_scope classes c t.name t.params sort.Void)
 
 -- over a member; fields and kinds have nothing more to check
 abbrev pub checked_member : List Class → Class → Member → Check Member

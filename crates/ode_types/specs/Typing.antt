@@ -7,6 +7,7 @@ use Rattle.ode_value.specs.declared.binding.Var.TheVariants as var
 use Rattle.ode_value.specs.declared.class.Class.{Class}
 use Rattle.ode_value.specs.declared.operator.BinOp.{BinOp}
 use Rattle.ode_value.specs.declared.operator.UnOp.{UnOp}
+use Rattle.ode_value.specs.declared.reason.CheckError.{CheckError}
 use Rattle.ode_value.specs.declared.reason.CheckError.TheVariants.{UnknownName}
 use Rattle.ode_value.specs.declared.statement.Expr.{Expr, fold-Expr}
 use Rattle.ode_value.specs.declared.statement.Expr.TheOpen as expr
@@ -33,6 +34,12 @@ Typing = Scope → Check Typed
 -- an expression of this sort
 abbrev pub gives : Expr → Sort → Check Typed
 gives e s = Ok (record { expr = e; sort = Some s })
+
+-- an expression of a sort, where there is one
+abbrev pub typed_where : CheckError → Expr → Option Sort → Check Typed
+typed_where broken e o = do
+  s ← found broken o
+  gives e s
 
 -- a slot in the place of a name
 abbrev pub slot : Var → Expr

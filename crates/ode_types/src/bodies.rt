@@ -1,13 +1,13 @@
 //! Statements and bodies.
 ghost use Rattle.std.specs.Prelude.{◌≡◌, OnOk, length, take};
 ghost use Rattle.ode_types.specs.Answers.{Answers, AnswersWith};
-ghost use Rattle.ode_types.specs.Bodies.{body, body_checked, checks, deactivate_checked, let_checked, return_checked, set_checked, show_checked};
+ghost use Rattle.ode_types.specs.Bodies.{body, body_checked, checks, deactivate_checked, let_checked, return_checked, set_as, set_checked, show_checked};
 ghost use Rattle.ode_types.specs.Scopes.{scope_of};
 
 use crate::place::{Locals, Place};
 use crate::rights::{Right, check_rhs, fitting, reference};
 use crate::sorts::{fits, is_void, starting};
-use crate::stop::{CheckStop, duplicate, unknown, wrong};
+use crate::stop::{CheckStop, duplicate, unknown, where_holds, wrong};
 use ode_value::{Expr, List, Rhs, Sort, Stmt, Var};
 use std::alloc::Global;
 
@@ -39,7 +39,27 @@ fn check_let(
     }
 }
 
-#[tactic(auto, using(crate::proofs::TypingLaws::stops_with), unfolding(crate::specs::Bodies::set_checked))]
+// An assignment to what stands for a name.
+#[tactic(auto, using(crate::proofs::TypingLaws::stops_with))]
+fn set_as(
+    alloc: Global,
+    var: Var,
+    sort: &Sort,
+    rhs: &Rhs,
+    place: &Place,
+    locals: &Locals,
+) -> Result<Stmt, CheckStop>
+    ensures { AnswersWith (set_as var sort.now rhs.now (scope_of place.now locals.now)) (scope_of place.now locals.now) result }
+{
+    let right = check_rhs(alloc, rhs, place, locals)?;
+    if fits(&place.known, &right.sort, sort) {
+        Ok(Stmt::Set(var, right.rhs))
+    } else {
+        wrong(alloc, place.member)
+    }
+}
+
+#[tactic(auto, unfolding(crate::specs::Bodies::set_checked))]
 fn check_set(
     alloc: Global,
     var: &Var,
@@ -52,14 +72,9 @@ fn check_set(
     let Var::Name(name) = var else {
         return wrong(alloc, place.member);
     };
-    let Some((var, sort)) = place.meaning(alloc, locals, name)? else {
-        return unknown(alloc, name);
-    };
-    let right = check_rhs(alloc, rhs, place, locals)?;
-    if fits(&place.known, &right.sort, &sort) {
-        Ok(Stmt::Set(var, right.rhs))
-    } else {
-        wrong(alloc, place.member)
+    match place.meaning(alloc, locals, name)? {
+        Some((var, sort)) => set_as(alloc, var, &sort, rhs, place, locals),
+        None => unknown(alloc, name),
     }
 }
 
@@ -89,10 +104,8 @@ fn check_show(alloc: Global, rhs: &Rhs, place: &Place, locals: &Locals) -> Resul
     ensures { Answers (show_checked rhs.now (scope_of place.now locals.now)) result }
 {
     let right = check_rhs(alloc, rhs, place, locals)?;
-    if is_void(&right.sort) {
-        return wrong(alloc, place.member);
-    }
-    Ok(Stmt::Show(right.rhs))
+    let shown = !is_void(&right.sort);
+    where_holds(alloc, shown, Stmt::Show(right.rhs), place.member)
 }
 
 #[tactic(auto, using(crate::proofs::TypingLaws::stops_through), unfolding(crate::specs::Bodies::deactivate_checked))]

@@ -93,7 +93,7 @@ impl Classes {
     }
 
     /// The class of this number, where it is among the first ones. The line from it up goes on among those before it.
-    pub(crate) fn among(&self, number: u32, before: usize) -> Option<&Class>
+    pub fn among(&self, number: u32, before: usize) -> Option<&Class>
         ensures line { upward number (reverse (take before self.now))
             ≡ headed (option_copied result) (upward (parent_in result) (reverse (take (number - 1) self.now))) }
         ensures low { IfSome result (λ _. 1 ≤ number) }

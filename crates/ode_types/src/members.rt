@@ -4,7 +4,8 @@ ghost use Rattle.std.specs.Option.{option_copied};
 ghost use Rattle.ode_types.specs.Answers.{Answers};
 ghost use Rattle.ode_types.specs.Declaring.{with_member};
 ghost use Rattle.ode_types.specs.Kept.{IsTypedClass};
-ghost use Rattle.ode_types.specs.Static.{check_class, checked_member, completed, constraint_checked, method_checked, trigger_checked};
+ghost use Rattle.ode_types.specs.Scopes.{scope_of};
+ghost use Rattle.ode_types.specs.Static.{check_class, checked_member, completed, constraint_checked, method_checked, trigger_checked, trigger_within};
 
 use crate::bodies::whole_body;
 use crate::classes::Classes;
@@ -15,7 +16,8 @@ use crate::place::{Locals, Place};
 use crate::rights::fitting;
 use crate::stop::CheckStop;
 use ode_value::{
-    Class, ClassDecl, Constraint, Field, Kind, Member, Method, Name, Ref, Sort, TriggerDecl,
+    Class, ClassDecl, Constraint, EventExpr, Field, Kind, List, Member, Method, Name, Param, Ref,
+    Sort, Stmt, TriggerDecl,
 };
 use std::alloc::{AllocError, Global};
 
@@ -44,6 +46,20 @@ fn member_place<'a>(
     }
 }
 
+// The same method with this body.
+fn with_body(alloc: Global, method: &Method, body: List<Stmt>) -> Result<Method, AllocError>
+    ensures { IfOk result (λ made. made ≡ record method.now { body = body }) }
+{
+    let (name, params) = copy_head(alloc, &method.name, &method.params)?;
+    let result = method.result.copy(alloc)?;
+    Ok(Method {
+        name,
+        result,
+        params,
+        body,
+    })
+}
+
 #[tactic(auto, using(crate::proofs::TypingLaws::stops_through, crate::proofs::MemberLaws::scope_is), unfolding(crate::specs::Static::method_checked))]
 fn check_method(
     alloc: Global,
@@ -56,15 +72,7 @@ fn check_method(
     let place = member_place(known, draft, &method.name, &method.result, &[]);
     let locals = Locals::of(alloc, method.params.as_slice())?;
     let body = whole_body(alloc, method.body.as_slice(), &place, locals)?;
-    let name = method.name.copy(alloc)?;
-    let result = method.result.copy(alloc)?;
-    let params = method.params.copy(alloc)?;
-    Ok(Method {
-        name,
-        result,
-        params,
-        body,
-    })
+    Ok(with_body(alloc, method, body)?)
 }
 
 #[tactic(auto, using(crate::proofs::TypingLaws::stops_through, crate::proofs::MemberLaws::scope_is), unfolding(crate::specs::Static::constraint_checked))]
@@ -86,14 +94,64 @@ fn check_constraint(
         &place.plain(),
         &locals,
     )?;
+    let name = constraint.name.copy(alloc)?;
     Ok(Constraint {
-        name: constraint.name.copy(alloc)?,
+        name,
         soft: constraint.soft,
         test,
     })
 }
 
-#[tactic(auto, using(crate::proofs::TypingLaws::stops_through, crate::proofs::MemberLaws::scope_is), unfolding(crate::specs::Static::trigger_checked))]
+fn copy_head(
+    alloc: Global,
+    name: &Name,
+    params: &List<Param>,
+) -> Result<(Name, List<Param>), AllocError>
+    ensures { IfOk result (λ head. head ≡ (name.now, params.now)) }
+{
+    let name = name.copy(alloc)?;
+    let params = params.copy(alloc)?;
+    Ok((name, params))
+}
+
+// The same trigger with this event and this action.
+fn with_parts(
+    alloc: Global,
+    trigger: &TriggerDecl,
+    event: EventExpr,
+    action: List<Stmt>,
+) -> Result<TriggerDecl, AllocError>
+    ensures { IfOk result (λ made. made ≡ record trigger.now { event = event; action = action }) }
+{
+    let (name, params) = copy_head(alloc, &trigger.name, &trigger.params)?;
+    Ok(TriggerDecl {
+        name,
+        initial: trigger.initial,
+        perpetual: trigger.perpetual,
+        whole: trigger.whole,
+        mode: trigger.mode,
+        params,
+        event,
+        action,
+    })
+}
+
+// A trigger's event, and behind it its action.
+#[tactic(auto, using(crate::proofs::TypingLaws::stops_through))]
+fn trigger_within(
+    alloc: Global,
+    trigger: &TriggerDecl,
+    place: &Place,
+    locals: Locals,
+) -> Result<TriggerDecl, CheckStop>
+    ensures { Answers (trigger_within trigger.now (scope_of place.now locals)) result }
+{
+    let event = check_event(alloc, &trigger.event, place, &locals)?;
+    let action = whole_body(alloc, trigger.action.as_slice(), place, locals)?;
+    Ok(with_parts(alloc, trigger, event, action)?)
+}
+
+#[tactic(auto, using(crate::proofs::MemberLaws::scope_is), unfolding(crate::specs::Static::trigger_checked))]
 fn check_trigger(
     alloc: Global,
     known: &Classes,
@@ -105,20 +163,7 @@ fn check_trigger(
     let void = Sort::Void;
     let place = member_place(known, draft, &trigger.name, &void, &[]);
     let locals = Locals::of(alloc, trigger.params.as_slice())?;
-    let event = check_event(alloc, &trigger.event, &place, &locals)?;
-    let action = whole_body(alloc, trigger.action.as_slice(), &place, locals)?;
-    let name = trigger.name.copy(alloc)?;
-    let params = trigger.params.copy(alloc)?;
-    Ok(TriggerDecl {
-        name,
-        initial: trigger.initial,
-        perpetual: trigger.perpetual,
-        whole: trigger.whole,
-        mode: trigger.mode,
-        params,
-        event,
-        action,
-    })
+    trigger_within(alloc, trigger, &place, locals)
 }
 
 // The second pass over a member. Fields and kinds have nothing more to check.

@@ -1,5 +1,5 @@
 //! Right sides: calls, `pnew`, `newversion`, `activate` and expressions.
-ghost use Rattle.std.specs.Prelude.{◌≡◌, ◌+◌, List as Items, ℕ, drop};
+ghost use Rattle.std.specs.Prelude.{◌≡◌, ◌+◌, IfOk, List as Items, Some, ℕ, drop};
 ghost use Rattle.std.specs.List.{list_any};
 ghost use Rattle.std.specs.Option.{option_copied};
 ghost use Rattle.std.specs.Str.{bytes_eq};
@@ -12,10 +12,10 @@ ghost use Rattle.ode_types.specs.Typing.{fitting, reference};
 use crate::families::{field_named, method_named, trigger_named};
 use crate::place::{Locals, Place};
 use crate::sorts::{class_of, fits, is_reference};
-use crate::stop::{CheckStop, unknown, wrong};
+use crate::stop::{CheckStop, unknown, where_holds, wrong};
 use crate::typing::{Typed, check_expr};
 use ode_value::{Call, Class, Expr, List, Method, Name, Param, Rhs, Sort, TriggerDecl};
-use std::alloc::Global;
+use std::alloc::{AllocError, Global};
 
 /// A checked right side and the sort of its value.
 #[derive(Drop)]
@@ -36,11 +36,8 @@ pub(crate) fn fitting(
     ensures { Answers (fitting wanted.now e.now (scope_of place.now locals.now)) result }
 {
     let checked = check_expr(alloc, e, place, locals)?;
-    if fits(&place.known, &checked.sort, wanted) {
-        Ok(checked.expr)
-    } else {
-        wrong(alloc, place.member)
-    }
+    let fit = fits(&place.known, &checked.sort, wanted);
+    where_holds(alloc, fit, checked.expr, place.member)
 }
 
 /// A reference, which may be null.
@@ -54,11 +51,8 @@ pub(crate) fn reference(
     ensures { Answers (reference e.now (scope_of place.now locals.now)) result }
 {
     let checked = check_expr(alloc, e, place, locals)?;
-    if is_reference(&checked.sort) {
-        Ok(checked)
-    } else {
-        wrong(alloc, place.member)
-    }
+    let fit = is_reference(&checked.sort);
+    where_holds(alloc, fit, checked, place.member)
 }
 
 // An argument against the parameter at its place.
@@ -148,6 +142,35 @@ fn settings(
     Ok(checked)
 }
 
+// A call of a method with its arguments, and the sort of what it gives.
+fn called(
+    alloc: Global,
+    of: Option<Expr>,
+    method: &Method,
+    call: &Call,
+    args: List<Expr>,
+) -> Result<Right, AllocError>
+    ensures { IfOk result (λ made. made ≡ record { rhs = Rhs.Call (record { of = of; method = call.now.method; args = args }); sort = Some method.now.result }) }
+{
+    let (name, sort) = copy_call(alloc, &call.method, &method.result)?;
+    Ok(Right {
+        rhs: Rhs::Call(Call {
+            of,
+            method: name,
+            args,
+        }),
+        sort: Some(sort),
+    })
+}
+
+fn copy_call(alloc: Global, name: &Name, sort: &Sort) -> Result<(Name, Sort), AllocError>
+    ensures { IfOk result (λ parts. parts ≡ (name.now, sort.now)) }
+{
+    let name = name.copy(alloc)?;
+    let sort = sort.copy(alloc)?;
+    Ok((name, sort))
+}
+
 // A call of a method, behind its receiver.
 #[tactic(auto, using(crate::proofs::TypingLaws::stops_through), unfolding(crate::specs::Rights::method_call))]
 fn method_call(
@@ -167,16 +190,7 @@ fn method_call(
         place,
         locals,
     )?;
-    let name = call.method.copy(alloc)?;
-    let sort = method.result.copy(alloc)?;
-    Ok(Right {
-        rhs: Rhs::Call(Call {
-            of,
-            method: name,
-            args,
-        }),
-        sort: Some(sort),
-    })
+    Ok(called(alloc, of, method, call, args)?)
 }
 
 #[tactic(auto, unfolding(crate::specs::Rights::call_of))]
@@ -241,12 +255,9 @@ fn trigger_activated(
     ensures { Answers (trigger_activated of trigger.now name.now given.now (scope_of place.now locals.now)) result }
 {
     let args = arguments(alloc, trigger.params.as_slice(), given, place, locals)?;
+    let trigger = name.copy(alloc)?;
     Ok(Right {
-        rhs: Rhs::Activate {
-            of,
-            trigger: name.copy(alloc)?,
-            args,
-        },
+        rhs: Rhs::Activate { of, trigger, args },
         sort: Some(Sort::Int),
     })
 }
@@ -283,11 +294,14 @@ fn made_of(
 ) -> Result<Right, CheckStop>
     ensures { Answers (made_of class.now name.now fields.now (scope_of place.now locals.now)) result }
 {
-    let fields = settings(alloc, class, fields, place, locals)?;
     let sort = Sort::Reference(name.copy(alloc)?);
-    let class = name.copy(alloc)?;
+    let made = name.copy(alloc)?;
+    let fields = settings(alloc, class, fields, place, locals)?;
     Ok(Right {
-        rhs: Rhs::New { class, fields },
+        rhs: Rhs::New {
+            class: made,
+            fields,
+        },
         sort: Some(sort),
     })
 }

@@ -1,7 +1,7 @@
 //! Why a check gives no tree.
 ghost use Rattle.std.specs.Prelude.{Bool, Err};
 ghost use Rattle.ode_types.specs.Answers.{Answers};
-ghost use Rattle.ode_types.specs.Checks.{needs};
+ghost use Rattle.ode_types.specs.Checks.{where_holds};
 ghost use Rattle.ode_value.specs.declared.reason.CheckError.TheVariants.{Duplicate, TooMany, UnknownName, WrongSort};
 
 use ode_value::{CheckError, Name};
@@ -52,4 +52,20 @@ pub(crate) fn wrong<T>(alloc: Global, member: &Name) -> Result<T, CheckStop>
     ensures { Answers (Err (WrongSort member.now)) result }
 {
     Err(CheckStop::Broken(CheckError::WrongSort(member.copy(alloc)?)))
+}
+
+/// What was checked, where a rule holds; else a mismatch in the member of this name.
+pub(crate) fn where_holds<T: Drop>(
+    alloc: Global,
+    holds: bool,
+    checked: T,
+    member: &Name,
+) -> Result<T, CheckStop>
+    ensures { Answers (where_holds (WrongSort member.now) holds checked) result }
+{
+    if holds {
+        Ok(checked)
+    } else {
+        wrong(alloc, member)
+    }
 }

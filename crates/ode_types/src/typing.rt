@@ -2,17 +2,18 @@
 ghost use Rattle.std.specs.Prelude.{◌≡◌, IfOk, true, not, ℕ};
 ghost use Rattle.std.specs.List.{find};
 ghost use Rattle.std.specs.Option.{option_copied};
+ghost use Rattle.ode_value.specs.declared.reason.CheckError.TheVariants.{WrongSort};
 ghost use Rattle.ode_value.specs.declared.value.Ref.{Ref as Literal};
 ghost use Rattle.ode_value.specs.Same.{same_ref};
 ghost use Rattle.ode_types.specs.Answers.{Answers};
 ghost use Rattle.ode_types.specs.Checks.{needs};
 ghost use Rattle.ode_types.specs.Scopes.{scope_at, scope_of, wrong};
-ghost use Rattle.ode_types.specs.Typing.{binary_typed, field_of, field_typed, is_int, is_text, literal, literal_class, literal_sort, name_typed, slot, this_typed, typed, unary_typed, value_sort, version_typed};
+ghost use Rattle.ode_types.specs.Typing.{binary_typed, field_of, field_typed, is_int, is_text, literal, literal_class, literal_sort, name_typed, slot, this_typed, typed, typed_where, unary_typed, value_sort, version_typed};
 
 use crate::families::field_named;
 use crate::place::{Locals, Place};
 use crate::sorts::{binary_sort, class_of, is_reference, unary_sort};
-use crate::stop::{CheckStop, unknown, wrong};
+use crate::stop::{CheckStop, unknown, where_holds, wrong};
 use ode_value::{BinOp, Boxed, Class, Expr, Name, OdeText, Ref, Sort, UnOp, Value, Var};
 use std::alloc::{AllocError, Global};
 
@@ -185,28 +186,47 @@ fn field_typed(alloc: Global, of: Typed, name: &Name, place: &Place) -> Result<T
 fn version_typed(alloc: Global, of: Typed, place: &Place) -> Result<Typed, CheckStop>
     ensures { Answers (version_typed of (scope_at place.now)) result }
 {
-    if !is_reference(&of.sort) {
-        return wrong(alloc, place.member);
-    }
+    let fit = is_reference(&of.sort);
     let expr = Boxed::new(alloc, of.expr)?;
-    Ok(Typed {
+    let typed = Typed {
         expr: Expr::Version(expr),
         sort: of.sort,
-    })
+    };
+    where_holds(alloc, fit, typed, place.member)
+}
+
+// An expression of a sort, where there is one.
+fn typed_where(
+    alloc: Global,
+    expr: Expr,
+    sort: Option<Sort>,
+    member: &Name,
+) -> Result<Typed, CheckStop>
+    ensures { Answers (typed_where (WrongSort member.now) expr sort) result }
+{
+    match sort {
+        Some(sort) => Ok(Typed {
+            expr,
+            sort: Some(sort),
+        }),
+        None => wrong(alloc, member),
+    }
 }
 
 fn unary_typed(alloc: Global, op: UnOp, a: Typed, place: &Place) -> Result<Typed, CheckStop>
     ensures { Answers (unary_typed op a (scope_at place.now)) result }
 {
     let sort = unary_sort(op, &a.sort);
-    if sort.is_none() {
-        return wrong(alloc, place.member);
-    }
     let expr = Boxed::new(alloc, a.expr)?;
-    Ok(Typed {
-        expr: Expr::Unary(op, expr),
-        sort,
-    })
+    typed_where(alloc, Expr::Unary(op, expr), sort, place.member)
+}
+
+fn binary(alloc: Global, op: BinOp, left: Expr, right: Expr) -> Result<Expr, AllocError>
+    ensures { IfOk result (λ both. both ≡ Expr.Binary op left right) }
+{
+    let left = Boxed::new(alloc, left)?;
+    let right = Boxed::new(alloc, right)?;
+    Ok(Expr::Binary(op, left, right))
 }
 
 fn binary_typed(
@@ -219,15 +239,8 @@ fn binary_typed(
     ensures { Answers (binary_typed op a b (scope_at place.now)) result }
 {
     let sort = binary_sort(place.is_plain, op, &a.sort, &b.sort);
-    if sort.is_none() {
-        return wrong(alloc, place.member);
-    }
-    let left = Boxed::new(alloc, a.expr)?;
-    let right = Boxed::new(alloc, b.expr)?;
-    Ok(Typed {
-        expr: Expr::Binary(op, left, right),
-        sort,
-    })
+    let expr = binary(alloc, op, a.expr, b.expr)?;
+    typed_where(alloc, expr, sort, place.member)
 }
 
 /// An expression with slots for its names, and its sort; or the first rule that it breaks. Operands are checked from left to right.

@@ -44,7 +44,7 @@ abbrev Drawn : ℕ → Object → Type 0
 Drawn next o = o.id < next
 
 -- a change of an object and of what is kept of one
-changed : (w : NumberWorld) (id next : ℕ) (f : Object → Object) → ((o : Object) → (f o).id ≡ o.id) → (at : ℕ) (g : Kept (Unit {0}) ℕ → Kept (Unit {0}) ℕ) → w.bones.next ≤ next → IsOrdered w
+pub changed : (w : NumberWorld) (id next : ℕ) (f : Object → Object) → ((o : Object) → (f o).id ≡ o.id) → (at : ℕ) (g : Kept (Unit {0}) ℕ → Kept (Unit {0}) ℕ) → w.bones.next ≤ next → IsOrdered w
     → IsOrdered (record { bones = record w.bones { objects = with_object id f w.bones.objects; next = next }; pasts = with_kept at g w.pasts })
 changed w id next f same at g more h = record {
   rising = subst (RiseFrom 0) (sym (ids_same id f same w.bones.objects)) h.rising;

@@ -1,6 +1,6 @@
 use Rattle.std.proofs.Common.{subst, sym, ◌∙◌}
 use Rattle.ode_value.specs.Proper.{IsProper}
-use Rattle.ode_engine.proofs.Carries.{good_after}
+use Rattle.ode_first_engine.proofs.Carries.{good_after}
 use Rattle.ode_top.proofs.run.evaluate.Goals as goal
 
 pub returns-in_ok-statement-in-Some-clause-good : goal.returns-in_ok-statement-in-Some-clause-good

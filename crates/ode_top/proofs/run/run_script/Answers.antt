@@ -11,7 +11,7 @@ use Rattle.ode_script.specs.Left.{HasPieces}
 use Rattle.ode_top.specs.declared.settling.Halt.TheVariants as halt
 use Rattle.ode_top.specs.Halts.{status_of_error, status_of_halt}
 use Rattle.ode_top.specs.Serves.{IsAfterSome, IsEnding, LeavesNothing, SoFar}
-use Rattle.ode_top.specs.Runs.{status_at}
+use Rattle.ode_machine.specs.Runs.{status_at}
 use Rattle.ode_top.specs.Trace.{final, piece_items, run_items, text_of, trace}
 use Rattle.ode_top.proofs.AfterSome.{goes_further}
 use Rattle.ode_top.proofs.Leaving.{error_no_disk, error_no_print, error_read, halt_disk, halt_no_end, halt_no_read, halt_print, no_calls}

@@ -1,0 +1,5 @@
+pub mod Assigned
+pub mod Carried
+pub mod Weights
+pub mod Puts
+pub mod Settling

@@ -1,5 +1,0 @@
-use Rattle.ode_top.proofs.Stable.{one_world}
-use Rattle.ode_top.proofs.definitions.texts_go_with_worlds.Goals as goal
-
-pub returns-clause-stable : goal.returns-clause-stable
-returns-clause-stable c = one_world
