@@ -1,4 +1,4 @@
-use Rattle.std.proofs.Common.{◌≡◌, true, ◌∙◌, ap}
+use Rattle.std.proofs.Common.{◌∙◌, ap}
 use Rattle.ode_heights.specs.declared.height.TheConstants.{HEIGHT_LIMIT}
 use Rattle.ode_terminals.specs.declared.seen.Place.TheVariants.{Class}
 use Rattle.ode_value.specs.Numbers.{has_numbers}
