@@ -16,7 +16,6 @@ pub fn statements_of_classes_are_read_again()
 
 /// Each number of a `choose` or an `every` in a trigger's event is in its range, where the class is a piece's, or a text's within the limit
 /// of heights.
-#[tactic(auto, using(crate::proofs::Numbered::piece_numbers, crate::proofs::Numbered::text_numbers))]
 pub fn numbers_of_classes_are_in_range()
     ensures piece { (piece : Items ℕ) (d : ClassDecl) → statement_of piece ≡ Ok (Class d) → HaveNumbers d }
     ensures text { (text : Items ℕ) (d : ClassDecl) → IsClassOf text d → HaveNumbers d }

@@ -1,0 +1,8 @@
+use Rattle.ode_again_laws.proofs.Numbered.{piece_numbers, text_numbers}
+use Rattle.ode_again_laws.proofs.laws.numbers_of_classes_are_in_range.Goals as goal
+
+pub returns-clause-piece : goal.returns-clause-piece
+returns-clause-piece c = piece_numbers
+
+pub returns-clause-text : goal.returns-clause-text
+returns-clause-text c = text_numbers
