@@ -21,14 +21,25 @@ mod watched;
 mod words;
 
 use going::{activation_of, print_fired};
-use ode_types::Running;
 use ode_table::Table;
+use ode_types::Running;
 use ode_value::List;
 use pairs::{print_relation, print_table, table_of};
 use points::{print_marks, print_point};
+use std::alloc::{AllocError, Global};
 use std::io;
 use watched::{Stop, Watched, print_sizes, print_stop, watch};
 use words::print_words;
+
+// A class with these members and a trigger with this event.
+fn class_text(
+    alloc: Global,
+    members: &str,
+    params: &str,
+    event: &str,
+) -> Result<String, AllocError> {
+    format!(in alloc; "class C {{ {members} trigger t({params}): {event} ==> {{ }} }}")
+}
 
 fn print_event<R: Print + AllocGlobal>(
     rt: &R,
@@ -95,8 +106,7 @@ fn main(rt: HostRuntime) -> io::Result<()> {
             "params" => params = rest,
             "words" => words = rest,
             "event" => {
-                let text = format!(in alloc; "class C {{ {members} trigger t({params}): {rest} ==> {{ }} }}")?;
-                watched = watch(alloc, text.as_str());
+                watched = watch(alloc, class_text(alloc, members, params, rest)?.as_str());
                 acts = List::new(alloc);
                 print_event(&rt, rest, &watched, words)?;
             }

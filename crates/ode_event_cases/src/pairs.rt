@@ -50,12 +50,14 @@ fn has_own_states(alloc: Global, table: &Table) -> Result<bool, AllocError> {
 /// Whether a smaller table agrees with a table, can't be made smaller, and each has its own states.
 pub fn is_least(alloc: Global, table: &Table, small: &Table) -> Result<bool, AllocError> {
     let again = shrink(alloc, small)?;
-    Ok(small.states() <= table.states()
-        && again.states() == small.states()
-        && agree(alloc, table, small)?
-        && agree(alloc, small, table)?
-        && has_own_states(alloc, table)?
-        && has_own_states(alloc, small)?)
+    Ok(
+        small.states() <= table.states()
+            && again.states() == small.states()
+            && agree(alloc, table, small)?
+            && agree(alloc, small, table)?
+            && has_own_states(alloc, table)?
+            && has_own_states(alloc, small)?,
+    )
 }
 
 fn number(word: Option<&str>) -> u64 {

@@ -32,12 +32,7 @@ fn print_mask<R: Print>(
     }
 }
 
-fn print_mark<R: Print>(
-    rt: &R,
-    alphabet: &Alphabet,
-    e: &EventExpr,
-    symbol: u8,
-) -> io::Result<()> {
+fn print_mark<R: Print>(rt: &R, alphabet: &Alphabet, e: &EventExpr, symbol: u8) -> io::Result<()> {
     print!(rt; "symbol {symbol}:")?;
     for holds in alphabet.mark(e, symbol)?.as_slice() {
         print!(rt; " {}", if *holds { "yes" } else { "no" })?;
