@@ -2,7 +2,7 @@ use Rattle.std.proofs.Common.{◌≡◌, ◌+◌, ◌<◌, All, [], ◌∷◌, l
 use Rattle.std.proofs.lemmas.List.{take_more, take_all}
 use Rattle.std.proofs.lemmas.List.Elements.{All-append, All-cons, All-nil}
 use Rattle.ode_states.specs.Advance.{IsReady}
-use Rattle.ode_state_tests.proofs.going.are_ready.Goals as goal
+use Rattle.ode_event_cases.proofs.going.are_ready.Goals as goal
 
 pub loop-a-preserved : goal.loop-a-preserved
 loop-a-preserved c =
