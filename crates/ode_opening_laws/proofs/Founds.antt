@@ -43,7 +43,7 @@ pub head_spelled : (d : Declared) → (head_row d).1 ≡ value_of (head_of d)
 unfolding value_of
 head_spelled d = simp append_assoc
 
-heads_decode : Again → (ds : List Declared) → AllByRecursion IsPlain ds → Decode (map head_row ds) (heads_found ds)
+pub heads_decode : Again → (ds : List Declared) → AllByRecursion IsPlain ds → Decode (map head_row ds) (heads_found ds)
 heads_decode again [] plain = tt
 heads_decode again (d ∷ ds) plain = (
   refl,
@@ -51,7 +51,7 @@ heads_decode again (d ∷ ds) plain = (
   heads_decode again ds plain.1,
 )
 
-texts_decode : Again → (ds : List Declared) → AllByRecursion IsSmall ds → Decode (flat_map text_rows ds) (pieces_found ds)
+pub texts_decode : Again → (ds : List Declared) → AllByRecursion IsSmall ds → Decode (flat_map text_rows ds) (pieces_found ds)
 texts_decode again [] small = tt
 texts_decode again (d ∷ ds) small =
     decode_append (text_rows d) (flat_map text_rows ds) (pieces_of_class d) (pieces_found ds)

@@ -92,14 +92,14 @@ texts_pass (d ∷ ds) small =
     (text_passes d.class.number (decl_text d.tree) 0 (piece_count (length (decl_text d.tree))) small.0.number few) (texts_pass ds small.1)
 
 module _ (tables : ℕ → ℕ → Table) where
-  no_heads : (ds : List Declared) → AllByRecursion IsPlain ds → flat_map (table_heads tables) ds ≡ []
+  pub no_heads : (ds : List Declared) → AllByRecursion IsPlain ds → flat_map (table_heads tables) ds ≡ []
   no_heads [] plain = refl
   no_heads (d ∷ ds) plain =
       ap (λ (ts : List TriggerDecl). map (λ place. table_head d.class.number place (tables d.class.number place)) (range_with_len 0 (length ts)) ++ flat_map (table_heads tables) ds)
       plain.0.no_triggers
       ∙ no_heads ds plain.1
 
-  no_rows : (ds : List Declared) → AllByRecursion IsPlain ds → flat_map (table_rows tables) ds ≡ []
+  pub no_rows : (ds : List Declared) → AllByRecursion IsPlain ds → flat_map (table_rows tables) ds ≡ []
   no_rows [] plain = refl
   no_rows (d ∷ ds) plain =
       ap (λ (ts : List TriggerDecl). flat_map (λ place. table_pieces d.class.number place (tables d.class.number place)) (range_with_len 0 (length ts)) ++ flat_map (table_rows tables) ds)

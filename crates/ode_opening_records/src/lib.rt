@@ -3,4 +3,4 @@
 
 mod reading;
 
-pub use reading::open_records;
+pub use reading::{are_built, open_records};

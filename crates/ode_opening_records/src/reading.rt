@@ -25,8 +25,8 @@ fn with_triggers(classes: &[Class]) -> Option<&Class>
     classes.iter().find(|class| class.triggers.len() != 0)
 }
 
-// Whether no class has a trigger: there are none yet.
-fn are_built(classes: &Classes) -> Result<(), Cause>
+/// Whether no class has a trigger: there are none yet.
+pub fn are_built(classes: &Classes) -> Result<(), Cause>
     ensures { result ≡ are_built classes.now }
 {
     match with_triggers(classes.as_slice()) {

@@ -1,0 +1,95 @@
+-- A file is opened to one thing alone.
+use Rattle.std.proofs.Common.{◌≡◌, inl, inr, ℕ, ◌<◌, ◌≤◌, List, Result, Ok, Err, sym, ap, subst, ◌∙◌, arith}
+use Rattle.ode_areas.specs.Image.{HasMap, IsBadAt}
+use Rattle.ode_areas.specs.OneMap.{never_both, one_has, one_place}
+use Rattle.ode_gate.specs.Headers.{IsOfAreas}
+use Rattle.ode_gate.specs.Readings.{Says}
+use Rattle.ode_gate.specs.Slots.{Counts, place_of}
+use Rattle.ode_gate.specs.declared.error.GateError.{GateError}
+use Rattle.ode_gate.specs.declared.header.Header.{Header}
+use Rattle.ode_gate.specs.declared.places.TheConstants.{PAGES, TWO_AREAS}
+use Rattle.ode_gate.proofs.Counting.{one_counts, says_counts, says_one}
+use Rattle.ode_keep.specs.Entries.{Entries, record_bytes}
+use Rattle.ode_keep.specs.declared.limits.TheConstants.{MAX_RECORD_BYTES}
+use Rattle.ode_language.specs.Languages.{ode}
+use Rattle.ode_passes.specs.declared.cause.Cause.TheVariants as cause
+use Rattle.ode_open.specs.Opening.{Found, HasRecords, IsBroken, IsHeaderless, IsHeavy, IsOfPages, IsOpenedTo, found_of, gate_error}
+use Rattle.ode_opening_records.specs.Reading.{opened_in}
+use Rattle.ode_open.specs.declared.error.OpenError.TheVariants.{BadFile}
+
+module _ (image : List ℕ) where
+  no_header : (e : GateError) (h : Header) → Says image (Err e) → Counts image h → ⊥
+  no_header e h says counts = let same : Result.Err e ≡ Ok h = says_one image (Err e) (Ok h) says (says_counts image h counts) in cc (same)
+
+  two_layouts : (h : Header) → IsOfAreas h → h.layout ≡ PAGES → ⊥
+  two_layouts h areas pages = let one : h.layout ≡ TWO_AREAS = areas.layout in omega (arith, one, pages)
+
+  -- two headers that count are one
+  same : (g h : Header) → Counts image g → Counts image h → g ≡ h
+  same = one_counts image
+
+  bad_and_map : (g h : Header) (at : ℕ) (entries : Entries) → Counts image g → Counts image h → IsOfAreas h → IsBadAt g image at → HasMap h image entries → ⊥
+  bad_and_map g h at entries first second areas bad has =
+      never_both h image areas entries at has (subst (λ (k : Header). IsBadAt k image at) (same g h first second) bad)
+
+  one_entries : (g h : Header) (es ds : Entries) → Counts image g → Counts image h → HasMap g image es → HasMap h image ds → es ≡ ds
+  one_entries g h es ds first second one other = one_has h image es ds (subst (λ (k : Header). HasMap k image es) (same g h first second) one) other
+
+  headerless_one : (a b : Found) → IsHeaderless image a → IsOpenedTo image b → a ≡ b
+  headerless_one a b x (inl y) = x.is ∙ ap (λ (m : Result Header GateError). error_of m) (says_one image (Err x.error) (Err y.error) x.says y.says) ∙ sym y.is
+    where
+      error_of : Result Header GateError → Found
+      error_of (Ok h) = a
+      error_of (Err e) = Err (gate_error e)
+  headerless_one a b x (inr (inl y)) = absurd (no_header x.error y.header x.says y.counts)
+  headerless_one a b x (inr (inr (inl y))) = absurd (no_header x.error y.header x.says y.counts)
+  headerless_one a b x (inr (inr (inr (inl y)))) = absurd (no_header x.error y.header x.says y.counts)
+  headerless_one a b x (inr (inr (inr (inr y)))) = absurd (no_header x.error y.header x.says y.counts)
+
+  pages_and_areas : (g h : Header) → Counts image g → Counts image h → g.layout ≡ PAGES → IsOfAreas h → ⊥
+  pages_and_areas g h first second pages areas =
+      two_layouts h areas (subst (λ (k : Header). k.layout ≡ PAGES) (same g h first second) pages)
+
+  pages_one : (a b : Found) → IsOfPages image a → IsOpenedTo image b → a ≡ b
+  pages_one a b x (inl y) = absurd (no_header y.error x.header y.says x.counts)
+  pages_one a b x (inr (inl y)) = x.is ∙ ap (λ (k : Header). Err (BadFile (cause.Header (place_of k.slot)))) (same x.header y.header x.counts y.counts) ∙ sym y.is
+  pages_one a b x (inr (inr (inl y))) = absurd (pages_and_areas x.header y.header x.counts y.counts x.layout y.areas)
+  pages_one a b x (inr (inr (inr (inl y)))) = absurd (pages_and_areas x.header y.header x.counts y.counts x.layout y.areas)
+  pages_one a b x (inr (inr (inr (inr y)))) = absurd (pages_and_areas x.header y.header x.counts y.counts x.layout y.areas)
+
+  broken_one : (a b : Found) → IsBroken image a → IsOpenedTo image b → a ≡ b
+  broken_one a b x (inl y) = absurd (no_header y.error x.header y.says x.counts)
+  broken_one a b x (inr (inl y)) = absurd (pages_and_areas y.header x.header y.counts x.counts y.layout x.areas)
+  broken_one a b x (inr (inr (inl y))) =
+      let at : x.at ≡ y.at = one_place y.header image x.at y.at (subst (λ (k : Header). IsBadAt k image x.at) (same x.header y.header x.counts y.counts) x.bad) y.bad in
+      x.is ∙ ap (λ (n : ℕ). Err (BadFile (cause.Journal n))) at ∙ sym y.is
+  broken_one a b x (inr (inr (inr (inl y)))) = absurd (bad_and_map x.header y.header x.at y.entries x.counts y.counts y.areas x.bad y.has)
+  broken_one a b x (inr (inr (inr (inr y)))) = absurd (bad_and_map x.header y.header x.at y.entries x.counts y.counts y.areas x.bad y.has)
+
+  no_size : (es ds : Entries) → es ≡ ds → MAX_RECORD_BYTES < record_bytes es → record_bytes ds ≤ MAX_RECORD_BYTES → ⊥
+  no_size es ds one heavy within = let bytes : record_bytes es ≡ record_bytes ds = ap record_bytes one in omega (arith, bytes, heavy, within)
+
+  heavy_one : (a b : Found) → IsHeavy image a → IsOpenedTo image b → a ≡ b
+  heavy_one a b x (inl y) = absurd (no_header y.error x.header y.says x.counts)
+  heavy_one a b x (inr (inl y)) = absurd (pages_and_areas y.header x.header y.counts x.counts y.layout x.areas)
+  heavy_one a b x (inr (inr (inl y))) = absurd (bad_and_map y.header x.header y.at x.entries y.counts x.counts x.areas y.bad x.has)
+  heavy_one a b x (inr (inr (inr (inl y)))) =
+      x.is ∙ ap (λ (es : Entries). Err (BadFile (cause.Size (record_bytes es)))) (one_entries x.header y.header x.entries y.entries x.counts y.counts x.has y.has) ∙ sym y.is
+  heavy_one a b x (inr (inr (inr (inr y)))) =
+      absurd (no_size x.entries y.entries (one_entries x.header y.header x.entries y.entries x.counts y.counts x.has y.has) x.heavy y.within)
+
+  records_one : (a b : Found) → HasRecords image a → IsOpenedTo image b → a ≡ b
+  records_one a b x (inl y) = absurd (no_header y.error x.header y.says x.counts)
+  records_one a b x (inr (inl y)) = absurd (pages_and_areas y.header x.header y.counts x.counts y.layout x.areas)
+  records_one a b x (inr (inr (inl y))) = absurd (bad_and_map y.header x.header y.at x.entries y.counts x.counts x.areas y.bad x.has)
+  records_one a b x (inr (inr (inr (inl y)))) =
+      absurd (no_size y.entries x.entries (one_entries y.header x.header y.entries x.entries y.counts x.counts y.has x.has) y.heavy x.within)
+  records_one a b x (inr (inr (inr (inr y)))) =
+      x.is ∙ ap (λ (es : Entries). found_of (opened_in ode es)) (one_entries x.header y.header x.entries y.entries x.counts y.counts x.has y.has) ∙ sym y.is
+
+  pub one_opening : (a b : Found) → IsOpenedTo image a → IsOpenedTo image b → a ≡ b
+  one_opening a b (inl x) y = headerless_one a b x y
+  one_opening a b (inr (inl x)) y = pages_one a b x y
+  one_opening a b (inr (inr (inl x))) y = broken_one a b x y
+  one_opening a b (inr (inr (inr (inl x)))) y = heavy_one a b x y
+  one_opening a b (inr (inr (inr (inr x)))) y = records_one a b x y

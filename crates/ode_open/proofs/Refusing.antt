@@ -1,0 +1,93 @@
+-- Why a file isn't opened, part by part.
+use Rattle.std.proofs.Common.{◌≡◌, ◌⊎◌, inl, inr, ⊎_elim, ℕ, ◌<◌, ◌≤◌, List, Result, Ok, Err, refl, sym, ap, subst, arith}
+use Rattle.std.specs.Prelude.{IfOk, IsErrOf}
+use Rattle.ode_areas.specs.Image.{HasMap, IsBadAt}
+use Rattle.ode_areas.specs.declared.error.StartError.{StartError}
+use Rattle.ode_areas.specs.declared.error.StartError.TheVariants as start
+use Rattle.ode_gate.specs.Headers as headers
+use Rattle.ode_gate.specs.Headers.{IsHeader, IsOfAreas}
+use Rattle.ode_gate.specs.Readings.{Says}
+use Rattle.ode_gate.specs.Slots.{Counts, place_of}
+use Rattle.ode_gate.specs.declared.error.GateError.{GateError}
+use Rattle.ode_gate.specs.declared.error.GateError.TheVariants as gate
+use Rattle.ode_gate.specs.declared.header.Header.{Header}
+use Rattle.ode_gate.specs.declared.places.TheConstants.{PAGES, TWO_AREAS}
+use Rattle.ode_keep.specs.Entries.{Entries, record_bytes}
+use Rattle.ode_keep.specs.declared.limits.TheConstants.{MAX_RECORD_BYTES}
+use Rattle.ode_language.specs.Languages.{ode}
+use Rattle.ode_passes.specs.Answers.{Answers}
+use Rattle.ode_passes.specs.declared.cause.Cause.TheVariants as cause
+use Rattle.ode_passes.specs.declared.error.OpenError.{OpenError as ReadError}
+use Rattle.ode_passes.specs.declared.error.OpenError.TheVariants as read
+use Rattle.ode_value.specs.declared.class.Class.{Class}
+use Rattle.ode_open.specs.Opening.{Found, IsFromOutside, IsOpenedTo, found_of, gate_error, read_error, start_error}
+use Rattle.ode_opening_records.specs.Reading.{opened_in}
+use Rattle.ode_open.specs.declared.error.OpenError.{OpenError}
+use Rattle.ode_open.specs.declared.error.OpenError.TheVariants.{BadFile}
+
+-- an error that the file has, or that the outside brought
+abbrev pub IsWhy : List ℕ → OpenError → Type 0
+IsWhy image e = IsFromOutside e ⊎ IsOpenedTo image (Err e)
+
+-- ---- the header
+
+pub why_header : (image : List ℕ) (e : GateError) → IsErrOf {T = Header} (Err e) gate.DiskFault ⊎ Says image (Err e) → IsWhy image (gate_error e)
+why_header image e answer = ⊎_elim
+    (λ (fault : IsErrOf {T = Header} (Err e) gate.DiskFault). let is : gate.DiskFault ≡ e = cc (fault) in subst (λ (x : GateError). IsWhy image (gate_error x)) is (inl tt))
+    (λ (says : Says image (Err e)). inr (inl (record { error = e; says = says; is = refl })))
+    answer
+
+-- ---- the layout
+
+one_layout : (n : ℕ) → n ≡ TWO_AREAS → n ≡ PAGES → ⊥
+one_layout n one other = omega arith
+
+pub are_areas : (h : Header) → IsHeader h → h.layout ≡ TWO_AREAS → IsOfAreas h
+are_areas h rules is = ⊎_elim (λ (areas : IsOfAreas h). areas) (λ (pages : headers.IsOfPages h). absurd (one_layout h.layout is pages.layout)) rules.layout
+
+pub are_pages : (h : Header) → IsHeader h → (h.layout ≡ TWO_AREAS → ⊥) → h.layout ≡ PAGES
+are_pages h rules other = ⊎_elim (λ (areas : IsOfAreas h). absurd (other areas.layout)) (λ (pages : headers.IsOfPages h). pages.layout) rules.layout
+
+pub why_pages : (image : List ℕ) (h : Header) → Counts image h → h.layout ≡ PAGES → IsWhy image (BadFile (cause.Header (place_of h.slot)))
+why_pages image h counts pages = inr (inr (inl (record { header = h; counts = counts; layout = pages; is = refl })))
+
+-- ---- the keeper
+
+module _ (image : List ℕ) (h : Header) (counts : Counts image h) (areas : IsOfAreas h) where
+  pub why_start : (e : StartError) → ((at : ℕ) → e ≡ start.BadJournal at → IsBadAt h image at) → ((page : ℕ) → e ≡ start.BadPage page → ⊥) → IsWhy image (start_error e)
+  why_start start.Memory bad none = inl tt
+  why_start start.DiskFault bad none = inl tt
+  why_start (start.BadJournal at) bad none = inr (inr (inr (inl (record { header = h; counts = counts; areas = areas; at = at; bad = bad at refl; is = refl }))))
+  why_start (start.BadPage page) bad none = absurd (none page refl)
+
+  module _ (entries : Entries) (has : HasMap h image entries) where
+    pub why_heavy : (bytes : ℕ) → bytes ≡ record_bytes entries → MAX_RECORD_BYTES < bytes → IsWhy image (BadFile (cause.Size bytes))
+    why_heavy bytes is heavy =
+        inr (inr (inr (inr (inl (record {
+          header = h;
+          counts = counts;
+          areas = areas;
+          entries = entries;
+          has = has;
+          heavy = omega (arith, is, heavy);
+          is = ap (λ (n : ℕ). Err (BadFile (cause.Size n))) is;
+        })))))
+
+    -- ---- the records
+
+    module _ (within : record_bytes entries ≤ MAX_RECORD_BYTES) where
+      opened : (found : Found) → found ≡ found_of (opened_in ode entries) → IsOpenedTo image found
+      opened found is = inr (inr (inr (inr (record { header = h; counts = counts; areas = areas; entries = entries; has = has; within = within; is = is }))))
+
+      pub why_records : (e : ReadError) → Answers {X = List Class × ℕ} (opened_in ode entries) (Err e) → IsWhy image (read_error e)
+      why_records read.Memory answers = inl tt
+      why_records read.DiskFault answers = inl tt
+      why_records (read.BadFile why) answers = inr (opened (Err (BadFile why)) (sym (ap found_of answers)))
+
+      pub is_opened : (classes : List Class) (bytes : ℕ) → opened_in ode entries ≡ Ok (classes, bytes) → IsOpenedTo image (Ok (classes, bytes))
+      is_opened classes bytes answers = opened (Ok (classes, bytes)) (sym (ap found_of answers))
+
+-- what holds at an answer, by what held there
+pub at_ok : {X E : Type 0} {P Q : X → Type 0} (r : Result X E) → ((x : X) → P x → Q x) → IfOk r P → IfOk r Q
+at_ok (Ok x) next is = next x is
+at_ok (Err e) next is = tt

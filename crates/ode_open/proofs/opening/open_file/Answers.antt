@@ -1,0 +1,51 @@
+use Rattle.std.proofs.Common.{inr, sym}
+use Rattle.std.proofs.lemmas.Result.{err_from_is_err_and}
+use Rattle.ode_areas.specs.Image.{AreasMean}
+use Rattle.ode_host.proofs.Moments.{looks_joined, stands_looks, tells_looks}
+use Rattle.ode_open.proofs.Bare.{bare_parts_fit, no_triggers_opened}
+use Rattle.ode_open.proofs.Refusing.{is_opened, why_header, why_records}
+use Rattle.ode_open.proofs.opening.open_file.Goals as goal
+
+pub returns-in_err-header-clause-answer : goal.returns-in_err-header-clause-answer
+returns-in_err-header-clause-answer g c = λ image stands.
+    let p = err_from_is_err_and c.from_residual.result c.from_residual.ensures.1 in
+    rw (p.1, p.2) (why_header image c.in_err-header.field-0.0 (c.in_err-header.ensures.answer image stands.tells))
+
+pub returns-in_err-keeper-clause-answer : goal.returns-in_err-keeper-clause-answer
+returns-in_err-keeper-clause-answer g c = λ image stands.
+    let p = err_from_is_err_and c.from_residual-in_err-keeper.result c.from_residual-in_err-keeper.ensures.1 in
+    rw (p.1, p.2) (c.in_err-keeper.ensures.answer image (tells_looks image _ _ c.read_header.ensures.looks stands.tells) (c.in_ok-header.ensures.found image stands.tells))
+
+pub returns-in_err-base-clause-answer : goal.returns-in_err-base-clause-answer
+returns-in_err-base-clause-answer g c = λ image stands.
+    let p = err_from_is_err_and c.from_residual-in_err-base.result c.from_residual-in_err-base.ensures.1 in
+    let header = c.in_ok-header.header in
+    let counts = c.in_ok-header.ensures.found image stands.tells in
+    let held = c.in_ok-keeper.ensures.holds image (stands_looks image _ _ c.read_header.ensures.looks stands) counts in
+    rw (p.1, p.2) (why_records image header counts c.in_ok-keeper.ensures.areas held.0 held.1 held.2.within c.in_err-base.field-0.0 (c.in_err-base.ensures.meant held.0 held.2))
+
+pub returns-in_err-are_built-clause-answer : goal.returns-in_err-are_built-clause-answer
+returns-in_err-are_built-clause-answer g c = λ image stands.
+    let counts = c.in_ok-header.ensures.found image stands.tells in
+    let held = c.in_ok-keeper.ensures.holds image (stands_looks image _ _ c.read_header.ensures.looks stands) counts in
+    absurd (no_triggers_opened held.0 c.in_ok-base.base.0 c.in_ok-base.base.1 c.in_err-are_built.field-0.0 (c.in_ok-base.ensures.meant held.0 held.2) c.in_err-are_built.ensures)
+
+pub returns-clause-answer : goal.returns-clause-answer
+returns-clause-answer g c = λ image stands.
+    let header = c.in_ok-header.header in
+    let counts = c.in_ok-header.ensures.found image stands.tells in
+    let held = c.in_ok-keeper.ensures.holds image (stands_looks image _ _ c.read_header.ensures.looks stands) counts in
+    inr (is_opened image header counts c.in_ok-keeper.ensures.areas held.0 held.1 held.2.within c.in_ok-base.base.0 c.in_ok-base.base.1 (c.in_ok-base.ensures.meant held.0 held.2))
+
+pub returns-clause-keeper : goal.returns-clause-keeper
+returns-clause-keeper g c = λ image stands.
+    let counts = c.in_ok-header.ensures.found image stands.tells in
+    let held = c.in_ok-keeper.ensures.holds image (stands_looks image _ _ c.read_header.ensures.looks stands) counts in
+    let means : AreasMean image held.0 = record { header = c.in_ok-header.header; counts = counts; areas = c.in_ok-keeper.ensures.areas; has = held.1 } in
+    (held.0, means, c.in_ok-base.ensures.holds held.0 held.2, c.in_ok-base.ensures.meant held.0 held.2)
+
+pub returns-clause-looks : goal.returns-clause-looks
+returns-clause-looks g c = looks_joined _ _ _ c.in_ok-header.ensures.looks (looks_joined _ _ _ c.in_ok-keeper.ensures.looks c.in_ok-base.ensures.looks)
+
+pub returns-clause-fit : goal.returns-clause-fit
+returns-clause-fit g c = bare_parts_fit _ (sym c.in_ok-are_built.ensures)

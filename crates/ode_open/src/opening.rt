@@ -1,0 +1,112 @@
+//! A file is opened to what a run needs.
+ghost use Rattle.std.specs.Prelude.{◌≡◌, ◌⊎◌, ◌≤◌, [], List as Items, ℕ, length, replicate, IfOk, IsErrOf, IsTrue, Ok, Err};
+ghost use Rattle.ode_areas.specs.Holding.{AreasHold, is_live};
+ghost use Rattle.ode_areas.specs.Image.{AreasMean, HasMap};
+ghost use Rattle.ode_gate.specs.Headers.{IsHeader, IsOfAreas};
+ghost use Rattle.ode_gate.specs.Slots.{Counts};
+ghost use Rattle.ode_host.specs.Causes.{RoseIf};
+ghost use Rattle.ode_host.specs.Host.{Looks, Stands, Tells};
+ghost use Rattle.ode_keep.specs.Entries.{Entries};
+ghost use Rattle.ode_language.specs.Languages.{ode};
+ghost use Rattle.ode_open.specs.Opening.{Found, HasOutsideFailed, IsOpenedTo, IsRefused, program_of, seen};
+ghost use Rattle.ode_opening_records.specs.Reading.{opened_in};
+ghost use Rattle.ode_schema.specs.Parts.{AreFit};
+
+use crate::error::OpenError;
+use ode_areas::Areas;
+use ode_gate::{Header, SLOT_LEN, SLOT_STEP, TWO_AREAS, read_header};
+use ode_host::Host;
+use ode_keep::MAX_RECORD_BYTES;
+use ode_opened::Opened;
+use ode_opening_records::{are_built, open_records};
+use ode_passes::Cause;
+use ode_symbols::Alphabet;
+use ode_table::Table;
+use ode_types::Classes;
+use ode_value::List;
+use std::alloc::{AllocError, Global};
+
+// The keeper of the two areas under a header.
+fn start_keeper<H: Host>(alloc: Global, host: &mut H, header: &Header) -> Result<Areas, OpenError>
+    requires rules { IsHeader header.now }
+    ensures holds { IfOk result (λ keeper. (image : Items ℕ) → Stands image (H.view host.old) → Counts image header.now
+        → (entries : Entries) × HasMap header.now image entries × AreasHold keeper (H.view host.new) entries) }
+    ensures areas { IfOk result (λ _. IsOfAreas header.now) }
+    ensures live { IfOk result (λ keeper. IsTrue (is_live keeper)) }
+    ensures answer { (image : Items ℕ) → Tells (H.view host.old) image → Counts image header.now
+        → IsRefused image result }
+    ensures looks { Looks (H.view host.old) (H.view host.new) }
+    ensures cause { RoseIf (IsErrOf result OpenError.DiskFault) (H.view host.old).disk_faults (H.view host.new).disk_faults }
+{
+    if header.layout != TWO_AREAS {
+        return Err(OpenError::BadFile(Cause::Header {
+            at: SLOT_STEP * u64::from(header.slot),
+        }));
+    }
+    let keeper = Areas::start(alloc, host, header)?;
+    let bytes = keeper.bytes();
+    if bytes > MAX_RECORD_BYTES {
+        return Err(OpenError::BadFile(Cause::Size(bytes)));
+    }
+    Ok(keeper)
+}
+
+// No class has a table: the place of each one's first is 0.
+fn maps_of(alloc: Global, classes: &Classes) -> Result<List<u32>, AllocError>
+    ensures { IfOk result (λ maps. maps ≡ replicate (length classes.now) 0) }
+{
+    let maps = vec![in alloc; 0u32; classes.as_slice().len()]?;
+    Ok(List::from_vec(maps))
+}
+
+// Opens a file that was synced.
+fn open_file<H: Host>(alloc: Global, host: &mut H) -> Result<Opened<Areas>, OpenError>
+    ensures answer { (image : Items ℕ) → Stands image (H.view host.old)
+        → HasOutsideFailed result ⊎ IsOpenedTo image (seen result) }
+    ensures keeper { IfOk result (λ o. (image : Items ℕ) → Stands image (H.view host.old)
+        → (entries : Entries) × AreasMean image entries × AreasHold o.keeper (H.view host.new) entries × (opened_in ode entries ≡ Ok (o.classes, o.bytes))) }
+    ensures live { IfOk result (λ o. IsTrue (is_live o.keeper)) }
+    ensures tables { IfOk result (λ o. (o.tables ≡ []) × (o.alphabets ≡ [])) }
+    ensures maps { IfOk result (λ o. o.maps ≡ replicate (length o.classes) 0) }
+    ensures fit { IfOk result (λ o. AreFit (program_of o)) }
+    ensures looks { Looks (H.view host.old) (H.view host.new) }
+    ensures cause { RoseIf (IsErrOf result OpenError.DiskFault) (H.view host.old).disk_faults (H.view host.new).disk_faults }
+{
+    let header = read_header(host, &mut [0; SLOT_LEN])?;
+    let mut keeper = start_keeper(alloc, host, &header)?;
+    let base = open_records(alloc, &mut keeper, host)?;
+    let (classes, bytes) = base;
+    // Where the keeper holds its records, this is known by now. Where it doesn't, nothing is known of the classes.
+    are_built(&classes)?;
+    let maps = maps_of(alloc, &classes)?;
+    Ok(Opened {
+        keeper,
+        classes,
+        tables: List::new(alloc),
+        alphabets: List::new(alloc),
+        maps,
+        bytes,
+    })
+}
+
+/// Opens a file. It begins with a sync, and nothing is written. A file is opened to its classes and bytes, or refused by the first rule
+/// that it breaks; want of memory or a fault of the disk may come instead.
+pub fn open_base<H: Host>(alloc: Global, host: &mut H) -> Result<Opened<Areas>, OpenError>
+    ensures answer { (image : Items ℕ) → Tells (H.view host.old) image
+        → HasOutsideFailed result ⊎ IsOpenedTo image (seen result) }
+    ensures only { (image : Items ℕ) (found : Found) → Tells (H.view host.old) image → IsOpenedTo image found
+        → HasOutsideFailed result ⊎ (seen result ≡ found) }
+
+    // At `Ok` what was written before stands on the disk, and the keeper holds the file's records, which were opened.
+    ensures keeper { IfOk result (λ o. (image : Items ℕ) → Tells (H.view host.old) image
+        → (entries : Entries) × AreasMean image entries × AreasHold o.keeper (H.view host.new) entries × (opened_in ode entries ≡ Ok (o.classes, o.bytes))) }
+    ensures live { IfOk result (λ o. IsTrue (is_live o.keeper)) }
+    ensures tables { IfOk result (λ o. (o.tables ≡ []) × (o.alphabets ≡ [])) }
+    ensures maps { IfOk result (λ o. o.maps ≡ replicate (length o.classes) 0) }
+    ensures fit { IfOk result (λ o. AreFit (program_of o)) }
+    ensures looks { Looks (H.view host.old) (H.view host.new) }
+    ensures cause { RoseIf (IsErrOf result OpenError.DiskFault) (H.view host.old).disk_faults (H.view host.new).disk_faults }
+{
+    host.sync()?;
+    open_file(alloc, host)
+}

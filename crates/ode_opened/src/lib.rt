@@ -1,0 +1,6 @@
+//! What a run needs of a file.
+#![tactic(auto)]
+
+mod opened;
+
+pub use opened::Opened;

@@ -1,0 +1,115 @@
+-- A class has a name or inherits it, as an opening sees it.
+use Rattle.std.proofs.Common.{◌≡◌, ℕ, zero, suc, ◌+◌, ◌≤◌, ◌<◌, List, [], ◌∷◌, ◌++◌, map, length, reverse, Bool, true, false, cond, Option, Some, None, refl, sym, ap, subst, ◌∙◌, append_assoc, arith, length-append}
+use Rattle.std.specs.Prelude.{◌==◌, ◌||◌}
+use Rattle.std.specs.List.{AllByRecursion, list_any}
+use Rattle.std.specs.Option.{option_map_or, unwrap_or}
+use Rattle.std.specs.Str.{bytes_eq}
+use Rattle.std.proofs.lemmas.Bool.Decides.{nat_tests}
+use Rattle.std.proofs.lemmas.List.{length-map, length-reverse, map-append, reverse-append}
+use Rattle.ode_opening_objects.specs.Fitting.{climbs, inherits}
+use Rattle.ode_types.specs.Families.{class_numbered}
+use Rattle.ode_value.specs.Classes.{is_a, upward}
+use Rattle.ode_value.specs.GoodWorlds.{AreClasses}
+use Rattle.ode_value.specs.Language.{Language}
+use Rattle.ode_value.specs.Worlds.{Declared}
+use Rattle.ode_value.specs.declared.class.Class.{Class}
+use Rattle.ode_opening_laws.specs.Holding.{class_of}
+use Rattle.ode_opened_laws.proofs.ByKinds.{all_append}
+
+module _ (classes : List Class) (name : List ℕ) where
+  abbrev Climbs : ℕ → ℕ → Type 0
+  Climbs steps number = climbs steps classes number name ≡ true
+
+  abbrev has_name : Class → Bool
+  has_name c = bytes_eq c.name name
+
+  or_right : (a b : Bool) → b ≡ true → a || b ≡ true
+  or_right true b is = refl
+  or_right false b is = is
+
+  or_more : (a b c : Bool) → (b ≡ true → c ≡ true) → a || b ≡ true → a || c ≡ true
+  or_more true b c more is = refl
+  or_more false b c more is = more is
+
+  -- a step more does no harm
+  step_more : (steps : ℕ) → ((number : ℕ) → Climbs steps number → Climbs (suc steps) number) → (o : Option Class)
+      → option_map_or (λ (c : Class). has_name c || climbs steps classes (unwrap_or c.parent 0) name) o false ≡ true
+      → option_map_or (λ (c : Class). has_name c || climbs (suc steps) classes (unwrap_or c.parent 0) name) o false ≡ true
+  step_more steps more None none = absurd (cc)
+  step_more steps more (Some c) ran = or_more (has_name c) _ _ (more (unwrap_or c.parent 0)) ran
+
+  more_steps : (steps number : ℕ) → Climbs steps number → Climbs (suc steps) number
+  more_steps zero number is = absurd (cc)
+  more_steps (suc steps) number is = step_more steps (λ n ran. more_steps steps n ran) (class_numbered classes number) is
+
+  -- each class is the one of its number
+  abbrev IsNumbered : Declared → Type 0
+  IsNumbered d = class_numbered classes d.class.number ≡ Some d.class
+
+  along : (ds : List Declared) (number : ℕ) → AllByRecursion IsNumbered ds → list_any has_name (upward number ds) ≡ true → Climbs (length ds) number
+  along [] number all is = absurd (cc)
+  along (d ∷ ds) number all is = by (λ n found. along ds n all.1 found) (d.class.number == number) refl is
+    where
+      here : (d.class.number == number) ≡ true → class_numbered classes number ≡ Some d.class
+      here test =
+          let same : d.class.number ≡ number = grind (arith, nat_tests) in
+          subst (λ (n : ℕ). class_numbered classes n ≡ Some d.class) same all.0
+
+      by : ((n : ℕ) → list_any has_name (upward n ds) ≡ true → Climbs (length ds) n) → (b : Bool) → (d.class.number == number) ≡ b → list_any has_name (cond b (d.class ∷ upward (unwrap_or d.class.parent 0) ds) (upward number ds)) ≡ true → Climbs (suc (length ds)) number
+      by rest true test found =
+          ap (λ (o : Option Class). option_map_or (λ (c : Class). has_name c || climbs (length ds) classes (unwrap_or c.parent 0) name) o false) (here test)
+          ∙ or_more (has_name d.class) _ _ (rest (unwrap_or d.class.parent 0)) found
+      by rest false test found = more_steps (length ds) number (rest number found)
+
+-- ---- the classes of a world are numbered
+
+abbrev IsBelow : ℕ → Declared → Type 0
+IsBelow n d = d.class.number < n
+
+not_it : (m n : ℕ) → m < n → (m == n) ≡ false
+not_it m n less = grind (arith, nat_tests)
+
+it : (m n : ℕ) → m ≡ n → (m == n) ≡ true
+it m n same = grind (arith, nat_tests)
+
+passed_by : (ds : List Declared) (rest : List Class) (n : ℕ) → AllByRecursion (IsBelow n) ds → class_numbered (map class_of ds ++ rest) n ≡ class_numbered rest n
+passed_by [] rest n low = refl
+passed_by (d ∷ ds) rest n low =
+    ap (λ b. cond b (Some d.class) (class_numbered (map class_of ds ++ rest) n)) (not_it d.class.number n low.0) ∙ passed_by ds rest n low.1
+
+below_more : (m n : ℕ) (ds : List Declared) → m ≤ n → AllByRecursion (IsBelow m) ds → AllByRecursion (IsBelow n) ds
+below_more m n [] le all = tt
+below_more m n (d ∷ ds) le all = let less : d.class.number < m = all.0 in (omega arith, below_more m n ds le all.1)
+
+below_behind : (n : ℕ) (ds : List Declared) (d : Declared) → AllByRecursion (IsBelow n) ds → IsBelow n d → AllByRecursion (IsBelow n) (ds ++ d ∷ [])
+below_behind n [] d all low = (low, tt)
+below_behind n (e ∷ ds) d all low = (all.0, below_behind n ds d all.1 low)
+
+numbered_behind : (l : Language) (earlier ds : List Declared) (all : List Class) → AllByRecursion (IsBelow (length earlier + 1)) earlier → AreClasses l earlier ds
+    → all ≡ map class_of earlier ++ map class_of ds → AllByRecursion (λ (d : Declared). class_numbered all d.class.number ≡ Some d.class) ds
+numbered_behind l earlier [] all low are whole = tt
+numbered_behind l earlier (d ∷ ds) all low are whole =
+    let number : d.class.number ≡ length earlier + 1 = are.0.number in
+    let longer : length (earlier ++ d ∷ []) ≡ length earlier + 1 = length-append earlier (d ∷ []) in
+    let found : class_numbered all d.class.number ≡ Some d.class =
+    ap (λ (cs : List Class). class_numbered cs d.class.number) whole
+    ∙ passed_by earlier (d.class ∷ map class_of ds) d.class.number (subst (λ (n : ℕ). AllByRecursion (IsBelow n) earlier) (sym number) low)
+    ∙ ap (λ b. cond b (Some d.class) (class_numbered (map class_of ds) d.class.number)) (it d.class.number d.class.number refl) in
+    let lower : AllByRecursion (IsBelow (length (earlier ++ d ∷ []) + 1)) (earlier ++ d ∷ []) =
+    below_behind (length (earlier ++ d ∷ []) + 1) earlier d (below_more (length earlier + 1) (length (earlier ++ d ∷ []) + 1) earlier (omega arith) low) (omega arith) in
+    let grouped : map class_of (earlier ++ d ∷ []) ++ map class_of ds ≡ map class_of earlier ++ d.class ∷ map class_of ds =
+    ap (λ (cs : List Class). cs ++ map class_of ds) (map-append class_of earlier (d ∷ [])) ∙ append_assoc (map class_of earlier) (d.class ∷ []) (map class_of ds) in
+    (found, numbered_behind l (earlier ++ d ∷ []) ds all lower are.1 (whole ∙ sym grouped))
+
+pub all_reverse : {X : Type 0} (P : X → Type 0) (xs : List X) → AllByRecursion P xs → AllByRecursion P (reverse xs)
+all_reverse P [] all = tt
+all_reverse P (x ∷ xs) all =
+    subst (AllByRecursion P) (sym (reverse-append (x ∷ []) xs)) (all_append P (reverse xs) (x ∷ []) (all_reverse P xs all.1) (all.0, tt))
+
+-- a class that has a name or inherits it does so to an opening
+pub is_inherited : (l : Language) (ds : List Declared) (number : ℕ) (name : List ℕ) → AreClasses l [] ds → is_a ds number name ≡ true → inherits (map class_of ds) number name ≡ true
+is_inherited l ds number name are is =
+    let classes = map class_of ds in
+    let each = numbered_behind l [] ds classes tt are refl in
+    let ran : climbs (length (reverse ds)) classes number name ≡ true = along classes name (reverse ds) number (all_reverse (λ (d : Declared). class_numbered classes d.class.number ≡ Some d.class) ds each) is in
+    ap (λ (n : ℕ). climbs n classes number name) (length-map ds class_of ∙ sym (length-reverse ds)) ∙ ran

@@ -1,0 +1,285 @@
+-- The objects of a good world, their versions and the references in these keep the rules of an opening.
+use Rattle.std.proofs.Common.{◌≡◌, ℕ, ◌<◌, ◌≤◌, List, [], ◌∷◌, ◌++◌, map, length, Bool, true, false, cond, Option, Some, None, Ok, Err, refl, ap, subst, ◌∙◌, arith}
+use Rattle.std.specs.Prelude.{◌==◌, ◌||◌, ◌&&◌, nat_le, nat_lt}
+use Rattle.std.specs.List.{AllByRecursion, flat_map}
+use Rattle.std.specs.Option.{IfSome, IsSome, is_some, option_and_then, option_map, option_map_or, unwrap_or}
+use Rattle.std.proofs.lemmas.Bool.Decides.{nat_tests}
+use Rattle.ode_codec.specs.Rules.{IsRecord}
+use Rattle.ode_codec.specs.declared.record.Record.{Record}
+use Rattle.ode_codec.specs.StoredRows.{object_row, version_rows}
+use Rattle.ode_heap.specs.Answering.{IsReadableObject, IsReadableVersion}
+use Rattle.ode_keep.specs.Entries.{Entries}
+use Rattle.ode_opening_laws.specs.Holding.{class_of}
+use Rattle.ode_opening_laws.proofs.Decoding.{Again}
+use Rattle.ode_opening_objects.specs.Fitting.{fit_references, fits_object, fits_reference, fits_sort, has_sort, have_sorts, inherits, is_drawn}
+use Rattle.ode_opening_objects.specs.Heads.{has_version, head_in, of_object}
+use Rattle.ode_opening_objects.specs.Objects.{fields_fit, fits_head, object_fits, object_keeps, references_fit, references_in, references_keep, version_fits, version_keeps}
+use Rattle.ode_opening_objects.specs.declared.head.Head.{Head}
+use Rattle.ode_passes.specs.Rules.{Ruled, ◌>>=◌, each, found, needs}
+use Rattle.ode_passes.specs.declared.cause.Cause.TheVariants as cause
+use Rattle.ode_types.specs.Families as families
+use Rattle.ode_value.specs.Denoting.{if_live, object_at, object_numbered}
+use Rattle.ode_value.specs.Fitting.{FitFields, FitsObject, FitsRef, FitsSort, IsDrawn}
+use Rattle.ode_value.specs.GoodWorlds.{AreBones, IsObject, IsVersion}
+use Rattle.ode_value.specs.Language.{Language}
+use Rattle.ode_value.specs.Records.{Row, version_row}
+use Rattle.ode_value.specs.Versions.{Version}
+use Rattle.ode_value.specs.Worlds.{Bones, Declared, Object, World, class_numbered}
+use Rattle.ode_value.specs.declared.class.Class.{Class}
+use Rattle.ode_value.specs.declared.class.Field.{Field}
+use Rattle.ode_value.specs.declared.statement.Sort.{Sort}
+use Rattle.ode_value.specs.declared.statement.Sort.TheVariants as sort
+use Rattle.ode_value.specs.declared.value.Ref.{Ref}
+use Rattle.ode_value.specs.declared.value.Value.{Value}
+use Rattle.ode_value.specs.declared.value.Value.TheVariants as value
+use Rattle.ode_opened_laws.proofs.Climbing.{is_inherited}
+use Rattle.ode_opened_laws.proofs.Telling.{have_versions, head_of, heads_tell, object_reads, object_record, own_numbers, version_reads}
+
+-- ---- one behind the other
+
+each_step : {X : Type 0} (rule : X → Ruled (Unit {0})) (xs ys : List X) → (each rule xs ≡ Ok tt → each rule (xs ++ ys) ≡ Ok tt)
+    → (m : Ruled (Unit {0})) → (m >>= λ _. each rule xs) ≡ Ok tt → (m >>= λ _. each rule (xs ++ ys)) ≡ Ok tt
+each_step rule xs ys more (Ok u) ran = more ran
+each_step rule xs ys more (Err e) ran = absurd (cc)
+
+each_append : {X : Type 0} (rule : X → Ruled (Unit {0})) (xs ys : List X) → each rule xs ≡ Ok tt → each rule ys ≡ Ok tt → each rule (xs ++ ys) ≡ Ok tt
+each_append rule [] ys one other = other
+each_append rule (x ∷ xs) ys one other = each_step rule xs ys (λ ran. each_append rule xs ys ran other) (rule x) one
+
+each_map : {X Y : Type 0} (rule : Y → Ruled (Unit {0})) (f : X → Y) (xs : List X) → AllByRecursion (λ x. rule (f x) ≡ Ok tt) xs → each rule (map f xs) ≡ Ok tt
+each_map rule f [] all = refl
+each_map rule f (x ∷ xs) all = ap (λ (m : Ruled (Unit {0})). m >>= λ _. each rule (map f xs)) all.0 ∙ each_map rule f xs all.1
+
+each_flat : {X Y : Type 0} (rule : Y → Ruled (Unit {0})) (f : X → List Y) (xs : List X) → AllByRecursion (λ x. each rule (f x) ≡ Ok tt) xs → each rule (flat_map f xs) ≡ Ok tt
+each_flat rule f [] all = refl
+each_flat rule f (x ∷ xs) all = each_append rule (f x) (flat_map f xs) all.0 (each_flat rule f xs all.1)
+
+all_then : {X : Type 0} (P Q : X → Type 0) → ((x : X) → P x → Q x) → (xs : List X) → AllByRecursion P xs → AllByRecursion Q xs
+all_then P Q next [] all = tt
+all_then P Q next (x ∷ xs) all = (next x all.0, all_then P Q next xs all.1)
+
+-- ---- tests
+
+less : (m n : ℕ) → m < n → nat_lt m n ≡ true
+less m n is = grind (arith, nat_tests)
+
+upto : (m n : ℕ) → m ≤ n → nat_le m n ≡ true
+upto m n is = grind (arith, nat_tests)
+
+both : (a b : Bool) → a ≡ true → b ≡ true → a && b ≡ true
+both true b one other = other
+both false b one other = absurd (cc)
+
+or_right : (a b : Bool) → b ≡ true → a || b ≡ true
+or_right true b is = refl
+or_right false b is = is
+
+same_numbered : (ds : List Declared) (n : ℕ) → families.class_numbered (map class_of ds) n ≡ class_numbered n ds
+same_numbered [] n = refl
+same_numbered (d ∷ ds) n = ap (λ (o : Option Class). cond (d.class.number == n) (Some d.class) o) (same_numbered ds n)
+
+parent_below : (parent : Option ℕ) (n : ℕ) → IfSome parent (λ p. (0 < p) × (p < n)) → (unwrap_or parent 0 == 0) || nat_lt (unwrap_or parent 0) n ≡ true
+parent_below None n is = refl
+parent_below (Some p) n is = or_right (p == 0) (nat_lt p n) (less p n is.1)
+
+numbered_all : (P : Object → Type 0) (os : List Object) (id : ℕ) (o : Object) → AllByRecursion P os → object_numbered id os ≡ Some o → P o
+numbered_all P [] id o all is = absurd (cc)
+numbered_all P (p ∷ ps) id o all is = by (λ there. numbered_all P ps id o all.1 there) (p.id == id) is
+  where
+    by : (object_numbered id ps ≡ Some o → P o) → (b : Bool) → cond b (Some p) (object_numbered id ps) ≡ Some o → P o
+    by rest true there = let same : p ≡ o = cc in subst P same all.0
+    by rest false there = rest there
+
+-- ---- values
+
+sort_of : (b : Bones) (s : Sort) (v : Value) → FitsSort b s v → has_sort s v ≡ true
+sort_of b sort.Int (value.Int n) fits = refl
+sort_of b sort.Bool (value.Bool t) fits = refl
+sort_of b sort.Text (value.Text t) fits = refl
+sort_of b (sort.Reference class) (value.Reference r) fits = refl
+sort_of b sort.Int (value.Bool t) fits = absurd fits
+sort_of b sort.Int (value.Text t) fits = absurd fits
+sort_of b sort.Int (value.Reference r) fits = absurd fits
+sort_of b sort.Bool (value.Int n) fits = absurd fits
+sort_of b sort.Bool (value.Text t) fits = absurd fits
+sort_of b sort.Bool (value.Reference r) fits = absurd fits
+sort_of b sort.Text (value.Int n) fits = absurd fits
+sort_of b sort.Text (value.Bool t) fits = absurd fits
+sort_of b sort.Text (value.Reference r) fits = absurd fits
+sort_of b (sort.Reference class) (value.Int n) fits = absurd fits
+sort_of b (sort.Reference class) (value.Bool t) fits = absurd fits
+sort_of b (sort.Reference class) (value.Text t) fits = absurd fits
+sort_of b sort.Void (value.Int n) fits = absurd fits
+sort_of b sort.Void (value.Bool t) fits = absurd fits
+sort_of b sort.Void (value.Text t) fits = absurd fits
+sort_of b sort.Void (value.Reference r) fits = absurd fits
+
+sorts_of : (b : Bones) (fs : List Field) (vs : List Value) → FitFields b fs vs → have_sorts fs vs ≡ true
+sorts_of b [] [] fit = refl
+sorts_of b [] (v ∷ vs) fit = absurd fit
+sorts_of b (f ∷ fs) [] fit = absurd fit
+sorts_of b (f ∷ fs) (v ∷ vs) fit = both (has_sort f.sort v) (have_sorts fs vs) (sort_of b f.sort v fit.0) (sorts_of b fs vs fit.1)
+
+-- ---- a good world
+
+module _ (l : Language) (w : World (Unit {0}) ℕ) (b : Bones) (are : AreBones l b) (again : Again) where
+  abbrev classes : List Class
+  classes = map class_of b.classes
+
+  abbrev objects : Entries
+  objects = map object_row b.objects
+
+  abbrev versions : Entries
+  versions = flat_map version_rows b.objects
+
+  abbrev heads : ℕ → Option Head
+  heads = head_in objects
+
+  module _ (reads : AllByRecursion (IsReadableObject w) b.objects) where
+    tells : (id : ℕ) → heads id ≡ option_map head_of (object_numbered id b.objects)
+    tells id = heads_tell again b.objects 0 id are.rising (all_then (IsReadableObject w) (λ o. IsRecord (object_record o)) (λ o is. is.spells) b.objects reads)
+
+    -- ---- references
+
+    drawn : (last : ℕ) (version : Option ℕ) → IsDrawn last version → is_drawn last version ≡ true
+    drawn last None is = refl
+    drawn last (Some v) is = upto v last is
+
+    fitting : (class : List ℕ) (version : Option ℕ) (o : Object) → (r : Ref) → r.version ≡ version → FitsObject b class r o → fits_object classes class version (head_of o) ≡ true
+    fitting class version o r same fits =
+        both (inherits classes o.class class) (is_drawn o.last version) (is_inherited l b.classes o.class class are.classes fits.fits)
+        (drawn o.last version (subst (IsDrawn o.last) same fits.version))
+
+    live_fits : (class : List ℕ) (r : Ref) (g : Option Object) → object_numbered r.object b.objects ≡ g → IfSome (option_and_then if_live g) (FitsObject b class r)
+        → option_map_or (fits_object classes class r.version) (option_map head_of g) true ≡ true
+    live_fits class r None there fits = refl
+    live_fits class r (Some o) there fits =
+        let live : o.live ≡ true = numbered_all (λ (p : Object). p.live ≡ true) b.objects r.object o (all_then (IsObject b) (λ (p : Object). p.live ≡ true) (λ p is. is.live) b.objects are.objects) there in
+        fitting class r.version o r refl (subst (λ t. IfSome (cond t (Some o) None) (FitsObject b class r)) live fits)
+
+    reference_fits : (class : List ℕ) (r : Ref) → FitsRef b class r → fits_reference b.next classes heads class r ≡ true
+    reference_fits class r fits = by (r.object == 0) fits.object
+      where
+        found_fits : IfSome (object_at b r.object) (FitsObject b class r) → option_map_or (fits_object classes class r.version) (heads r.object) true ≡ true
+        found_fits object =
+            ap (λ (g : Option Head). option_map_or (fits_object classes class r.version) g true) (tells r.object)
+            ∙ live_fits class r (object_numbered r.object b.objects) refl object
+
+        by : (t : Bool) → IfSome (cond t None (object_at b r.object)) (FitsObject b class r)
+            → t || (nat_lt r.object b.next && option_map_or (fits_object classes class r.version) (heads r.object) true) ≡ true
+        by true object = refl
+        by false object =
+            both (nat_lt r.object b.next) (option_map_or (fits_object classes class r.version) (heads r.object) true) (less r.object b.next fits.drawn) (found_fits object)
+
+    value_fits : (s : Sort) (v : Value) → FitsSort b s v → fits_sort b.next classes heads s v ≡ true
+    value_fits (sort.Reference class) (value.Reference r) fits = reference_fits class r fits
+    value_fits (sort.Reference class) (value.Int n) fits = refl
+    value_fits (sort.Reference class) (value.Bool t) fits = refl
+    value_fits (sort.Reference class) (value.Text t) fits = refl
+    value_fits sort.Int v fits = refl
+    value_fits sort.Bool v fits = refl
+    value_fits sort.Text v fits = refl
+    value_fits sort.Void v fits = refl
+
+    values_fit : (fs : List Field) (vs : List Value) → FitFields b fs vs → fit_references b.next classes heads fs vs ≡ true
+    values_fit [] [] fit = refl
+    values_fit [] (v ∷ vs) fit = refl
+    values_fit (f ∷ fs) [] fit = refl
+    values_fit (f ∷ fs) (v ∷ vs) fit = both (fits_sort b.next classes heads f.sort v) (fit_references b.next classes heads fs vs) (value_fits f.sort v fit.0) (values_fit fs vs fit.1)
+
+    -- ---- an object
+
+    -- all that is known of an object
+    record IsTold (o : Object) : Type 0 where
+      is : IsObject b o
+      reads_it : IsReadableObject w o
+      own : object_numbered o.id b.objects ≡ Some o
+      has : has_version versions o.id ≡ true
+
+    all_told : (os : List Object) → AllByRecursion (IsObject b) os → AllByRecursion (IsReadableObject w) os → AllByRecursion (λ (o : Object). object_numbered o.id b.objects ≡ Some o) os
+        → AllByRecursion (λ (o : Object). has_version versions o.id ≡ true) os → AllByRecursion IsTold os
+    all_told [] one two three four = tt
+    all_told (o ∷ os) one two three four =
+        (record { is = one.0; reads_it = two.0; own = three.0; has = four.0 }, all_told os one.1 two.1 three.1 four.1)
+
+    told : AllByRecursion IsTold b.objects
+    told =
+        all_told b.objects are.objects reads (own_numbers b.objects 0 are.rising)
+        (have_versions b.objects (all_then (IsObject b) (λ (o : Object). 0 < length o.versions) (λ o is. is.some) b.objects are.objects))
+
+    head_told : (o : Object) → IsTold o → heads o.id ≡ Some (head_of o)
+    head_told o it = tells o.id ∙ ap (option_map head_of) it.own
+
+    known : (o : Object) → IsTold o → is_some (families.class_numbered classes o.class) ≡ true
+    known o it = ap is_some (same_numbered b.classes o.class) ∙ by (class_numbered o.class b.classes) it.is.class
+      where
+        by : (g : Option Class) → IsSome g → is_some g ≡ true
+        by None some = absurd (cc)
+        by (Some c) some = refl
+
+    object_kept : (o : Object) → IsTold o → object_keeps b.next classes (has_version versions) (object_row o) ≡ Ok tt
+    object_kept o it =
+        let why = cause.Record (object_row o).0 in
+        let test : object_fits b.next classes (has_version versions) (object_row o) (head_of o) ≡ true =
+        both (nat_lt o.id b.next) (is_some (families.class_numbered classes o.class) && has_version versions o.id) (less o.id b.next it.is.number)
+        (both (is_some (families.class_numbered classes o.class)) (has_version versions o.id) (known o it) it.has) in
+        ap (λ (g : Option Record). (found why g >>= λ r. found why (of_object r) >>= λ h. needs why (object_fits b.next classes (has_version versions) (object_row o) h) >>= λ _. Ok h) >>= λ _. Ok tt)
+        (object_reads again o it.reads_it.spells)
+        ∙ ap (λ t. (needs why t >>= λ _. Ok (head_of o)) >>= λ _. Ok tt) test
+
+    pub objects_kept : each (object_keeps b.next classes (has_version versions)) objects ≡ Ok tt
+    objects_kept = each_map (object_keeps b.next classes (has_version versions)) object_row b.objects (all_then IsTold (λ o. object_keeps b.next classes (has_version versions) (object_row o) ≡ Ok tt) object_kept b.objects told)
+
+    -- ---- its versions
+
+    record IsOwn (o : Object) (c : Class) (v : Version) : Type 0 where
+      is : IsVersion b c o.last v
+      reads_it : IsReadableVersion o.id v
+
+    own_versions : (o : Object) (c : Class) (vs : List Version) → AllByRecursion (IsVersion b c o.last) vs → AllByRecursion (IsReadableVersion o.id) vs → AllByRecursion (IsOwn o c) vs
+    own_versions o c [] one two = tt
+    own_versions o c (v ∷ vs) one two = (record { is = one.0; reads_it = two.0 }, own_versions o c vs one.1 two.1)
+
+    module _ (o : Object) (it : IsTold o) (c : Class) (at : class_numbered o.class b.classes ≡ Some c) where
+      class_at : families.class_numbered classes o.class ≡ Some c
+      class_at = same_numbered b.classes o.class ∙ at
+
+      version_kept : (v : Version) → IsOwn o c v → version_keeps classes heads (version_row o.id v) ≡ Ok tt
+      version_kept v own =
+          let why = cause.Record (version_row o.id v).0 in
+          let number = v.number in
+          let parent = unwrap_or v.parent 0 in
+          let fields : fields_fit classes o.class v.fields ≡ true =
+          ap (λ (g : Option Class). option_map_or (λ (d : Class). have_sorts d.fields v.fields) g false) class_at ∙ sorts_of b c.fields v.fields own.is.fields in
+          let test : fits_head classes number parent v.fields (head_of o) ≡ true =
+          both (nat_le number o.last) (((parent == 0) || nat_lt parent number) && fields_fit classes o.class v.fields) (upto number o.last own.is.number)
+          (both ((parent == 0) || nat_lt parent number) (fields_fit classes o.class v.fields) (parent_below v.parent number own.is.parent) fields) in
+          ap (λ (g : Option Record). found why g >>= λ r. needs why (version_fits classes heads r)) (version_reads again o.id v own.reads_it.spells)
+          ∙ ap (λ (g : Option Head). needs why (option_map_or (fits_head classes number parent v.fields) g false)) (head_told o it)
+          ∙ ap (needs why) test
+
+      references_kept : (v : Version) → IsOwn o c v → references_keep b.next classes heads (version_row o.id v) ≡ Ok tt
+      references_kept v own =
+          let why = cause.Record (version_row o.id v).0 in
+          let test : references_in b.next classes heads o.class v.fields ≡ true =
+          ap (λ (g : Option Class). option_map_or (λ (d : Class). fit_references b.next classes heads d.fields v.fields) g true) class_at ∙ values_fit c.fields v.fields own.is.fields in
+          ap (λ (g : Option Record). found why g >>= λ r. needs why (references_fit b.next classes heads r)) (version_reads again o.id v own.reads_it.spells)
+          ∙ ap (λ (g : Option Head). needs why (option_map_or (λ (h : Head). references_in b.next classes heads h.class v.fields) g true)) (head_told o it)
+          ∙ ap (needs why) test
+
+    module _ (rule : Row → Ruled (Unit {0})) (one : (o : Object) (it : IsTold o) (c : Class) (at : class_numbered o.class b.classes ≡ Some c) (v : Version) → IsOwn o c v → rule (version_row o.id v) ≡ Ok tt) where
+      own_kept : (o : Object) → IsTold o → (g : Option Class) → class_numbered o.class b.classes ≡ g → IsSome g → IfSome g (λ c. AllByRecursion (IsVersion b c o.last) o.versions) → each rule (version_rows o) ≡ Ok tt
+      own_kept o it None at some fit = absurd (cc)
+      own_kept o it (Some c) at some fit =
+          each_map rule (version_row o.id) o.versions (all_then (IsOwn o c) (λ v. rule (version_row o.id v) ≡ Ok tt) (one o it c at) o.versions (own_versions o c o.versions fit it.reads_it.versions))
+
+      all_kept : each rule versions ≡ Ok tt
+      all_kept =
+          each_flat rule version_rows b.objects
+          (all_then IsTold (λ o. each rule (version_rows o) ≡ Ok tt) (λ o it. own_kept o it (class_numbered o.class b.classes) refl it.is.class it.is.versions) b.objects told)
+
+    pub versions_kept : each (version_keeps classes heads) versions ≡ Ok tt
+    versions_kept = all_kept (version_keeps classes heads) version_kept
+
+    pub all_references_kept : each (references_keep b.next classes heads) versions ≡ Ok tt
+    all_references_kept = all_kept (references_keep b.next classes heads) references_kept

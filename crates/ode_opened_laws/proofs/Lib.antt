@@ -1,0 +1,9 @@
+pub mod ByKinds
+pub mod Weighing
+pub mod Tallying
+pub mod Climbing
+pub mod Plain
+pub mod Telling
+pub mod Keeping
+pub mod Parts
+pub mod Opened
