@@ -90,7 +90,7 @@ AnswersBuilt (Err refusal) = Unit {0}
 
 module _ (l : Language) where
   -- a class that is declared is the one that was checked
-  declared_none : (b : Bones) (d : ClassDecl) → HasBuiltForm l (statement.Class d) → (c : Declared) → declared_in l b d ≡ Ok c → DeclaresNone c
+  pub declared_none : (b : Bones) (d : ClassDecl) → HasBuiltForm l (statement.Class d) → (c : Declared) → declared_in l b d ≡ Ok c → DeclaresNone c
   declared_none b d none c e = by_check (l.class_of (classes_in b) d) refl e where
     by_records : (k : Declared) → DeclaresNone k → (t : Bool) → then_answer (refuses t (refusal.ClassTooLarge (record_count k))) (λ _. Ok k) ≡ Ok c → DeclaresNone c
     by_records k is true f = absurd (cc)

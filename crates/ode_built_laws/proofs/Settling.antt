@@ -1,5 +1,5 @@
 -- What a settled transaction leaves, and the drain behind it.
-use Rattle.std.proofs.Common.{◌≡◌, ℕ, zero, suc, true, [], ◌∷◌, ◌++◌, map, refl, sym, ap, ◌∙◌, subst}
+use Rattle.std.proofs.Common.{◌≡◌, ℕ, zero, suc, true, [], ◌∷◌, ◌++◌, map, refl, ap, ◌∙◌}
 use Rattle.std.specs.List.{filter, enumerate_from}
 use Rattle.ode_value.specs.declared.event.Kind.{Kind}
 use Rattle.ode_value.specs.declared.event.Kind.TheVariants.{TCommit, TAbort}
@@ -17,7 +17,7 @@ use Rattle.ode_value.specs.Posting.{collects, is_listed, waiting}
 use Rattle.ode_value.specs.Settling.{Settled, is_independent, entry_in, clock_after, settled_world, says, arises_last, posts_last_listed, posts_last, posted, commit, abort, settle, committed, aborted, transaction}
 use Rattle.ode_value.specs.Texts.{class_line}
 use Rattle.ode_value.specs.Transactions.{Script, begun}
-use Rattle.ode_value.specs.Worlds.{Declared, Bones, empty_world}
+use Rattle.ode_value.specs.Worlds.{Declared, Bones, empty_bones}
 use Rattle.ode_value.specs.declared.statement.Stmt.{Stmt}
 use Rattle.ode_machine.specs.Works.{declares}
 use Rattle.ode_laws.proofs.Each.{all-append}
@@ -118,8 +118,8 @@ module _ (w : ListWorld) where
     pub class_built : (c : Declared) → DeclaresNone c → AreBuilt (transaction lists Script (declares c) w).0.bones
     class_built c none = transaction_built (declares c) (declares_calm c none)
 
-pub fresh_built : (w : ListWorld) → w ≡ empty_world → AreBuilt w.bones
-fresh_built w is = subst (λ (v : ListWorld). AreBuilt v.bones) (sym is) (record { no_triggers = tt; no_queue = refl; no_clock = refl })
+pub fresh_built : AreBuilt empty_bones
+fresh_built = record { no_triggers = tt; no_queue = refl; no_clock = refl }
 
 -- ---- drains
 

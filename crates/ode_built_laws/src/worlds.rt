@@ -11,7 +11,7 @@ ghost use Rattle.ode_value.specs.Objects.{Histories, Starts};
 ghost use Rattle.ode_value.specs.Pasts.{lists};
 ghost use Rattle.ode_value.specs.Settling.{Settled, abort, commit, transaction};
 ghost use Rattle.ode_value.specs.Transactions.{Script, begun};
-ghost use Rattle.ode_value.specs.Worlds.{Declared, empty_world};
+ghost use Rattle.ode_value.specs.Worlds.{Declared, empty_bones};
 ghost use Rattle.ode_built_laws.specs.Built.{AreBuilt, DeclaresNone, IsQuiet, StaysQuiet};
 
 /// In a script's transaction from a world of the built forms nothing fires: it begins so, and whatever its statements are, it stays so,
@@ -27,7 +27,7 @@ pub fn transactions_stay_quiet()
 /// A fresh database is a world of the built forms. From such a world the transaction of a simple statement, whatever it is, and that of a
 /// class that declares no trigger leave such a world again, and behind such a world a drain settles nothing.
 pub fn worlds_stay_built()
-    ensures fresh { (w : ListWorld) → w ≡ empty_world → AreBuilt w.bones }
+    ensures fresh { AreBuilt empty_bones }
     ensures statement { (w : ListWorld) → AreBuilt w.bones → (s : Stmt) → AreBuilt (transaction lists Script (commands lists s) w).0.bones }
     ensures class { (w : ListWorld) → AreBuilt w.bones → (c : Declared) → DeclaresNone c → AreBuilt (transaction lists Script (declares c) w).0.bones }
     ensures drain { (w : ListWorld) → AreBuilt w.bones → (most : ℕ) → drain lists most w ≡ [] }

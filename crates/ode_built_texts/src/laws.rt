@@ -6,20 +6,22 @@ ghost use Rattle.ode_built_laws.specs.Sessions.{IsBuiltSession, IsBuiltStep, Rea
 ghost use Rattle.ode_built_texts.specs.Members.{HasPlainMembers};
 ghost use Rattle.ode_language.specs.Languages.{ode, statement_of};
 ghost use Rattle.ode_machine.specs.Commands.{Step, command};
+ghost use Rattle.ode_machine.specs.Refusals.{declared_in};
 ghost use Rattle.ode_machine.specs.Runs.{trace, worlds};
 ghost use Rattle.ode_machine.specs.Sessions.{Session};
 ghost use Rattle.ode_types.specs.Static.{check_class};
 ghost use Rattle.ode_value.specs.GoodWorlds.{AreClasses, IsGood};
 ghost use Rattle.ode_value.specs.Language.{ListWorld};
-ghost use Rattle.ode_value.specs.Worlds.{Declared, empty_world};
+ghost use Rattle.ode_value.specs.Worlds.{Bones, Declared, empty_world};
 ghost use Rattle.ode_value.specs.declared.class.Class.{Class as CheckedClass};
 ghost use Rattle.ode_value.specs.declared.statement.ClassDecl.{ClassDecl};
 ghost use Rattle.ode_value.specs.declared.statement.Statement.TheVariants.{Class, Clock};
 
-/// No member of a class that is read is a trigger or a list of kinds, and no checked class of it has a trigger.
+/// No member of a class that is read is a trigger or a list of kinds; no checked class of it has a trigger, and no declared one.
 pub fn read_classes_have_no_triggers()
     ensures members { (piece : Items ℕ) (d : ClassDecl) → statement_of piece ≡ Ok (Class d) → HasPlainMembers d }
     ensures checked { (piece : Items ℕ) (d : ClassDecl) → statement_of piece ≡ Ok (Class d) → (known : Items CheckedClass) (c : CheckedClass) → check_class known d ≡ Ok c → c.triggers ≡ [] }
+    ensures declared { (piece : Items ℕ) (d : ClassDecl) → statement_of piece ≡ Ok (Class d) → (b : Bones) (c : Declared) → declared_in ode b d ≡ Ok c → DeclaresNone c }
 {}
 
 /// No statement that is read is the clock's: with the classes', each is of the built forms.

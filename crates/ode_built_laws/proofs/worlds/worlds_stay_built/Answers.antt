@@ -2,7 +2,7 @@ use Rattle.ode_built_laws.proofs.Settling.{class_built, drained_alone, fresh_bui
 use Rattle.ode_built_laws.proofs.worlds.worlds_stay_built.Goals as goal
 
 pub returns-clause-fresh : goal.returns-clause-fresh
-returns-clause-fresh c w is = fresh_built w is
+returns-clause-fresh c = fresh_built
 
 pub returns-clause-statement : goal.returns-clause-statement
 returns-clause-statement c w built s = statement_built w built s

@@ -1,4 +1,7 @@
+use Rattle.ode_language.specs.Languages.{ode}
+use Rattle.ode_built_laws.proofs.Runs.{declared_none}
 use Rattle.ode_built_texts.proofs.Checked.{checked_none}
+use Rattle.ode_built_texts.proofs.Goods.{reads_built}
 use Rattle.ode_built_texts.proofs.Pieces.{piece_plain}
 use Rattle.ode_value.specs.declared.statement.Statement.TheVariants as statement
 use Rattle.ode_built_texts.proofs.laws.read_classes_have_no_triggers.Goals as goal
@@ -8,3 +11,6 @@ returns-clause-members c piece d e = piece_plain piece (statement.Class d) e
 
 pub returns-clause-checked : goal.returns-clause-checked
 returns-clause-checked c piece d e known k checks = checked_none known d k (piece_plain piece (statement.Class d) e) checks
+
+pub returns-clause-declared : goal.returns-clause-declared
+returns-clause-declared c piece d e b k is = declared_none ode b d (reads_built piece (statement.Class d) e) k is
