@@ -67,7 +67,7 @@ module _ {H K : Type 0} (seen : H → View) (held : K → View → Entries → T
   abbrev Open : Work H K → Entries → NumberWorld → Type 0
   Open w entries first = IsOpen (held w.heap.now (seen w.host.now)) (live w.heap.now) w.overlay.now w.budget.now w.bytes entries first
 
-  begins : (w : Work H K) (p : Parts) (entries : Entries) (first : NumberWorld) → p.classes ≡ declared_in first → Open w entries first → Knows seen held live w p (known_of w entries first)
+  pub begins : (w : Work H K) (p : Parts) (entries : Entries) (first : NumberWorld) → p.classes ≡ declared_in first → Open w entries first → Knows seen held live w p (known_of w entries first)
   begins w p entries first classes state = record {
     lent = record { heap = refl; overlay = refl; deferred = refl; text = refl; budget = refl; host = refl };
     runs = record { usable = state.usable; records = state.records; looks = looks_none (seen w.host.now); faults = refl; known = state.known; budget = state.budget; bytes = state.bytes };

@@ -13,4 +13,5 @@ pub mod MakeLaws
 pub mod ObjectLaws
 pub mod OffLaws
 pub mod PlaceLaws
+pub mod SettleLaws
 pub mod WholeLaws

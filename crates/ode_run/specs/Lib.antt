@@ -1,6 +1,7 @@
 pub mod Activating
 pub mod Collecting
 pub mod Contexts
+pub mod Ending
 pub mod Knowing
 pub mod Stopping
 pub mod Telling
