@@ -1,0 +1,14 @@
+pub mod Rising
+pub mod Splitting
+pub mod Ruled
+pub mod Tallied
+pub mod Grouping
+pub mod Decoded
+pub mod Parts
+pub mod Telling
+pub mod Families
+pub mod Keeping
+pub mod Ruling
+pub mod Standing
+pub mod Weighing
+pub mod Found
