@@ -1,0 +1,4 @@
+pub mod Making
+pub mod Ranges
+pub mod Slots
+pub mod Telling
