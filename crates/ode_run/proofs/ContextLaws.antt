@@ -18,7 +18,7 @@ use Rattle.ode_overlay_laws.specs.Standing.{origin_as}
 use Rattle.ode_run.proofs.EndLaws.{same_view}
 use Rattle.ode_run.proofs.FirstLaws.{StaysFirst}
 use Rattle.ode_run.specs.Contexts.{ContextRuns, EndsWhere, IsBeginning, IsContext, IsOpen, LeavesOpen, parts_of, tables_in, tables_of, tx_of, tx_over}
-use Rattle.ode_run.specs.Knowing.{Fails, IsRunning, Known, Knows, Lent, tx}
+use Rattle.ode_run.specs.Knowing.{Fails, IsRunning, IsSound, Known, Knows, Lent, tx}
 use Rattle.ode_run.specs.declared.context.Ctx.{Ctx}
 use Rattle.ode_run.specs.declared.work.Work.{Work}
 use Rattle.ode_schema.specs.Parts.{AreFit, Parts}
@@ -117,7 +117,7 @@ module _ {H K : Type 0} (seen : H → View) (held : K → View → Entries → T
 
       -- where it goes on
       goes_on : {R : Type 0} (result : Result R Stop) → (result ≡ Err stop.DiskFault → ⊥) → Open w entries first → IsRunning seen held live w' (known_of w entries first)
-          → (Reopened → Leaves result Reopened (λ why. Unit {0})) → LeavesOpen result Reopened (seen w.host.now) (seen h)
+          → (Reopened → Leaves result Reopened IsSound) → LeavesOpen result Reopened (seen w.host.now) (seen h)
       goes_on result other state runs stays = record {
         stays = stays (reopened (record { usable = runs.usable; records = runs.records; known = runs.known; budget = runs.budget; bytes = state.bytes }));
         looks = looked runs.looks;
@@ -125,7 +125,7 @@ module _ {H K : Type 0} (seen : H → View) (held : K → View → Entries → T
       }
 
       -- where it doesn't
-      ends_here : {R : Type 0} (result : Result R Stop) (why : Stop) → result ≡ Err why → Fails seen w' (known_of w entries first) why → Leaves result Reopened (λ s. Unit {0})
+      ends_here : {R : Type 0} (result : Result R Stop) (why : Stop) → result ≡ Err why → Fails seen w' (known_of w entries first) why → Leaves result Reopened IsSound
           → LeavesOpen result Reopened (seen w.host.now) (seen h)
       ends_here result why is fails stays = record {
         stays = stays;
@@ -146,7 +146,7 @@ module _ {H K : Type 0} (seen : H → View) (held : K → View → Entries → T
       leaves_by (Err (stop.Abort why)) state left = goes_on (Err (stop.Abort why)) (λ e. absurd (cc e)) state left.runs (λ s. s)
       leaves_by (Err stop.Memory) state left = goes_on (Err stop.Memory) (λ e. absurd (cc e)) state left.runs (λ s. s)
       leaves_by (Err stop.DiskFault) state left = ends_here (Err stop.DiskFault) stop.DiskFault refl left tt
-      leaves_by (Err (stop.Damaged key)) state left = ends_here (Err (stop.Damaged key)) (stop.Damaged key) refl left tt
+      leaves_by (Err (stop.Damaged key)) state left = ends_here (Err (stop.Damaged key)) (stop.Damaged key) refl left left.failed.sound
 
     pub leaves_over : {R : Type 0} (result : Result R Stop) → IsKept seen held live w w' p result → (entries : Entries) (first : NumberWorld) → p.classes ≡ declared_in first → Open w entries first
         → LeavesOpen result (IsOpen (held q (seen h)) (live q) x left w.bytes entries first) (seen w.host.now) (seen h)
@@ -158,7 +158,7 @@ module _ {H K : Type 0} (seen : H → View) (held : K → View → Entries → T
 -- ---- over lists of points
 
 ends_where : {R : Type 0} (tables : ℕ → ℕ → Table) (result : Result R Stop) (P Q : ListTx → Type 0) (y : NumberTx) (outcome : Outcome (Unit {0}) ℕ R) (lists : Outcome Histories Starts R)
-    → Ends result y outcome → EndsAs tables outcome lists → Ended Q Q lists → Leaves result ((x : ListTx) → RunsAs tables y x → Q x → P x) (λ why. Unit {0}) → EndsWhere result P lists
+    → Ends result y outcome → EndsAs tables outcome lists → Ended Q Q lists → Leaves result ((x : ListTx) → RunsAs tables y x → Q x → P x) IsSound → EndsWhere result P lists
 ends_where {R} tables (Ok v) P Q y outcome lists ends alike keeps next = by_lists lists (subst (λ (o : Outcome (Unit {0}) ℕ R). EndsAs tables o lists) ends alike) keeps where
   by_lists : (lists : Outcome Histories Starts R) → EndsAs tables (Done v y) lists → Ended Q Q lists → EndsWhere (Ok v) P lists
   by_lists (Done answer x) alike keeps = (alike.0, next x alike.1 keeps)
@@ -171,12 +171,12 @@ ends_where tables (Err stop.Memory) P Q y outcome lists ends alike keeps next = 
 ends_where tables (Err stop.DiskFault) P Q y outcome lists ends alike keeps next = tt
 ends_where tables (Err (stop.Damaged key)) P Q y outcome lists ends alike keeps next = tt
 
-leaves_so : {R : Type 0} (result : Result R Stop) (A B : Type 0) → (A → B) → Leaves result A (λ why. Unit {0}) → Leaves result B (λ why. Unit {0})
+leaves_so : {R : Type 0} (result : Result R Stop) (A B : Type 0) → (A → B) → Leaves result A IsSound → Leaves result B IsSound
 leaves_so (Ok v) A B so left = so left
 leaves_so (Err (stop.Abort why)) A B so left = so left
 leaves_so (Err stop.Memory) A B so left = so left
 leaves_so (Err stop.DiskFault) A B so left = tt
-leaves_so (Err (stop.Damaged key)) A B so left = tt
+leaves_so (Err (stop.Damaged key)) A B so left = left
 
 module _ {H K : Type 0} (seen : H → View) (held : K → View → Entries → Type 0) (live : K → Bool) (entries : Entries) (first : NumberWorld) where
   -- with the same program the context stays one

@@ -1,16 +1,17 @@
 -- A call of the overlay that does what an act does ends as the act does.
 use Rattle.std.proofs.Common.{◌≡◌, ◌⊎◌, IsErrOf, ℕ, Bool, true, List, Result, Option, Some, None, Ok, Err, refl, sym, ap, subst, ◌∙◌, inl, inr}
-use Rattle.std.specs.Prelude.{IfOk, OnErr, is_some}
+use Rattle.std.specs.Prelude.{IfErr, IfOk, OnErr, is_some}
 use Rattle.std.specs.Option.{option_map}
 use Rattle.ode_heap.specs.Answering.{head_of_object}
 use Rattle.ode_heap.specs.declared.object.ObjectHead.{ObjectHead}
 use Rattle.ode_interpreter.specs.Seen.{Ends}
+use Rattle.ode_interpreter.specs.declared.stop.Stop.{Stop}
 use Rattle.ode_interpreter.specs.declared.stop.Stop.TheVariants as stop
 use Rattle.ode_interpreter.specs.Seen as interpreter
 use Rattle.ode_expr.specs.Answers as expr
 use Rattle.ode_expr.specs.declared.stop.EvalStop.{EvalStop}
 use Rattle.ode_expr.specs.declared.stop.EvalStop.TheVariants as eval
-use Rattle.ode_run_frame.specs.Knowing.{Behind}
+use Rattle.ode_run_frame.specs.Knowing.{Behind, Keeps}
 use Rattle.ode_run_frame.specs.declared.unread.Unread.{Unread}
 use Rattle.ode_run_frame.specs.declared.unread.Unread.TheVariants as unread
 use Rattle.ode_value.specs.declared.arithmetic.Fault.{Fault}
@@ -27,11 +28,12 @@ use Rattle.ode_overlay.specs.Layers.{Layer}
 use Rattle.ode_overlay.specs.declared.error.OverlayError.{OverlayError}
 use Rattle.ode_overlay.specs.declared.error.OverlayError.TheVariants as error
 use Rattle.ode_run.specs.Knowing.{Failed, Holds, Known, beside}
-use Rattle.ode_run.specs.Stopping.{ended, read, read_as}
+use Rattle.ode_run.specs.Stopping.{ended, named, named_by, no_record, read, read_as}
 use Rattle.ode_run.specs.Telling.{EndsThen, calm}
 use Rattle.ode_value.specs.Acts.{Act, Outcome, Done, Aborted, found, gives, go_on, valued}
 use Rattle.ode_value.specs.Changes.{class_of, is_live}
 use Rattle.ode_value.specs.Denoting.{object_at}
+use Rattle.ode_value.specs.Keys.{counters_key}
 use Rattle.ode_value.specs.Worlds.{Declared, Object}
 use Rattle.ode_value.specs.declared.reason.Reason.TheVariants as reason
 use Rattle.ode_value.specs.declared.key.Key.{Key}
@@ -104,6 +106,26 @@ known_left base first x x' (Err why) answer leaves same known stays = subst (IsK
 
 -- ---- what a call leaves
 
+-- where it names a key as damaged, that is the counters'
+abbrev pub IsSoundCall : {R : Type 0} → Result R OverlayError → Type 0
+IsSoundCall result = (key : Key) → result ≡ Err (error.Damaged key) → key ≡ counters_key
+
+-- so it is where it does what an act does
+pub shown_sound : {R S : Type 0} (next : R → Act (Unit {0}) ℕ S) (view : Layer → NumberTx) (x x' : Layer) (result : Result R OverlayError) (answer : Answer (R × Layer)) (outcome : Outcome (Unit {0}) ℕ S)
+    → Leaves result x' answer → Shows view next x answer outcome → IsSoundCall result
+shown_sound {R} {S} next view x x' result answer outcome leaves shows key is =
+    let names : answer ≡ Err (error.Damaged key) = subst (λ (r : Result R OverlayError). Leaves r x' answer) is leaves in
+    let s = subst (λ a. Shows view next x a outcome) names shows in
+    absurd (cc s.1.0)
+
+-- where it names none
+pub none_sound : {R : Type 0} (result : Result R OverlayError) → named_by result ≡ None → IsSoundCall result
+none_sound {R} result none key is = let some : named_by result ≡ Some key = ap (λ (r : Result R OverlayError). named_by r) is in absurd (cc (none, some))
+
+-- and where its answer is never that one
+pub read_sound : {R : Type 0} (result : Result R OverlayError) (answer : Answer R) → Answers result answer → ((key : Key) → answer ≡ Err (error.Damaged key) → ⊥) → IsSoundCall result
+read_sound {R} result answer gives never key is = absurd (never key (subst (λ (r : Result R OverlayError). Answers r answer) is gives))
+
 module _ {H K : Type 0} (seen : H → View) (held : K → View → Entries → Type 0) (live : K → Bool) where
   module _ (h h' : H) (q q' : K) (x x' : Layer) (left bytes : ℕ) (k : Known H) (holds : Holds seen (held q (seen h)) (live q) h x left bytes k) (looks : Looks (seen h) (seen h')) where
     abbrev After : Type 0
@@ -133,6 +155,7 @@ module _ {H K : Type 0} (seen : H → View) (held : K → View → Entries → T
     faulted : {R : Type 0} (result : Result R OverlayError) → result ≡ Err error.DiskFault → RoseIf (IsErrOf result error.DiskFault) (seen h).disk_faults (seen h').disk_faults
         → Failed seen h' k stop.DiskFault
     faulted result is cause = record {
+      sound = tt;
       looks = looked;
       faults = record {
         later = looked.keeps.disk_faults;
@@ -141,39 +164,74 @@ module _ {H K : Type 0} (seen : H → View) (held : K → View → Entries → T
       };
     }
 
-    damaged : (key : Key) → (seen h').disk_faults ≡ (seen h).disk_faults → Failed seen h' k (stop.Damaged key)
-    damaged key same = record {
+    damaged : (key : Key) → key ≡ counters_key → (seen h').disk_faults ≡ (seen h).disk_faults → Failed seen h' k (stop.Damaged key)
+    damaged key sound same = record {
+      sound = sound;
       looks = looked;
       faults = record { later = looked.keeps.disk_faults; rose = λ e. absurd (cc e); calm = inr (same ∙ holds.faults) };
     }
 
-    pub call_leaves : {R : Type 0} (result : Result R OverlayError) → IsKnown k.entries k.first x' → UnlessFault result ((base : Entries) → held q (seen h) base → held q' (seen h') base)
+    pub call_leaves : {R : Type 0} (result : Result R OverlayError) → IsSoundCall result → IsKnown k.entries k.first x' → UnlessFault result ((base : Entries) → held q (seen h) base → held q' (seen h') base)
         → live q' ≡ is_usable result → RoseIf (IsErrOf result error.DiskFault) (seen h).disk_faults (seen h').disk_faults → interpreter.Leaves (ended result) After (Failed seen h' k)
-    call_leaves (Ok v) known keeps usable cause = goes_on usable (keeps k.entries holds.records) (no_fault (Ok v) (λ is. absurd (cc is)) cause) known
-    call_leaves (Err error.DiskFault) known keeps usable cause = faulted (Err error.DiskFault) refl cause
-    call_leaves (Err (error.Damaged key)) known keeps usable cause = damaged key (no_fault (Err (error.Damaged key)) (λ is. absurd (cc is)) cause)
-    call_leaves (Err error.Memory) known keeps usable cause = goes_on usable (keeps k.entries holds.records) (no_fault (Err error.Memory) (λ is. absurd (cc is)) cause) known
-    call_leaves (Err (error.NoObject id)) known keeps usable cause = goes_on usable (keeps k.entries holds.records) (no_fault (Err (error.NoObject id)) (λ is. absurd (cc is)) cause) known
-    call_leaves (Err (error.NoVersion r)) known keeps usable cause = goes_on usable (keeps k.entries holds.records) (no_fault (Err (error.NoVersion r)) (λ is. absurd (cc is)) cause) known
-    call_leaves (Err (error.LastVersion id)) known keeps usable cause = goes_on usable (keeps k.entries holds.records) (no_fault (Err (error.LastVersion id)) (λ is. absurd (cc is)) cause) known
-    call_leaves (Err error.TooManyChanges) known keeps usable cause = goes_on usable (keeps k.entries holds.records) (no_fault (Err error.TooManyChanges) (λ is. absurd (cc is)) cause) known
-    call_leaves (Err error.TooLong) known keeps usable cause = goes_on usable (keeps k.entries holds.records) (no_fault (Err error.TooLong) (λ is. absurd (cc is)) cause) known
-    call_leaves (Err error.NoNumber) known keeps usable cause = goes_on usable (keeps k.entries holds.records) (no_fault (Err error.NoNumber) (λ is. absurd (cc is)) cause) known
+    call_leaves (Ok v) sound known keeps usable cause = goes_on usable (keeps k.entries holds.records) (no_fault (Ok v) (λ is. absurd (cc is)) cause) known
+    call_leaves (Err error.DiskFault) sound known keeps usable cause = faulted (Err error.DiskFault) refl cause
+    call_leaves (Err (error.Damaged key)) sound known keeps usable cause = damaged key (sound key refl) (no_fault (Err (error.Damaged key)) (λ is. absurd (cc is)) cause)
+    call_leaves (Err error.Memory) sound known keeps usable cause = goes_on usable (keeps k.entries holds.records) (no_fault (Err error.Memory) (λ is. absurd (cc is)) cause) known
+    call_leaves (Err (error.NoObject id)) sound known keeps usable cause = goes_on usable (keeps k.entries holds.records) (no_fault (Err (error.NoObject id)) (λ is. absurd (cc is)) cause) known
+    call_leaves (Err (error.NoVersion r)) sound known keeps usable cause = goes_on usable (keeps k.entries holds.records) (no_fault (Err (error.NoVersion r)) (λ is. absurd (cc is)) cause) known
+    call_leaves (Err (error.LastVersion id)) sound known keeps usable cause = goes_on usable (keeps k.entries holds.records) (no_fault (Err (error.LastVersion id)) (λ is. absurd (cc is)) cause) known
+    call_leaves (Err error.TooManyChanges) sound known keeps usable cause = goes_on usable (keeps k.entries holds.records) (no_fault (Err error.TooManyChanges) (λ is. absurd (cc is)) cause) known
+    call_leaves (Err error.TooLong) sound known keeps usable cause = goes_on usable (keeps k.entries holds.records) (no_fault (Err error.TooLong) (λ is. absurd (cc is)) cause) known
+    call_leaves (Err error.NoNumber) sound known keeps usable cause = goes_on usable (keeps k.entries holds.records) (no_fault (Err error.NoNumber) (λ is. absurd (cc is)) cause) known
 
-    pub reading_leaves : {R : Type 0} (result : Result R OverlayError) → IsKnown k.entries k.first x' → UnlessFault result ((base : Entries) → held q (seen h) base → held q' (seen h') base)
+    pub reading_leaves : {R : Type 0} (result : Result R OverlayError) → IsSoundCall result → IsKnown k.entries k.first x' → UnlessFault result ((base : Entries) → held q (seen h) base → held q' (seen h') base)
         → live q' ≡ is_usable result → RoseIf (IsErrOf result error.DiskFault) (seen h).disk_faults (seen h').disk_faults → interpreter.Leaves (read result) After (Failed seen h' k)
-    reading_leaves (Ok v) known keeps usable cause = call_leaves (Ok v) known keeps usable cause
-    reading_leaves (Err error.DiskFault) known keeps usable cause = call_leaves (Err error.DiskFault) known keeps usable cause
-    reading_leaves (Err (error.Damaged key)) known keeps usable cause = call_leaves (Err (error.Damaged key)) known keeps usable cause
-    reading_leaves (Err error.Memory) known keeps usable cause = call_leaves (Err error.Memory) known keeps usable cause
-    reading_leaves (Err (error.NoObject id)) known keeps usable cause = call_leaves (Err (error.NoObject id)) known keeps usable cause
-    reading_leaves (Err (error.NoVersion r)) known keeps usable cause = call_leaves (Err (error.NoVersion r)) known keeps usable cause
-    reading_leaves (Err (error.LastVersion id)) known keeps usable cause = call_leaves (Err (error.LastVersion id)) known keeps usable cause
-    reading_leaves (Err error.TooManyChanges) known keeps usable cause = call_leaves (Err error.TooManyChanges) known keeps usable cause
-    reading_leaves (Err error.TooLong) known keeps usable cause = call_leaves (Err error.TooLong) known keeps usable cause
-    reading_leaves (Err error.NoNumber) known keeps usable cause = call_leaves (Err error.NoNumber) known keeps usable cause
+    reading_leaves (Ok v) sound known keeps usable cause = call_leaves (Ok v) sound known keeps usable cause
+    reading_leaves (Err error.DiskFault) sound known keeps usable cause = call_leaves (Err error.DiskFault) sound known keeps usable cause
+    reading_leaves (Err (error.Damaged key)) sound known keeps usable cause = call_leaves (Err (error.Damaged key)) sound known keeps usable cause
+    reading_leaves (Err error.Memory) sound known keeps usable cause = call_leaves (Err error.Memory) sound known keeps usable cause
+    reading_leaves (Err (error.NoObject id)) sound known keeps usable cause = call_leaves (Err (error.NoObject id)) sound known keeps usable cause
+    reading_leaves (Err (error.NoVersion r)) sound known keeps usable cause = call_leaves (Err (error.NoVersion r)) sound known keeps usable cause
+    reading_leaves (Err (error.LastVersion id)) sound known keeps usable cause = call_leaves (Err (error.LastVersion id)) sound known keeps usable cause
+    reading_leaves (Err error.TooManyChanges) sound known keeps usable cause = call_leaves (Err error.TooManyChanges) sound known keeps usable cause
+    reading_leaves (Err error.TooLong) sound known keeps usable cause = call_leaves (Err error.TooLong) sound known keeps usable cause
+    reading_leaves (Err error.NoNumber) sound known keeps usable cause = call_leaves (Err error.NoNumber) sound known keeps usable cause
+
+    -- it goes on where a key was named as damaged
+    pub named_leaves : {R : Type 0} (result : Result R OverlayError) (key : Key) → named_by result ≡ Some key → IsKnown k.entries k.first x' → UnlessFault result ((base : Entries) → held q (seen h) base → held q' (seen h') base)
+        → live q' ≡ is_usable result → RoseIf (IsErrOf result error.DiskFault) (seen h).disk_faults (seen h').disk_faults → After
+    named_leaves (Err (error.Damaged k')) key named known keeps usable cause = goes_on usable (keeps k.entries holds.records) (no_fault (Err (error.Damaged k')) (λ is. absurd (cc is)) cause) known
+    named_leaves (Ok v) key named known keeps usable cause = absurd (cc named)
+    named_leaves (Err error.DiskFault) key named known keeps usable cause = absurd (cc named)
+    named_leaves (Err error.Memory) key named known keeps usable cause = absurd (cc named)
+    named_leaves (Err (error.NoObject id)) key named known keeps usable cause = absurd (cc named)
+    named_leaves (Err (error.NoVersion r)) key named known keeps usable cause = absurd (cc named)
+    named_leaves (Err (error.LastVersion id)) key named known keeps usable cause = absurd (cc named)
+    named_leaves (Err error.TooManyChanges) key named known keeps usable cause = absurd (cc named)
+    named_leaves (Err error.TooLong) key named known keeps usable cause = absurd (cc named)
+    named_leaves (Err error.NoNumber) key named known keeps usable cause = absurd (cc named)
+
+    pub placed_leaves : {R : Type 0} (result : Result R OverlayError) → IsKnown k.entries k.first x' → UnlessFault result ((base : Entries) → held q (seen h) base → held q' (seen h') base)
+        → live q' ≡ is_usable result → RoseIf (IsErrOf result error.DiskFault) (seen h).disk_faults (seen h').disk_faults → interpreter.Leaves (no_record (read result)) After (Failed seen h' k)
+    placed_leaves (Err (error.Damaged key)) known keeps usable cause = damaged counters_key refl (no_fault (Err (error.Damaged key)) (λ is. absurd (cc is)) cause)
+    placed_leaves (Ok v) known keeps usable cause = reading_leaves (Ok v) (λ key is. absurd (cc is)) known keeps usable cause
+    placed_leaves (Err error.DiskFault) known keeps usable cause = reading_leaves (Err error.DiskFault) (λ key is. absurd (cc is)) known keeps usable cause
+    placed_leaves (Err error.Memory) known keeps usable cause = reading_leaves (Err error.Memory) (λ key is. absurd (cc is)) known keeps usable cause
+    placed_leaves (Err (error.NoObject id)) known keeps usable cause = reading_leaves (Err (error.NoObject id)) (λ key is. absurd (cc is)) known keeps usable cause
+    placed_leaves (Err (error.NoVersion r)) known keeps usable cause = reading_leaves (Err (error.NoVersion r)) (λ key is. absurd (cc is)) known keeps usable cause
+    placed_leaves (Err (error.LastVersion id)) known keeps usable cause = reading_leaves (Err (error.LastVersion id)) (λ key is. absurd (cc is)) known keeps usable cause
+    placed_leaves (Err error.TooManyChanges) known keeps usable cause = reading_leaves (Err error.TooManyChanges) (λ key is. absurd (cc is)) known keeps usable cause
+    placed_leaves (Err error.TooLong) known keeps usable cause = reading_leaves (Err error.TooLong) (λ key is. absurd (cc is)) known keeps usable cause
+    placed_leaves (Err error.NoNumber) known keeps usable cause = reading_leaves (Err error.NoNumber) (λ key is. absurd (cc is)) known keeps usable cause
 
 -- ---- what is read
+
+pub no_record_gives : {R : Type 0} (result : Result R Stop) (P : R → Type 0) → IfOk result P → IfOk (no_record result) P
+no_record_gives (Ok v) P is = is
+no_record_gives (Err (stop.Abort why)) P is = tt
+no_record_gives (Err stop.Memory) P is = tt
+no_record_gives (Err stop.DiskFault) P is = tt
+no_record_gives (Err (stop.Damaged key)) P is = tt
 
 -- what a call reads is known
 pub read_is : {R : Type 0} (result : Result R OverlayError) (answer : Answer R) (value : R) → Answers result answer → answer ≡ Ok value → IfOk (read result) (λ v. v ≡ value)
@@ -199,6 +257,16 @@ no_class y id is = by_object (object_at y.now.bones id) is where
   by_object None is = refl
   by_object (Some o) is = absurd (cc is)
 
+-- where a call is stopped by a fault, and so another one
+pub stopped_too : {R S : Type 0} (result : Result S Stop) (other : Result R Stop) (why : Stop) (z : NumberTx) (o : Outcome (Unit {0}) ℕ R) → IfErr result interpreter.IsFault → result ≡ Err why → other ≡ Err why → Ends other z o
+stopped_too {R} {S} result other why z o fault is same =
+    subst (λ (r : Result R Stop). Ends r z o) (sym same) (by_stop why (subst (λ (r : Result S Stop). IfErr r interpreter.IsFault) is fault)) where
+      by_stop : (why : Stop) → interpreter.IsFault why → Ends {R = R} (Err why) z o
+      by_stop (stop.Abort reason) f = absurd f
+      by_stop stop.Memory f = tt
+      by_stop stop.DiskFault f = tt
+      by_stop (stop.Damaged key) f = tt
+
 -- ---- what an evaluation leaves
 
 pub value_ends : (meant : Result Value Fault) (result : Result Value (EvalStop Unread)) (y : NumberTx) → expr.Answers meant result → Ends (read_as result) y (valued meant y)
@@ -222,37 +290,40 @@ module _ {H K : Type 0} (seen : H → View) (held : K → View → Entries → T
       by_calm (inl is) = absurd (other is)
       by_calm (inr same) = same
 
-    still : Left None → Still
-    still behind = record {
-      usable = behind.keeps.usable;
-      records = behind.keeps.records;
+    still_at : (s : Option Unread) → (s ≡ Some unread.DiskFault → ⊥) → Keeps (held q' (seen h')) (live q') k.entries → Left s → Still
+    still_at s other keeps behind = record {
+      usable = keeps.usable;
+      records = keeps.records;
       looks = looks_joined (seen k.began) (seen h) (seen h') holds.looks behind.looks;
-      faults = calm_at None (λ is. absurd (cc is)) behind ∙ holds.faults;
+      faults = calm_at s other behind ∙ holds.faults;
       known = holds.known;
       budget = holds.budget;
       bytes = holds.bytes;
     }
 
-    pub evaluation_leaves : (result : Result Value (EvalStop Unread)) → Left (expr.stopped_by result None) → interpreter.Leaves (read_as result) Still (Failed seen h' k)
-    evaluation_leaves (Ok v) behind = still behind
-    evaluation_leaves (Err (eval.Fault fault)) behind = still behind
-    evaluation_leaves (Err eval.Memory) behind = still behind
-    evaluation_leaves (Err (eval.Frame unread.DiskFault)) behind =
+    still : Left None → Still
+    still behind = still_at None (λ is. absurd (cc is)) behind.keeps behind
+
+    pub evaluation_leaves : (result : Result Value (EvalStop Unread)) → named result ≡ None → Left (expr.stopped_by result None) → interpreter.Leaves (read_as result) Still (Failed seen h' k)
+    evaluation_leaves (Ok v) none behind = still behind
+    evaluation_leaves (Err (eval.Fault fault)) none behind = still behind
+    evaluation_leaves (Err eval.Memory) none behind = still behind
+    evaluation_leaves (Err (eval.Frame unread.DiskFault)) none behind =
         let looked = looks_joined (seen k.began) (seen h) (seen h') holds.looks behind.looks in
         record {
+          sound = tt;
           looks = looked;
           faults = record { later = looked.keeps.disk_faults; rose = λ e. subst (λ n. Rose n (seen h').disk_faults) holds.faults (behind.faults.rose refl); calm = inl refl };
         }
-    evaluation_leaves (Err (eval.Frame (unread.Damaged key))) behind =
-        let looked = looks_joined (seen k.began) (seen h) (seen h') holds.looks behind.looks in
-        record {
-          looks = looked;
-          faults = record {
-            later = looked.keeps.disk_faults;
-            rose = λ e. absurd (cc e);
-            calm = inr (calm_at (Some (unread.Damaged key)) (λ is. absurd (cc is)) behind ∙ holds.faults);
-          };
-        }
+    evaluation_leaves (Err (eval.Frame (unread.Damaged key))) none behind = absurd (cc none)
+
+    -- it goes on where a record was named as damaged
+    pub evaluation_named : (result : Result Value (EvalStop Unread)) (key : Key) → named result ≡ Some key → Left (expr.stopped_by result None) → Still
+    evaluation_named (Ok v) key is behind = absurd (cc is)
+    evaluation_named (Err (eval.Fault fault)) key is behind = absurd (cc is)
+    evaluation_named (Err eval.Memory) key is behind = absurd (cc is)
+    evaluation_named (Err (eval.Frame unread.DiskFault)) key is behind = absurd (cc is)
+    evaluation_named (Err (eval.Frame (unread.Damaged k))) key is behind = still_at (Some (unread.Damaged k)) (λ e. absurd (cc e)) behind.keeps behind
 
 -- where nothing changed, the view is the same
 pub same_view : (all : List Declared) (first : NumberWorld) (x x' : Layer) (ds ds' : List (ℕ × Fired)) (text text' : List ℕ) (left left' : ℕ) → x' ≡ x → ds' ≡ ds → text' ≡ text → left' ≡ left
@@ -272,17 +343,17 @@ module _ {H K : Type 0} (seen : H → View) (held : K → View → Entries → T
       let there = subst (λ p. Holds seen (held p (seen h')) (live p) h' x left bytes k) (sym same_heap) (subst (λ n. Holds seen (held q (seen n)) (live q) n x left bytes k) (sym same_host) holds) in
       record { usable = there.usable; records = there.records; looks = there.looks; faults = there.faults; known = known; budget = there.budget; bytes = there.bytes }
 
-  pub calm_leaves : {R : Type 0} (h h' : H) (q q' : K) (x x' : Layer) (left bytes : ℕ) (k : Known H) (result : Result R OverlayError) → q' ≡ q → h' ≡ h → Holds seen (held q (seen h)) (live q) h x left bytes k
+  pub calm_leaves : {R : Type 0} (h h' : H) (q q' : K) (x x' : Layer) (left bytes : ℕ) (k : Known H) (result : Result R OverlayError) → IsSoundCall result → q' ≡ q → h' ≡ h → Holds seen (held q (seen h)) (live q) h x left bytes k
       → IsKnown k.entries k.first x' → interpreter.Leaves (ended (calm result)) (Holds seen (held q' (seen h')) (live q') h' x' left bytes k) (Failed seen h' k)
-  calm_leaves h h' q q' x x' left bytes k (Ok v) e1 e2 holds known = moved h h' q q' x x' left bytes k e1 e2 holds known
-  calm_leaves h h' q q' x x' left bytes k (Err error.Memory) e1 e2 holds known = moved h h' q q' x x' left bytes k e1 e2 holds known
-  calm_leaves h h' q q' x x' left bytes k (Err error.DiskFault) e1 e2 holds known = moved h h' q q' x x' left bytes k e1 e2 holds known
-  calm_leaves h h' q q' x x' left bytes k (Err (error.NoObject id)) e1 e2 holds known = moved h h' q q' x x' left bytes k e1 e2 holds known
-  calm_leaves h h' q q' x x' left bytes k (Err (error.NoVersion r)) e1 e2 holds known = moved h h' q q' x x' left bytes k e1 e2 holds known
-  calm_leaves h h' q q' x x' left bytes k (Err (error.LastVersion id)) e1 e2 holds known = moved h h' q q' x x' left bytes k e1 e2 holds known
-  calm_leaves h h' q q' x x' left bytes k (Err error.TooManyChanges) e1 e2 holds known = moved h h' q q' x x' left bytes k e1 e2 holds known
-  calm_leaves h h' q q' x x' left bytes k (Err error.TooLong) e1 e2 holds known = moved h h' q q' x x' left bytes k e1 e2 holds known
-  calm_leaves h h' q q' x x' left bytes k (Err error.NoNumber) e1 e2 holds known = moved h h' q q' x x' left bytes k e1 e2 holds known
-  calm_leaves h h' q q' x x' left bytes k (Err (error.Damaged key)) e1 e2 holds known =
+  calm_leaves h h' q q' x x' left bytes k (Ok v) sound e1 e2 holds known = moved h h' q q' x x' left bytes k e1 e2 holds known
+  calm_leaves h h' q q' x x' left bytes k (Err error.Memory) sound e1 e2 holds known = moved h h' q q' x x' left bytes k e1 e2 holds known
+  calm_leaves h h' q q' x x' left bytes k (Err error.DiskFault) sound e1 e2 holds known = moved h h' q q' x x' left bytes k e1 e2 holds known
+  calm_leaves h h' q q' x x' left bytes k (Err (error.NoObject id)) sound e1 e2 holds known = moved h h' q q' x x' left bytes k e1 e2 holds known
+  calm_leaves h h' q q' x x' left bytes k (Err (error.NoVersion r)) sound e1 e2 holds known = moved h h' q q' x x' left bytes k e1 e2 holds known
+  calm_leaves h h' q q' x x' left bytes k (Err (error.LastVersion id)) sound e1 e2 holds known = moved h h' q q' x x' left bytes k e1 e2 holds known
+  calm_leaves h h' q q' x x' left bytes k (Err error.TooManyChanges) sound e1 e2 holds known = moved h h' q q' x x' left bytes k e1 e2 holds known
+  calm_leaves h h' q q' x x' left bytes k (Err error.TooLong) sound e1 e2 holds known = moved h h' q q' x x' left bytes k e1 e2 holds known
+  calm_leaves h h' q q' x x' left bytes k (Err error.NoNumber) sound e1 e2 holds known = moved h h' q q' x x' left bytes k e1 e2 holds known
+  calm_leaves h h' q q' x x' left bytes k (Err (error.Damaged key)) sound e1 e2 holds known =
       let there = moved h h' q q' x x' left bytes k e1 e2 holds known in
-      record { looks = there.looks; faults = record { later = there.looks.keeps.disk_faults; rose = λ e. absurd (cc e); calm = inr there.faults } }
+      record { sound = sound key refl; looks = there.looks; faults = record { later = there.looks.keeps.disk_faults; rose = λ e. absurd (cc e); calm = inr there.faults } }

@@ -14,10 +14,10 @@ use Rattle.ode_schema.specs.Parts.{trigger_of}
 use Rattle.ode_states.specs.declared.fired.Fired.{Fired}
 use Rattle.ode_value.specs.Acts.{Done, reads}
 use Rattle.ode_value.specs.Completing.{rounds}
+use Rattle.ode_value.specs.Keys.{counters_key}
 use Rattle.ode_value.specs.Limits.{budget_limit, cascade_limit}
 use Rattle.ode_value.specs.Worlds.{Declared}
 use Rattle.ode_value.specs.declared.class.Class.{Class}
-use Rattle.ode_value.specs.declared.key.Key.{Key}
 use Rattle.ode_view_laws.specs.Viewing.{running}
 
 -- ---- members in order
@@ -68,9 +68,10 @@ module _ (all : List Declared) (first : NumberWorld) (x : Layer) (deferred : Lis
 
 -- ---- records that can't be damaged so
 
-pub not_there : {H : Type 0} (seen : H → View) (held : Entries → Type 0) (live : Bool) (h : H) (x : Layer) (left bytes : ℕ) (k : Known H) (key : Key)
-    → Holds seen held live h x left bytes k → Failed seen h k (stop.Damaged key)
-not_there seen held live h x left bytes k key holds = record {
+pub not_there : {H : Type 0} (seen : H → View) (held : Entries → Type 0) (live : Bool) (h : H) (x : Layer) (left bytes : ℕ) (k : Known H)
+    → Holds seen held live h x left bytes k → Failed seen h k (stop.Damaged counters_key)
+not_there seen held live h x left bytes k holds = record {
+  sound = refl;
   looks = holds.looks;
   faults = record { later = holds.looks.keeps.disk_faults; rose = λ e. absurd (cc e); calm = inr holds.faults };
 }

@@ -13,7 +13,7 @@ use Rattle.ode_run.proofs.ContextLaws.{IsKept, IsReturned, begins, known_of}
 use Rattle.ode_run.proofs.EndLaws.{same_view}
 use Rattle.ode_run.specs.Contexts.{ContextRuns, IsContext, IsOpen, LeavesOpen, tables_of, tx_of, tx_over}
 use Rattle.ode_run.specs.Ending.{last_points}
-use Rattle.ode_run.specs.Knowing.{Known, Knows, tx}
+use Rattle.ode_run.specs.Knowing.{IsSound, Known, Knows, tx}
 use Rattle.ode_run.specs.declared.context.Ctx.{Ctx}
 use Rattle.ode_run.specs.declared.work.Work.{Work}
 use Rattle.ode_schema.specs.Parts.{Parts}
@@ -120,11 +120,11 @@ module _ (C : Type 0) (before after : View) where
   -- it ended for the same reason
   pub leaves_too : {R S : Type 0} (result : Result R Stop) (fails : Result S Stop) (why : Stop) → result ≡ Err why → fails ≡ Err why → LeavesOpen result C before after → LeavesOpen fails C before after
   leaves_too {R} {S} result fails why is so left = record {
-    stays = subst (λ (f : Result S Stop). Leaves f C (λ s. Unit {0})) (sym so) (by_stop why (subst (λ (r : Result R Stop). Leaves r C (λ s. Unit {0})) is left.stays));
+    stays = subst (λ (f : Result S Stop). Leaves f C IsSound) (sym so) (by_stop why (subst (λ (r : Result R Stop). Leaves r C IsSound) is left.stays));
     looks = left.looks;
     faults = record { later = left.faults.later; rose = λ e. let same : why ≡ stop.DiskFault = cc (sym so ∙ e) in left.faults.rose (is ∙ ap (λ (t : Stop). Err t) same); calm = by_calm left.faults.calm };
   } where
-    by_stop : (why : Stop) → Leaves {R = R} (Err why) C (λ s. Unit {0}) → Leaves {R = S} (Err why) C (λ s. Unit {0})
+    by_stop : (why : Stop) → Leaves {R = R} (Err why) C IsSound → Leaves {R = S} (Err why) C IsSound
     by_stop (stop.Abort reason) stays = stays
     by_stop stop.Memory stays = stays
     by_stop stop.DiskFault stays = stays
@@ -145,12 +145,12 @@ module _ (C : Type 0) (before after : View) where
     other (Ok s) memory is = cc is
     other (Err why) memory is = let e : why ≡ stop.DiskFault = cc is in cc (sym memory ∙ e)
 
-    by_result : (result : Result S Stop) → IfErr result (λ why. why ≡ stop.Memory) → C → Leaves result C (λ s. Unit {0})
+    by_result : (result : Result S Stop) → IfErr result (λ why. why ≡ stop.Memory) → C → Leaves result C IsSound
     by_result (Ok s) memory stays = stays
     by_result (Err (stop.Abort reason)) memory stays = stays
     by_result (Err stop.Memory) memory stays = stays
     by_result (Err stop.DiskFault) memory stays = tt
-    by_result (Err (stop.Damaged key)) memory stays = tt
+    by_result (Err (stop.Damaged key)) memory stays = absurd (cc memory)
 
     by_calm : (Ok v ≡ Err stop.DiskFault) ⊎ (after.disk_faults ≡ before.disk_faults) → (result ≡ Err stop.DiskFault) ⊎ (after.disk_faults ≡ before.disk_faults)
     by_calm (inl is) = absurd (cc is)

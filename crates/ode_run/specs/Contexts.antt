@@ -12,7 +12,7 @@ use Rattle.ode_known_laws.specs.Knowing.{IsKnown, declared_in}
 use Rattle.ode_laws.specs.Alike.{NumberTx, NumberWorld, RunsAs}
 use Rattle.ode_overlay.specs.Layers.{Layer}
 use Rattle.ode_overlay.specs.declared.origin.Origin.{Origin}
-use Rattle.ode_run.specs.Knowing.{beside}
+use Rattle.ode_run.specs.Knowing.{IsSound, beside}
 use Rattle.ode_run.specs.declared.context.Ctx.{Ctx}
 use Rattle.ode_schema.specs.Parts.{AreFit, Parts, table_by}
 use Rattle.ode_states.specs.declared.fired.Fired.{Fired}
@@ -85,9 +85,10 @@ module _ {H K : Type 0} (seen : H → View) (held : K → View → Entries → T
 
 -- ---- what a call leaves
 
--- the context, unless the disk failed or a record is damaged; the host only looked, and the disk failed exactly where that is the stop
+-- the context, unless the disk failed or something is damaged, which no record is; the host only looked, and the disk failed exactly where
+-- that is the stop
 pub record LeavesOpen {R : Type 0} (result : Result R Stop) (context : Type 0) (before after : View) : Type 0 where
-  pub stays : Leaves result context (λ why. Unit {0})
+  pub stays : Leaves result context IsSound
   pub looks : Looks before after
   pub faults : RoseIf (IsErrOf result stop.DiskFault) before.disk_faults after.disk_faults
 

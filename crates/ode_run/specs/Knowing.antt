@@ -4,7 +4,7 @@ use Rattle.ode_host.specs.Causes.{RoseIf}
 use Rattle.ode_host.specs.Host.{Looks}
 use Rattle.ode_host.specs.View.{View}
 use Rattle.ode_interpreter.specs.declared.stop.Stop.{Stop}
-use Rattle.ode_interpreter.specs.declared.stop.Stop.TheVariants.{DiskFault}
+use Rattle.ode_interpreter.specs.declared.stop.Stop.TheVariants.{Abort, Damaged, DiskFault, Memory}
 use Rattle.ode_keep.specs.Entries.{Entries}
 use Rattle.ode_known_laws.specs.Knowing.{IsKnown, declared_in}
 use Rattle.ode_laws.specs.Alike.{NumberTx, NumberWorld}
@@ -12,6 +12,7 @@ use Rattle.ode_overlay.specs.Layers.{Layer}
 use Rattle.ode_run.specs.declared.work.Work.{Work}
 use Rattle.ode_schema.specs.Parts.{Parts, trigger_of}
 use Rattle.ode_states.specs.declared.fired.Fired.{Fired}
+use Rattle.ode_value.specs.Keys.{counters_key}
 use Rattle.ode_value.specs.Limits.{budget_limit}
 use Rattle.ode_value.specs.Transactions.{Firing}
 use Rattle.ode_value.specs.Weights.{weight}
@@ -64,8 +65,17 @@ pub record Holds {H : Type 0} (seen : H → View) (held : Entries → Type 0) (l
   pub budget : left ≤ budget_limit
   pub bytes : size ≡ weight k.first.bones
 
--- where a call failed, the host only looked, and the disk failed exactly where that is the stop
+-- No record is damaged. The counters' key, which none of the calls reads, stands for what no table or record can take: an activation that
+-- its trigger's table doesn't let go on, or a value.
+abbrev pub IsSound : Stop → Type 0
+IsSound (Abort why) = Unit {0}
+IsSound Memory = Unit {0}
+IsSound DiskFault = Unit {0}
+IsSound (Damaged key) = key ≡ counters_key
+
+-- where a call failed, the host only looked, the disk failed exactly where that is the stop, and no record is damaged
 pub record Failed {H : Type 0} (seen : H → View) (now : H) (k : Known H) (stop : Stop) : Type 0 where
+  pub sound : IsSound stop
   pub looks : Looks (seen k.began) (seen now)
   pub faults : RoseIf (stop ≡ DiskFault) (seen k.began).disk_faults (seen now).disk_faults
 

@@ -1,5 +1,5 @@
 -- How a call of the overlay ends, as a call of a context.
-use Rattle.std.specs.Prelude.{Result, Ok, Err}
+use Rattle.std.specs.Prelude.{Option, Some, None, Result, Ok, Err}
 use Rattle.ode_expr.specs.declared.stop.EvalStop.{EvalStop}
 use Rattle.ode_expr.specs.declared.stop.EvalStop.TheVariants as eval
 use Rattle.ode_interpreter.specs.declared.stop.Stop.{Stop}
@@ -9,6 +9,8 @@ use Rattle.ode_overlay.specs.declared.error.OverlayError.TheVariants as error
 use Rattle.ode_run_frame.specs.declared.unread.Unread.{Unread}
 use Rattle.ode_run_frame.specs.declared.unread.Unread.TheVariants as unread
 use Rattle.ode_value.specs.Evaluation.{reason_of}
+use Rattle.ode_value.specs.Keys.{counters_key}
+use Rattle.ode_value.specs.declared.key.Key.{Key}
 use Rattle.ode_value.specs.declared.reason.Reason.TheVariants as reason
 
 abbrev pub stop_as : OverlayError → Stop
@@ -49,3 +51,32 @@ read_as (Err eval.Memory) = Err stop.Memory
 read_as (Err (eval.Fault fault)) = Err (stop.Abort (reason_of fault))
 read_as (Err (eval.Frame unread.DiskFault)) = Err stop.DiskFault
 read_as (Err (eval.Frame (unread.Damaged key))) = Err (stop.Damaged key)
+
+-- the key that one named as damaged
+abbrev pub named : {R : Type 0} → Result R (EvalStop Unread) → Option Key
+named (Ok v) = None
+named (Err eval.Memory) = None
+named (Err (eval.Fault fault)) = None
+named (Err (eval.Frame unread.DiskFault)) = None
+named (Err (eval.Frame (unread.Damaged key))) = Some key
+
+-- and a call of the overlay
+abbrev pub named_by : {R : Type 0} → Result R OverlayError → Option Key
+named_by (Ok v) = None
+named_by (Err error.Memory) = None
+named_by (Err error.DiskFault) = None
+named_by (Err (error.Damaged key)) = Some key
+named_by (Err (error.NoObject id)) = None
+named_by (Err (error.NoVersion r)) = None
+named_by (Err (error.LastVersion id)) = None
+named_by (Err error.TooManyChanges) = None
+named_by (Err error.TooLong) = None
+named_by (Err error.NoNumber) = None
+
+-- How one ends that reads no record: what is damaged isn't one.
+abbrev pub no_record : {R : Type 0} → Result R Stop → Result R Stop
+no_record (Ok v) = Ok v
+no_record (Err (stop.Abort why)) = Err (stop.Abort why)
+no_record (Err stop.Memory) = Err stop.Memory
+no_record (Err stop.DiskFault) = Err stop.DiskFault
+no_record (Err (stop.Damaged key)) = Err (stop.Damaged counters_key)

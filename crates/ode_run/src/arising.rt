@@ -11,6 +11,7 @@ ghost use Rattle.ode_overlay.specs.Reading.{acts};
 ghost use Rattle.ode_overlay_laws.specs.Standing.{object_as};
 ghost use Rattle.ode_point_laws.specs.Points.{point_of};
 ghost use Rattle.ode_run.specs.Knowing.{Failed, IsRunning, Known, Lent, tx};
+ghost use Rattle.ode_run.specs.Stopping.{no_record};
 ghost use Rattle.ode_schema.specs.Parts.{table_by, trigger_of, trigger_under};
 ghost use Rattle.ode_states.specs.Advance.{IsReady, advanced, fired_in};
 ghost use Rattle.ode_states.specs.Machine.{checked};
@@ -22,6 +23,7 @@ ghost use Rattle.ode_value.specs.Worlds.{Declared};
 use crate::stopping::read;
 use crate::work::Work;
 use ode_arising_laws::points_show;
+use ode_held_laws::objects_are_read_fresh;
 use ode_host::Host;
 use ode_interpreter::{Firing, Stop, Trigger};
 use ode_keep::Keep;
@@ -32,6 +34,7 @@ use ode_schema::Program;
 use ode_states::{Fired, advance};
 use ode_types::{Classes, Running};
 use ode_value::{Key, Kind, List, Reason, Value};
+use ode_view_laws::overlays_have_views;
 use std::alloc::{AllocError, Global};
 
 // ---- the object of a point
@@ -169,8 +172,26 @@ pub(crate) fn firings_of(
     Ok(firings)
 }
 
+// What a call answered that reads no record: what is damaged isn't one.
+fn no_record(answer: Result<List<Running>, Stop>) -> Result<List<Running>, Stop>
+    ensures is { result ≡ no_record answer }
+    ensures fault { IfErr answer IsFault → IfErr result IsFault }
+{
+    match answer {
+        Err(Stop::Damaged { .. }) => Err(Stop::Damaged {
+            key: Key {
+                kind: Key::COUNTERS,
+                a: 0,
+                b: 0,
+            },
+        }),
+        answer => answer,
+    }
+}
+
 impl<'a, H: Host, K: Keep<H>> Work<'a, H, K> {
     // The activations of an object of a class, where each goes on by its trigger's table.
+    #[tactic(auto, using(crate::proofs::PlaceLaws::not_there))]
     pub(crate) fn activations(
         &mut self,
         program: &Program,
@@ -200,7 +221,7 @@ impl<'a, H: Host, K: Keep<H>> Work<'a, H, K> {
         }
     }
 
-    // All activations of an object.
+    // All activations of an object that is tracked, of which nothing is read.
     fn stored(&mut self, program: &Program, id: u64) -> Result<List<Running>, Stop>
         ensures value { (k : Known H) → program.now.classes ≡ declared_in k.first → IsRunning H.view K.holds K.live self.old k
             → IfOk result (λ there. acts program.now.classes k.entries id program.now.maps self.old.overlay.now ≡ Ok there) }
@@ -213,7 +234,9 @@ impl<'a, H: Host, K: Keep<H>> Work<'a, H, K> {
         if !self.heap.live() {
             return Err(Stop::DiskFault);
         }
-        read(self.overlay.acts(program.classes(), self.heap, self.host, id, program.maps()))
+        no_record(read(
+            self.overlay.acts(program.classes(), self.heap, self.host, id, program.maps()),
+        ))
     }
 
     // The activations of an object are these from now on. It is never refused.
@@ -232,6 +255,8 @@ impl<'a, H: Host, K: Keep<H>> Work<'a, H, K> {
         ensures lent { (k : Known H) → Lent k self.old → Lent k self.new }
     {
         puts_known();
+        overlays_have_views();
+        objects_are_read_fresh();
         if !self.heap.live() {
             return Err(Stop::DiskFault);
         }

@@ -4,6 +4,7 @@ ghost use Rattle.ode_interpreter.specs.Seen.{Ends, Leaves};
 ghost use Rattle.ode_known_laws.specs.Knowing.{declared_in};
 ghost use Rattle.ode_objects.specs.Values.{is_kept};
 ghost use Rattle.ode_run.specs.Knowing.{Failed, IsRunning, Known, Lent, tx};
+ghost use Rattle.ode_run.specs.Stopping.{named_by};
 ghost use Rattle.ode_run.specs.Telling.{EndsThen};
 ghost use Rattle.ode_value.specs.Completing.{weighs};
 ghost use Rattle.ode_value.specs.Limits.{weight_limit};
@@ -11,7 +12,7 @@ ghost use Rattle.ode_value.specs.Making.{derives, sets_field};
 ghost use Rattle.ode_value.specs.Worlds.{Declared};
 ghost use Rattle.ode_version_laws.specs.Denoting.{tells_version};
 
-use crate::stopping::ended;
+use crate::stopping::{ended, named_by};
 use crate::work::Work;
 use ode_host::Host;
 use ode_interpreter::Stop;
@@ -32,7 +33,8 @@ fn is_light(bytes: u64, grown: i64) -> bool
 }
 
 impl<'a, H: Host, K: Keep<H>> Work<'a, H, K> {
-    // A field is set to a value that a record can hold.
+    // A field is set to a value that a record can hold. Where a version's key is named as damaged, the object is read once more, whole: if
+    // nothing of it is, the version hasn't the field, which no checked statement sets, and want of memory is told.
     fn write_kept(&mut self, classes: &Classes, of: Ref, place: u16, v: Value) -> Result<(), Stop>
         ensures acts { (all : Items Declared) (k : Known H) → classes.now ≡ declared_in k.first → is_kept v ≡ true → IsRunning H.view K.holds K.live self.old k
             → Ends result (tx all k self.new) (sets_field of place v (tx all k self.old)) }
@@ -45,10 +47,16 @@ impl<'a, H: Host, K: Keep<H>> Work<'a, H, K> {
         if !self.heap.live() {
             return Err(Stop::DiskFault);
         }
-        ended(
-            self.overlay
-                .write(classes, self.heap, self.host, of, place, v),
-        )
+        let answer = self
+            .overlay
+            .write(classes, self.heap, self.host, of, place, v);
+        match named_by(&answer) {
+            Some(key) => {
+                self.untracked(self.alloc, classes, key.a)?;
+                Err(Stop::Memory)
+            }
+            None => ended(answer),
+        }
     }
 
     /// A field of the version that a reference denotes is set.

@@ -50,6 +50,7 @@ fn next_generation(overlay: &Overlay) -> Option<u8>
 
 impl<'a, H: Host, K: Keep<H>> Work<'a, H, K> {
     // A firing is collected, where there is room for it; whether it is.
+    #[tactic(auto, using(crate::proofs::PlaceLaws::not_there))]
     fn gather(
         &mut self,
         alloc: Global,

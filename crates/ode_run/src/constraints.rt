@@ -173,8 +173,8 @@ fn load_whole<H: Host, K: Keep<H>>(
 }
 
 impl<'a, H: Host, K: Keep<H>> Work<'a, H, K> {
-    // An object that isn't tracked, as it is now.
-    fn untracked(
+    /// An object that isn't tracked, as it is now.
+    pub(crate) fn untracked(
         &mut self,
         alloc: Global,
         classes: &Classes,

@@ -1,11 +1,11 @@
 //! Why a call ends.
 ghost use Rattle.std.specs.Prelude.{◌≡◌, IfErr};
 ghost use Rattle.ode_interpreter.specs.Seen.{IsFault};
-ghost use Rattle.ode_run.specs.Stopping.{ended, read, read_stop, stop_as};
+ghost use Rattle.ode_run.specs.Stopping.{ended, named_by, read, read_stop, stop_as};
 
 use ode_interpreter::Stop;
 use ode_overlay::OverlayError;
-use ode_value::Reason;
+use ode_value::{Key, Reason};
 
 fn stop_as(error: OverlayError) -> Stop
     ensures { result ≡ stop_as error }
@@ -30,6 +30,16 @@ pub(crate) fn ended<R: Drop>(answer: Result<R, OverlayError>) -> Result<R, Stop>
     match answer {
         Ok(value) => Ok(value),
         Err(error) => Err(stop_as(error)),
+    }
+}
+
+/// The key that one named as damaged.
+pub(crate) fn named_by<R: Drop>(answer: &Result<R, OverlayError>) -> Option<Key>
+    ensures { result ≡ named_by answer.now }
+{
+    match answer {
+        Err(OverlayError::Damaged { key }) => Some(*key),
+        _ => None,
     }
 }
 

@@ -8,9 +8,10 @@ use Rattle.ode_interpreter.specs.declared.stop.Stop.{Stop}
 use Rattle.ode_known_laws.specs.Knowing.{declared_in}
 use Rattle.ode_overlay.specs.Answers.{Leaves}
 use Rattle.ode_overlay.specs.Changing.{remove}
-use Rattle.ode_run.proofs.EndLaws.{call_leaves, known_left, shown_ends}
+use Rattle.ode_run.proofs.EndLaws.{call_leaves, known_left, shown_ends, shown_sound}
 use Rattle.ode_run.proofs.work.Work.remove_live.Goals as goal
 use Rattle.ode_run.specs.Knowing.{Failed, Holds, beside}
+use Rattle.ode_value.specs.Acts.{gives}
 use Rattle.ode_value.specs.declared.class.Class.{Class}
 use Rattle.ode_view_laws.specs.Viewing.{running}
 
@@ -32,4 +33,4 @@ returns-clause-kept g c = λ k same holds.
     let known = known_left k.entries k.first x c.remove.new.self c.remove.result (remove (declared_in k.first) k.entries c.args.id x) leaves c.remove.ensures.err holds.known law.1 in
     subst (λ (r : Result (Unit {0}) Stop). interpreter.Leaves r (Holds g.H.Host.view (g.K.Keep.holds c.remove.new.heap (g.H.Host.view c.remove.new.host)) (g.K.Keep.live c.remove.new.heap) c.remove.new.host c.remove.new.self c.args.self.now.budget.now c.args.self.now.bytes k) (Failed g.H.Host.view c.remove.new.host k)) (sym c.ended.ensures)
     (call_leaves g.H.Host.view g.K.Keep.holds g.K.Keep.live c.args.self.now.host.now c.remove.new.host c.args.self.now.heap.now c.remove.new.heap x c.remove.new.self c.args.self.now.budget.now c.args.self.now.bytes k holds c.remove.ensures.looks
-    c.remove.result known c.remove.ensures.holds c.remove.ensures.usable c.remove.ensures.cause)
+    c.remove.result (shown_sound gives (λ now. running k.first.bones.classes k.first now b) x c.remove.new.self c.remove.result (remove (declared_in k.first) k.entries c.args.id x) _ leaves law.0) known c.remove.ensures.holds c.remove.ensures.usable c.remove.ensures.cause)
