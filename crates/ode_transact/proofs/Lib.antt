@@ -1,0 +1,15 @@
+pub mod Settles
+pub mod JoinLaws
+pub mod BeginLaws
+pub mod RestLaws
+pub mod LookLaws
+pub mod GoesLaws
+pub mod TouchLaws
+pub mod EntryLaws
+pub mod RunLaws
+pub mod TransactLaws
+pub mod DrainLaws
+pub mod EndingLaws
+pub mod FrontLaws
+pub mod DrainSteps
+pub mod TransactSteps

@@ -1,0 +1,52 @@
+-- How a call of a context ended, as one of the engine.
+use Rattle.std.proofs.Common.{ℕ, Result, Ok, Err, refl}
+use Rattle.std.specs.Prelude.{IfOk, IsErrOf}
+use Rattle.ode_host.proofs.Calls.{rose_as}
+use Rattle.ode_host.specs.Causes.{RoseIf}
+use Rattle.ode_interpreter.specs.declared.stop.Stop.{Stop}
+use Rattle.ode_interpreter.specs.declared.stop.Stop.TheVariants as stop
+use Rattle.ode_run.specs.Contexts.{EndsWhere}
+use Rattle.ode_transact.specs.Working.{EndedAs, ending_of}
+use Rattle.ode_transact.specs.declared.error.EngineError.TheVariants as engine
+use Rattle.ode_value.specs.Acts.{Outcome, Done, Aborted}
+use Rattle.ode_value.specs.Language.{ListTx}
+use Rattle.ode_value.specs.Objects.{Histories, Starts}
+
+abbrev Deeds : Type 0
+Deeds = Outcome Histories Starts (Unit {0})
+
+-- it was done, or aborted for its reason
+pub ended_as : (answer : Result (Unit {0}) Stop) (P : ListTx → Type 0) (outcome : Deeds) → EndsWhere answer P outcome → IfOk (ending_of answer) (λ ending. EndedAs ending P outcome)
+ended_as (Ok v) P (Done answer x) ends = ends.1
+ended_as (Ok v) P (Aborted reason x) ends = absurd ends
+ended_as (Err (stop.Abort why)) P (Done answer x) ends = absurd ends
+ended_as (Err (stop.Abort why)) P (Aborted reason x) ends = ends
+ended_as (Err stop.Memory) P outcome ends = tt
+ended_as (Err stop.DiskFault) P outcome ends = tt
+ended_as (Err (stop.Damaged key)) P outcome ends = tt
+
+module _ (a b : ℕ) where
+  abbrev Faults : Result (Unit {0}) Stop → Type 0
+  Faults answer = IsErrOf answer stop.DiskFault
+
+  abbrev FaultsThen : Result (Unit {0}) Stop → Type 0
+  FaultsThen answer = IsErrOf (ending_of answer) engine.DiskFault
+
+  nor_then : (answer : Result (Unit {0}) Stop) → (Faults answer → ⊥) → (FaultsThen answer → ⊥) → RoseIf (Faults answer) a b → RoseIf (FaultsThen answer) a b
+  nor_then answer none nor counts = rose_as (Faults answer) (FaultsThen answer) a b (λ f. absurd (none f)) (λ g. absurd (nor g)) counts
+
+  -- the disk failed exactly where it did
+  pub ended_cause : (answer : Result (Unit {0}) Stop) → RoseIf (Faults answer) a b → RoseIf (FaultsThen answer) a b
+  ended_cause (Ok v) counts = nor_then (Ok v) (λ e. absurd (cc e)) (λ e. absurd (cc e)) counts
+  ended_cause (Err (stop.Abort why)) counts = nor_then (Err (stop.Abort why)) (λ e. absurd (cc e)) (λ e. absurd (cc e)) counts
+  ended_cause (Err stop.Memory) counts = nor_then (Err stop.Memory) (λ e. absurd (cc e)) (λ e. absurd (cc e)) counts
+  ended_cause (Err stop.DiskFault) counts = rose_as (Faults (Err stop.DiskFault)) (FaultsThen (Err stop.DiskFault)) a b (λ e. refl) (λ e. refl) counts
+  ended_cause (Err (stop.Damaged key)) counts = nor_then (Err (stop.Damaged key)) (λ e. absurd (cc e)) (λ e. absurd (cc e)) counts
+
+-- no print failed
+pub ended_silent : (answer : Result (Unit {0}) Stop) → IsErrOf (ending_of answer) engine.WriteFault → ⊥
+ended_silent (Ok v) is = cc is
+ended_silent (Err (stop.Abort why)) is = cc is
+ended_silent (Err stop.Memory) is = cc is
+ended_silent (Err stop.DiskFault) is = cc is
+ended_silent (Err (stop.Damaged key)) is = cc is

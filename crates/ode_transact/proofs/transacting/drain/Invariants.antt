@@ -1,0 +1,19 @@
+use Rattle.std.proofs.Common.{◌≡◌, ◌-◌, ◌≤◌, IsTrue}
+use Rattle.ode_transact.proofs.DrainSteps.{HasDrained}
+use Rattle.ode_transact.proofs.transacting.drain.Given as goal
+use Rattle.ode_transact.specs.Resting.{IsAtRest, resting_parts}
+use Rattle.ode_good_laws.specs.Well.{IsWell}
+use Rattle.ode_value.specs.Language.{Language, ListWorld}
+
+-- So many entries ran: the file holds the world that they left, their texts are printed, and no stop so far left anything else.
+abbrev pub invariant-entries : goal.invariant-entries
+invariant-entries g l = record {
+  drained : (lang : Language) (w : ListWorld) → IsWell lang w → IsAtRest g.H.Host.view g.K.Keep.holds g.K.Keep.live lang w l.fn.rest l.fn.host
+      → HasDrained g.H.Host.view g.K.Keep.holds g.K.Keep.live g.K.Keep.means lang w l.rest l.fn.host l.host l.fn.most l.ran;
+  few : l.ran ≤ l.fn.most;
+  usable : IsTrue (g.K.Keep.live l.rest.keeper);
+  parts : resting_parts l.rest ≡ resting_parts l.fn.rest;
+}
+
+abbrev pub decreases-entries : goal.decreases-entries
+decreases-entries g l = l.fn.most - l.ran

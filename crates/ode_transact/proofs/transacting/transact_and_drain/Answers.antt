@@ -1,0 +1,50 @@
+use Rattle.std.proofs.Common.{rules, ◌∙◌, ◌++◌, subst, sym}
+use Rattle.std.proofs.lemmas.Result.{IfOk-weaker}
+use Rattle.ode_host.proofs.Calls.{host_calls_on}
+use Rattle.ode_machine.proofs.MomentLaws.{settling_leaves}
+use Rattle.ode_overlay_laws.specs.Standing.{origin_as}
+use Rattle.ode_schema.specs.Parts.{AreFit}
+use Rattle.ode_transact.proofs.EndingLaws.{calls_as}
+use Rattle.ode_transact.proofs.TransactSteps.{drain_then, moments_then}
+use Rattle.ode_transact.specs.Items.{items_of}
+use Rattle.ode_transact.specs.Resting.{HoldsBy, IsAtRest}
+use Rattle.ode_transact.specs.Working.{work_of}
+use Rattle.ode_value.specs.Draining.{drain}
+use Rattle.ode_value.specs.Pasts.{lists}
+use Rattle.ode_value.specs.Settling.{transaction}
+use Rattle.ode_transact.proofs.transacting.transact_and_drain.Goals as goal
+
+pub returns-in_err-rest-clause-any_moment : goal.returns-in_err-rest-clause-any_moment
+returns-in_err-rest-clause-any_moment g c = λ l w said more well rest front behind printed.
+    let s = transaction lists (origin_as c.args.origin) (work_of c.args.work lists) w in
+    settling_leaves (HoldsBy l g.K.Keep.means) s.1 (items_of (drain lists c.args.most s.0) ++ more) w s.0 said _ _ (c.transact.ensures.any_moment l w said well rest front behind printed)
+
+pub returns-in_err-rest-clause-leaves : goal.returns-in_err-rest-clause-leaves
+returns-in_err-rest-clause-leaves g c = λ l w well rest front behind.
+    calls_as c.transact.result c.from_residual.result c.in_err-rest.field-0.0 _ _ (search rules) (search rules) (c.transact.ensures.leaves l w rest front)
+
+pub drain-requires : goal.drain-requires
+drain-requires g c = record { live = c.in_ok-rest.ensures.usable; fit = subst AreFit (sym c.in_ok-rest.ensures.parts) c.requires.fit }
+
+pub returns-clause-done : goal.returns-clause-done
+returns-clause-done g c = λ l w well rest front behind.
+    let s = transaction lists (origin_as c.args.origin) (work_of c.args.work lists) w in
+    let first = c.in_ok-rest.ensures.done l w rest front behind in
+    drain_then c.drain.result (λ v k. IsAtRest g.H.Host.view g.K.Keep.holds g.K.Keep.live l v k c.drain.new.host) w s (drain lists c.args.most s.0) (g.H.Host.view c.args.host.now) (g.H.Host.view c.transact.new.host) (g.H.Host.view c.drain.new.host)
+    first.1 (c.drain.ensures.done l s.0 behind first.0)
+
+pub returns-clause-any_moment : goal.returns-clause-any_moment
+returns-clause-any_moment g c = λ l w said more well rest front behind printed.
+    let s = transaction lists (origin_as c.args.origin) (work_of c.args.work lists) w in
+    let first = c.in_ok-rest.ensures.done l w rest front behind in
+    moments_then (HoldsBy l g.K.Keep.means) s (items_of (drain lists c.args.most s.0) ++ more) w said (g.H.Host.view c.args.host.now) (g.H.Host.view c.transact.new.host) (g.H.Host.view c.drain.new.host)
+    (c.transact.ensures.any_moment l w said well rest front behind printed) (c.drain.ensures.any_moment l s.0 (said ++ s.1) more behind first.0 (first.1 said printed))
+
+pub returns-clause-parts : goal.returns-clause-parts
+returns-clause-parts g c = IfOk-weaker c.drain.result _ _ (λ r is. is ∙ c.in_ok-rest.ensures.parts) c.drain.ensures.parts
+
+pub returns-clause-leaves : goal.returns-clause-leaves
+returns-clause-leaves g c = λ l w well rest front behind.
+    let s = transaction lists (origin_as c.args.origin) (work_of c.args.work lists) w in
+    let first = c.in_ok-rest.ensures.done l w rest front behind in
+    host_calls_on _ _ _ _ _ _ _ (λ failed. cc (failed)) (λ failed. cc (failed)) (c.in_ok-rest.ensures.leaves l w rest front) (c.drain.ensures.leaves l s.0 behind first.0)

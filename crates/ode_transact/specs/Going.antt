@@ -1,0 +1,45 @@
+-- How a call of a context goes.
+use Rattle.std.specs.Prelude.{ℕ, [], Result, IsErrOf, slice_get}
+use Rattle.ode_host.specs.Causes.{RoseIf}
+use Rattle.ode_host.specs.Host.{Looks}
+use Rattle.ode_host.specs.View.{View}
+use Rattle.ode_interpreter.specs.declared.stop.Stop.{Stop}
+use Rattle.ode_interpreter.specs.declared.stop.Stop.TheVariants as stop
+use Rattle.ode_machine.specs.TimeRows.{kinds_of}
+use Rattle.ode_run.specs.Contexts.{EndsWhere}
+use Rattle.ode_value.specs.Acts.{Deed, Outcome, ◌>>=◌, ◌>>◌, finds, reads, when}
+use Rattle.ode_value.specs.Changes.{is_live, lives, object}
+use Rattle.ode_value.specs.Classes.{trigger_at}
+use Rattle.ode_value.specs.Draining.{firing_in}
+use Rattle.ode_value.specs.Executing.{first_actions}
+use Rattle.ode_value.specs.Language.{ListTx}
+use Rattle.ode_value.specs.Objects.{Histories, Starts}
+use Rattle.ode_value.specs.Pasts.{Past}
+use Rattle.ode_value.specs.Posting.{posts, runs, touches}
+use Rattle.ode_value.specs.Worlds.{Entry}
+
+-- It ended as an act over lists, where this holds of what the act reached. It only looked at the host, and the disk failed exactly where that
+-- is the stop.
+pub record Goes {R : Type 0} (result : Result R Stop) (P : ListTx → Type 0) (outcome : Outcome Histories Starts R) (before after : View) : Type 0 where
+  pub ends : EndsWhere result P outcome
+  pub looks : Looks before after
+  pub faults : RoseIf (IsErrOf result stop.DiskFault) before.disk_faults after.disk_faults
+
+-- ---- the parts of what a transaction does
+
+module _ {O A : Type 0} (past : Past O A) where
+  -- an object is touched where it is there
+  abbrev pub touches_there : ℕ → Deed O A
+  touches_there id = reads (is_live id) >>= λ live. when live (touches past (first_actions past) id)
+
+  -- the action of an entry
+  abbrev pub fires : Entry → Deed O A
+  fires e = finds (λ b. trigger_at b.classes e.class e.trigger) >>= λ t. runs (first_actions past) (firing_in e t)
+
+  -- an object's point of the kind at a place of a class
+  abbrev pub posts_kind : (id place class : ℕ) → Deed O A
+  posts_kind id place class = finds (λ b. slice_get (kinds_of b.classes class) place) >>= λ kind. posts past (first_actions past) id kind []
+
+  -- that of its own class
+  abbrev pub posts_place : (id place : ℕ) → Deed O A
+  posts_place id place = lives id >> (object id >>= λ o. posts_kind id place o.class)

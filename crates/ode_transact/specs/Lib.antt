@@ -1,0 +1,10 @@
+pub mod Errors
+pub mod Settling
+pub mod Resting
+pub mod Beginning
+pub mod Going
+pub mod Working
+pub mod Ending
+pub mod Items
+pub mod Draining
+pub mod Drained

@@ -1,0 +1,214 @@
+//! A transaction settles, and its context goes back to an opened file.
+ghost use Rattle.std.specs.Prelude.{◌≡◌, ◌<◌, ◌≤◌, ◌++◌, ◌^◌, ◌+ℤ◌, ℕ, List as Items, IfOk, IsErrOf, IsTrue, OnOk, Some, length, pos, true};
+ghost use Rattle.ode_transact.specs.Ending.{line_of};
+ghost use Rattle.ode_transact.specs.Errors.{fault_of};
+ghost use Rattle.ode_transact.specs.Resting.{HoldsBy, IsAtRest, resting_parts};
+ghost use Rattle.ode_transact.specs.Settling.{LeavesBatch};
+ghost use Rattle.ode_transact.specs.Working.{settled_by};
+ghost use Rattle.ode_good_laws.specs.Well.{IsWell};
+ghost use Rattle.ode_host.specs.Causes.{RoseIf};
+ghost use Rattle.ode_host.specs.Host.{HostCalls, LeavesOnly, Looks, Printed};
+ghost use Rattle.ode_keep.specs.Entries.{Entries, applied};
+ghost use Rattle.ode_keep.specs.ShortValues.{HasShortValues};
+ghost use Rattle.ode_machine.specs.Moments.{LeavesSettling};
+ghost use Rattle.ode_overlay.specs.Settling.{growth_told};
+ghost use Rattle.ode_run.specs.Contexts.{ContextRuns, IsContext, parts_of, tables_of};
+ghost use Rattle.ode_schema.specs.Parts.{AreFit};
+ghost use Rattle.ode_settled_laws.specs.Holding.{SettledOver};
+ghost use Rattle.ode_value.specs.Language.{Language, ListTx, ListWorld};
+
+use crate::error::EngineError;
+use crate::settling::hand_over;
+use ode_heap::Heap;
+use ode_heap_laws::heaps_show_held_worlds;
+use ode_host::Host;
+use ode_keep::{Batch, Keep, MAX_CHANGES};
+use ode_lines::{aborted_line, committed_line};
+use ode_opened::Opened;
+use ode_overlay::Overlay;
+use ode_run::{Ctx, Stop, settle};
+use ode_types::Classes;
+use ode_value::{List, Reason};
+use std::alloc::{AllocError, Global};
+
+/// A call of a context ended by a fault.
+pub fn fault_of(stop: Stop) -> EngineError
+    ensures { result ≡ fault_of stop }
+{
+    match stop {
+        Stop::Memory | Stop::Abort(_) => EngineError::Memory,
+        Stop::DiskFault => EngineError::DiskFault,
+        Stop::Damaged { key } => EngineError::Damaged { key },
+    }
+}
+
+// The last line of a transaction with this number.
+fn last_line(alloc: Global, number: u64, ending: &Option<Reason>) -> Result<List<u8>, AllocError>
+    ensures { IfOk result (λ line. line ≡ line_of number ending.now) }
+{
+    match ending {
+        None => committed_line(alloc, number),
+        Some(reason) => aborted_line(alloc, number, reason),
+    }
+}
+
+// A text with a line behind.
+fn with_line(text: List<u8>, line: &[u8]) -> Result<List<u8>, AllocError>
+    ensures { IfOk result (λ all. all ≡ text ++ line.now) }
+{
+    let mut bytes = text.into_vec();
+    bytes.extend_from_slice(line)?;
+    Ok(List::from_vec(bytes))
+}
+
+// So many bytes with this growth.
+fn grown_by(bytes: u64, growth: i64) -> u64
+    ensures { (sum : ℕ) → pos bytes +ℤ growth ≡ pos sum → sum < 2 ^ 64 → result ≡ sum }
+{
+    u64::try_from(i128::from(bytes) + i128::from(growth)).unwrap_or(u64::MAX)
+}
+
+// By how many bytes the records grow that are not entries.
+fn growth_of<H: Host, K: Keep<H>>(
+    overlay: &Overlay,
+    classes: &Classes,
+    heap: &mut Heap<K>,
+    host: &mut H,
+) -> i64
+    ensures is { result ≡ growth_told overlay.now }
+    ensures same { (heap.new ≡ heap.old) × (host.new ≡ host.old) }
+{
+    match overlay.grown(classes, heap, host) {
+        Ok(growth) => growth,
+        Err(_) => 0,
+    }
+}
+
+// The number of a transaction that runs.
+fn number_of<H: Host, K: Keep<H>>(
+    alloc: Global,
+    ctx: &mut Ctx<K>,
+    host: &mut H,
+) -> Result<u64, EngineError>
+    ensures is { (l : Language) (w : ListWorld) (t : ListTx) → ContextRuns H.view K.holds K.live l w ctx.old host.old t → IfOk result (λ number. number ≡ w.bones.transaction) }
+    ensures stays { (l : Language) (w : ListWorld) (t : ListTx) → ContextRuns H.view K.holds K.live l w ctx.old host.old t
+        → OnOk result (ContextRuns H.view K.holds K.live l w ctx.new host.new t) }
+    ensures looks { Looks (H.view host.old) (H.view host.new) }
+    ensures cause { (l : Language) (w : ListWorld) (t : ListTx) → ContextRuns H.view K.holds K.live l w ctx.old host.old t
+        → RoseIf (IsErrOf result EngineError.DiskFault) (H.view host.old).disk_faults (H.view host.new).disk_faults }
+    ensures silent { IsErrOf result EngineError.WriteFault → ⊥ }
+    ensures same { parts_of ctx.new ≡ parts_of ctx.old }
+{
+    heaps_show_held_worlds();
+    if !ctx.heap.live() {
+        return Err(EngineError::DiskFault);
+    }
+    let counters = ctx.heap.counters(alloc, host)?;
+    Ok(counters.next_transaction)
+}
+
+// The changes of a transaction that settles.
+fn changes_of<H: Host, K: Keep<H>>(
+    alloc: Global,
+    ctx: &mut Ctx<K>,
+    host: &mut H,
+    ending: &Option<Reason>,
+) -> Result<Batch, EngineError>
+    requires fit { AreFit (parts_of ctx.old) }
+    ensures settles { (l : Language) (w : ListWorld) (t : ListTx) (is : ContextRuns H.view K.holds K.live l w ctx.old host.old t)
+        → IfOk result (λ batch. SettledOver l (tables_of ctx.old) w (growth_told ctx.new.overlay) (applied batch is.entries) ctx.new.text (line_of w.bones.transaction ending.now) (settled_by ending.now t)) }
+    ensures context { (l : Language) (w : ListWorld) (t : ListTx) (is : ContextRuns H.view K.holds K.live l w ctx.old host.old t)
+        → OnOk result (IsContext H.view K.holds K.live is.entries is.world.world.stored.world ctx.new host.new) }
+    ensures few { IfOk result (λ batch. length batch ≤ MAX_CHANGES) }
+    ensures short { IfOk result HasShortValues }
+    ensures usable { OnOk result (IsTrue (K.live ctx.new.heap)) }
+    ensures looks { (l : Language) (w : ListWorld) (t : ListTx) → ContextRuns H.view K.holds K.live l w ctx.old host.old t → Looks (H.view host.old) (H.view host.new) }
+    ensures cause { (l : Language) (w : ListWorld) (t : ListTx) → ContextRuns H.view K.holds K.live l w ctx.old host.old t
+        → RoseIf (IsErrOf result EngineError.DiskFault) (H.view host.old).disk_faults (H.view host.new).disk_faults }
+    ensures silent { IsErrOf result EngineError.WriteFault → ⊥ }
+    ensures same { parts_of ctx.new ≡ parts_of ctx.old }
+{
+    match settle(alloc, ctx, host, ending.is_none()) {
+        Ok(batch) => {
+            if ctx.heap.live() {
+                Ok(batch)
+            } else {
+                Err(EngineError::DiskFault)
+            }
+        }
+        Err(stop) => Err(fault_of(stop)),
+    }
+}
+
+// A context goes back to a file: these changes are made, and its text is printed with its last line.
+fn close<H: Host, K: Keep<H> + Drop>(
+    ctx: Ctx<K>,
+    host: &mut H,
+    batch: &Batch,
+    line: &[u8],
+) -> Result<Opened<K>, EngineError>
+    requires live { IsTrue (K.live ctx.heap) }
+    requires few { length batch.now ≤ MAX_CHANGES }
+    requires short { HasShortValues batch.now }
+    ensures done { IfOk result (λ rest. (entries : Entries) → K.holds ctx.heap (H.view host.old) entries
+        → K.holds rest.keeper (H.view host.new) (applied batch.now entries)) }
+    ensures printed { OnOk result (Printed (ctx.text ++ line.now) (H.view host.old) (H.view host.new)) }
+    ensures any_moment { (entries : Entries) (said : Items ℕ) → K.holds ctx.heap (H.view host.old) entries → (H.view host.old).text ≡ Some said
+        → LeavesOnly (H.view host.old) (H.view host.new) (LeavesBatch K.means entries batch.now said (ctx.text ++ line.now)) }
+    ensures parts { IfOk result (λ rest. resting_parts rest ≡ parts_of ctx) }
+    ensures bytes { IfOk result (λ rest. (sum : ℕ) → pos ctx.bytes +ℤ growth_told ctx.overlay ≡ pos sum → sum < 2 ^ 64 → rest.bytes ≡ sum) }
+    ensures usable { IfOk result (λ rest. K.live rest.keeper ≡ true) }
+    ensures leaves { HostCalls (IsErrOf result EngineError.DiskFault) (IsErrOf result EngineError.WriteFault) (H.view host.old) (H.view host.new) }
+{
+    let Ctx {
+        classes,
+        tables,
+        alphabets,
+        maps,
+        mut heap,
+        overlay,
+        text,
+        bytes,
+        ..
+    } = ctx;
+    let growth = growth_of(&overlay, &classes, &mut heap, host);
+    let text = with_line(text, line)?;
+    hand_over(host, &mut heap, batch, text.as_slice())?;
+    Ok(Opened {
+        keeper: heap.into_keeper(),
+        classes,
+        tables,
+        alphabets,
+        maps,
+        bytes: grown_by(bytes, growth),
+    })
+}
+
+/// A transaction settles, by commit, or by an abort for this reason; and its text is printed, with its last line.
+pub fn end<H: Host, K: Keep<H> + Drop>(
+    alloc: Global,
+    ctx: Ctx<K>,
+    host: &mut H,
+    ending: Option<Reason>,
+) -> Result<Opened<K>, EngineError>
+    requires fit { AreFit (parts_of ctx) }
+    // Then the file holds the world that the machine's transaction leaves, and its text is printed.
+    ensures done { (l : Language) (w : ListWorld) (t : ListTx) → ContextRuns H.view K.holds K.live l w ctx host.old t → IsWell l (settled_by ending t).0
+        → IfOk result (λ rest. IsAtRest H.view K.holds K.live l (settled_by ending t).0 rest host.new) }
+    ensures printed { (l : Language) (w : ListWorld) (t : ListTx) → ContextRuns H.view K.holds K.live l w ctx host.old t
+        → OnOk result (Printed (settled_by ending t).1 (H.view host.old) (H.view host.new)) }
+    // A stop leaves the world before and none of the text, or the one behind and a front of it.
+    ensures any_moment { (l : Language) (w : ListWorld) (t : ListTx) (said : Items ℕ) → IsWell l w → ContextRuns H.view K.holds K.live l w ctx host.old t → IsWell l (settled_by ending t).0
+        → (H.view host.old).text ≡ Some said
+        → LeavesOnly (H.view host.old) (H.view host.new) (LeavesSettling (HoldsBy l K.means) w (settled_by ending t).0 said (settled_by ending t).1) }
+    ensures parts { IfOk result (λ rest. resting_parts rest ≡ parts_of ctx) }
+    ensures usable { IfOk result (λ rest. K.live rest.keeper ≡ true) }
+    ensures leaves { (l : Language) (w : ListWorld) (t : ListTx) → ContextRuns H.view K.holds K.live l w ctx host.old t
+        → HostCalls (IsErrOf result EngineError.DiskFault) (IsErrOf result EngineError.WriteFault) (H.view host.old) (H.view host.new) }
+{
+    let mut ctx = ctx;
+    let number = number_of(alloc, &mut ctx, host)?;
+    let line = last_line(alloc, number, &ending)?;
+    let batch = changes_of(alloc, &mut ctx, host, &ending)?;
+    close(ctx, host, &batch, line.as_slice())
+}

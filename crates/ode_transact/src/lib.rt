@@ -1,0 +1,21 @@
+//! Whole transactions over an opened file: they begin, do their work, are completed and settle by one commit.
+#![tactic(auto)]
+
+mod beginning;
+mod counting;
+mod ending;
+mod error;
+mod looking;
+mod settling;
+mod transacting;
+mod work;
+mod working;
+
+pub use beginning::{begin, put_back};
+pub use ending::{end, fault_of};
+pub use error::EngineError;
+pub use looking::head;
+pub use settling::hand_over;
+pub use transacting::{drain, next_number, transact, transact_and_drain};
+pub use work::Work;
+pub use working::{run, run_completion};
