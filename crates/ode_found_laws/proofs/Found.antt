@@ -21,6 +21,7 @@ use Rattle.ode_passes.specs.Tally.{is_light, no_tally, tallied, tally_in}
 use Rattle.ode_passes.specs.Walking.{is_from, within}
 use Rattle.ode_passes.specs.declared.cause.Cause.TheVariants as cause
 use Rattle.ode_passes.specs.declared.tally.Tally.{Tally}
+use Rattle.ode_sound_laws.specs.Typed.{AreFromOne}
 use Rattle.ode_value.specs.GoodWorlds.{AreBones, AreClasses, RiseFrom}
 use Rattle.ode_value.specs.Keys.{counters_key, key}
 use Rattle.ode_value.specs.Lengths.{version_length}
@@ -39,7 +40,7 @@ use Rattle.ode_opening_laws.proofs.Held.{Only}
 use Rattle.ode_found_laws.proofs.Decoded.{objects_rise, versions_rise}
 use Rattle.ode_found_laws.proofs.Families.{few_parts, kept}
 use Rattle.ode_found_laws.proofs.Grouping.{Owned, VersionsRise, grouped, numbers, owned_row}
-use Rattle.ode_found_laws.proofs.Keeping.{IsRow, objects_good}
+use Rattle.ode_found_laws.proofs.Keeping.{IsRow, objects_from_one, objects_good}
 use Rattle.ode_found_laws.proofs.Parts.{AreParts, parts}
 use Rattle.ode_found_laws.proofs.Rising.{Rise, rise, rise_filter}
 use Rattle.ode_found_laws.proofs.Ruled.{holds}
@@ -145,9 +146,16 @@ module _ (again : Again) (weighs : Weighs) (es : Entries) (ds : List Declared) (
       let total = not_capped u.total (total_weight es) p.total light in
       (total.0 ∙ ap total_weight in_order ∙ all_weigh weighs b held.classes held.no_triggers inactive, total.1)
 
+  keeps : AreKept classes
+  keeps = kept ds held.classes
+
+  ones : AreFromOne b
+  ones =
+      let all = all_ruled again p.c.next_number classes hs vs rules p.heads.each p.versions.each heads_rise owned_rise in
+      objects_from_one again b p.kept.next_number.0 keeps objects_rising objects_whole (has_version (flat_map version_rows objects)) all.objects all.versions all.references
+
   are_bones : AreBones ode b
   are_bones =
-      let keeps : AreKept classes = kept ds held.classes in
       let all = all_ruled again p.c.next_number classes hs vs rules p.heads.each p.versions.each heads_rise owned_rise in
       let weighed = weight_is in
       record {
@@ -175,9 +183,10 @@ module _ (again : Again) (weighs : Weighs) (es : Entries) (ds : List Declared) (
         stands = stands b held.no_triggers inactive;
         good = record { bones = are_bones; pasts = pasts_within objects inactive };
       };
-      few = few_parts ds (kept ds held.classes) held.no_triggers;
+      few = few_parts ds keeps held.no_triggers;
     };
     built = record { no_triggers = held.no_triggers; no_queue = refl; no_clock = refl };
+    ones = ones;
     classes = refl;
     bytes = sym weight_is.0;
   }

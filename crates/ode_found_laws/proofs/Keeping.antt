@@ -18,6 +18,7 @@ use Rattle.ode_opening_objects.specs.declared.head.Head.{Head}
 use Rattle.ode_passes.specs.Rules.{Ruled, ◌>>=◌, each, found, needs}
 use Rattle.ode_passes.specs.declared.cause.Cause.{Cause}
 use Rattle.ode_passes.specs.declared.cause.Cause.TheVariants as cause
+use Rattle.ode_sound_laws.specs.Typed.{AreFromOne}
 use Rattle.ode_types.specs.Families as families
 use Rattle.ode_value.specs.Denoting.{if_live, object_at, object_numbered, object_of}
 use Rattle.ode_value.specs.Fitting.{FitFields, FitsObject, FitsRef, FitsSort, IsDrawn}
@@ -193,14 +194,24 @@ module _ (b : Bones) (heads : ℕ → Option Head) (some : 1 ≤ b.next) (kept :
     own_head : heads o.id ≡ Some (head_of o)
     own_head = tells o.id ∙ ap (option_map head_of) own
 
+    head_tested : (v : Version) → version_fits classes heads (version_record o.id v) ≡ true → fits_head classes v.number (unwrap_or v.parent 0) v.fields (head_of o) ≡ true
+    head_tested v fits = sym (ap (λ (h : Option Head). option_map_or (fits_head classes v.number (unwrap_or v.parent 0) v.fields) h false) own_head) ∙ fits
+
+    version_from_one : (v : Version) → version_fits classes heads (version_record o.id v) ≡ true → 0 < v.number
+    version_from_one v fits =
+        let parent : ℕ = unwrap_or v.parent 0 in
+        let more : Bool = nat_le v.number o.last && ((parent == 0 || nat_lt parent v.number) && fields_fit classes o.class v.fields) in
+        let some : 1 ≤ v.number = upto 1 v.number (and_parts (nat_le 1 v.number) more (head_tested v fits)).0 in
+        omega (arith, some)
+
     version_good : (c : Class) (v : Version) → class_numbered o.class b.classes ≡ Some c → IsOwned o.id v → version_fits classes heads (version_record o.id v) ≡ true
         → references_fit b.next classes heads (version_record o.id v) ≡ true → IsVersion b c o.last v
     version_good c v at owned fits refers_ =
         let parent : ℕ = unwrap_or v.parent 0 in
         let class : families.class_numbered classes o.class ≡ Some c = same_numbered b.classes o.class ∙ at in
-        let tested : fits_head classes v.number parent v.fields (head_of o) ≡ true =
-        sym (ap (λ (h : Option Head). option_map_or (fits_head classes v.number parent v.fields) h false) own_head) ∙ fits in
-        let first = and_parts (nat_le v.number o.last) ((parent == 0 || nat_lt parent v.number) && fields_fit classes o.class v.fields) tested in
+        let more : Bool = nat_le v.number o.last && ((parent == 0 || nat_lt parent v.number) && fields_fit classes o.class v.fields) in
+        let some = and_parts (nat_le 1 v.number) more (head_tested v fits) in
+        let first = and_parts (nat_le v.number o.last) ((parent == 0 || nat_lt parent v.number) && fields_fit classes o.class v.fields) some.1 in
         let second = and_parts (parent == 0 || nat_lt parent v.number) (fields_fit classes o.class v.fields) first.1 in
         let sorts : have_sorts c.fields v.fields ≡ true = sym (ap (λ (k : Option Class). option_map_or (λ (x : Class). have_sorts x.fields v.fields) k false) class) ∙ second.1 in
         let inside : references_in b.next classes heads o.class v.fields ≡ true =
@@ -223,6 +234,9 @@ module _ (b : Bones) (heads : ℕ → Option Head) (some : 1 ≤ b.next) (kept :
     versions_good : (g : Option Class) → class_numbered o.class b.classes ≡ g → AllByRecursion IsTested o.versions → IfSome g (λ c. AllByRecursion (IsVersion b c o.last) o.versions)
     versions_good None at tested = tt
     versions_good (Some c) at tested = all-then IsTested (IsVersion b c o.last) (λ v t. version_good c v at t.owned t.fits t.refers) o.versions tested
+
+    versions_from_one : AllByRecursion IsTested o.versions → AllByRecursion (λ (v : Version). 0 < v.number) o.versions
+    versions_from_one tested = all-then IsTested (λ (v : Version). 0 < v.number) (λ v t. version_from_one v t.fits) o.versions tested
 
     head_low : IsRecord (object_record o) → o.last < 2 ^ 32
     unfolding HasRanges
@@ -277,9 +291,8 @@ module _ (again : Again) (b : Bones) (some : 1 ≤ b.next) (kept : AreKept (map 
     versions : AllByRecursion Fits (version_rows o)
     references : AllByRecursion Refers (version_rows o)
 
-  checked_good : (o : Object) → IsChecked o → IsObject b o
-  checked_good o is =
-      let tested : AllByRecursion (IsTested b heads some kept tells o is.own) o.versions =
+  its_tested : (o : Object) (is : IsChecked o) → AllByRecursion (IsTested b heads some kept tells o is.own) o.versions
+  its_tested o is =
       all-then (λ (v : Version). IsOwned o.id v × (Fits (version_row o.id v) × Refers (version_row o.id v))) (IsTested b heads some kept tells o is.own)
       (λ v t. record {
         owned = t.0;
@@ -289,23 +302,39 @@ module _ (again : Again) (b : Bones) (some : 1 ≤ b.next) (kept : AreKept (map 
       o.versions
       (all_both (IsOwned o.id) (λ (v : Version). Fits (version_row o.id v) × Refers (version_row o.id v)) o.versions is.row.grouped.versions
       (all_both (λ (v : Version). Fits (version_row o.id v)) (λ (v : Version). Refers (version_row o.id v)) o.versions
-      (all_map_back Fits (version_row o.id) o.versions is.versions) (all_map_back Refers (version_row o.id) o.versions is.references))) in
-      object_good b heads some kept tells o is.own has is.row (object_tested again b.next known has o is.row.head.spelled is.object) tested
+      (all_map_back Fits (version_row o.id) o.versions is.versions) (all_map_back Refers (version_row o.id) o.versions is.references)))
+
+  checked_good : (o : Object) → IsChecked o → IsObject b o
+  checked_good o is = object_good b heads some kept tells o is.own has is.row (object_tested again b.next known has o is.row.head.spelled is.object) (its_tested o is)
+
+  -- its versions have numbers from 1 on
+  abbrev IsFromOne : Object → Type 0
+  IsFromOne o = AllByRecursion (λ (v : Version). 0 < v.number) o.versions
+
+  checked_from_one : (o : Object) → IsChecked o → IsFromOne o
+  checked_from_one o is = versions_from_one b heads some kept tells o is.own (its_tested o is)
 
   all_checked : (os : List Object) → AllByRecursion IsRow os → AllByRecursion (λ (o : Object). object_numbered o.id b.objects ≡ Some o) os
       → AllByRecursion (λ (o : Object). object_keeps b.next known has (object_row o) ≡ Ok tt) os → AllByRecursion (λ (o : Object). AllByRecursion Fits (version_rows o)) os
-      → AllByRecursion (λ (o : Object). AllByRecursion Refers (version_rows o)) os → AllByRecursion (IsObject b) os
+      → AllByRecursion (λ (o : Object). AllByRecursion Refers (version_rows o)) os → AllByRecursion IsChecked os
   all_checked [] row own object versions references = tt
   all_checked (o ∷ os) row own object versions references = (
-    checked_good o (record { row = row.0; own = own.0; object = object.0; versions = versions.0; references = references.0 }),
+    record { row = row.0; own = own.0; object = object.0; versions = versions.0; references = references.0 },
     all_checked os row.1 own.1 object.1 versions.1 references.1,
   )
 
-  -- objects whose records keep all rules are good
-  pub objects_good : each (object_keeps b.next known has) (map object_row b.objects) ≡ Ok tt → each (version_keeps known heads) (flat_map version_rows b.objects) ≡ Ok tt
-      → each (references_keep b.next known heads) (flat_map version_rows b.objects) ≡ Ok tt → AllByRecursion (IsObject b) b.objects
-  objects_good objects versions references =
-      all_checked b.objects rows (own_numbers b.objects 0 rising)
-      (all_map_back (λ (e : Row). object_keeps b.next known has e ≡ Ok tt) object_row b.objects (each_keeps (object_keeps b.next known has) (map object_row b.objects) objects))
-      (all_flat_back Fits version_rows b.objects (each_keeps (version_keeps known heads) (flat_map version_rows b.objects) versions))
-      (all_flat_back Refers version_rows b.objects (each_keeps (references_keep b.next known heads) (flat_map version_rows b.objects) references))
+  module _ (objects : each (object_keeps b.next known has) (map object_row b.objects) ≡ Ok tt) (versions : each (version_keeps known heads) (flat_map version_rows b.objects) ≡ Ok tt)
+      (references : each (references_keep b.next known heads) (flat_map version_rows b.objects) ≡ Ok tt) where
+    checked : AllByRecursion IsChecked b.objects
+    checked =
+        all_checked b.objects rows (own_numbers b.objects 0 rising)
+        (all_map_back (λ (e : Row). object_keeps b.next known has e ≡ Ok tt) object_row b.objects (each_keeps (object_keeps b.next known has) (map object_row b.objects) objects))
+        (all_flat_back Fits version_rows b.objects (each_keeps (version_keeps known heads) (flat_map version_rows b.objects) versions))
+        (all_flat_back Refers version_rows b.objects (each_keeps (references_keep b.next known heads) (flat_map version_rows b.objects) references))
+
+    -- objects whose records keep all rules are good, and their versions have numbers from 1 on
+    pub objects_good : AllByRecursion (IsObject b) b.objects
+    objects_good = all-then IsChecked (IsObject b) checked_good b.objects checked
+
+    pub objects_from_one : AreFromOne b
+    objects_from_one = all-then IsChecked IsFromOne checked_from_one b.objects checked

@@ -15,7 +15,7 @@ use ode_opening_laws::read_classes_are_held;
 use ode_value::lengths_are_counts;
 
 /// Records in the rising order of their keys that are opened to classes and a number of bytes hold a world of these classes, which takes so
-/// many bytes.
+/// many bytes, and whose versions are numbered from 1 on.
 pub fn opened_records_hold_worlds()
     ensures { (records : Entries) (classes : Items Class) (bytes : ℕ) → FitsSnapshot records → AreBytes records
         → opened_in ode records ≡ Ok (classes, bytes) → HoldsWorldOf records classes bytes }

@@ -1,3 +1,4 @@
 pub mod Bare
 pub mod One
 pub mod Refusing
+pub mod Synced

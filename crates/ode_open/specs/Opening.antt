@@ -123,6 +123,12 @@ abbrev pub IsRefused : {X : Type 0} → List ℕ → Result X OpenError → Type
 IsRefused image (Ok x) = Unit {0}
 IsRefused image (Err e) = IsFromOutside e ⊎ IsOpenedTo image (Err e)
 
+-- ---- what a stop leaves
+
+-- this image, and this text
+abbrev pub Stays : List ℕ → List ℕ → List ℕ → List ℕ → Type 0
+Stays image text c o = (c ≡ image) × (o ≡ text)
+
 -- ---- what runs
 
 -- the classes, with the tables and the alphabets of their triggers

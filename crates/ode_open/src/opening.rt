@@ -1,14 +1,15 @@
 //! A file is opened to what a run needs.
-ghost use Rattle.std.specs.Prelude.{◌≡◌, ◌⊎◌, ◌≤◌, [], List as Items, ℕ, length, replicate, IfOk, IsErrOf, IsTrue, Ok, Err};
+ghost use Rattle.std.specs.Prelude.{◌≡◌, ◌⊎◌, ◌≤◌, [], List as Items, ℕ, length, replicate, IfOk, IsErrOf, IsTrue, Ok, Err, Some};
 ghost use Rattle.ode_areas.specs.Holding.{AreasHold, is_live};
 ghost use Rattle.ode_areas.specs.Image.{AreasMean, HasMap};
 ghost use Rattle.ode_gate.specs.Headers.{IsHeader, IsOfAreas};
 ghost use Rattle.ode_gate.specs.Slots.{Counts};
 ghost use Rattle.ode_host.specs.Causes.{RoseIf};
-ghost use Rattle.ode_host.specs.Host.{Looks, Stands, Tells};
+ghost use Rattle.ode_host.specs.FirstSync.{SyncedRun};
+ghost use Rattle.ode_host.specs.Host.{Looks, Only, Stands, Tells};
 ghost use Rattle.ode_keep.specs.Entries.{Entries};
 ghost use Rattle.ode_language.specs.Languages.{ode};
-ghost use Rattle.ode_open.specs.Opening.{Found, HasOutsideFailed, IsOpenedTo, IsRefused, program_of, seen};
+ghost use Rattle.ode_open.specs.Opening.{Found, HasOutsideFailed, IsOpenedTo, IsRefused, Stays, program_of, seen};
 ghost use Rattle.ode_opening_records.specs.Reading.{opened_in};
 ghost use Rattle.ode_schema.specs.Parts.{AreFit};
 
@@ -104,6 +105,13 @@ pub fn open_base<H: Host>(alloc: Global, host: &mut H) -> Result<Opened<Areas>, 
     ensures tables { IfOk result (λ o. (o.tables ≡ []) × (o.alphabets ≡ [])) }
     ensures maps { IfOk result (λ o. o.maps ≡ replicate (length o.classes) 0) }
     ensures fit { IfOk result (λ o. AreFit (program_of o)) }
+
+    // Unless the disk failed, its sync was done: from then on a stop leaves the file and the text as they are. Before it, a stop leaves
+    // what it might have left at the start.
+    ensures synced { (IsErrOf result OpenError.DiskFault → ⊥) → (image : Items ℕ) → Tells (H.view host.old) image
+        → Only image (H.view host.new) }
+    ensures stops { (image text : Items ℕ) → Tells (H.view host.old) image → (H.view host.old).text ≡ Some text
+        → SyncedRun (H.view host.old) (H.view host.new) image (IsErrOf result OpenError.DiskFault) (Stays image text) }
     ensures looks { Looks (H.view host.old) (H.view host.new) }
     ensures cause { RoseIf (IsErrOf result OpenError.DiskFault) (H.view host.old).disk_faults (H.view host.new).disk_faults }
 {

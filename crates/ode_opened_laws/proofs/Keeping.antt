@@ -17,6 +17,7 @@ use Rattle.ode_opening_objects.specs.Objects.{fields_fit, fits_head, object_fits
 use Rattle.ode_opening_objects.specs.declared.head.Head.{Head}
 use Rattle.ode_passes.specs.Rules.{Ruled, ◌>>=◌, each, found, needs}
 use Rattle.ode_passes.specs.declared.cause.Cause.TheVariants as cause
+use Rattle.ode_sound_laws.specs.Typed.{AreFromOne}
 use Rattle.ode_types.specs.Families as families
 use Rattle.ode_value.specs.Denoting.{if_live, object_at, object_numbered}
 use Rattle.ode_value.specs.Fitting.{FitFields, FitsObject, FitsRef, FitsSort, IsDrawn}
@@ -135,7 +136,7 @@ module _ (l : Language) (w : World (Unit {0}) ℕ) (b : Bones) (are : AreBones l
   abbrev heads : ℕ → Option Head
   heads = head_in objects
 
-  module _ (reads : AllByRecursion (IsReadableObject w) b.objects) where
+  module _ (reads : AllByRecursion (IsReadableObject w) b.objects) (ones : AreFromOne b) where
     tells : (id : ℕ) → heads id ≡ option_map head_of (object_numbered id b.objects)
     tells id = heads_tell again b.objects 0 id are.rising (all_then (IsReadableObject w) (λ o. IsRecord (object_record o)) (λ o is. is.spells) b.objects reads)
 
@@ -195,17 +196,19 @@ module _ (l : Language) (w : World (Unit {0}) ℕ) (b : Bones) (are : AreBones l
       reads_it : IsReadableObject w o
       own : object_numbered o.id b.objects ≡ Some o
       has : has_version versions o.id ≡ true
+      some : AllByRecursion (λ (v : Version). 0 < v.number) o.versions
 
     all_told : (os : List Object) → AllByRecursion (IsObject b) os → AllByRecursion (IsReadableObject w) os → AllByRecursion (λ (o : Object). object_numbered o.id b.objects ≡ Some o) os
-        → AllByRecursion (λ (o : Object). has_version versions o.id ≡ true) os → AllByRecursion IsTold os
-    all_told [] one two three four = tt
-    all_told (o ∷ os) one two three four =
-        (record { is = one.0; reads_it = two.0; own = three.0; has = four.0 }, all_told os one.1 two.1 three.1 four.1)
+        → AllByRecursion (λ (o : Object). has_version versions o.id ≡ true) os → AllByRecursion (λ (o : Object). AllByRecursion (λ (v : Version). 0 < v.number) o.versions) os
+        → AllByRecursion IsTold os
+    all_told [] one two three four five = tt
+    all_told (o ∷ os) one two three four five =
+        (record { is = one.0; reads_it = two.0; own = three.0; has = four.0; some = five.0 }, all_told os one.1 two.1 three.1 four.1 five.1)
 
     told : AllByRecursion IsTold b.objects
     told =
         all_told b.objects are.objects reads (own_numbers b.objects 0 are.rising)
-        (have_versions b.objects (all_then (IsObject b) (λ (o : Object). 0 < length o.versions) (λ o is. is.some) b.objects are.objects))
+        (have_versions b.objects (all_then (IsObject b) (λ (o : Object). 0 < length o.versions) (λ o is. is.some) b.objects are.objects)) ones
 
     head_told : (o : Object) → IsTold o → heads o.id ≡ Some (head_of o)
     head_told o it = tells o.id ∙ ap (option_map head_of) it.own
@@ -235,10 +238,12 @@ module _ (l : Language) (w : World (Unit {0}) ℕ) (b : Bones) (are : AreBones l
     record IsOwn (o : Object) (c : Class) (v : Version) : Type 0 where
       is : IsVersion b c o.last v
       reads_it : IsReadableVersion o.id v
+      some : 0 < v.number
 
-    own_versions : (o : Object) (c : Class) (vs : List Version) → AllByRecursion (IsVersion b c o.last) vs → AllByRecursion (IsReadableVersion o.id) vs → AllByRecursion (IsOwn o c) vs
-    own_versions o c [] one two = tt
-    own_versions o c (v ∷ vs) one two = (record { is = one.0; reads_it = two.0 }, own_versions o c vs one.1 two.1)
+    own_versions : (o : Object) (c : Class) (vs : List Version) → AllByRecursion (IsVersion b c o.last) vs → AllByRecursion (IsReadableVersion o.id) vs → AllByRecursion (λ (v : Version). 0 < v.number) vs
+        → AllByRecursion (IsOwn o c) vs
+    own_versions o c [] one two three = tt
+    own_versions o c (v ∷ vs) one two three = (record { is = one.0; reads_it = two.0; some = three.0 }, own_versions o c vs one.1 two.1 three.1)
 
     module _ (o : Object) (it : IsTold o) (c : Class) (at : class_numbered o.class b.classes ≡ Some c) where
       class_at : families.class_numbered classes o.class ≡ Some c
@@ -252,8 +257,9 @@ module _ (l : Language) (w : World (Unit {0}) ℕ) (b : Bones) (are : AreBones l
           let fields : fields_fit classes o.class v.fields ≡ true =
           ap (λ (g : Option Class). option_map_or (λ (d : Class). have_sorts d.fields v.fields) g false) class_at ∙ sorts_of b c.fields v.fields own.is.fields in
           let test : fits_head classes number parent v.fields (head_of o) ≡ true =
-          both (nat_le number o.last) (((parent == 0) || nat_lt parent number) && fields_fit classes o.class v.fields) (upto number o.last own.is.number)
-          (both ((parent == 0) || nat_lt parent number) (fields_fit classes o.class v.fields) (parent_below v.parent number own.is.parent) fields) in
+          both (nat_le 1 number) (nat_le number o.last && (((parent == 0) || nat_lt parent number) && fields_fit classes o.class v.fields)) (upto 1 number (omega (arith, own.some)))
+          (both (nat_le number o.last) (((parent == 0) || nat_lt parent number) && fields_fit classes o.class v.fields) (upto number o.last own.is.number)
+          (both ((parent == 0) || nat_lt parent number) (fields_fit classes o.class v.fields) (parent_below v.parent number own.is.parent) fields)) in
           ap (λ (g : Option Record). found why g >>= λ r. needs why (version_fits classes heads r)) (version_reads again o.id v own.reads_it.spells)
           ∙ ap (λ (g : Option Head). needs why (option_map_or (fits_head classes number parent v.fields) g false)) (head_told o it)
           ∙ ap (needs why) test
@@ -271,7 +277,7 @@ module _ (l : Language) (w : World (Unit {0}) ℕ) (b : Bones) (are : AreBones l
       own_kept : (o : Object) → IsTold o → (g : Option Class) → class_numbered o.class b.classes ≡ g → IsSome g → IfSome g (λ c. AllByRecursion (IsVersion b c o.last) o.versions) → each rule (version_rows o) ≡ Ok tt
       own_kept o it None at some fit = absurd (cc)
       own_kept o it (Some c) at some fit =
-          each_map rule (version_row o.id) o.versions (all_then (IsOwn o c) (λ v. rule (version_row o.id v) ≡ Ok tt) (one o it c at) o.versions (own_versions o c o.versions fit it.reads_it.versions))
+          each_map rule (version_row o.id) o.versions (all_then (IsOwn o c) (λ v. rule (version_row o.id v) ≡ Ok tt) (one o it c at) o.versions (own_versions o c o.versions fit it.reads_it.versions it.some))
 
       all_kept : each rule versions ≡ Ok tt
       all_kept =

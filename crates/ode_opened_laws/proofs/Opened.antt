@@ -23,6 +23,7 @@ use Rattle.ode_passes.specs.Tally.{is_light, no_tally, tallied, tally_in}
 use Rattle.ode_passes.specs.Walking.{within}
 use Rattle.ode_passes.specs.declared.cause.Cause.TheVariants as cause
 use Rattle.ode_passes.specs.declared.tally.Tally.{Tally}
+use Rattle.ode_sound_laws.specs.Typed.{AreFromOne}
 use Rattle.ode_value.specs.GoodWorlds.{AreBones}
 use Rattle.ode_value.specs.Keys.{activation_kind, counters_key, entry_kind, object_kind, version_kind}
 use Rattle.ode_value.specs.Lengths.{version_length}
@@ -51,7 +52,8 @@ light n few = let test : nat_le n weight_limit ≡ true = grind (arith, nat_test
 
 module _ (again : Again) (weighs : (id : ℕ) (v : Version) → row_weight (version_row id v) ≡ version_length v.fields)
     (s : Stored) (are : AreBones ode s.world.bones) (reads : IsReadable s)
-    (bare : AllByRecursion HasNoTriggers (map class_of s.world.bones.classes)) (no_queue : s.world.bones.queue ≡ []) (no_clock : s.world.bones.clock ≡ None) where
+    (bare : AllByRecursion HasNoTriggers (map class_of s.world.bones.classes)) (no_queue : s.world.bones.queue ≡ []) (no_clock : s.world.bones.clock ≡ None)
+    (ones : AreFromOne s.world.bones) where
   abbrev b : Bones
   b = s.world.bones
 
@@ -183,9 +185,9 @@ module _ (again : Again) (weighs : (id : ℕ) (v : Version) → row_weight (vers
       ∙ ap (λ (es : Entries). by_rules (object_rows b) es (of_kinds activation_kind entry_kind all)) versions_are
       ∙ ap (by_rules (object_rows b) (all_versions b)) none_behind
       ∙ ap (λ (m : Ruled (Unit {0})). m >>= λ _. each (version_rule (object_rows b)) (all_versions b) >>= λ _. done >>= λ _. each (reference_rule (object_rows b)) (all_versions b))
-      (objects_kept ode s.world b are again reads.objects)
-      ∙ ap (λ (m : Ruled (Unit {0})). m >>= λ _. done >>= λ _. each (reference_rule (object_rows b)) (all_versions b)) (versions_kept ode s.world b are again reads.objects)
-      ∙ all_references_kept ode s.world b are again reads.objects
+      (objects_kept ode s.world b are again reads.objects ones)
+      ∙ ap (λ (m : Ruled (Unit {0})). m >>= λ _. done >>= λ _. each (reference_rule (object_rows b)) (all_versions b)) (versions_kept ode s.world b are again reads.objects ones)
+      ∙ all_references_kept ode s.world b are again reads.objects ones
 
   -- ---- all rules
 

@@ -6,6 +6,7 @@ ghost use Rattle.ode_heap_laws.specs.Few.{HoldsCounted};
 ghost use Rattle.ode_keep.specs.Entries.{Entries};
 ghost use Rattle.ode_language.specs.Languages.{ode};
 ghost use Rattle.ode_opening_laws.specs.Holding.{class_of};
+ghost use Rattle.ode_sound_laws.specs.Typed.{AreFromOne};
 ghost use Rattle.ode_value.specs.Language.{ListWorld};
 ghost use Rattle.ode_value.specs.Weights.{weight};
 ghost use Rattle.ode_opening_records.specs.Reading.{opened_in};
@@ -16,10 +17,10 @@ use ode_heap_laws::held_worlds_can_be_read;
 use ode_opening_laws::held_worlds_open_to_their_classes;
 use ode_value::lengths_are_counts;
 
-/// Records that hold a world of the built forms, whose classes have no more fields than a record counts, are opened to the world's
-/// classes and its weight.
+/// Records that hold a world of the built forms, whose classes have no more fields than a record counts and whose versions are numbered
+/// from 1 on, are opened to the world's classes and its weight.
 pub fn held_worlds_are_opened()
-    ensures { (records : Entries) (w : ListWorld) → HoldsCounted ode records w → IsBuilt w
+    ensures { (records : Entries) (w : ListWorld) → HoldsCounted ode records w → IsBuilt w → AreFromOne w.bones
         → opened_in ode records ≡ Ok (map class_of w.bones.classes, weight w.bones) }
 {
     one_spelling();

@@ -39,9 +39,11 @@ object_keeps next classes versions e = object_head next classes versions e >>= �
 abbrev pub fields_fit : List Class → ℕ → List Value → Bool
 fields_fit classes number values = option_map_or (λ (c : Class). have_sorts c.fields values) (class_numbered classes number) false
 
--- a version has a number up to the last one of its object, a parent below its own number, and fields of its class's sorts
+-- A version has a number from 1 up to the last one of its object, a parent below its own number, and fields of its class's sorts. No version
+-- has number 0, which says that there is no parent.
 abbrev pub fits_head : List Class → ℕ → ℕ → List Value → Head → Bool
-fits_head classes number parent fields h = nat_le number h.last && ((parent == 0 || nat_lt parent number) && fields_fit classes h.class fields)
+fits_head classes number parent fields h =
+    nat_le 1 number && (nat_le number h.last && ((parent == 0 || nat_lt parent number) && fields_fit classes h.class fields))
 
 -- it has its object
 abbrev pub version_fits : List Class → (ℕ → Option Head) → Record → Bool

@@ -61,7 +61,8 @@ fn fields_fit(classes: &Classes, number: u32, values: &[Value]) -> bool
 fn fits_head(classes: &Classes, number: u32, parent: u32, fields: &[Value], head: Head) -> bool
     ensures { result ≡ fits_head classes.now number parent fields.now head }
 {
-    number <= head.last
+    1 <= number
+        && number <= head.last
         && (parent == 0 || parent < number)
         && fields_fit(classes, head.class, fields)
 }

@@ -9,6 +9,7 @@ ghost use Rattle.ode_keep.specs.Entries.{Entries};
 ghost use Rattle.ode_language.specs.Languages.{ode};
 ghost use Rattle.ode_opening_laws.specs.Built.{IsBuilt};
 ghost use Rattle.ode_opening_records.specs.Reading.{opened_in};
+ghost use Rattle.ode_sound_laws.specs.Typed.{AreFromOne};
 ghost use Rattle.ode_value.specs.Language.{ListWorld};
 ghost use Rattle.ode_value.specs.Tables.{Table};
 ghost use Rattle.ode_value.specs.declared.class.Class.{Class};
@@ -21,10 +22,11 @@ pub fn built_worlds_are_counted()
     ensures { (records : Entries) (w : ListWorld) → HoldsWorld ode records w → IsBuilt w → HoldsCounted ode records w }
 {}
 
-/// What records that hold a world of the built forms are opened to is this world's. No class has a trigger, so any tables serve.
+/// What records that hold a world of the built forms, whose versions are numbered from 1 on, are opened to is this world's. No class has
+/// a trigger, so any tables serve.
 pub fn opened_records_show_their_world()
     ensures { (records : Entries) (w : ListWorld) (opened : Items Class × ℕ) (tables : ℕ → ℕ → Table) → HoldsWorld ode records w → IsBuilt w
-        → opened_in ode records ≡ Ok opened → IsShown records w opened tables }
+        → AreFromOne w.bones → opened_in ode records ≡ Ok opened → IsShown records w opened tables }
 {
     built_worlds_are_counted();
     held_worlds_are_opened();

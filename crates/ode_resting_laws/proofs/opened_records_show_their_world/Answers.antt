@@ -9,11 +9,11 @@ use Rattle.ode_resting_laws.proofs.AnyTables.{its_tables, with_tables}
 use Rattle.ode_resting_laws.proofs.opened_records_show_their_world.Goals as goal
 
 pub returns : goal.returns
-returns c = λ records w opened tables held built is.
+returns c = λ records w opened tables held built ones is.
     let counted : HoldsCounted ode records w = c.built_worlds_are_counted.ensures records w held built in
     let whole : HoldsCounted ode records w = record { world = with_tables records w held built tables; few = counted.few } in
     let base : List Class × ℕ = (map class_of w.bones.classes, weight w.bones) in
-    let its : Ok opened ≡ Ok base = sym is ∙ c.held_worlds_are_opened.ensures records w counted built in
+    let its : Ok opened ≡ Ok base = sym is ∙ c.held_worlds_are_opened.ensures records w counted built ones in
     let same : opened ≡ base = cc (its) in
     let back : w.bones ≡ whole.world.stored.world.bones = sym whole.world.stands.bones in
     record {
