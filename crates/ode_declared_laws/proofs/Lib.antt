@@ -1,0 +1,5 @@
+pub mod Weighing
+pub mod Placing
+pub mod Counting
+pub mod Settling
+pub mod Holding

@@ -1,0 +1,24 @@
+-- A program with one more class.
+use Rattle.std.specs.Prelude.{◌≡◌, ℕ, List, [], ◌∷◌, ◌++◌, length}
+use Rattle.ode_schema.specs.Parts.{Parts, table_by}
+use Rattle.ode_value.specs.Symbols.{MaskedKind}
+use Rattle.ode_value.specs.Tables.{Table}
+use Rattle.ode_value.specs.declared.class.Class.{Class}
+
+-- each class has a place for its first table, and each table has an alphabet
+pub record AreAligned (p : Parts) : Type 0 where
+  pub places : length p.maps ≡ length p.classes
+  pub alphabets : length p.alphabets ≡ length p.tables
+
+-- a class behind the others, with its tables and their alphabets behind theirs
+abbrev pub parts_with : Class → List Table → List (List MaskedKind) → Parts → Parts
+parts_with c own alphabets p = record {
+  classes = p.classes ++ c ∷ [];
+  tables = p.tables ++ own;
+  alphabets = p.alphabets ++ alphabets;
+  maps = p.maps ++ length p.tables ∷ [];
+}
+
+-- the table of each trigger
+abbrev pub tables_in : Parts → ℕ → ℕ → Table
+tables_in p = table_by p.tables p.maps
