@@ -1,3 +1,4 @@
+pub mod AllBytes
 pub mod Bare
 pub mod One
 pub mod Refusing

@@ -15,7 +15,7 @@ use Rattle.ode_gate.specs.declared.places.TheConstants.{PAGES, TWO_AREAS}
 use Rattle.ode_keep.specs.Entries.{Entries, record_bytes}
 use Rattle.ode_keep.specs.declared.limits.TheConstants.{MAX_RECORD_BYTES}
 use Rattle.ode_language.specs.Languages.{ode}
-use Rattle.ode_passes.specs.Answers.{Answers}
+use Rattle.ode_passes.specs.Answers.{Answers, OnBroken}
 use Rattle.ode_passes.specs.declared.cause.Cause.TheVariants as cause
 use Rattle.ode_passes.specs.declared.error.OpenError.{OpenError as ReadError}
 use Rattle.ode_passes.specs.declared.error.OpenError.TheVariants as read
@@ -86,6 +86,12 @@ module _ (image : List ℕ) (h : Header) (counts : Counts image h) (areas : IsOf
 
       pub is_opened : (classes : List Class) (bytes : ℕ) → opened_in ode entries ≡ Ok (classes, bytes) → IsOpenedTo image (Ok (classes, bytes))
       is_opened classes bytes answers = opened (Ok (classes, bytes)) (sym (ap found_of answers))
+
+-- an error of a call that breaks no rule
+pub why_outside : (image : List ℕ) (e : ReadError) (P : Type 0) → (P → ⊥) → OnBroken {X = Unit {0}} (Err e) P → IsWhy image (read_error e)
+why_outside image read.Memory P never broken = inl tt
+why_outside image read.DiskFault P never broken = inl tt
+why_outside image (read.BadFile why) P never broken = absurd (never broken)
 
 -- what holds at an answer, by what held there
 pub at_ok : {X E : Type 0} {P Q : X → Type 0} (r : Result X E) → ((x : X) → P x → Q x) → IfOk r P → IfOk r Q

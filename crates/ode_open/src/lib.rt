@@ -1,6 +1,7 @@
 //! A file is opened to what a run needs.
 #![tactic(auto)]
 
+mod bytes;
 mod error;
 mod opening;
 

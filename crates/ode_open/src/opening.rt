@@ -10,9 +10,11 @@ ghost use Rattle.ode_host.specs.Host.{Looks, Only, Stands, Tells};
 ghost use Rattle.ode_keep.specs.Entries.{Entries};
 ghost use Rattle.ode_language.specs.Languages.{ode};
 ghost use Rattle.ode_open.specs.Opening.{Found, HasOutsideFailed, IsOpenedTo, IsRefused, Stays, program_of, seen};
+ghost use Rattle.ode_opening_laws.specs.Holding.{AreBytes};
 ghost use Rattle.ode_opening_records.specs.Reading.{opened_in};
 ghost use Rattle.ode_schema.specs.Parts.{AreFit};
 
+use crate::bytes::read_bytes;
 use crate::error::OpenError;
 use ode_areas::Areas;
 use ode_gate::{Header, SLOT_LEN, SLOT_STEP, TWO_AREAS, read_header};
@@ -66,6 +68,8 @@ fn open_file<H: Host>(alloc: Global, host: &mut H) -> Result<Opened<Areas>, Open
         → HasOutsideFailed result ⊎ IsOpenedTo image (seen result) }
     ensures keeper { IfOk result (λ o. (image : Items ℕ) → Stands image (H.view host.old)
         → (entries : Entries) × AreasMean image entries × AreasHold o.keeper (H.view host.new) entries × (opened_in ode entries ≡ Ok (o.classes, o.bytes))) }
+    ensures bytes { IfOk result (λ o. (image : Items ℕ) → Stands image (H.view host.old)
+        → (entries : Entries) → AreasHold o.keeper (H.view host.new) entries → AreBytes entries) }
     ensures live { IfOk result (λ o. IsTrue (is_live o.keeper)) }
     ensures tables { IfOk result (λ o. (o.tables ≡ []) × (o.alphabets ≡ [])) }
     ensures maps { IfOk result (λ o. o.maps ≡ replicate (length o.classes) 0) }
@@ -76,6 +80,7 @@ fn open_file<H: Host>(alloc: Global, host: &mut H) -> Result<Opened<Areas>, Open
     let header = read_header(host, &mut [0; SLOT_LEN])?;
     let mut keeper = start_keeper(alloc, host, &header)?;
     let base = open_records(alloc, &mut keeper, host)?;
+    read_bytes(alloc, &mut keeper, host)?;
     let (classes, bytes) = base;
     // Where the keeper holds its records, this is known by now. Where it doesn't, nothing is known of the classes.
     are_built(&classes)?;
@@ -101,6 +106,8 @@ pub fn open_base<H: Host>(alloc: Global, host: &mut H) -> Result<Opened<Areas>, 
     // At `Ok` what was written before stands on the disk, and the keeper holds the file's records, which were opened.
     ensures keeper { IfOk result (λ o. (image : Items ℕ) → Tells (H.view host.old) image
         → (entries : Entries) × AreasMean image entries × AreasHold o.keeper (H.view host.new) entries × (opened_in ode entries ≡ Ok (o.classes, o.bytes))) }
+    ensures bytes { IfOk result (λ o. (image : Items ℕ) → Tells (H.view host.old) image
+        → (entries : Entries) → AreasHold o.keeper (H.view host.new) entries → AreBytes entries) }
     ensures live { IfOk result (λ o. IsTrue (is_live o.keeper)) }
     ensures tables { IfOk result (λ o. (o.tables ≡ []) × (o.alphabets ≡ [])) }
     ensures maps { IfOk result (λ o. o.maps ≡ replicate (length o.classes) 0) }

@@ -21,6 +21,12 @@ returns-clause-keeper g c =
     (λ o keeps image tells. keeps image (record { tells = tells_looks image _ _ c.sync.ensures.looks tells; only = c.in_ok-sync.ensures.durable image tells }))
     c.open_file.ensures.keeper
 
+pub returns-clause-bytes : goal.returns-clause-bytes
+returns-clause-bytes g c =
+    at_ok c.open_file.result
+    (λ o are image tells. are image (record { tells = tells_looks image _ _ c.sync.ensures.looks tells; only = c.in_ok-sync.ensures.durable image tells }))
+    c.open_file.ensures.bytes
+
 -- ---- what a stop leaves
 
 pub returns-in_err-sync-clause-synced : goal.returns-in_err-sync-clause-synced
