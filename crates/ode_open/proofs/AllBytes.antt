@@ -1,6 +1,6 @@
 -- Values that a pass found to be bytes are.
-use Rattle.std.proofs.Common.{◌≡◌, ℕ, zero, suc, ◌<◌, ◌^◌, List, [], ◌∷◌, Bool, true, false, cond, Ok, Err, refl, sym, ap, subst, ◌∙◌, arith}
-use Rattle.std.specs.Prelude.{◌&&◌, nat_lt, slice_index}
+use Rattle.std.proofs.Common.{◌≡◌, ℕ, zero, suc, ◌<◌, ◌^◌, List, [], ◌∷◌, Bool, true, false, cond, Ok, Err, refl, ap, subst, ◌∙◌, arith}
+use Rattle.std.specs.Prelude.{◌&&◌, slice_index}
 use Rattle.std.specs.List.{AllByRecursion, list_all}
 use Rattle.std.proofs.lemmas.Bool.{and_parts}
 use Rattle.std.proofs.lemmas.Bool.Decides.{nat_tests}
@@ -14,7 +14,6 @@ use Rattle.ode_passes.specs.declared.cause.Cause.{Cause}
 use Rattle.ode_passes.specs.declared.error.OpenError.{OpenError as ReadError}
 use Rattle.ode_passes.specs.declared.error.OpenError.TheVariants as read
 use Rattle.ode_value.specs.Keys.{key}
-use Rattle.ode_value.specs.Records.{Row}
 use Rattle.ode_value.specs.declared.key.Key.{Key}
 use Rattle.ode_open.specs.Bytes.{is_byte, with_value}
 
