@@ -1,0 +1,138 @@
+-- What a declaration comes to.
+use Rattle.std.proofs.Common.{◌≡◌, ◌≤◌, ◌<◌, ◌+◌, ◌∙◌, ℕ, Bool, true, false, List, [], ◌∷◌, ◌++◌, map, length, Some, None, Ok, Err, ap, sym, subst, arith, refl}
+use Rattle.std.specs.Prelude.{nat_lt}
+use Rattle.std.specs.List.{AllByRecursion, sum_by}
+use Rattle.std.proofs.lemmas.Bool.{ltb-false}
+use Rattle.std.proofs.lemmas.List.Sums.{sum_by-append, sum_by-cons}
+use Rattle.ode_accepted_laws.specs.Languages.{HasSoundRules}
+use Rattle.ode_class_laws.specs.Declaring.{bones_with}
+use Rattle.ode_compile.proofs.TriggerLaws.{records_are}
+use Rattle.ode_compile.specs.Compiling.{AreCompiled, compiled, size_of_table}
+use Rattle.ode_compile.specs.declared.compiling.Compiled.{Compiled}
+use Rattle.ode_declare.specs.Declaring.{Declares, IsMade}
+use Rattle.ode_declare.specs.Texts.{HasText}
+use Rattle.ode_good_laws.specs.Well.{IsWell}
+use Rattle.ode_good_runs.proofs.Declaring.{declared_is}
+use Rattle.ode_good_runs.specs.Reading.{ReadsWell}
+use Rattle.ode_heap_laws.specs.Few.{HasFewParams, HasFewParts}
+use Rattle.ode_host.specs.Host.{Printed}
+use Rattle.ode_host.specs.View.{View}
+use Rattle.ode_keep.specs.Entries.{Entries}
+use Rattle.ode_language.specs.Languages.{ode}
+use Rattle.ode_machine.specs.Refusals.{classes_in, declared_in}
+use Rattle.ode_machine.specs.Works.{declares}
+use Rattle.ode_opened.specs.declared.opened.Opened.{Opened}
+use Rattle.ode_transact.specs.Resting.{IsAtRest}
+use Rattle.ode_value.specs.Answers.{Answer, ◌>>=◌, ◌>>◌, checks, refuses}
+use Rattle.ode_value.specs.ClassLimits.{limits_class, limits_triggers}
+use Rattle.ode_value.specs.Language.{ListWorld}
+use Rattle.ode_value.specs.Lengths.{class_records}
+use Rattle.ode_value.specs.Limits.{class_limit}
+use Rattle.ode_value.specs.Pasts.{lists}
+use Rattle.ode_value.specs.PrintedClasses.{decl_text}
+use Rattle.ode_value.specs.Settling.{transaction}
+use Rattle.ode_value.specs.Transactions.{Script}
+use Rattle.ode_value.specs.Weights.{class_weight, record_count, weight}
+use Rattle.ode_value.specs.Worlds.{Bones, Declared}
+use Rattle.ode_value.specs.declared.class.Class.{Class}
+use Rattle.ode_value.specs.declared.reason.Refusal.{Refusal}
+use Rattle.ode_value.specs.declared.reason.Refusal.TheVariants as refusal
+use Rattle.ode_value.specs.declared.statement.ClassDecl.{ClassDecl}
+use Rattle.ode_value.specs.declared.statement.Statement.TheVariants as statement
+
+-- both parts of an answer that isn't refused
+both_ok : {R S : Type 0} (m : Answer R) (next : R → Answer S) (s : S) → m >>= next ≡ Ok s → (r : R) × (m ≡ Ok r) × (next r ≡ Ok s)
+both_ok (Ok r) next s h = (r, refl, h)
+both_ok (Err e) next s h = absurd (cc)
+
+not_refused : (b : Bool) (why : Refusal) (u : Unit {0}) → refuses b why ≡ Ok u → b ≡ false
+not_refused true why u h = absurd (cc)
+not_refused false why u h = refl
+
+-- a class within the limits has few records
+pub few_records : (c : Declared) → limits_class c ≡ Ok c → record_count c ≤ class_limit
+few_records c h =
+    let count = record_count c in
+    let first = both_ok (limits_triggers c.class.triggers) (λ _. refuses (nat_lt class_limit count) (refusal.ClassTooLarge count) >> Ok c) c h in
+    let second = both_ok (refuses (nat_lt class_limit count) (refusal.ClassTooLarge count)) (λ _. Ok c) c first.2 in
+    ltb-false class_limit count (not_refused (nat_lt class_limit count) (refusal.ClassTooLarge count) second.0 second.1)
+
+-- a compiled one is within them
+limits_kept : (k c : Declared) → limits_class k ≡ Ok c → limits_class c ≡ Ok c
+limits_kept k c h =
+    let count = record_count k in
+    let first = both_ok (limits_triggers k.class.triggers) (λ _. refuses (nat_lt class_limit count) (refusal.ClassTooLarge count) >> Ok k) c h in
+    let second = both_ok (refuses (nat_lt class_limit count) (refusal.ClassTooLarge count)) (λ _. Ok k) c first.2 in
+    let same : k ≡ c = cc (second.2) in
+    subst (λ (d : Declared). limits_class d ≡ Ok c) same h
+
+pub limits_of : (known : List Class) (d : ClassDecl) (c : Declared) → compiled known d ≡ Ok c → limits_class c ≡ Ok c
+limits_of known d c h =
+    let first = both_ok (checks (ode.class_of known d)) (λ (k : Class). limits_class (record { class = k; tree = d })) c h in
+    limits_kept (record { class = first.0; tree = d }) c first.2
+
+-- the machine declares what is compiled
+pub declares_compiled : (b : Bones) (known : List Class) (d : ClassDecl) → known ≡ classes_in b → declared_in ode b d ≡ compiled known d
+declares_compiled b known d same = ap (λ (cs : List Class). compiled cs d) (sym same)
+
+-- what a world weighs with a class more
+pub more_weighs : (c : Declared) (b : Bones) → weight (bones_with c b) ≡ weight b + class_weight c
+unfolding weight
+more_weighs c b =
+    let all = sum_by-append class_weight b.classes (c ∷ []) in
+    let one = sum_by-cons class_weight c [] in
+    omega (arith, all, one)
+
+-- one answer is one class
+same_declared : (m : Answer Declared) (c d : Declared) → m ≡ Ok c → m ≡ Ok d → c ≡ d
+same_declared (Ok k) c d first second =
+    let one : k ≡ c = cc (first) in
+    let two : k ≡ d = cc (second) in
+    sym one ∙ two
+same_declared (Err why) c d first second = absurd (cc (first))
+
+-- a declared class isn't refused
+pub none_refused : {X : Type 0} (m : Answer Declared) (c : Declared) (why : Refusal) → m ≡ Ok c → m ≡ Err why → X
+none_refused m c why declared refused = absurd (cc (declared, refused))
+
+module _ (known : List Class) (d : ClassDecl) (made : Compiled) (answers : compiled known d ≡ Ok (record { class = made.class; tree = d })) (printed : made.text ≡ decl_text d) where
+  abbrev pub own : Declared
+  own = record { class = made.class; tree = d }
+
+  -- its records are few
+  pub few_made : AreCompiled made.class.triggers made.tables made.alphabets → class_records (length made.text) (map size_of_table made.tables) ≤ class_limit
+  few_made all =
+      let few : record_count own ≤ class_limit = few_records own (limits_of known d own answers) in
+      subst (λ (n : ℕ). n ≤ class_limit) (sym (records_are made.class d made.text made.tables made.alphabets printed all)) few
+
+  module _ (w : ListWorld) (same : known ≡ classes_in w.bones) where
+    -- the machine declares it
+    pub meant : declared_in ode w.bones d ≡ Ok own
+    meant = declares_compiled w.bones known d same ∙ answers
+
+    pub made_is : HasSoundRules ode → ReadsWell ode → HasText ode (statement.Class d) → HasFewParts own → IsMade ode w own made
+    made_is rules reads text few = record {
+      is = declared_is ode rules reads text.0 d text.1 w.bones own meant;
+      few = few;
+      class = refl;
+      text = sym printed;
+    }
+
+    -- whatever it calls the class
+    pub made_as : HasSoundRules ode → ReadsWell ode → HasText ode (statement.Class d) → (AllByRecursion HasFewParams made.class.triggers → HasFewParts own) → (c : Declared) → declared_in ode w.bones d ≡ Ok c → AllByRecursion HasFewParams c.class.triggers → IsMade ode w c made
+    made_as rules reads text parts c is =
+        subst (λ (k : Declared). AllByRecursion HasFewParams k.class.triggers → IsMade ode w k made) (same_declared (declared_in ode w.bones d) own c meant is)
+        (λ few. made_is rules reads text (parts few))
+
+module _ {H K : Type 0} (seen : H → View) (held : K → View → Entries → Type 0) (live : K → Bool) (w : ListWorld) (d : ClassDecl) (after : Opened K) (old new : H) where
+  -- what is left where a class is declared
+  abbrev pub LeavesDeclared : Declared → Type 0
+  LeavesDeclared c =
+      AllByRecursion HasFewParams c.class.triggers → let s = transaction lists Script (declares c) w in
+      IsWell ode s.0 → IsAtRest seen held live ode s.0 after new × Printed s.1 (seen old) (seen new)
+
+  pub declares_made : (c : Declared) → declared_in ode w.bones d ≡ Ok c → LeavesDeclared c → Declares (declared_in ode w.bones d) None (IsAtRest seen held live ode w after new) LeavesDeclared
+  declares_made c is done = subst (λ (m : Answer Declared). Declares m None (IsAtRest seen held live ode w after new) LeavesDeclared) (sym is) done
+
+  pub declares_refused : (why : Refusal) → declared_in ode w.bones d ≡ Err why → IsAtRest seen held live ode w after new → Declares (declared_in ode w.bones d) (Some why) (IsAtRest seen held live ode w after new) LeavesDeclared
+  declares_refused why is same = subst (λ (m : Answer Declared). Declares m (Some why) (IsAtRest seen held live ode w after new) LeavesDeclared) (sym is) (refl, same)

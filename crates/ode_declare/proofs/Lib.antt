@@ -1,0 +1,5 @@
+mod BatchLaws
+mod TurnLaws
+mod TakeLaws
+mod DeclareLaws
+mod WeighLaws

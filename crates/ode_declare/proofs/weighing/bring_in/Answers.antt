@@ -1,0 +1,86 @@
+use Rattle.std.proofs.Common.{rules, Err, ◌≡◌, ◌∙◌, ◌<◌, ◌≤◌, ap, arith, length, refl, subst, sym}
+use Rattle.std.proofs.lemmas.Result.{err_from_is_err_and}
+use Rattle.ode_declare.proofs.TakeLaws.{parts_kept}
+use Rattle.ode_declare.proofs.WeighLaws.{done_as, heavy_is, leaves_as, taken_is}
+use Rattle.ode_declare.proofs.weighing.bring_in.Goals as goal
+use Rattle.ode_declared_laws.specs.Adding.{AreAligned}
+use Rattle.ode_host.proofs.Moments.{looks_none}
+use Rattle.ode_machine.specs.Moments.{LeavesSettling}
+use Rattle.ode_machine.specs.Works.{declares}
+use Rattle.ode_schema.specs.Parts.{AreFit}
+use Rattle.ode_transact.proofs.EndingLaws.{before_leaves, fails_apart, looks_leave}
+use Rattle.ode_transact.specs.Resting.{HoldsBy, resting_parts}
+use Rattle.ode_transact.specs.declared.error.EngineError.TheVariants as engine
+use Rattle.ode_value.specs.Acts.{with_line}
+use Rattle.ode_value.specs.Limits.{name_limit, weight_limit}
+use Rattle.ode_value.specs.Pasts.{lists}
+use Rattle.ode_value.specs.Settling.{abort, transaction}
+use Rattle.ode_value.specs.Texts.{class_line}
+use Rattle.ode_value.specs.Transactions.{Script, begun}
+use Rattle.ode_value.specs.Weights.{weight}
+use Rattle.ode_value.specs.declared.class.Class.{Class}
+use Rattle.ode_value.specs.declared.reason.Reason.TheVariants.{Space}
+
+pub returns-in_err-weighed-clause-any_moment : goal.returns-in_err-weighed-clause-any_moment
+returns-in_err-weighed-clause-any_moment g c = λ l w d said well rest made behind printed.
+    let s = transaction lists Script (declares d) w in
+    looks_leave _ _ (LeavesSettling (HoldsBy l g.K.Keep.means) w s.0 said s.1)
+    (before_leaves l g.K.Keep.means rest.entries w s.0 said s.1 _ (g.met.K.Keep.stands c.args.rest.keeper c.args.host.now rest.entries rest.records) (g.met.H.Host.text_stands c.args.host.now) printed rest.world well.ones)
+    (looks_none _)
+
+pub returns-in_err-weighed-clause-leaves : goal.returns-in_err-weighed-clause-leaves
+returns-in_err-weighed-clause-leaves g c = λ l w rest.
+    let p = err_from_is_err_and c.from_residual.result c.from_residual.ensures.1 in
+    let same : c.from_residual.result ≡ Err engine.Memory = rw (p.1, p.2) refl in
+    fails_apart c.from_residual.result engine.Memory (g.H.Host.view c.args.host.now) (g.H.Host.view c.args.host.now) same (λ is. cc (is)) (λ is. cc (is)) (looks_none _) refl
+
+pub returns-then-bytes-gt-WEIGHT_LIMIT-clause-done : goal.returns-then-bytes-gt-WEIGHT_LIMIT-clause-done
+returns-then-bytes-gt-WEIGHT_LIMIT-clause-done g c = λ l w d well rest made.
+    let weighed = c.in_ok-weighed.weighed in
+    let over : weight_limit < weighed.1 = omega (arith, c.if-bytes-gt-WEIGHT_LIMIT.true) in
+    let was = rest.bytes ∙ ap weight rest.world.world.stands.bones in
+    let heavy = heavy_is l w d c.args.made made c.requires.compiled weighed.0 c.in_ok-weighed.ensures.rows rest.world.world.stored c.args.rest.bytes weighed.1 was c.in_ok-weighed.ensures.bytes over in
+    let short : length d.class.name ≤ name_limit = subst (λ (k : Class). length k.name ≤ name_limit) (sym made.class) (search rules) in
+    let aborts = c.declarations_settle.ensures.heavy l w d well.good short heavy ∙ ap (λ (k : Class). abort lists Space (with_line (class_line k.name) (begun Script w))) made.class in
+    done_as g.H.Host.view g.K.Keep.holds g.K.Keep.live g.K.Keep.means c.turn_away.result l c.args.host.now c.turn_away.new.host _ _ aborts (c.turn_away.ensures.done l w rest)
+
+pub returns-then-bytes-gt-WEIGHT_LIMIT-clause-any_moment : goal.returns-then-bytes-gt-WEIGHT_LIMIT-clause-any_moment
+returns-then-bytes-gt-WEIGHT_LIMIT-clause-any_moment g c = λ l w d said well rest made.
+    let weighed = c.in_ok-weighed.weighed in
+    let over : weight_limit < weighed.1 = omega (arith, c.if-bytes-gt-WEIGHT_LIMIT.true) in
+    let was = rest.bytes ∙ ap weight rest.world.world.stands.bones in
+    let heavy = heavy_is l w d c.args.made made c.requires.compiled weighed.0 c.in_ok-weighed.ensures.rows rest.world.world.stored c.args.rest.bytes weighed.1 was c.in_ok-weighed.ensures.bytes over in
+    let short : length d.class.name ≤ name_limit = subst (λ (k : Class). length k.name ≤ name_limit) (sym made.class) (search rules) in
+    let aborts = c.declarations_settle.ensures.heavy l w d well.good short heavy ∙ ap (λ (k : Class). abort lists Space (with_line (class_line k.name) (begun Script w))) made.class in
+    leaves_as g.H.Host.view g.K.Keep.holds g.K.Keep.live g.K.Keep.means l w c.args.host.now c.turn_away.new.host said _ _ aborts (c.turn_away.ensures.any_moment l w said well rest)
+
+pub returns-then-bytes-gt-WEIGHT_LIMIT-clause-fit : goal.returns-then-bytes-gt-WEIGHT_LIMIT-clause-fit
+returns-then-bytes-gt-WEIGHT_LIMIT-clause-fit g c = parts_kept AreFit c.turn_away.result (resting_parts c.args.rest) c.requires.fit c.turn_away.ensures.parts
+
+pub returns-then-bytes-gt-WEIGHT_LIMIT-clause-aligned : goal.returns-then-bytes-gt-WEIGHT_LIMIT-clause-aligned
+returns-then-bytes-gt-WEIGHT_LIMIT-clause-aligned g c = parts_kept AreAligned c.turn_away.result (resting_parts c.args.rest) c.requires.aligned c.turn_away.ensures.parts
+
+pub returns-then-bytes-gt-WEIGHT_LIMIT-clause-usable : goal.returns-then-bytes-gt-WEIGHT_LIMIT-clause-usable
+returns-then-bytes-gt-WEIGHT_LIMIT-clause-usable g c = c.turn_away.ensures.usable
+
+pub returns-then-bytes-gt-WEIGHT_LIMIT-clause-leaves : goal.returns-then-bytes-gt-WEIGHT_LIMIT-clause-leaves
+returns-then-bytes-gt-WEIGHT_LIMIT-clause-leaves g c = λ l w rest. c.turn_away.ensures.leaves l w rest
+
+pub returns-else-bytes-gt-WEIGHT_LIMIT-clause-done : goal.returns-else-bytes-gt-WEIGHT_LIMIT-clause-done
+returns-else-bytes-gt-WEIGHT_LIMIT-clause-done g c = λ l w d well rest made.
+    let weighed = c.in_ok-weighed.weighed in
+    let below : weighed.1 ≤ weight_limit = omega (arith, c.if-bytes-gt-WEIGHT_LIMIT.false) in
+    let was = rest.bytes ∙ ap weight rest.world.world.stands.bones in
+    c.take_in.ensures.done l w d rest
+    (taken_is l w d c.args.made made c.requires.compiled weighed.0 c.in_ok-weighed.ensures.rows rest.world.world.stored c.args.rest.bytes weighed.1 was c.in_ok-weighed.ensures.bytes below)
+
+pub returns-else-bytes-gt-WEIGHT_LIMIT-clause-any_moment : goal.returns-else-bytes-gt-WEIGHT_LIMIT-clause-any_moment
+returns-else-bytes-gt-WEIGHT_LIMIT-clause-any_moment g c = λ l w d said well rest made.
+    let weighed = c.in_ok-weighed.weighed in
+    let below : weighed.1 ≤ weight_limit = omega (arith, c.if-bytes-gt-WEIGHT_LIMIT.false) in
+    let was = rest.bytes ∙ ap weight rest.world.world.stands.bones in
+    c.take_in.ensures.any_moment l w d said well rest
+    (taken_is l w d c.args.made made c.requires.compiled weighed.0 c.in_ok-weighed.ensures.rows rest.world.world.stored c.args.rest.bytes weighed.1 was c.in_ok-weighed.ensures.bytes below)
+
+pub returns-else-bytes-gt-WEIGHT_LIMIT-clause-leaves : goal.returns-else-bytes-gt-WEIGHT_LIMIT-clause-leaves
+returns-else-bytes-gt-WEIGHT_LIMIT-clause-leaves g c = λ l w rest. c.take_in.ensures.leaves

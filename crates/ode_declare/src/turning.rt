@@ -1,0 +1,49 @@
+//! A class for which there is no room.
+ghost use Rattle.std.specs.Prelude.{◌≡◌, ℕ, List as Items, IfOk, IsErrOf, IsTrue, OnOk, Some, true};
+ghost use Rattle.ode_good_laws.specs.Well.{IsWell};
+ghost use Rattle.ode_host.specs.Host.{HostCalls, LeavesOnly, Printed};
+ghost use Rattle.ode_machine.specs.Moments.{LeavesSettling};
+ghost use Rattle.ode_schema.specs.Parts.{AreFit};
+ghost use Rattle.ode_transact.specs.Resting.{HoldsBy, IsAtRest, resting_parts};
+ghost use Rattle.ode_value.specs.Acts.{with_line};
+ghost use Rattle.ode_value.specs.Language.{Language, ListWorld};
+ghost use Rattle.ode_value.specs.Pasts.{lists};
+ghost use Rattle.ode_value.specs.Settling.{abort};
+ghost use Rattle.ode_value.specs.Texts.{class_line};
+ghost use Rattle.ode_value.specs.Transactions.{Script, begun};
+
+use ode_host::Host;
+use ode_keep::Keep;
+use ode_lines::class_line;
+use ode_opened::Opened;
+use ode_overlay::Origin;
+use ode_transact::{EngineError, begin, end};
+use ode_value::{Name, Reason};
+use std::alloc::Global;
+
+/// There is no room for a class: its transaction aborts, behind its line.
+pub(crate) fn turn_away<H: Host, K: Keep<H> + Drop>(
+    alloc: Global,
+    rest: Opened<K>,
+    host: &mut H,
+    name: &Name,
+) -> Result<Opened<K>, EngineError>
+    requires live { IsTrue (K.live rest.keeper) }
+    requires fit { AreFit (resting_parts rest) }
+    ensures done { (l : Language) (w : ListWorld) → IsAtRest H.view K.holds K.live l w rest host.old
+        → let s = abort lists Reason.Space (with_line (class_line name.now) (begun Script w)) in
+        IsWell l s.0 → IfOk result (λ after. IsAtRest H.view K.holds K.live l s.0 after host.new) × OnOk result (Printed s.1 (H.view host.old) (H.view host.new)) }
+    ensures any_moment { (l : Language) (w : ListWorld) (said : Items ℕ) → IsWell l w → IsAtRest H.view K.holds K.live l w rest host.old
+        → let s = abort lists Reason.Space (with_line (class_line name.now) (begun Script w)) in
+        IsWell l s.0 → (H.view host.old).text ≡ Some said
+        → LeavesOnly (H.view host.old) (H.view host.new) (LeavesSettling (HoldsBy l K.means) w s.0 said s.1) }
+    ensures parts { IfOk result (λ after. resting_parts after ≡ resting_parts rest) }
+    ensures usable { IfOk result (λ after. K.live after.keeper ≡ true) }
+    ensures leaves { (l : Language) (w : ListWorld) → IsAtRest H.view K.holds K.live l w rest host.old
+        → HostCalls (IsErrOf result EngineError.DiskFault) (IsErrOf result EngineError.WriteFault) (H.view host.old) (H.view host.new) }
+{
+    let mut ctx = begin(alloc, rest, host, Origin::Script)?;
+    let line = class_line(alloc, name)?;
+    ctx.text = line;
+    end(alloc, ctx, host, Some(Reason::Space))
+}

@@ -1,0 +1,94 @@
+//! A compiled class is declared: it is taken in, or turned away where it is too heavy.
+ghost use Rattle.std.specs.Prelude.{◌≡◌, ◌≤◌, ◌+◌, ◌-◌, ◌^◌, ℕ, List as Items, IfOk, IsErrOf, IsTrue, OnOk, Some, length, map, min};
+ghost use Rattle.ode_class_records.specs.ClassRows.{IsStoredBy, class_rows};
+ghost use Rattle.ode_class_records.specs.Puts.{puts};
+ghost use Rattle.ode_compile.specs.Compiling.{AreCompiled, size_of_table};
+ghost use Rattle.ode_declare.specs.Declaring.{IsMade};
+ghost use Rattle.ode_declared_laws.specs.Adding.{AreAligned};
+ghost use Rattle.ode_good_laws.specs.Well.{IsWell};
+ghost use Rattle.ode_host.specs.Host.{HostCalls, LeavesOnly, Printed};
+ghost use Rattle.ode_keep.specs.Growth.{put_bytes};
+ghost use Rattle.ode_keep.specs.ShortValues.{HasShortValues};
+ghost use Rattle.ode_machine.specs.Moments.{LeavesSettling};
+ghost use Rattle.ode_machine.specs.Works.{declares};
+ghost use Rattle.ode_schema.specs.Parts.{AreFit};
+ghost use Rattle.ode_transact.specs.Resting.{HoldsBy, IsAtRest, resting_parts};
+ghost use Rattle.ode_types.specs.Checked.{IsChecked};
+ghost use Rattle.ode_value.specs.Language.{Language, ListWorld};
+ghost use Rattle.ode_value.specs.Lengths.{class_records};
+ghost use Rattle.ode_value.specs.Limits.{class_limit};
+ghost use Rattle.ode_value.specs.Pasts.{lists};
+ghost use Rattle.ode_value.specs.Settling.{transaction};
+ghost use Rattle.ode_value.specs.Tables.{Table};
+ghost use Rattle.ode_value.specs.Transactions.{Script};
+ghost use Rattle.ode_value.specs.Worlds.{Declared};
+
+use crate::batches::bytes_put;
+use crate::taking::take_in;
+use crate::turning::turn_away;
+use ode_class_records::class_changes;
+use ode_compile::Compiled;
+use ode_declared_laws::{classes_weigh_their_records, declarations_settle};
+use ode_host::Host;
+use ode_keep::{Batch, Keep};
+use ode_opened::Opened;
+use ode_transact::EngineError;
+use ode_value::limits::WEIGHT_LIMIT;
+use std::alloc::{AllocError, Global};
+
+// The changes that put a class's records, and the bytes of a file of so many with it.
+fn weigh(alloc: Global, made: &Compiled, before: u64) -> Result<(Batch, u64), AllocError>
+    requires few { class_records (length made.now.text) (map size_of_table made.now.tables) ≤ class_limit }
+    ensures rows { IfOk result (λ r. (by : ℕ → ℕ → Table) (c : Declared) → IsStoredBy by c made.now.class made.now.text made.now.tables → r.0 ≡ puts (class_rows by c)) }
+    ensures bytes { IfOk result (λ r. r.1 ≡ min (before + min (put_bytes r.0) (2 ^ 64 - 1)) (2 ^ 64 - 1)) }
+    ensures short { IfOk result (λ r. HasShortValues r.0) }
+{
+    let changes = class_changes(
+        alloc,
+        &made.class,
+        made.text.as_slice(),
+        made.tables.as_slice(),
+    )?;
+    let bytes = before.saturating_add(bytes_put(&changes));
+    Ok((changes, bytes))
+}
+
+/// A compiled class is declared by a transaction of its own.
+pub(crate) fn bring_in<H: Host, K: Keep<H> + Drop>(
+    alloc: Global,
+    rest: Opened<K>,
+    host: &mut H,
+    made: Compiled,
+) -> Result<Opened<K>, EngineError>
+    requires live { IsTrue (K.live rest.keeper) }
+    requires fit { AreFit (resting_parts rest) }
+    requires aligned { AreAligned (resting_parts rest) }
+    requires checked { IsChecked rest.classes made.class }
+    requires compiled { AreCompiled made.class.triggers made.tables made.alphabets }
+    requires few { class_records (length made.text) (map size_of_table made.tables) ≤ class_limit }
+    // Where it is a declared class of the file's world, the file holds what the machine's transaction leaves.
+    ensures done { (l : Language) (w : ListWorld) (c : Declared) → IsWell l w → IsAtRest H.view K.holds K.live l w rest host.old → IsMade l w c made
+        → let s = transaction lists Script (declares c) w in
+        IsWell l s.0 → IfOk result (λ after. IsAtRest H.view K.holds K.live l s.0 after host.new) × OnOk result (Printed s.1 (H.view host.old) (H.view host.new)) }
+    // A stop leaves the world before and none of the text, or the one behind and a front of it.
+    ensures any_moment { (l : Language) (w : ListWorld) (c : Declared) (said : Items ℕ) → IsWell l w → IsAtRest H.view K.holds K.live l w rest host.old → IsMade l w c made
+        → let s = transaction lists Script (declares c) w in
+        IsWell l s.0 → (H.view host.old).text ≡ Some said
+        → LeavesOnly (H.view host.old) (H.view host.new) (LeavesSettling (HoldsBy l K.means) w s.0 said s.1) }
+    ensures fit { IfOk result (λ after. AreFit (resting_parts after)) }
+    ensures aligned { IfOk result (λ after. AreAligned (resting_parts after)) }
+    ensures usable { IfOk result (λ after. IsTrue (K.live after.keeper)) }
+    ensures leaves { (l : Language) (w : ListWorld) → IsAtRest H.view K.holds K.live l w rest host.old
+        → HostCalls (IsErrOf result EngineError.DiskFault) (IsErrOf result EngineError.WriteFault) (H.view host.old) (H.view host.new) }
+{
+    classes_weigh_their_records();
+    declarations_settle();
+    let _name = made.class.name.as_bytes();
+    let weighed = weigh(alloc, &made, rest.bytes)?;
+    let (changes, bytes) = weighed;
+    if bytes > WEIGHT_LIMIT {
+        turn_away(alloc, rest, host, &made.class.name)
+    } else {
+        take_in(alloc, rest, host, made, changes, bytes)
+    }
+}
