@@ -1,0 +1,87 @@
+-- Where a statement stands, and what it is answered there.
+use Rattle.std.proofs.Common.{◌≡◌, ◌∙◌, ◌<◌, ◌≤◌, ℕ, Bool, true, false, List, [], Some, Ok, Err, ap, arith, refl, subst, sym}
+use Rattle.std.specs.Prelude.{◌&&◌, nat_lt, not}
+use Rattle.std.proofs.lemmas.Bool.Decides.{nat_tests}
+use Rattle.ode_engine.specs.Serving.{IsServed, answer_to}
+use Rattle.ode_language.specs.Languages.{ode}
+use Rattle.ode_machine.specs.Commands.{Step, carried}
+use Rattle.ode_machine.specs.Refusals.{is_lone, place_of}
+use Rattle.ode_machine.specs.Sessions.{closed, opened}
+use Rattle.ode_value.specs.Answers.{Answer, ◌>>◌, refuses}
+use Rattle.ode_value.specs.Language.{ListTx, ListWorld}
+use Rattle.ode_value.specs.Limits.{number_limit}
+use Rattle.ode_value.specs.declared.reason.Refusal.{Refusal}
+use Rattle.ode_value.specs.declared.reason.Refusal.TheVariants as refusal
+use Rattle.ode_value.specs.declared.statement.ClassDecl.{ClassDecl}
+use Rattle.ode_value.specs.declared.statement.Statement.{Statement}
+use Rattle.ode_value.specs.declared.statement.Statement.TheVariants as statement
+use Rattle.ode_value.specs.declared.statement.Stmt.{Stmt}
+
+-- ---- an answer by its place, and by whether a number is left
+
+abbrev by_parts : Answer (Unit {0}) → Bool → Bool → Answer Step → Answer Step
+by_parts place spent left next = (place >> refuses (spent && not left) refusal.NumbersSpent) >> next
+
+pub misplaced_inside : (w : ListWorld) (t : ListTx) (s : Statement) (why : Refusal) → place_of s true ≡ Err why → answer_to ode (opened w t) s ≡ Err why
+misplaced_inside w t s why is = ap (λ (p : Answer (Unit {0})). by_parts p (false && not (is_lone s)) (nat_lt w.bones.transaction number_limit) (carried ode (opened w t) s)) is
+
+pub misplaced_outside : (w : ListWorld) (s : Statement) (why : Refusal) → place_of s false ≡ Err why → answer_to ode (closed w) s ≡ Err why
+misplaced_outside w s why is = ap (λ (p : Answer (Unit {0})). by_parts p (true && not (is_lone s)) (nat_lt w.bones.transaction number_limit) (carried ode (closed w) s)) is
+
+-- a lone `;`
+pub lone_is : (s : Statement) → is_lone s ≡ true → s ≡ statement.Empty
+lone_is statement.Empty is = refl
+lone_is statement.Begin is = absurd (cc (is))
+lone_is statement.Commit is = absurd (cc (is))
+lone_is statement.Abort is = absurd (cc (is))
+lone_is (statement.Class d) is = absurd (cc (is))
+lone_is (statement.Clock text) is = absurd (cc (is))
+lone_is (statement.Simple s) is = absurd (cc (is))
+
+pub no_lone : (lone : Bool) → not lone ≡ true → lone ≡ false
+no_lone false is = refl
+no_lone true is = absurd (cc (is))
+
+-- with no number left
+pub spent_outside : (w : ListWorld) (s : Statement) → place_of s false ≡ Ok tt → is_lone s ≡ false → number_limit ≤ w.bones.transaction → answer_to ode (closed w) s ≡ Err refusal.NumbersSpent
+spent_outside w s place lone none =
+    let left : nat_lt w.bones.transaction number_limit ≡ false = grind (arith, nat_tests) in
+    ap (λ (p : Answer (Unit {0})). by_parts p (true && not (is_lone s)) (nat_lt w.bones.transaction number_limit) (carried ode (closed w) s)) place
+    ∙ ap (λ (b : Bool). by_parts (Ok tt) (true && not b) (nat_lt w.bones.transaction number_limit) (carried ode (closed w) s)) lone
+    ∙ ap (λ (b : Bool). by_parts (Ok tt) true b (carried ode (closed w) s)) left
+
+-- with one left
+pub placed_outside : (w : ListWorld) (s : Statement) → place_of s false ≡ Ok tt → w.bones.transaction < number_limit → answer_to ode (closed w) s ≡ carried ode (closed w) s
+placed_outside w s place less =
+    let left : nat_lt w.bones.transaction number_limit ≡ true = grind (arith, nat_tests) in
+    ap (λ (p : Answer (Unit {0})). by_parts p (true && not (is_lone s)) (nat_lt w.bones.transaction number_limit) (carried ode (closed w) s)) place
+    ∙ ap (λ (b : Bool). by_parts (Ok tt) (true && not (is_lone s)) b (carried ode (closed w) s)) left
+    ∙ none_spent (is_lone s) (carried ode (closed w) s)
+  where
+    none_spent : (b : Bool) (next : Answer Step) → by_parts (Ok tt) (true && not b) true next ≡ next
+    none_spent true next = refl
+    none_spent false next = refl
+
+-- ---- what is left of a match
+
+pub place_ok : (place : Answer (Unit {0})) → ((why : Refusal) → place ≡ Err why → ⊥) → place ≡ Ok tt
+place_ok (Ok tt) none = refl
+place_ok (Err why) none = absurd (none why refl)
+
+pub empty_inside : (s : Statement) → place_of s true ≡ Ok tt → (s ≡ statement.Commit → ⊥) → (s ≡ statement.Abort → ⊥) → ((t : Stmt) → s ≡ statement.Simple t → ⊥) → s ≡ statement.Empty
+empty_inside statement.Empty place commit abort simple = refl
+empty_inside statement.Begin place commit abort simple = absurd (cc (place))
+empty_inside statement.Commit place commit abort simple = absurd (commit refl)
+empty_inside statement.Abort place commit abort simple = absurd (abort refl)
+empty_inside (statement.Class d) place commit abort simple = absurd (cc (place))
+empty_inside (statement.Clock text) place commit abort simple = absurd (cc (place))
+empty_inside (statement.Simple t) place commit abort simple = absurd (simple t refl)
+
+pub empty_outside : (s : Statement) → IsServed s → place_of s false ≡ Ok tt → (s ≡ statement.Begin → ⊥) → ((d : ClassDecl) → s ≡ statement.Class d → ⊥) → ((t : Stmt) → s ≡ statement.Simple t → ⊥) → s ≡ statement.Empty
+empty_outside statement.Empty served place begins class simple = refl
+empty_outside statement.Begin served place begins class simple = absurd (begins refl)
+empty_outside statement.Commit served place begins class simple = absurd (cc (place))
+empty_outside statement.Abort served place begins class simple = absurd (cc (place))
+empty_outside (statement.Class d) served place begins class simple = absurd (class d refl)
+empty_outside (statement.Clock text) served place begins class simple = absurd served
+empty_outside (statement.Simple t) served place begins class simple = absurd (simple t refl)

@@ -1,0 +1,52 @@
+use Rattle.std.proofs.Common.{◌∙◌, refl, sym}
+use Rattle.ode_host.proofs.Calls.{host_calls_as}
+use Rattle.ode_language.specs.Languages.{ode}
+use Rattle.ode_machine.specs.Sessions.{closed}
+use Rattle.ode_value.specs.Draining.{drain as drained, world_after}
+use Rattle.ode_value.specs.Limits.{drain_limit}
+use Rattle.ode_value.specs.Pasts.{lists}
+use Rattle.ode_engine.specs.declared.commanding.State.TheVariants as state
+use Rattle.ode_engine.proofs.EngineLaws.{closed_rest, put_stands}
+use Rattle.ode_engine.proofs.SessionLaws.{drained_session}
+use Rattle.ode_engine.proofs.engine.Engine.drain.Goals as goal
+
+pub returns-in-Ok-clause-answer : goal.returns-in-Ok-clause-answer
+unfolding drain_limit
+returns-in-Ok-clause-answer g c session is =
+    let rests = closed_rest g.H.Host.view g.K.Keep.holds g.K.Keep.live ode session c.args.self.now.rest c.args.self.now.running c.in-Some.rest c.args.host.now (sym c.take.ensures.value ∙ c.in-Some.is) c.requires.closed is.has in
+    (c.in-Ok.ensures.done ode session.world is.goes_on.well rests).0.1
+
+pub returns-in-Ok-clause-stands : goal.returns-in-Ok-clause-stands
+unfolding drain_limit
+returns-in-Ok-clause-stands g c session is =
+    let rests = closed_rest g.H.Host.view g.K.Keep.holds g.K.Keep.live ode session c.args.self.now.rest c.args.self.now.running c.in-Some.rest c.args.host.now (sym c.take.ensures.value ∙ c.in-Some.is) c.requires.closed is.has in
+    let done = c.in-Ok.ensures.done ode session.world is.goes_on.well rests in
+    record {
+      goes_on = drained_session session.world is.goes_on.well;
+      has = put_stands g.H.Host.view g.K.Keep.holds g.K.Keep.live ode (closed (world_after session.world (drained lists drain_limit session.world))) (state.Rest c.in-Ok.rest) c.put.new.self.rest c.put.new.self.running c.drain.new.host
+          c.put.ensures.has.0 c.put.ensures.has.1 (refl, done.0.0);
+    }
+
+pub returns-in-Ok-clause-printed : goal.returns-in-Ok-clause-printed
+unfolding drain_limit
+returns-in-Ok-clause-printed g c session is =
+    let rests = closed_rest g.H.Host.view g.K.Keep.holds g.K.Keep.live ode session c.args.self.now.rest c.args.self.now.running c.in-Some.rest c.args.host.now (sym c.take.ensures.value ∙ c.in-Some.is) c.requires.closed is.has in
+    (c.in-Ok.ensures.done ode session.world is.goes_on.well rests).1
+
+pub returns-in-Ok-clause-any_moment : goal.returns-in-Ok-clause-any_moment
+unfolding drain_limit
+returns-in-Ok-clause-any_moment g c session said more is told =
+    let rests = closed_rest g.H.Host.view g.K.Keep.holds g.K.Keep.live ode session c.args.self.now.rest c.args.self.now.running c.in-Some.rest c.args.host.now (sym c.take.ensures.value ∙ c.in-Some.is) c.requires.closed is.has in
+    c.in-Ok.ensures.any_moment ode session.world said more is.goes_on.well rests told
+
+pub returns-in-Ok-clause-leaves : goal.returns-in-Ok-clause-leaves
+unfolding drain_limit
+returns-in-Ok-clause-leaves g c session is =
+    let rests = closed_rest g.H.Host.view g.K.Keep.holds g.K.Keep.live ode session c.args.self.now.rest c.args.self.now.running c.in-Some.rest c.args.host.now (sym c.take.ensures.value ∙ c.in-Some.is) c.requires.closed is.has in
+    host_calls_as _ _ _ _ _ _ (λ told. cc (told)) (λ told. cc (told)) (λ told. cc (told)) (λ told. cc (told)) (c.in-Ok.ensures.leaves ode session.world is.goes_on.well rests)
+
+pub returns-in-Err-clause-any_moment : goal.returns-in-Err-clause-any_moment
+unfolding drain_limit
+returns-in-Err-clause-any_moment g c session said more is told =
+    let rests = closed_rest g.H.Host.view g.K.Keep.holds g.K.Keep.live ode session c.args.self.now.rest c.args.self.now.running c.in-Some.rest c.args.host.now (sym c.take.ensures.value ∙ c.in-Some.is) c.requires.closed is.has in
+    c.in-Err.ensures.any_moment ode session.world said more is.goes_on.well rests told

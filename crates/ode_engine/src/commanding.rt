@@ -1,0 +1,384 @@
+//! Statements, over an opened file and inside a transaction.
+ghost use Rattle.std.specs.Prelude.{◌≡◌, ◌<◌, Err, IfOk, IsTrue, Ok, false, true};
+ghost use Rattle.ode_compile.specs.Compiling.{HaveNumbers};
+ghost use Rattle.ode_declare.specs.Texts.{HasText};
+ghost use Rattle.ode_declared_laws.specs.Adding.{AreAligned};
+ghost use Rattle.ode_engine.specs.Refusing.{back, turned_down};
+ghost use Rattle.ode_engine.specs.Serving.{IsServed, IsSession, IsUsable, Serves, StandsIn, answer_to};
+ghost use Rattle.ode_good_laws.specs.Well.{IsWell};
+ghost use Rattle.ode_language.specs.Languages.{ode};
+ghost use Rattle.ode_machine.specs.Commands.{carried, commits, finish, goes_on, settles};
+ghost use Rattle.ode_machine.specs.Refusals.{checked_in, place_of};
+ghost use Rattle.ode_machine.specs.Sessions.{Session, closed, opened};
+ghost use Rattle.ode_run.specs.Contexts.{ContextRuns, parts_of};
+ghost use Rattle.ode_schema.specs.Parts.{AreFit};
+ghost use Rattle.ode_transact.specs.Resting.{IsAtRest, resting_parts};
+ghost use Rattle.ode_transact.specs.Working.{settled_by};
+ghost use Rattle.ode_value.specs.Executing.{commands};
+ghost use Rattle.ode_value.specs.Language.{ListTx, ListWorld};
+ghost use Rattle.ode_value.specs.Limits.{number_limit};
+ghost use Rattle.ode_value.specs.Pasts.{lists};
+ghost use Rattle.ode_value.specs.Settling.{abort, transaction};
+ghost use Rattle.ode_value.specs.Transactions.{Script, begun};
+ghost use Rattle.ode_value.specs.declared.statement.Statement.TheVariants as statement;
+
+use crate::engine::Done;
+use crate::refusing::{Turned, checked, place_of, takes_number};
+use ode_declare::declare;
+use ode_host::Host;
+use ode_keep::Keep;
+use ode_opened::Opened;
+use ode_overlay::Origin;
+use ode_run::{Ctx, Stop, exec};
+use ode_transact::{
+    EngineError, Work, begin, drain, end, fault_of, next_number, put_back, run, run_completion,
+};
+use ode_value::limits::{DRAIN_LIMIT, NUMBER_LIMIT};
+use ode_value::{ClassDecl, Reason, Refusal, Statement, Stmt};
+use std::alloc::Global;
+
+/// An opened file, or the context of an open transaction.
+#[derive(Drop)]
+pub(crate) enum State<K> {
+    Rest(Opened<K>),
+    Running(Ctx<K>),
+}
+
+// What is answered where a statement isn't carried out: this is there as before.
+fn turned_down<K: Drop>(state: State<K>, turned: Turned) -> Result<(State<K>, Done), EngineError>
+    ensures { result ≡ turned_down state turned }
+{
+    match turned {
+        Turned::Refused(why) => Ok((state, Done::Refused(why))),
+        Turned::Stopped(error) => Err(error),
+    }
+}
+
+// The same where a context goes back to the file that it began over. It may be used where its keeper may.
+fn turned_back<H: Host, K: Keep<H> + Drop>(
+    ctx: Ctx<K>,
+    turned: Turned,
+) -> Result<(State<K>, Done), EngineError>
+    requires fit { AreFit (parts_of ctx) }
+    requires aligned { AreAligned (parts_of ctx) }
+    ensures back { K.live ctx.heap ≡ true → result ≡ turned_down (State.Rest (back ctx)) turned }
+    ensures stopped { (error : EngineError) → turned ≡ Turned.Stopped error → result ≡ Err error }
+    ensures usable { IfOk result (λ r. IsUsable K.live r.0) }
+{
+    match turned {
+        Turned::Refused(why) => {
+            if ctx.heap.live() {
+                Ok((State::Rest(put_back(ctx)), Done::Refused(why)))
+            } else {
+                Err(EngineError::DiskFault)
+            }
+        }
+        Turned::Stopped(error) => Err(error),
+    }
+}
+
+// An open transaction settles, and the drain follows.
+fn settle<H: Host, K: Keep<H> + Drop>(
+    alloc: Global,
+    ctx: Ctx<K>,
+    host: &mut H,
+    ending: Option<Reason>,
+) -> Result<(State<K>, Done), EngineError>
+    requires fit { AreFit (parts_of ctx) }
+    requires aligned { AreAligned (parts_of ctx) }
+    ensures serves { (session : Session) (t : ListTx) → IsWell ode session.world → ContextRuns H.view K.holds K.live ode session.world ctx host.old t → IsWell ode (settled_by ending t).0
+        → Serves H.view K.holds K.live K.means ode session (Ok (settles (settled_by ending t))) result host.old host.new }
+    ensures usable { IfOk result (λ r. IsUsable K.live r.0) }
+{
+    let rest = end(alloc, ctx, host, ending)?;
+    let (rest, ran) = drain(alloc, rest, host, DRAIN_LIMIT)?;
+    Ok((State::Rest(rest), Done::Settled(ran + 1)))
+}
+
+// A checked statement of an open transaction.
+fn run_inside<H: Host, K: Keep<H> + Drop>(
+    alloc: Global,
+    ctx: Ctx<K>,
+    host: &mut H,
+    s: &Stmt,
+) -> Result<(State<K>, Done), EngineError>
+    requires fit { AreFit (parts_of ctx) }
+    requires aligned { AreAligned (parts_of ctx) }
+    ensures serves { (w : ListWorld) (t : ListTx) (read : Stmt) → IsSession ode (opened w t) → ContextRuns H.view K.holds K.live ode w ctx host.old t
+        → HasText ode (statement.Simple read) → checked_in ode t.now.bones read ≡ Ok s.now
+        → Serves H.view K.holds K.live K.means ode (opened w t) (Ok (goes_on w (commands lists s.now t))) result host.old host.new }
+    ensures usable { IfOk result (λ r. IsUsable K.live r.0) }
+{
+    let mut ctx = ctx;
+    match exec(alloc, &mut ctx, host, s) {
+        Ok(()) => Ok((State::Running(ctx), Done::Settled(0))),
+        Err(Stop::Abort(why)) => settle(alloc, ctx, host, Some(why)),
+        Err(stop) => Err(fault_of(stop)),
+    }
+}
+
+// A simple statement of an open transaction.
+fn simple_inside<H: Host, K: Keep<H> + Drop>(
+    alloc: Global,
+    ctx: Ctx<K>,
+    host: &mut H,
+    s: &Stmt,
+) -> Result<(State<K>, Done), EngineError>
+    requires fit { AreFit (parts_of ctx) }
+    requires aligned { AreAligned (parts_of ctx) }
+    ensures serves { (w : ListWorld) (t : ListTx) → IsSession ode (opened w t) → ContextRuns H.view K.holds K.live ode w ctx host.old t → HasText ode (statement.Simple s.now)
+        → Serves H.view K.holds K.live K.means ode (opened w t) (carried ode (opened w t) (statement.Simple s.now)) result host.old host.new }
+    ensures usable { IfOk result (λ r. IsUsable K.live r.0) }
+{
+    let mut ctx = ctx;
+    match checked(alloc, &mut ctx, host, s) {
+        Ok(s) => run_inside(alloc, ctx, host, s.get()),
+        Err(turned) => turned_down(State::Running(ctx), turned),
+    }
+}
+
+// The open transaction is committed.
+fn commit<H: Host, K: Keep<H> + Drop>(
+    alloc: Global,
+    ctx: Ctx<K>,
+    host: &mut H,
+) -> Result<(State<K>, Done), EngineError>
+    requires fit { AreFit (parts_of ctx) }
+    requires aligned { AreAligned (parts_of ctx) }
+    ensures serves { (w : ListWorld) (t : ListTx) → IsSession ode (opened w t) → ContextRuns H.view K.holds K.live ode w ctx host.old t
+        → Serves H.view K.holds K.live K.means ode (opened w t) (Ok (settles (commits t))) result host.old host.new }
+    ensures usable { IfOk result (λ r. IsUsable K.live r.0) }
+{
+    let mut ctx = ctx;
+    let ending = run_completion(alloc, &mut ctx, host)?;
+    settle(alloc, ctx, host, ending)
+}
+
+// The open transaction is aborted, by a statement or at the end of the input.
+fn abort<H: Host, K: Keep<H> + Drop>(
+    alloc: Global,
+    ctx: Ctx<K>,
+    host: &mut H,
+    why: Reason,
+) -> Result<(State<K>, Done), EngineError>
+    requires fit { AreFit (parts_of ctx) }
+    requires aligned { AreAligned (parts_of ctx) }
+    ensures serves { (w : ListWorld) (t : ListTx) → IsSession ode (opened w t) → ContextRuns H.view K.holds K.live ode w ctx host.old t
+        → Serves H.view K.holds K.live K.means ode (opened w t) (Ok (settles (abort lists why t))) result host.old host.new }
+    ensures usable { IfOk result (λ r. IsUsable K.live r.0) }
+{
+    settle(alloc, ctx, host, Some(why))
+}
+
+// A statement inside a transaction.
+fn command_inside<H: Host, K: Keep<H> + Drop>(
+    alloc: Global,
+    ctx: Ctx<K>,
+    host: &mut H,
+    s: &Statement,
+) -> Result<(State<K>, Done), EngineError>
+    requires fit { AreFit (parts_of ctx) }
+    requires aligned { AreAligned (parts_of ctx) }
+    requires text { HasText ode s.now }
+    ensures serves { (w : ListWorld) (t : ListTx) → IsSession ode (opened w t) → ContextRuns H.view K.holds K.live ode w ctx host.old t
+        → Serves H.view K.holds K.live K.means ode (opened w t) (answer_to ode (opened w t) s.now) result host.old host.new }
+    ensures usable { IfOk result (λ r. IsUsable K.live r.0) }
+{
+    if let Err(why) = place_of(s, true) {
+        return Ok((State::Running(ctx), Done::Refused(why)));
+    }
+    match s {
+        Statement::Commit => commit(alloc, ctx, host),
+        Statement::Abort => abort(alloc, ctx, host, Reason::Asked),
+        Statement::Simple(s) => simple_inside(alloc, ctx, host, s),
+        _ => Ok((State::Running(ctx), Done::Settled(0))),
+    }
+}
+
+// A checked statement as a transaction of its own.
+fn run_whole<H: Host, K: Keep<H> + Drop>(
+    alloc: Global,
+    ctx: Ctx<K>,
+    host: &mut H,
+    s: &Stmt,
+) -> Result<(State<K>, Done), EngineError>
+    requires fit { AreFit (parts_of ctx) }
+    requires aligned { AreAligned (parts_of ctx) }
+    ensures serves { (w : ListWorld) → IsWell ode w → ContextRuns H.view K.holds K.live ode w ctx host.old (begun Script w) → IsWell ode (transaction lists Script (commands lists s.now) w).0
+        → Serves H.view K.holds K.live K.means ode (closed w) (Ok (settles (transaction lists Script (commands lists s.now) w))) result host.old host.new }
+    ensures usable { IfOk result (λ r. IsUsable K.live r.0) }
+{
+    let mut ctx = ctx;
+    let ending = run(alloc, &mut ctx, host, Work::Statement(s))?;
+    settle(alloc, ctx, host, ending)
+}
+
+// A simple statement as a transaction of its own, which has begun. Where the statement is refused, nothing is left of that.
+fn simple_begun<H: Host, K: Keep<H> + Drop>(
+    alloc: Global,
+    ctx: Ctx<K>,
+    host: &mut H,
+    s: &Stmt,
+) -> Result<(State<K>, Done), EngineError>
+    requires fit { AreFit (parts_of ctx) }
+    requires aligned { AreAligned (parts_of ctx) }
+    ensures serves { (w : ListWorld) → IsWell ode w → ContextRuns H.view K.holds K.live ode w ctx host.old (begun Script w) → w.bones.transaction < number_limit → HasText ode (statement.Simple s.now)
+        → Serves H.view K.holds K.live K.means ode (closed w) (carried ode (closed w) (statement.Simple s.now)) result host.old host.new }
+    ensures usable { IfOk result (λ r. IsUsable K.live r.0) }
+{
+    let mut ctx = ctx;
+    match checked(alloc, &mut ctx, host, s) {
+        Ok(s) => run_whole(alloc, ctx, host, s.get()),
+        Err(turned) => turned_back::<H, K>(ctx, turned),
+    }
+}
+
+// A simple statement outside a transaction. Its transaction begins before it is checked.
+fn simple<H: Host, K: Keep<H> + Drop>(
+    alloc: Global,
+    rest: Opened<K>,
+    host: &mut H,
+    s: &Stmt,
+) -> Result<(State<K>, Done), EngineError>
+    requires live { IsTrue (K.live rest.keeper) }
+    requires fit { AreFit (resting_parts rest) }
+    requires aligned { AreAligned (resting_parts rest) }
+    ensures serves { (w : ListWorld) → IsWell ode w → IsAtRest H.view K.holds K.live ode w rest host.old → w.bones.transaction < number_limit → HasText ode (statement.Simple s.now)
+        → Serves H.view K.holds K.live K.means ode (closed w) (carried ode (closed w) (statement.Simple s.now)) result host.old host.new }
+    ensures usable { IfOk result (λ r. IsUsable K.live r.0) }
+{
+    let ctx = begin(alloc, rest, host, Origin::Script)?;
+    simple_begun(alloc, ctx, host, s)
+}
+
+// A class, with the drain behind its transaction.
+fn class<H: Host, K: Keep<H> + Drop>(
+    alloc: Global,
+    rest: Opened<K>,
+    host: &mut H,
+    decl: &ClassDecl,
+) -> Result<(State<K>, Done), EngineError>
+    requires live { IsTrue (K.live rest.keeper) }
+    requires fit { AreFit (resting_parts rest) }
+    requires aligned { AreAligned (resting_parts rest) }
+    requires numbers { HaveNumbers decl.now }
+    ensures serves { (w : ListWorld) → IsWell ode w → IsAtRest H.view K.holds K.live ode w rest host.old → w.bones.transaction < number_limit → HasText ode (statement.Class decl.now)
+        → Serves H.view K.holds K.live K.means ode (closed w) (carried ode (closed w) (statement.Class decl.now)) result host.old host.new }
+    ensures usable { IfOk result (λ r. IsUsable K.live r.0) }
+{
+    let (rest, refused) = declare(alloc, rest, host, decl)?;
+    match refused {
+        Some(why) => Ok((State::Rest(rest), Done::Refused(why))),
+        None => {
+            let (rest, ran) = drain(alloc, rest, host, DRAIN_LIMIT)?;
+            Ok((State::Rest(rest), Done::Settled(ran + 1)))
+        }
+    }
+}
+
+// A transaction begins, and stays open.
+fn leave_open<H: Host, K: Keep<H> + Drop>(
+    alloc: Global,
+    rest: Opened<K>,
+    host: &mut H,
+) -> Result<(State<K>, Done), EngineError>
+    requires live { IsTrue (K.live rest.keeper) }
+    requires fit { AreFit (resting_parts rest) }
+    requires aligned { AreAligned (resting_parts rest) }
+    ensures serves { (w : ListWorld) → IsWell ode w → IsAtRest H.view K.holds K.live ode w rest host.old → w.bones.transaction < number_limit
+        → Serves H.view K.holds K.live K.means ode (closed w) (carried ode (closed w) statement.Begin) result host.old host.new }
+    ensures usable { IfOk result (λ r. IsUsable K.live r.0) }
+{
+    let ctx = begin(alloc, rest, host, Origin::Script)?;
+    Ok((State::Running(ctx), Done::Settled(0)))
+}
+
+// A statement outside a transaction that stands in its place and has a number.
+fn carry_out<H: Host, K: Keep<H> + Drop>(
+    alloc: Global,
+    rest: Opened<K>,
+    host: &mut H,
+    s: &Statement,
+) -> Result<(State<K>, Done), EngineError>
+    requires live { IsTrue (K.live rest.keeper) }
+    requires fit { AreFit (resting_parts rest) }
+    requires aligned { AreAligned (resting_parts rest) }
+    requires text { HasText ode s.now }
+    requires served { IsServed s.now }
+    ensures serves { (w : ListWorld) → IsWell ode w → IsAtRest H.view K.holds K.live ode w rest host.old → w.bones.transaction < number_limit → place_of s.now false ≡ Ok tt
+        → Serves H.view K.holds K.live K.means ode (closed w) (carried ode (closed w) s.now) result host.old host.new }
+    ensures usable { IfOk result (λ r. IsUsable K.live r.0) }
+{
+    match s {
+        Statement::Begin => leave_open(alloc, rest, host),
+        Statement::Class(decl) => class(alloc, rest, host, decl),
+        Statement::Simple(s) => simple(alloc, rest, host, s),
+        _ => Ok((State::Rest(rest), Done::Settled(0))),
+    }
+}
+
+// A statement outside a transaction.
+fn command_at_rest<H: Host, K: Keep<H> + Drop>(
+    alloc: Global,
+    rest: Opened<K>,
+    host: &mut H,
+    s: &Statement,
+) -> Result<(State<K>, Done), EngineError>
+    requires live { IsTrue (K.live rest.keeper) }
+    requires fit { AreFit (resting_parts rest) }
+    requires aligned { AreAligned (resting_parts rest) }
+    requires text { HasText ode s.now }
+    requires served { IsServed s.now }
+    ensures serves { (w : ListWorld) → IsWell ode w → IsAtRest H.view K.holds K.live ode w rest host.old
+        → Serves H.view K.holds K.live K.means ode (closed w) (answer_to ode (closed w) s.now) result host.old host.new }
+    ensures usable { IfOk result (λ r. IsUsable K.live r.0) }
+{
+    if let Err(why) = place_of(s, false) {
+        return Ok((State::Rest(rest), Done::Refused(why)));
+    }
+    if !takes_number(s) {
+        return Ok((State::Rest(rest), Done::Settled(0)));
+    }
+    let (rest, number) = next_number(alloc, rest, host)?;
+    if number >= NUMBER_LIMIT {
+        return Ok((State::Rest(rest), Done::Refused(Refusal::NumbersSpent)));
+    }
+    carry_out(alloc, rest, host, s)
+}
+
+/// A statement, over what is there.
+pub(crate) fn command_in<H: Host, K: Keep<H> + Drop>(
+    alloc: Global,
+    state: State<K>,
+    host: &mut H,
+    s: &Statement,
+) -> Result<(State<K>, Done), EngineError>
+    requires usable { IsUsable K.live state }
+    requires text { HasText ode s.now }
+    requires served { IsServed s.now }
+    ensures serves { (session : Session) → IsSession ode session → StandsIn H.view K.holds K.live ode session state host.old
+        → Serves H.view K.holds K.live K.means ode session (answer_to ode session s.now) result host.old host.new }
+    ensures usable { IfOk result (λ r. IsUsable K.live r.0) }
+{
+    match state {
+        State::Rest(rest) => command_at_rest(alloc, rest, host, s),
+        State::Running(ctx) => command_inside(alloc, ctx, host, s),
+    }
+}
+
+/// The end of the input: an open transaction is aborted.
+pub(crate) fn finish_in<H: Host, K: Keep<H> + Drop>(
+    alloc: Global,
+    state: State<K>,
+    host: &mut H,
+) -> Result<(State<K>, Done), EngineError>
+    requires usable { IsUsable K.live state }
+    ensures serves { (session : Session) → IsSession ode session → StandsIn H.view K.holds K.live ode session state host.old
+        → Serves H.view K.holds K.live K.means ode session (Ok (finish session)) result host.old host.new }
+    ensures usable { IfOk result (λ r. IsUsable K.live r.0) }
+{
+    match state {
+        State::Rest(rest) => Ok((State::Rest(rest), Done::Settled(0))),
+        State::Running(ctx) => abort(alloc, ctx, host, Reason::End),
+    }
+}

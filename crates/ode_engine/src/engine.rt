@@ -1,0 +1,211 @@
+//! An engine.
+ghost use Rattle.std.specs.Prelude.{◌≡◌, ◌++◌, ℕ, List as Items, Err, IfOk, IsErrOf, None, OnErr, OnOk, Ok, Some, false, length, true};
+ghost use Rattle.ode_declare.specs.Texts.{HasText};
+ghost use Rattle.ode_declared_laws.specs.Adding.{AreAligned};
+ghost use Rattle.ode_engine.specs.Serving.{IsAnswer, IsLive, IsServed, StandsFor, answer_to, done_in, rest_in, running_in, session_after, settlings, state_in};
+ghost use Rattle.ode_host.specs.Host.{HostCalls, LeavesOnly, Printed};
+ghost use Rattle.ode_language.specs.Languages.{ode};
+ghost use Rattle.ode_machine.specs.Commands.{after, finish};
+ghost use Rattle.ode_machine.specs.Moments.{IsAfterSome};
+ghost use Rattle.ode_machine.specs.Runs.{Item};
+ghost use Rattle.ode_machine.specs.Sessions.{Session};
+ghost use Rattle.ode_schema.specs.Parts.{AreFit};
+ghost use Rattle.ode_transact.specs.Items.{items_of, texts_of};
+ghost use Rattle.ode_transact.specs.Resting.{HoldsBy, resting_parts};
+ghost use Rattle.ode_value.specs.Draining.{drain as drained};
+ghost use Rattle.ode_value.specs.Limits.{drain_limit};
+ghost use Rattle.ode_value.specs.Pasts.{lists};
+
+use crate::commanding::{State, command_in, finish_in};
+use ode_host::Host;
+use ode_keep::Keep;
+use ode_opened::Opened;
+use ode_run::Ctx;
+use ode_transact::{EngineError, drain};
+use ode_value::limits::DRAIN_LIMIT;
+use ode_value::{Refusal, Statement};
+use std::alloc::Global;
+
+/// What a statement came to: so many settled transactions, or its refusal.
+#[derive(Drop)]
+pub enum Done {
+    Settled(u32),
+    Refused(Refusal),
+}
+
+/// An opened file, or the context of an open transaction over it; and whether it may be called: not after an error.
+#[derive(Drop)]
+pub struct Engine<K> {
+    pub rest: Option<Opened<K>>,
+    pub running: Option<Ctx<K>>,
+    pub live: bool,
+    pub alloc: Global,
+}
+
+impl<K: Drop> Engine<K> {
+    /// An engine over an opened file.
+    pub fn start(alloc: Global, opened: Opened<K>) -> Engine<K>
+        requires fit { AreFit (resting_parts opened) }
+        requires aligned { AreAligned (resting_parts opened) }
+        ensures rest { (result.rest ≡ Some opened) × (result.running ≡ None) }
+        ensures live { result.live ≡ true }
+    {
+        Engine {
+            rest: Some(opened),
+            running: None,
+            live: true,
+            alloc,
+        }
+    }
+
+    /// Whether it may be called: not after an error.
+    pub fn live(&self) -> bool
+        ensures { result ≡ self.now.live }
+    {
+        self.live
+    }
+
+    // What it has from now on.
+    fn put(&mut self, state: State<K>)
+        ensures has { (self.new.rest ≡ rest_in state) × (self.new.running ≡ running_in state) }
+        ensures same { self.new.live ≡ self.old.live }
+    {
+        match state {
+            State::Rest(rest) => {
+                self.rest = Some(rest);
+                self.running = None;
+            }
+            State::Running(ctx) => {
+                self.rest = None;
+                self.running = Some(ctx);
+            }
+        }
+    }
+
+    // An error. The engine isn't live any more.
+    fn fail<T>(&mut self, error: EngineError) -> Result<T, EngineError>
+        ensures says { result ≡ Err error }
+        ensures dead { self.new.live ≡ false }
+    {
+        self.live = false;
+        Err(error)
+    }
+
+    // A call's answer. At an error the engine isn't live any more.
+    fn answer(&mut self, step: Result<(State<K>, Done), EngineError>) -> Result<Done, EngineError>
+        ensures says { result ≡ done_in step }
+        ensures has { IfOk step (λ r. (self.new.rest ≡ rest_in r.0) × (self.new.running ≡ running_in r.0) × (self.new.live ≡ self.old.live)) }
+        ensures dead { OnErr step (self.new.live ≡ false) }
+    {
+        match step {
+            Ok((state, done)) => {
+                self.put(state);
+                Ok(done)
+            }
+            Err(error) => self.fail(error),
+        }
+    }
+
+    // What it has is taken out.
+    fn take(&mut self) -> Option<State<K>>
+        ensures took { result ≡ state_in self.old.rest self.old.running }
+        ensures same { self.new.live ≡ self.old.live }
+    {
+        match self.rest.take() {
+            Some(rest) => Some(State::Rest(rest)),
+            None => match self.running.take() {
+                Some(ctx) => Some(State::Running(ctx)),
+                None => None,
+            },
+        }
+    }
+
+    /// A statement is carried out, or refused.
+    pub fn command<H: Host>(&mut self, host: &mut H, s: &Statement) -> Result<Done, EngineError>
+    where
+        K: Keep<H>,
+        requires live { IsLive K.live self.old }
+        requires text { HasText ode s.now }
+        requires served { IsServed s.now }
+        // It is refused exactly where the machine refuses it, and else as many transactions are settled as the machine settles.
+        ensures answer { (session : Session) → StandsFor H.view K.holds K.live ode session self.old host.old → IfOk result (λ done. IsAnswer done (answer_to ode session s.now)) }
+        // Then it stands for the session behind the machine's answer; at a refusal that is the same one.
+        ensures stands { (session : Session) → StandsFor H.view K.holds K.live ode session self.old host.old
+            → OnOk result (StandsFor H.view K.holds K.live ode (session_after session (answer_to ode session s.now)) self.new host.new) }
+        // The texts of what was settled are printed, and nothing at a refusal.
+        ensures printed { (session : Session) → StandsFor H.view K.holds K.live ode session self.old host.old
+            → OnOk result (Printed (texts_of (settlings (answer_to ode session s.now))) (H.view host.old) (H.view host.new)) }
+        // A stop leaves the world that some of them left, and a front of the text up to the next one; whatever comes behind.
+        ensures any_moment { (session : Session) (said : Items ℕ) (more : Items Item) → StandsFor H.view K.holds K.live ode session self.old host.old → (H.view host.old).text ≡ Some said
+            → LeavesOnly (H.view host.old) (H.view host.new) (IsAfterSome (HoldsBy ode K.means) (items_of (settlings (answer_to ode session s.now)) ++ more) session.world said) }
+        ensures leaves { (session : Session) → StandsFor H.view K.holds K.live ode session self.old host.old
+            → HostCalls (IsErrOf result EngineError.DiskFault) (IsErrOf result EngineError.WriteFault) (H.view host.old) (H.view host.new) }
+        ensures live { OnOk result (IsLive K.live self.new) }
+        ensures dead { OnErr result (self.new.live ≡ false) }
+    {
+        match self.take() {
+            Some(state) => {
+                let step = command_in(self.alloc, state, host, s);
+                self.answer(step)
+            }
+            None => self.answer(Err(EngineError::Memory)),
+        }
+    }
+
+    /// The entries of the queue run, where no transaction is open. How many ran.
+    pub fn drain<H: Host>(&mut self, host: &mut H) -> Result<u32, EngineError>
+    where
+        K: Keep<H>,
+        requires live { IsLive K.live self.old }
+        requires closed { self.old.running ≡ None }
+        // As many as the machine runs, and then it stands for the session behind them; their texts are printed.
+        ensures answer { (session : Session) → StandsFor H.view K.holds K.live ode session self.old host.old → IfOk result (λ ran. ran ≡ length (drained lists drain_limit session.world)) }
+        ensures stands { (session : Session) → StandsFor H.view K.holds K.live ode session self.old host.old
+            → OnOk result (StandsFor H.view K.holds K.live ode (after session.world (drained lists drain_limit session.world)).0 self.new host.new) }
+        ensures printed { (session : Session) → StandsFor H.view K.holds K.live ode session self.old host.old
+            → OnOk result (Printed (texts_of (drained lists drain_limit session.world)) (H.view host.old) (H.view host.new)) }
+        ensures any_moment { (session : Session) (said : Items ℕ) (more : Items Item) → StandsFor H.view K.holds K.live ode session self.old host.old → (H.view host.old).text ≡ Some said
+            → LeavesOnly (H.view host.old) (H.view host.new) (IsAfterSome (HoldsBy ode K.means) (items_of (drained lists drain_limit session.world) ++ more) session.world said) }
+        ensures leaves { (session : Session) → StandsFor H.view K.holds K.live ode session self.old host.old
+            → HostCalls (IsErrOf result EngineError.DiskFault) (IsErrOf result EngineError.WriteFault) (H.view host.old) (H.view host.new) }
+        ensures live { OnOk result (IsLive K.live self.new) }
+        ensures dead { OnErr result (self.new.live ≡ false) }
+    {
+        match self.rest.take() {
+            Some(rest) => match drain(self.alloc, rest, host, DRAIN_LIMIT) {
+                Ok((rest, ran)) => {
+                    self.put(State::Rest(rest));
+                    Ok(ran)
+                }
+                Err(error) => self.fail(error),
+            },
+            None => self.fail(EngineError::Memory),
+        }
+    }
+
+    /// The end of the input: an open transaction is aborted, and the drain follows.
+    pub fn finish<H: Host>(&mut self, host: &mut H) -> Result<Done, EngineError>
+    where
+        K: Keep<H>,
+        requires live { IsLive K.live self.old }
+        ensures answer { (session : Session) → StandsFor H.view K.holds K.live ode session self.old host.old → IfOk result (λ done. IsAnswer done (Ok (finish session))) }
+        ensures stands { (session : Session) → StandsFor H.view K.holds K.live ode session self.old host.old
+            → OnOk result (StandsFor H.view K.holds K.live ode (finish session).0 self.new host.new) }
+        ensures printed { (session : Session) → StandsFor H.view K.holds K.live ode session self.old host.old
+            → OnOk result (Printed (texts_of (finish session).1) (H.view host.old) (H.view host.new)) }
+        ensures any_moment { (session : Session) (said : Items ℕ) (more : Items Item) → StandsFor H.view K.holds K.live ode session self.old host.old → (H.view host.old).text ≡ Some said
+            → LeavesOnly (H.view host.old) (H.view host.new) (IsAfterSome (HoldsBy ode K.means) (items_of (finish session).1 ++ more) session.world said) }
+        ensures leaves { (session : Session) → StandsFor H.view K.holds K.live ode session self.old host.old
+            → HostCalls (IsErrOf result EngineError.DiskFault) (IsErrOf result EngineError.WriteFault) (H.view host.old) (H.view host.new) }
+        ensures live { OnOk result (IsLive K.live self.new) }
+        ensures dead { OnErr result (self.new.live ≡ false) }
+    {
+        match self.take() {
+            Some(state) => {
+                let step = finish_in(self.alloc, state, host);
+                self.answer(step)
+            }
+            None => self.answer(Err(EngineError::Memory)),
+        }
+    }
+}
