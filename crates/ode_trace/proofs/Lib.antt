@@ -1,0 +1,4 @@
+pub mod EngineLaws
+pub mod MachineLaws
+pub mod StatusLaws
+pub mod RunLaws

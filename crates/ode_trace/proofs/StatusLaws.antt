@@ -1,0 +1,71 @@
+-- Statuses, by what a run ends with.
+use Rattle.std.proofs.Common.{◌≡◌, ◌⊎◌, inl, inr, Bool, true, false, List, ℕ, Option, Some, [], refl}
+use Rattle.ode_host.specs.declared.status.Status.{Status}
+use Rattle.ode_host.specs.declared.status.Status.TheVariants as status
+use Rattle.ode_script.specs.Cutting.{End}
+use Rattle.ode_script.specs.declared.reader.ScriptError.{ScriptError}
+use Rattle.ode_script.specs.declared.reader.ScriptError.TheVariants as script
+use Rattle.ode_machine.specs.Runs.{status_at}
+use Rattle.ode_trace.specs.Running.{LeavesNothing}
+use Rattle.ode_trace.specs.Statuses.{IsEnding, IsRunStatus, status_of_engine, status_of_script}
+use Rattle.ode_transact.specs.declared.error.EngineError.{EngineError}
+use Rattle.ode_transact.specs.declared.error.EngineError.TheVariants as engine
+
+pub engine_no_end : (e : EngineError) → IsEnding (status_of_engine e) → ⊥
+engine_no_end engine.Memory is = is
+engine_no_end engine.DiskFault is = is
+engine_no_end engine.WriteFault is = is
+engine_no_end (engine.Damaged key) is = is
+
+pub engine_disk : (e : EngineError) → status_of_engine e ≡ status.DiskFault → e ≡ engine.DiskFault
+engine_disk engine.Memory is = absurd (cc (is))
+engine_disk engine.DiskFault is = refl
+engine_disk engine.WriteFault is = absurd (cc (is))
+engine_disk (engine.Damaged key) is = absurd (cc (is))
+
+pub engine_print : (e : EngineError) → status_of_engine e ≡ status.WriteFault → e ≡ engine.WriteFault
+engine_print engine.Memory is = absurd (cc (is))
+engine_print engine.DiskFault is = absurd (cc (is))
+engine_print engine.WriteFault is = refl
+engine_print (engine.Damaged key) is = absurd (cc (is))
+
+pub engine_no_read : (e : EngineError) → status_of_engine e ≡ status.ReadFault → ⊥
+engine_no_read engine.Memory is = cc (is)
+engine_no_read engine.DiskFault is = cc (is)
+engine_no_read engine.WriteFault is = cc (is)
+engine_no_read (engine.Damaged key) is = cc (is)
+
+pub engine_runs : (e : EngineError) → IsRunStatus (status_of_engine e) ⊎ (status_of_engine e ≡ status.BadFile)
+engine_runs engine.Memory = inl tt
+engine_runs engine.DiskFault = inl tt
+engine_runs engine.WriteFault = inl tt
+engine_runs (engine.Damaged key) = inr refl
+
+pub script_no_disk : (e : ScriptError) → status_of_script e ≡ status.DiskFault → ⊥
+script_no_disk script.Memory is = cc (is)
+script_no_disk script.ReadFault is = cc (is)
+script_no_disk script.LongStatement is = cc (is)
+script_no_disk script.LongScript is = cc (is)
+
+pub script_no_print : (e : ScriptError) → status_of_script e ≡ status.WriteFault → ⊥
+script_no_print script.Memory is = cc (is)
+script_no_print script.ReadFault is = cc (is)
+script_no_print script.LongStatement is = cc (is)
+script_no_print script.LongScript is = cc (is)
+
+pub script_read : (e : ScriptError) → status_of_script e ≡ status.ReadFault → e ≡ script.ReadFault
+script_read script.Memory is = absurd (cc (is))
+script_read script.ReadFault is = refl
+script_read script.LongStatement is = absurd (cc (is))
+script_read script.LongScript is = absurd (cc (is))
+
+pub script_runs : (e : ScriptError) → IsRunStatus (status_of_script e)
+script_runs script.Memory = tt
+script_runs script.ReadFault = tt
+script_runs script.LongStatement = tt
+script_runs script.LongScript = tt
+
+-- at the end of input nothing is left
+pub end_leaves : (refused : Bool) (left : Option (List ℕ)) → left ≡ Some [] → LeavesNothing (status_at End refused) left
+end_leaves true left is = is
+end_leaves false left is = is

@@ -1,0 +1,27 @@
+use Rattle.std.proofs.Common.{◌≡◌, ◌∙◌, Ok, ap, subst, sym}
+use Rattle.ode_engine.specs.Serving.{IsLive}
+use Rattle.ode_trace.proofs.EngineLaws.{called_commands, on_any, unread_stops}
+use Rattle.ode_trace.specs.Running.{Commands}
+use Rattle.ode_machine.specs.Commands.{command}
+use Rattle.ode_language.specs.Languages.{ode}
+use Rattle.ode_transact.specs.declared.error.EngineError.{EngineError}
+use Rattle.ode_engine.specs.declared.engine.Done.{Done}
+use Rattle.std.specs.Prelude.{OnOk, Result}
+use Rattle.ode_trace.proofs.run.command_piece.Goals as goal
+
+pub returns-in_ok-statement-in-Ok-clause-commands : goal.returns-in_ok-statement-in-Ok-clause-commands
+returns-in_ok-statement-in-Ok-clause-commands g c session stands =
+    let read = c.in-Ok.ensures ∙ ap Ok (sym (c.get.ensures ∙ c.in_ok-statement-in-Ok.ensures)) in
+    called_commands g.H.Host.view g.K.Keep.holds g.K.Keep.live g.K.Keep.means g.met.K.Keep.stands g.met.K.Keep.stays session c.args.text.now c.get.result.now c.command.result c.command.new.self c.args.host.now c.command.new.host read
+    (record {
+      answers = c.command.ensures.answer session stands;
+      stands = c.command.ensures.stands session stands;
+      printed = c.command.ensures.printed session stands;
+      any_moment = λ said more told. c.command.ensures.any_moment session said more stands told;
+      leaves = c.command.ensures.leaves session stands;
+    })
+
+pub returns-in-Err-clause-commands : goal.returns-in-Err-clause-commands
+returns-in-Err-clause-commands g c session stands =
+    subst (λ (r : Result Done EngineError). Commands g.H.Host.view g.K.Keep.holds g.K.Keep.live g.K.Keep.means session (command ode session c.args.text.now) r c.args.engine.now c.args.host.now c.args.host.now) (sym c.unread.ensures)
+    (unread_stops g.H.Host.view g.K.Keep.holds g.K.Keep.live g.K.Keep.means g.met.K.Keep.stands g.met.K.Keep.stays session c.args.text.now c.in-Err.stop c.args.engine.now c.args.host.now c.in-Err.ensures stands)

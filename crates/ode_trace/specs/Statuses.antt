@@ -1,0 +1,57 @@
+-- What a piece without a statement is answered with, and which status a run ends with.
+use Rattle.std.specs.Prelude.{Result, Ok, Err}
+use Rattle.ode_engine.specs.declared.engine.Done.{Done}
+use Rattle.ode_engine.specs.declared.engine.Done.TheVariants as done
+use Rattle.ode_host.specs.declared.status.Status.{Status}
+use Rattle.ode_host.specs.declared.status.Status.TheVariants as status
+use Rattle.ode_language.specs.declared.reading.ReadStop.{ReadStop}
+use Rattle.ode_language.specs.declared.reading.ReadStop.TheVariants as read
+use Rattle.ode_script.specs.declared.reader.ScriptError.{ScriptError}
+use Rattle.ode_script.specs.declared.reader.ScriptError.TheVariants as script
+use Rattle.ode_transact.specs.declared.error.EngineError.{EngineError}
+use Rattle.ode_transact.specs.declared.error.EngineError.TheVariants as engine
+
+-- where a piece gives no statement
+abbrev pub unread : ReadStop → Result Done EngineError
+unread read.Memory = Err engine.Memory
+unread (read.Refused why) = Ok (done.Refused why)
+
+-- where the engine doesn't answer
+abbrev pub status_of_engine : EngineError → Status
+status_of_engine engine.Memory = status.Memory
+status_of_engine engine.DiskFault = status.DiskFault
+status_of_engine engine.WriteFault = status.WriteFault
+status_of_engine (engine.Damaged key) = status.BadFile
+
+-- where the script gives no piece
+abbrev pub status_of_script : ScriptError → Status
+status_of_script script.Memory = status.Memory
+status_of_script script.ReadFault = status.ReadFault
+status_of_script script.LongStatement = status.LongStatement
+status_of_script script.LongScript = status.LongScript
+
+-- the statuses that a run of a script may end with
+abbrev pub IsRunStatus : Status → Type 0
+IsRunStatus status.Ok = Unit {0}
+IsRunStatus status.Refused = Unit {0}
+IsRunStatus status.DiskFault = Unit {0}
+IsRunStatus status.ReadFault = Unit {0}
+IsRunStatus status.WriteFault = Unit {0}
+IsRunStatus status.Memory = Unit {0}
+IsRunStatus status.LongStatement = Unit {0}
+IsRunStatus status.LongScript = Unit {0}
+IsRunStatus status.Usage = ⊥
+IsRunStatus status.BadFile = ⊥
+
+-- the statuses of a run that ended by itself
+abbrev pub IsEnding : Status → Type 0
+IsEnding status.Ok = Unit {0}
+IsEnding status.Refused = Unit {0}
+IsEnding status.LongStatement = Unit {0}
+IsEnding status.LongScript = Unit {0}
+IsEnding status.Usage = ⊥
+IsEnding status.BadFile = ⊥
+IsEnding status.DiskFault = ⊥
+IsEnding status.ReadFault = ⊥
+IsEnding status.WriteFault = ⊥
+IsEnding status.Memory = ⊥
