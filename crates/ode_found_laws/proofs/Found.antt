@@ -47,7 +47,7 @@ use Rattle.ode_found_laws.proofs.Ruled.{holds}
 use Rattle.ode_found_laws.proofs.Ruling.{AreRuled, all_rising, all_rows, all_ruled, all_versions, object_rows, ruled}
 use Rattle.ode_found_laws.proofs.Splitting.{whole}
 use Rattle.ode_found_laws.proofs.Standing.{IsInactive, bones_of, drawn_distinct, pasts_within, rows_of, stands, stored_of, world_of}
-use Rattle.ode_found_laws.proofs.Weighing.{classes_weigh, counters_weigh, objects_weigh, weight_append}
+use Rattle.ode_opened_laws.proofs.Weighing.{classes_weigh, counters_weigh, objects_weigh, weight_append}
 
 -- what a version's record weighs
 abbrev pub Weighs : Type 0

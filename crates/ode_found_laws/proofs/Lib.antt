@@ -10,5 +10,4 @@ pub mod Families
 pub mod Keeping
 pub mod Ruling
 pub mod Standing
-pub mod Weighing
 pub mod Found
