@@ -31,6 +31,7 @@ fn field<F: Frame>(of: &Value, slot: u16, frame: &mut F) -> Result<Value, EvalSt
     ensures value { (k : F.Known) → F.shows frame.old k → Answers (at_ref (field_of (F.bones k) slot) of.now) result }
     ensures stopped { F.stopped frame.new ≡ stopped_by result (F.stopped frame.old) }
     ensures shows { (k : F.Known) → F.shows frame.old k → F.shows frame.new k }
+    ensures follows { (b : F.Base) → F.follows frame.old b → F.follows frame.new b }
     ensures scene { F.scene frame.new ≡ F.scene frame.old }
 {
     match of {
@@ -43,6 +44,7 @@ fn current<F: Frame>(of: Ref, frame: &mut F) -> Result<Value, EvalStop<F::Stop>>
     ensures value { (k : F.Known) → F.shows frame.old k → Answers (version_reference (F.bones k) of) result }
     ensures stopped { F.stopped frame.new ≡ stopped_by result (F.stopped frame.old) }
     ensures shows { (k : F.Known) → F.shows frame.old k → F.shows frame.new k }
+    ensures follows { (b : F.Base) → F.follows frame.old b → F.follows frame.new b }
     ensures scene { F.scene frame.new ≡ F.scene frame.old }
 {
     match frame.current(of) {
@@ -58,6 +60,7 @@ fn version<F: Frame>(of: &Value, frame: &mut F) -> Result<Value, EvalStop<F::Sto
     ensures value { (k : F.Known) → F.shows frame.old k → Answers (at_ref (version_reference (F.bones k)) of.now) result }
     ensures stopped { F.stopped frame.new ≡ stopped_by result (F.stopped frame.old) }
     ensures shows { (k : F.Known) → F.shows frame.old k → F.shows frame.new k }
+    ensures follows { (b : F.Base) → F.follows frame.old b → F.follows frame.new b }
     ensures scene { F.scene frame.new ≡ F.scene frame.old }
 {
     match of {
@@ -82,6 +85,7 @@ pub fn eval<F: Frame>(alloc: Global, e: &Expr, frame: &mut F) -> Result<Value, E
     ensures value { (k : F.Known) → F.shows frame.old k → Answers (evaluate e.now (F.bones k) (F.scene frame.old)) result }
     ensures stopped { F.stopped frame.new ≡ stopped_by result None }
     ensures shows { (k : F.Known) → F.shows frame.old k → F.shows frame.new k }
+    ensures follows { (b : F.Base) → F.follows frame.old b → F.follows frame.new b }
     ensures scene { F.scene frame.new ≡ F.scene frame.old }
 {
     match e {
@@ -126,6 +130,7 @@ fn eval_right<F: Frame>(
     ensures value { (k : F.Known) → F.shows frame.old k → Answers (side_of op v.now (evaluate f.now (F.bones k) (F.scene frame.old))) result }
     ensures stopped { F.stopped frame.new ≡ stopped_by result None }
     ensures shows { (k : F.Known) → F.shows frame.old k → F.shows frame.new k }
+    ensures follows { (b : F.Base) → F.follows frame.old b → F.follows frame.new b }
     ensures scene { F.scene frame.new ≡ F.scene frame.old }
 {
     match op {

@@ -22,6 +22,12 @@ pub trait Frame {
     /// This is known of it: what is read of it is what the world has.
     ghost shows: { Self → Known → Type 0 };
 
+    /// What it began with.
+    ghost Base: { Type 0 };
+
+    /// It only was read since it began with this. No world is asked for.
+    ghost follows: { Self → Base → Type 0 };
+
     /// The reference, and the parameters and locals.
     ghost scene: { Self → Scene };
 
@@ -41,6 +47,7 @@ pub trait Frame {
         ensures value { (k : Known) → shows self.old k → Answers (field_of (bones k) slot of) result }
         ensures stopped { stopped self.new ≡ stopped_by result (stopped self.old) }
         ensures shows { (k : Known) → shows self.old k → shows self.new k }
+        ensures follows { (b : Base) → follows self.old b → follows self.new b }
         ensures scene { scene self.new ≡ scene self.old };
 
     /// The number of the version that a reference denotes.
@@ -48,5 +55,6 @@ pub trait Frame {
         ensures value { (k : Known) → shows self.old k → Answers (number_of (bones k) of) result }
         ensures stopped { stopped self.new ≡ stopped_by result (stopped self.old) }
         ensures shows { (k : Known) → shows self.old k → shows self.new k }
+        ensures follows { (b : Base) → follows self.old b → follows self.new b }
         ensures scene { scene self.new ≡ scene self.old };
 }

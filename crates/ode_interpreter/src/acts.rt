@@ -38,6 +38,15 @@ pub trait Acts<S: Schema> {
     /// What is known then.
     ghost failed: { Self → Known → Stop → Type 0 };
 
+    /// What it began with.
+    ghost Base: { Type 0 };
+
+    /// It may go on, and no fault came since it began. No schema and no record is asked for.
+    ghost usable: { Self → Base → Type 0 };
+
+    /// How it is after a fault.
+    ghost ended: { Self → Base → Stop → Type 0 };
+
     /// The transaction that it stands for, but for the classes in its world now.
     ghost view: { Self → Known → NumberTx };
 
@@ -47,60 +56,71 @@ pub trait Acts<S: Schema> {
     /// One more statement.
     fn count(&mut self, schema: &S) -> Result<(), Stop>
         ensures acts { (classes : Items Declared) (g : Known) → S.declares schema.now classes → knows self.old schema.now g → Ends result (with_classes classes (view self.new g)) (counts (with_classes classes (view self.old g))) }
-        ensures kept { (g : Known) → knows self.old schema.now g → Leaves result (knows self.new schema.now g) (failed self.new g) };
+        ensures kept { (g : Known) → knows self.old schema.now g → Leaves result (knows self.new schema.now g) (failed self.new g) }
+        ensures faults { (b : Base) → usable self.old b → Leaves result (usable self.new b) (ended self.new b) };
 
     /// The line of a value that is shown.
     fn show(&mut self, schema: &S, v: &Value) -> Result<(), Stop>
         ensures acts { (classes : Items Declared) (g : Known) → S.declares schema.now classes → knows self.old schema.now g → Ends result (with_classes classes (view self.new g)) (prints (value_line v.now) (with_classes classes (view self.old g))) }
-        ensures kept { (g : Known) → knows self.old schema.now g → Leaves result (knows self.new schema.now g) (failed self.new g) };
+        ensures kept { (g : Known) → knows self.old schema.now g → Leaves result (knows self.new schema.now g) (failed self.new g) }
+        ensures faults { (b : Base) → usable self.old b → Leaves result (usable self.new b) (ended self.new b) };
 
     /// The line of a text that is said.
     fn say(&mut self, schema: &S, text: &Value) -> Result<(), Stop>
         ensures acts { (classes : Items Declared) (g : Known) → S.declares schema.now classes → knows self.old schema.now g → Ends result (with_classes classes (view self.new g)) (prints (said_line (text_in text.now)) (with_classes classes (view self.old g))) }
-        ensures kept { (g : Known) → knows self.old schema.now g → Leaves result (knows self.new schema.now g) (failed self.new g) };
+        ensures kept { (g : Known) → knows self.old schema.now g → Leaves result (knows self.new schema.now g) (failed self.new g) }
+        ensures faults { (b : Base) → usable self.old b → Leaves result (usable self.new b) (ended self.new b) };
 
     /// The line of a firing.
     fn tell(&mut self, schema: &S, f: &Firing) -> Result<(), Stop>
         requires { S.has_trigger schema.now f.now.trigger.class f.now.trigger.place }
         ensures acts { (classes : Items Declared) (g : Known) → S.declares schema.now classes → knows self.old schema.now g → Ends result (with_classes classes (view self.new g)) (prints (fired_text (firing (S.trigger schema.now) f.now)) (with_classes classes (view self.old g))) }
-        ensures kept { (g : Known) → knows self.old schema.now g → Leaves result (knows self.new schema.now g) (failed self.new g) };
+        ensures kept { (g : Known) → knows self.old schema.now g → Leaves result (knows self.new schema.now g) (failed self.new g) }
+        ensures faults { (b : Base) → usable self.old b → Leaves result (usable self.new b) (ended self.new b) };
 
     /// The object of a number is there.
     fn live(&mut self, schema: &S, id: u64) -> Result<(), Stop>
         ensures acts { (classes : Items Declared) (g : Known) → S.declares schema.now classes → knows self.old schema.now g → Ends result (with_classes classes (view self.new g)) (lives id (with_classes classes (view self.old g))) }
-        ensures kept { (g : Known) → knows self.old schema.now g → Leaves result (knows self.new schema.now g) (failed self.new g) };
+        ensures kept { (g : Known) → knows self.old schema.now g → Leaves result (knows self.new schema.now g) (failed self.new g) }
+        ensures faults { (b : Base) → usable self.old b → Leaves result (usable self.new b) (ended self.new b) };
 
     /// Whether it is there.
     fn is_live(&mut self, schema: &S, id: u64) -> Result<bool, Stop>
         ensures acts { (classes : Items Declared) (g : Known) → S.declares schema.now classes → knows self.old schema.now g → Ends result (with_classes classes (view self.new g)) (reads (is_live id) (with_classes classes (view self.old g))) }
         ensures kept { (g : Known) → knows self.old schema.now g → Leaves result (knows self.new schema.now g) (failed self.new g) }
+        ensures faults { (b : Base) → usable self.old b → Leaves result (usable self.new b) (ended self.new b) }
         ensures fault { IfErr result IsFault };
 
     /// A reference denotes a version.
     fn stand(&mut self, schema: &S, r: Ref) -> Result<(), Stop>
         ensures acts { (classes : Items Declared) (g : Known) → S.declares schema.now classes → knows self.old schema.now g → Ends result (with_classes classes (view self.new g)) (stands r (with_classes classes (view self.old g))) }
-        ensures kept { (g : Known) → knows self.old schema.now g → Leaves result (knows self.new schema.now g) (failed self.new g) };
+        ensures kept { (g : Known) → knows self.old schema.now g → Leaves result (knows self.new schema.now g) (failed self.new g) }
+        ensures faults { (b : Base) → usable self.old b → Leaves result (usable self.new b) (ended self.new b) };
 
     /// Whether it does.
     fn denotes(&mut self, schema: &S, r: Ref) -> Result<bool, Stop>
         ensures acts { (classes : Items Declared) (g : Known) → S.declares schema.now classes → knows self.old schema.now g → Ends result (with_classes classes (view self.new g)) (sees (λ b. is_some (denotes b r)) (with_classes classes (view self.old g))) }
         ensures kept { (g : Known) → knows self.old schema.now g → Leaves result (knows self.new schema.now g) (failed self.new g) }
+        ensures faults { (b : Base) → usable self.old b → Leaves result (usable self.new b) (ended self.new b) }
         ensures fault { IfErr result IsFault };
 
     /// The class of an object.
     fn class_of(&mut self, schema: &S, id: u64) -> Result<u32, Stop>
         ensures acts { (classes : Items Declared) (g : Known) → S.declares schema.now classes → knows self.old schema.now g → Ends result (with_classes classes (view self.new g)) (class_of id (with_classes classes (view self.old g))) }
-        ensures kept { (g : Known) → knows self.old schema.now g → Leaves result (knows self.new schema.now g) (failed self.new g) };
+        ensures kept { (g : Known) → knows self.old schema.now g → Leaves result (knows self.new schema.now g) (failed self.new g) }
+        ensures faults { (b : Base) → usable self.old b → Leaves result (usable self.new b) (ended self.new b) };
 
     /// An object that is there joins the touched ones, where it isn't among them; whether it does.
     fn join(&mut self, schema: &S, id: u64) -> Result<bool, Stop>
         ensures acts { (classes : Items Declared) (g : Known) → S.declares schema.now classes → knows self.old schema.now g → Ends result (with_classes classes (view self.new g)) (joins_first id (with_classes classes (view self.old g))) }
-        ensures kept { (g : Known) → knows self.old schema.now g → Leaves result (knows self.new schema.now g) (failed self.new g) };
+        ensures kept { (g : Known) → knows self.old schema.now g → Leaves result (knows self.new schema.now g) (failed self.new g) }
+        ensures faults { (b : Base) → usable self.old b → Leaves result (usable self.new b) (ended self.new b) };
 
     /// Whether an object's class lists a kind.
     fn is_listed(&mut self, schema: &S, id: u64, kind: &Kind) -> Result<bool, Stop>
         ensures acts { (classes : Items Declared) (g : Known) → S.declares schema.now classes → knows self.old schema.now g → Ends result (with_classes classes (view self.new g)) (is_listed id kind.now (with_classes classes (view self.old g))) }
-        ensures kept { (g : Known) → knows self.old schema.now g → Leaves result (knows self.new schema.now g) (failed self.new g) };
+        ensures kept { (g : Known) → knows self.old schema.now g → Leaves result (knows self.new schema.now g) (failed self.new g) }
+        ensures faults { (b : Base) → usable self.old b → Leaves result (usable self.new b) (ended self.new b) };
 
     /// A point of a touched object arises: the activations that fire there, in order.
     fn arise(
@@ -112,6 +132,7 @@ pub trait Acts<S: Schema> {
     ) -> Result<List<Firing>, Stop>
         ensures acts { (classes : Items Declared) (g : Known) → S.declares schema.now classes → knows self.old schema.now g → is_touched id (view self.old g) ≡ true → EndsBy (map (firing (S.trigger schema.now))) result (with_classes classes (view self.new g)) (arises (numbers (S.tables schema.now)) (both_lists (numbers (S.tables schema.now))) id kind.now args.now (with_classes classes (view self.old g))) }
         ensures kept { (g : Known) → knows self.old schema.now g → Leaves result (knows self.new schema.now g) (failed self.new g) }
+        ensures faults { (b : Base) → usable self.old b → Leaves result (usable self.new b) (ended self.new b) }
         ensures declared { IfOk result (All (λ f. S.has_trigger schema.now f.trigger.class f.trigger.place)) };
 
     /// The same in the list of all points alone.
@@ -124,61 +145,72 @@ pub trait Acts<S: Schema> {
     ) -> Result<List<Firing>, Stop>
         ensures acts { (classes : Items Declared) (g : Known) → S.declares schema.now classes → knows self.old schema.now g → is_touched id (view self.old g) ≡ true → EndsBy (map (firing (S.trigger schema.now))) result (with_classes classes (view self.new g)) (arises (numbers (S.tables schema.now)) (whole_list (numbers (S.tables schema.now))) id kind.now args.now (with_classes classes (view self.old g))) }
         ensures kept { (g : Known) → knows self.old schema.now g → Leaves result (knows self.new schema.now g) (failed self.new g) }
+        ensures faults { (b : Base) → usable self.old b → Leaves result (usable self.new b) (ended self.new b) }
         ensures declared { IfOk result (All (λ f. S.has_trigger schema.now f.trigger.class f.trigger.place)) };
 
     /// A deferred firing.
     fn defer(&mut self, schema: &S, f: &Firing) -> Result<(), Stop>
         requires { S.has_trigger schema.now f.now.trigger.class f.now.trigger.place }
         ensures acts { (classes : Items Declared) (g : Known) → S.declares schema.now classes → knows self.old schema.now g → Ends result (with_classes classes (view self.new g)) (defers (firing (S.trigger schema.now) f.now) (with_classes classes (view self.old g))) }
-        ensures kept { (g : Known) → knows self.old schema.now g → Leaves result (knows self.new schema.now g) (failed self.new g) };
+        ensures kept { (g : Known) → knows self.old schema.now g → Leaves result (knows self.new schema.now g) (failed self.new g) }
+        ensures faults { (b : Base) → usable self.old b → Leaves result (usable self.new b) (ended self.new b) };
 
     /// A detached firing.
     fn collect(&mut self, schema: &S, independent: bool, f: &Firing) -> Result<(), Stop>
         requires { S.has_trigger schema.now f.now.trigger.class f.now.trigger.place }
         ensures acts { (classes : Items Declared) (g : Known) → S.declares schema.now classes → knows self.old schema.now g → Ends result (with_classes classes (view self.new g)) (collects prints independent (firing (S.trigger schema.now) f.now) (with_classes classes (view self.old g))) }
-        ensures kept { (g : Known) → knows self.old schema.now g → Leaves result (knows self.new schema.now g) (failed self.new g) };
+        ensures kept { (g : Known) → knows self.old schema.now g → Leaves result (knows self.new schema.now g) (failed self.new g) }
+        ensures faults { (b : Base) → usable self.old b → Leaves result (usable self.new b) (ended self.new b) };
 
     /// One at a point of the settling, where lines have no limit.
     fn collect_last(&mut self, schema: &S, f: &Firing) -> Result<(), Stop>
         requires { S.has_trigger schema.now f.now.trigger.class f.now.trigger.place }
         ensures acts { (classes : Items Declared) (g : Known) → S.declares schema.now classes → knows self.old schema.now g → Ends result (with_classes classes (view self.new g)) (collects says true (firing (S.trigger schema.now) f.now) (with_classes classes (view self.old g))) }
-        ensures kept { (g : Known) → knows self.old schema.now g → Leaves result (knows self.new schema.now g) (failed self.new g) };
+        ensures kept { (g : Known) → knows self.old schema.now g → Leaves result (knows self.new schema.now g) (failed self.new g) }
+        ensures faults { (b : Base) → usable self.old b → Leaves result (usable self.new b) (ended self.new b) };
 
     /// The hard constraints are tested on the version that a reference denotes.
     fn test_hard(&mut self, schema: &S, r: Ref) -> Result<(), Stop>
         ensures acts { (classes : Items Declared) (g : Known) → S.declares schema.now classes → knows self.old schema.now g → Ends result (with_classes classes (view self.new g)) (tests_hard r (with_classes classes (view self.old g))) }
-        ensures kept { (g : Known) → knows self.old schema.now g → Leaves result (knows self.new schema.now g) (failed self.new g) };
+        ensures kept { (g : Known) → knows self.old schema.now g → Leaves result (knows self.new schema.now g) (failed self.new g) }
+        ensures faults { (b : Base) → usable self.old b → Leaves result (usable self.new b) (ended self.new b) };
 
     /// A field of the version that a reference denotes is set.
     fn set_field(&mut self, schema: &S, r: Ref, place: u16, v: Value) -> Result<(), Stop>
         ensures acts { (classes : Items Declared) (g : Known) → S.declares schema.now classes → knows self.old schema.now g → Ends result (with_classes classes (view self.new g)) (sets_field r place v (with_classes classes (view self.old g))) }
-        ensures kept { (g : Known) → knows self.old schema.now g → Leaves result (knows self.new schema.now g) (failed self.new g) };
+        ensures kept { (g : Known) → knows self.old schema.now g → Leaves result (knows self.new schema.now g) (failed self.new g) }
+        ensures faults { (b : Base) → usable self.old b → Leaves result (usable self.new b) (ended self.new b) };
 
     /// A new version, derived from the one that a reference denotes.
     fn derive(&mut self, schema: &S, r: Ref) -> Result<Ref, Stop>
         ensures acts { (classes : Items Declared) (g : Known) → S.declares schema.now classes → knows self.old schema.now g → Ends result (with_classes classes (view self.new g)) (derives r (with_classes classes (view self.old g))) }
-        ensures kept { (g : Known) → knows self.old schema.now g → Leaves result (knows self.new schema.now g) (failed self.new g) };
+        ensures kept { (g : Known) → knows self.old schema.now g → Leaves result (knows self.new schema.now g) (failed self.new g) }
+        ensures faults { (b : Base) → usable self.old b → Leaves result (usable self.new b) (ended self.new b) };
 
     /// The version that a reference denotes is removed.
     fn drop_version(&mut self, schema: &S, r: Ref) -> Result<(), Stop>
         ensures acts { (classes : Items Declared) (g : Known) → S.declares schema.now classes → knows self.old schema.now g → Ends result (with_classes classes (view self.new g)) (drops r (with_classes classes (view self.old g))) }
-        ensures kept { (g : Known) → knows self.old schema.now g → Leaves result (knows self.new schema.now g) (failed self.new g) };
+        ensures kept { (g : Known) → knows self.old schema.now g → Leaves result (knows self.new schema.now g) (failed self.new g) }
+        ensures faults { (b : Base) → usable self.old b → Leaves result (usable self.new b) (ended self.new b) };
 
     /// An object is removed.
     fn remove(&mut self, schema: &S, id: u64) -> Result<(), Stop>
         ensures acts { (classes : Items Declared) (g : Known) → S.declares schema.now classes → knows self.old schema.now g → Ends result (with_classes classes (view self.new g)) (removes id (with_classes classes (view self.old g))) }
-        ensures kept { (g : Known) → knows self.old schema.now g → Leaves result (knows self.new schema.now g) (failed self.new g) };
+        ensures kept { (g : Known) → knows self.old schema.now g → Leaves result (knows self.new schema.now g) (failed self.new g) }
+        ensures faults { (b : Base) → usable self.old b → Leaves result (usable self.new b) (ended self.new b) };
 
     /// A new object of the class of a number, with these fields. It has no activations yet.
     fn make(&mut self, schema: &S, class: u32, fields: List<Value>) -> Result<u64, Stop>
         ensures acts { (classes : Items Declared) (g : Known) → S.declares schema.now classes → knows self.old schema.now g → Ends result (with_classes classes (view self.new g)) (makes (numbers (S.tables schema.now)) class fields (with_classes classes (view self.old g))) }
-        ensures kept { (g : Known) → knows self.old schema.now g → Leaves result (knows self.new schema.now g) (failed self.new g) };
+        ensures kept { (g : Known) → knows self.old schema.now g → Leaves result (knows self.new schema.now g) (failed self.new g) }
+        ensures faults { (b : Base) → usable self.old b → Leaves result (usable self.new b) (ended self.new b) };
 
     /// A new object has an activation of an initial trigger.
     fn activate_initial(&mut self, schema: &S, id: u64, t: Trigger) -> Result<(), Stop>
         requires { S.has_trigger schema.now t.class t.place }
         ensures acts { (classes : Items Declared) (g : Known) → S.declares schema.now classes → knows self.old schema.now g → Ends result (with_classes classes (view self.new g)) (activates_initial (numbers (S.tables schema.now)) id (trigger (S.trigger schema.now) t) (with_classes classes (view self.old g))) }
-        ensures kept { (g : Known) → knows self.old schema.now g → Leaves result (knows self.new schema.now g) (failed self.new g) };
+        ensures kept { (g : Known) → knows self.old schema.now g → Leaves result (knows self.new schema.now g) (failed self.new g) }
+        ensures faults { (b : Base) → usable self.old b → Leaves result (usable self.new b) (ended self.new b) };
 
     /// A new activation of the trigger of a name.
     fn activate(
@@ -189,34 +221,40 @@ pub trait Acts<S: Schema> {
         args: List<Value>,
     ) -> Result<Value, Stop>
         ensures acts { (classes : Items Declared) (g : Known) → S.declares schema.now classes → knows self.old schema.now g → Ends result (with_classes classes (view self.new g)) (switches_on_named (numbers (S.tables schema.now)) r trigger.now args (with_classes classes (view self.old g))) }
-        ensures kept { (g : Known) → knows self.old schema.now g → Leaves result (knows self.new schema.now g) (failed self.new g) };
+        ensures kept { (g : Known) → knows self.old schema.now g → Leaves result (knows self.new schema.now g) (failed self.new g) }
+        ensures faults { (b : Base) → usable self.old b → Leaves result (usable self.new b) (ended self.new b) };
 
     /// The activation of a number goes off.
     fn deactivate(&mut self, schema: &S, r: Ref, number: &Value) -> Result<(), Stop>
         ensures acts { (classes : Items Declared) (g : Known) → S.declares schema.now classes → knows self.old schema.now g → Ends result (with_classes classes (view self.new g)) (switches_off_numbered (numbers (S.tables schema.now)) r number.now (with_classes classes (view self.old g))) }
-        ensures kept { (g : Known) → knows self.old schema.now g → Leaves result (knows self.new schema.now g) (failed self.new g) };
+        ensures kept { (g : Known) → knows self.old schema.now g → Leaves result (knows self.new schema.now g) (failed self.new g) }
+        ensures faults { (b : Base) → usable self.old b → Leaves result (usable self.new b) (ended self.new b) };
 
     /// The value of an expression.
     fn evaluate(&mut self, schema: &S, on: &Scene, e: &Expr) -> Result<Value, Stop>
         ensures acts { (classes : Items Declared) (g : Known) → S.declares schema.now classes → knows self.old schema.now g → Ends result (with_classes classes (view self.new g)) (evaluates e.now (scene on.now) (with_classes classes (view self.old g))) }
-        ensures kept { (g : Known) → knows self.old schema.now g → Leaves result (knows self.new schema.now g) (failed self.new g) };
+        ensures kept { (g : Known) → knows self.old schema.now g → Leaves result (knows self.new schema.now g) (failed self.new g) }
+        ensures faults { (b : Base) → usable self.old b → Leaves result (usable self.new b) (ended self.new b) };
 
     /// As many rounds as a completion may take.
     fn rounds(&mut self, schema: &S) -> Result<u64, Stop>
         ensures acts { (classes : Items Declared) (g : Known) → S.declares schema.now classes → knows self.old schema.now g → Ends result (with_classes classes (view self.new g)) (reads rounds (with_classes classes (view self.old g))) }
         ensures kept { (g : Known) → knows self.old schema.now g → Leaves result (knows self.new schema.now g) (failed self.new g) }
+        ensures faults { (b : Base) → usable self.old b → Leaves result (usable self.new b) (ended self.new b) }
         ensures fault { IfErr result IsFault };
 
     /// The object that was touched at a place.
     fn touched_at(&mut self, schema: &S, at: u64) -> Result<Option<u64>, Stop>
         ensures acts { (classes : Items Declared) (g : Known) → S.declares schema.now classes → knows self.old schema.now g → Ends result (with_classes classes (view self.new g)) (reads (λ x. slice_get x.touched at) (with_classes classes (view self.old g))) }
         ensures kept { (g : Known) → knows self.old schema.now g → Leaves result (knows self.new schema.now g) (failed self.new g) }
+        ensures faults { (b : Base) → usable self.old b → Leaves result (usable self.new b) (ended self.new b) }
         ensures fault { IfErr result IsFault };
 
     /// The firing that was deferred at a place.
     fn deferred_at(&mut self, schema: &S, at: u64) -> Result<Option<Firing>, Stop>
         ensures acts { (classes : Items Declared) (g : Known) → S.declares schema.now classes → knows self.old schema.now g → EndsBy (option_map (firing (S.trigger schema.now))) result (with_classes classes (view self.new g)) (reads (λ x. slice_get x.deferred at) (with_classes classes (view self.old g))) }
         ensures kept { (g : Known) → knows self.old schema.now g → Leaves result (knows self.new schema.now g) (failed self.new g) }
+        ensures faults { (b : Base) → usable self.old b → Leaves result (usable self.new b) (ended self.new b) }
         ensures fault { IfErr result IsFault }
         ensures declared { IfOk result (λ found. IfSome found (λ f. S.has_trigger schema.now f.trigger.class f.trigger.place)) };
 
@@ -224,15 +262,18 @@ pub trait Acts<S: Schema> {
     fn touched(&mut self, schema: &S) -> Result<List<u64>, Stop>
         ensures acts { (classes : Items Declared) (g : Known) → S.declares schema.now classes → knows self.old schema.now g → Ends result (with_classes classes (view self.new g)) (reads (λ x. x.touched) (with_classes classes (view self.old g))) }
         ensures kept { (g : Known) → knows self.old schema.now g → Leaves result (knows self.new schema.now g) (failed self.new g) }
+        ensures faults { (b : Base) → usable self.old b → Leaves result (usable self.new b) (ended self.new b) }
         ensures fault { IfErr result IsFault };
 
     /// The soft constraints are tested on all touched objects.
     fn test_soft(&mut self, schema: &S) -> Result<(), Stop>
         ensures acts { (classes : Items Declared) (g : Known) → S.declares schema.now classes → knows self.old schema.now g → Ends result (with_classes classes (view self.new g)) (tests_all (with_classes classes (view self.old g))) }
-        ensures kept { (g : Known) → knows self.old schema.now g → Leaves result (knows self.new schema.now g) (failed self.new g) };
+        ensures kept { (g : Known) → knows self.old schema.now g → Leaves result (knows self.new schema.now g) (failed self.new g) }
+        ensures faults { (b : Base) → usable self.old b → Leaves result (usable self.new b) (ended self.new b) };
 
     /// What is to be kept isn't too heavy.
     fn weigh(&mut self, schema: &S) -> Result<(), Stop>
         ensures acts { (classes : Items Declared) (g : Known) → S.declares schema.now classes → knows self.old schema.now g → classes ≡ declared g → Ends result (with_classes classes (view self.new g)) (weighs (with_classes classes (view self.old g))) }
-        ensures kept { (g : Known) → knows self.old schema.now g → Leaves result (knows self.new schema.now g) (failed self.new g) };
+        ensures kept { (g : Known) → knows self.old schema.now g → Leaves result (knows self.new schema.now g) (failed self.new g) }
+        ensures faults { (b : Base) → usable self.old b → Leaves result (usable self.new b) (ended self.new b) };
 }

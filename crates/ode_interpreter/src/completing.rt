@@ -23,6 +23,7 @@ fn post_tcomplete<S: Schema, T: Acts<S>>(
 ) -> Result<(), Stop>
     ensures acts { (classes : Items Declared) (g : T.Known) → S.declares schema.now classes → T.knows tx.old schema.now g → is_touched id (T.view tx.old g) ≡ true → Ends result (with_classes classes (T.view tx.new g)) (posts_tcomplete (numbers (S.tables schema.now)) id (with_classes classes (T.view tx.old g))) }
     ensures kept { (g : T.Known) → T.knows tx.old schema.now g → Leaves result (T.knows tx.new schema.now g) (T.failed tx.new g) }
+    ensures faults { (b : T.Base) → T.usable tx.old b → Leaves result (T.usable tx.new b) (T.ended tx.new b) }
 {
     if !tx.is_live(schema, id)? {
         return Ok(());
@@ -40,6 +41,7 @@ fn go_round<S: Schema, T: Acts<S>>(
 ) -> Result<(), Stop>
     ensures acts { (classes : Items Declared) (g : T.Known) → S.declares schema.now classes → T.knows tx.old schema.now g → Ends result (with_classes classes (T.view tx.new g)) (goes_round (numbers (S.tables schema.now)) rounds 0 0 (with_classes classes (T.view tx.old g))) }
     ensures kept { (g : T.Known) → T.knows tx.old schema.now g → Leaves result (T.knows tx.new schema.now g) (T.failed tx.new g) }
+    ensures faults { (b : T.Base) → T.usable tx.old b → Leaves result (T.usable tx.new b) (T.ended tx.new b) }
 {
     let mut at = 0u64;
     let mut ran = 0u64;
@@ -66,6 +68,7 @@ fn go_round<S: Schema, T: Acts<S>>(
 pub fn complete<S: Schema, T: Acts<S>>(alloc: Global, schema: &S, tx: &mut T) -> Result<(), Stop>
     ensures acts { (classes : Items Declared) (g : T.Known) → S.declares schema.now classes → T.knows tx.old schema.now g → classes ≡ T.declared g → Ends result (with_classes classes (T.view tx.new g)) (completes (numbers (S.tables schema.now)) (with_classes classes (T.view tx.old g))) }
     ensures kept { (g : T.Known) → T.knows tx.old schema.now g → Leaves result (T.knows tx.new schema.now g) (T.failed tx.new g) }
+    ensures faults { (b : T.Base) → T.usable tx.old b → Leaves result (T.usable tx.new b) (T.ended tx.new b) }
 {
     let rounds = tx.rounds(schema)?;
     go_round(alloc, schema, tx, rounds)?;

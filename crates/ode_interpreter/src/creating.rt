@@ -30,6 +30,7 @@ fn evaluate_sets<S: Schema, T: Acts<S>>(
 ) -> Result<List<(Name, Value)>, Stop>
     ensures acts { (classes : Items Declared) (g : T.Known) → S.declares schema.now classes → T.knows tx.old schema.now g → Ends result (with_classes classes (T.view tx.new g)) (evaluates_sets sets.now (scene on.now) (with_classes classes (T.view tx.old g))) }
     ensures kept { (g : T.Known) → T.knows tx.old schema.now g → Leaves result (T.knows tx.new schema.now g) (T.failed tx.new g) }
+    ensures faults { (b : T.Base) → T.usable tx.old b → Leaves result (T.usable tx.new b) (T.ended tx.new b) }
 {
     let mut given = List::new(alloc);
     for set in sets {
@@ -81,6 +82,7 @@ fn activate_all<S: Schema, T: Acts<S>>(
     requires { All (λ t. S.has_trigger schema.now t.class t.place) triggers.now }
     ensures acts { (classes : Items Declared) (g : T.Known) → S.declares schema.now classes → T.knows tx.old schema.now g → Ends result (with_classes classes (T.view tx.new g)) (each (activates_initial (numbers (S.tables schema.now)) id) (map (trigger (S.trigger schema.now)) triggers.now) (with_classes classes (T.view tx.old g))) }
     ensures kept { (g : T.Known) → T.knows tx.old schema.now g → Leaves result (T.knows tx.new schema.now g) (T.failed tx.new g) }
+    ensures faults { (b : T.Base) → T.usable tx.old b → Leaves result (T.usable tx.new b) (T.ended tx.new b) }
 {
     for t in triggers {
         tx.activate_initial(schema, id, *t)?;
@@ -100,6 +102,7 @@ pub(crate) fn make_named<S: Schema, T: Acts<S>>(
 ) -> Result<u64, Stop>
     ensures acts { (classes : Items Declared) (g : T.Known) → S.declares schema.now classes → T.knows tx.old schema.now g → Ends result (with_classes classes (T.view tx.new g)) (makes_named (numbers (S.tables schema.now)) name.now sets.now (scene on.now) (with_classes classes (T.view tx.old g))) }
     ensures kept { (g : T.Known) → T.knows tx.old schema.now g → Leaves result (T.knows tx.new schema.now g) (T.failed tx.new g) }
+    ensures faults { (b : T.Base) → T.usable tx.old b → Leaves result (T.usable tx.new b) (T.ended tx.new b) }
 {
     let given = evaluate_sets(alloc, schema, tx, on, sets)?;
     let Some(class) = schema.named(name) else {

@@ -30,6 +30,7 @@ pub(crate) fn holds<S: Schema, T: Acts<S>>(
 ) -> Result<bool, Stop>
     ensures acts { (classes : Items Declared) (g : T.Known) → S.declares schema.now classes → T.knows tx.old schema.now g → Ends result (with_classes classes (T.view tx.new g)) (holds e.now (scene on.now) (with_classes classes (T.view tx.old g))) }
     ensures kept { (g : T.Known) → T.knows tx.old schema.now g → Leaves result (T.knows tx.new schema.now g) (T.failed tx.new g) }
+    ensures faults { (b : T.Base) → T.usable tx.old b → Leaves result (T.usable tx.new b) (T.ended tx.new b) }
 {
     let v = tx.evaluate(schema, on, e)?;
     Ok(is_true(&v))
@@ -46,6 +47,7 @@ pub(crate) fn evaluate_all<S: Schema, T: Acts<S>>(
 ) -> Result<List<Value>, Stop>
     ensures acts { (classes : Items Declared) (g : T.Known) → S.declares schema.now classes → T.knows tx.old schema.now g → Ends result (with_classes classes (T.view tx.new g)) (evaluates_all es.now (scene on.now) (with_classes classes (T.view tx.old g))) }
     ensures kept { (g : T.Known) → T.knows tx.old schema.now g → Leaves result (T.knows tx.new schema.now g) (T.failed tx.new g) }
+    ensures faults { (b : T.Base) → T.usable tx.old b → Leaves result (T.usable tx.new b) (T.ended tx.new b) }
 {
     let mut values = List::new(alloc);
     for e in es {
@@ -63,6 +65,7 @@ pub(crate) fn reference<S: Schema, T: Acts<S>>(
 ) -> Result<Ref, Stop>
     ensures acts { (classes : Items Declared) (g : T.Known) → S.declares schema.now classes → T.knows tx.old schema.now g → Ends result (with_classes classes (T.view tx.new g)) (reference e.now (scene on.now) (with_classes classes (T.view tx.old g))) }
     ensures kept { (g : T.Known) → T.knows tx.old schema.now g → Leaves result (T.knows tx.new schema.now g) (T.failed tx.new g) }
+    ensures faults { (b : T.Base) → T.usable tx.old b → Leaves result (T.usable tx.new b) (T.ended tx.new b) }
 {
     let v = tx.evaluate(schema, on, e)?;
     let Value::Reference(r) = v else {
@@ -81,6 +84,7 @@ pub(crate) fn receiver<S: Schema, T: Acts<S>>(
 ) -> Result<Ref, Stop>
     ensures acts { (classes : Items Declared) (g : T.Known) → S.declares schema.now classes → T.knows tx.old schema.now g → Ends result (with_classes classes (T.view tx.new g)) (receiver of.now (scene on.now) (with_classes classes (T.view tx.old g))) }
     ensures kept { (g : T.Known) → T.knows tx.old schema.now g → Leaves result (T.knows tx.new schema.now g) (T.failed tx.new g) }
+    ensures faults { (b : T.Base) → T.usable tx.old b → Leaves result (T.usable tx.new b) (T.ended tx.new b) }
 {
     match of {
         Some(e) => reference(schema, tx, on, e),
@@ -100,6 +104,7 @@ pub(crate) fn say<S: Schema, T: Acts<S>>(
 ) -> Result<(), Stop>
     ensures acts { (classes : Items Declared) (g : T.Known) → S.declares schema.now classes → T.knows tx.old schema.now g → EndsBy (λ _. Goes (scene on.now)) result (with_classes classes (T.view tx.new g)) (tells e.now (scene on.now) (with_classes classes (T.view tx.old g))) }
     ensures kept { (g : T.Known) → T.knows tx.old schema.now g → Leaves result (T.knows tx.new schema.now g) (T.failed tx.new g) }
+    ensures faults { (b : T.Base) → T.usable tx.old b → Leaves result (T.usable tx.new b) (T.ended tx.new b) }
 {
     let v = tx.evaluate(schema, on, e)?;
     tx.say(schema, &v)
@@ -115,6 +120,7 @@ pub(crate) fn set<S: Schema, T: Acts<S>>(
 ) -> Result<(), Stop>
     ensures acts { (classes : Items Declared) (g : T.Known) → S.declares schema.now classes → T.knows tx.old schema.now g → EndsBy (λ _. Goes (scene on.new)) result (with_classes classes (T.view tx.new g)) (sets var.now v (scene on.old) (with_classes classes (T.view tx.old g))) }
     ensures kept { (g : T.Known) → T.knows tx.old schema.now g → Leaves result (T.knows tx.new schema.now g) (T.failed tx.new g) }
+    ensures faults { (b : T.Base) → T.usable tx.old b → Leaves result (T.usable tx.new b) (T.ended tx.new b) }
 {
     match var {
         Var::Local(place) => {

@@ -27,6 +27,7 @@ pub fn execute<S: Schema, T: Acts<S>>(
 ) -> Result<(), Stop>
     ensures acts { (classes : Items Declared) (g : T.Known) → S.declares schema.now classes → T.knows tx.old schema.now g → Ends result (with_classes classes (T.view tx.new g)) (commands (numbers (S.tables schema.now)) s.now (with_classes classes (T.view tx.old g))) }
     ensures kept { (g : T.Known) → T.knows tx.old schema.now g → Leaves result (T.knows tx.new schema.now g) (T.failed tx.new g) }
+    ensures faults { (b : T.Base) → T.usable tx.old b → Leaves result (T.usable tx.new b) (T.ended tx.new b) }
 {
     let mut on = Scene {
         this: Ref {
@@ -51,6 +52,7 @@ pub fn call<S: Schema, T: Acts<S>>(
 ) -> Result<Value, Stop>
     ensures acts { (classes : Items Declared) (g : T.Known) → S.declares schema.now classes → T.knows tx.old schema.now g → Ends result (with_classes classes (T.view tx.new g)) (calls_deeper (numbers (S.tables schema.now)) (outermost (numbers (S.tables schema.now))) of method.now args (with_classes classes (T.view tx.old g))) }
     ensures kept { (g : T.Known) → T.knows tx.old schema.now g → Leaves result (T.knows tx.new schema.now g) (T.failed tx.new g) }
+    ensures faults { (b : T.Base) → T.usable tx.old b → Leaves result (T.usable tx.new b) (T.ended tx.new b) }
 {
     statements::call(alloc, schema, tx, DEPTH_LIMIT, of, method, &args)
 }
@@ -65,6 +67,7 @@ pub fn touch<S: Schema, T: Acts<S>>(
 ) -> Result<(), Stop>
     ensures acts { (classes : Items Declared) (g : T.Known) → S.declares schema.now classes → T.knows tx.old schema.now g → Ends result (with_classes classes (T.view tx.new g)) (touches (numbers (S.tables schema.now)) (first_actions (numbers (S.tables schema.now))) id (with_classes classes (T.view tx.old g))) }
     ensures kept { (g : T.Known) → T.knows tx.old schema.now g → Leaves result (T.knows tx.new schema.now g) (T.failed tx.new g) }
+    ensures faults { (b : T.Base) → T.usable tx.old b → Leaves result (T.usable tx.new b) (T.ended tx.new b) }
 {
     statements::touch(alloc, schema, tx, DEPTH_LIMIT, id)
 }
@@ -81,6 +84,7 @@ pub fn post<S: Schema, T: Acts<S>>(
 ) -> Result<(), Stop>
     ensures acts { (classes : Items Declared) (g : T.Known) → S.declares schema.now classes → T.knows tx.old schema.now g → is_touched id (T.view tx.old g) ≡ true → Ends result (with_classes classes (T.view tx.new g)) (posts (numbers (S.tables schema.now)) (first_actions (numbers (S.tables schema.now))) id kind.now args.now (with_classes classes (T.view tx.old g))) }
     ensures kept { (g : T.Known) → T.knows tx.old schema.now g → Leaves result (T.knows tx.new schema.now g) (T.failed tx.new g) }
+    ensures faults { (b : T.Base) → T.usable tx.old b → Leaves result (T.usable tx.new b) (T.ended tx.new b) }
 {
     statements::post(alloc, schema, tx, DEPTH_LIMIT, id, kind, args)
 }
@@ -96,6 +100,7 @@ pub fn fire_now<S: Schema, T: Acts<S>>(
     requires { S.has_trigger schema.now f.now.trigger.class f.now.trigger.place }
     ensures acts { (classes : Items Declared) (g : T.Known) → S.declares schema.now classes → T.knows tx.old schema.now g → Ends result (with_classes classes (T.view tx.new g)) (runs (first_actions (numbers (S.tables schema.now))) (firing (S.trigger schema.now) f.now) (with_classes classes (T.view tx.old g))) }
     ensures kept { (g : T.Known) → T.knows tx.old schema.now g → Leaves result (T.knows tx.new schema.now g) (T.failed tx.new g) }
+    ensures faults { (b : T.Base) → T.usable tx.old b → Leaves result (T.usable tx.new b) (T.ended tx.new b) }
 {
     statements::act(alloc, schema, tx, DEPTH_LIMIT, f)
 }

@@ -25,6 +25,7 @@ fn collect_all<S: Schema, T: Acts<S>>(
     requires { All (λ f. S.has_trigger schema.now f.trigger.class f.trigger.place) firings.now }
     ensures acts { (classes : Items Declared) (g : T.Known) → S.declares schema.now classes → T.knows tx.old schema.now g → Ends result (with_classes classes (T.view tx.new g)) (each (collects says true) (map (firing (S.trigger schema.now)) firings.now) (with_classes classes (T.view tx.old g))) }
     ensures kept { (g : T.Known) → T.knows tx.old schema.now g → Leaves result (T.knows tx.new schema.now g) (T.failed tx.new g) }
+    ensures faults { (b : T.Base) → T.usable tx.old b → Leaves result (T.usable tx.new b) (T.ended tx.new b) }
 {
     for f in firings {
         tx.collect_last(schema, f)?;
@@ -42,6 +43,7 @@ fn arise_last<S: Schema, T: Acts<S>>(
 ) -> Result<List<Firing>, Stop>
     ensures acts { (classes : Items Declared) (g : T.Known) → S.declares schema.now classes → T.knows tx.old schema.now g → is_touched id (T.view tx.old g) ≡ true → EndsBy (map (firing (S.trigger schema.now))) result (with_classes classes (T.view tx.new g)) (arises (numbers (S.tables schema.now)) (last_place (numbers (S.tables schema.now)) kept) id kind.now [] (with_classes classes (T.view tx.old g))) }
     ensures kept { (g : T.Known) → T.knows tx.old schema.now g → Leaves result (T.knows tx.new schema.now g) (T.failed tx.new g) }
+    ensures faults { (b : T.Base) → T.usable tx.old b → Leaves result (T.usable tx.new b) (T.ended tx.new b) }
     ensures declared { IfOk result (All (λ f. S.has_trigger schema.now f.trigger.class f.trigger.place)) }
 {
     if kept {
@@ -62,6 +64,7 @@ fn post_last<S: Schema, T: Acts<S>>(
 ) -> Result<(), Stop>
     ensures acts { (classes : Items Declared) (g : T.Known) → S.declares schema.now classes → T.knows tx.old schema.now g → is_touched id (T.view tx.old g) ≡ true → Ends result (with_classes classes (T.view tx.new g)) (posts_last (numbers (S.tables schema.now)) (last_place (numbers (S.tables schema.now)) kept) kind.now id (with_classes classes (T.view tx.old g))) }
     ensures kept { (g : T.Known) → T.knows tx.old schema.now g → Leaves result (T.knows tx.new schema.now g) (T.failed tx.new g) }
+    ensures faults { (b : T.Base) → T.usable tx.old b → Leaves result (T.usable tx.new b) (T.ended tx.new b) }
 {
     if !tx.is_live(schema, id)? {
         return Ok(());
@@ -83,6 +86,7 @@ fn post_each<S: Schema, T: Acts<S>>(
 ) -> Result<(), Stop>
     ensures acts { (classes : Items Declared) (g : T.Known) → S.declares schema.now classes → T.knows tx.old schema.now g → All (λ id. is_touched id (T.view tx.old g) ≡ true) ids.now → Ends result (with_classes classes (T.view tx.new g)) (each (posts_last (numbers (S.tables schema.now)) (last_place (numbers (S.tables schema.now)) kept) kind.now) ids.now (with_classes classes (T.view tx.old g))) }
     ensures kept { (g : T.Known) → T.knows tx.old schema.now g → Leaves result (T.knows tx.new schema.now g) (T.failed tx.new g) }
+    ensures faults { (b : T.Base) → T.usable tx.old b → Leaves result (T.usable tx.new b) (T.ended tx.new b) }
 {
     for id in ids {
         post_last(schema, tx, kept, kind, *id)?;
@@ -99,6 +103,7 @@ fn post_all<S: Schema, T: Acts<S>>(
 ) -> Result<(), Stop>
     ensures acts { (classes : Items Declared) (g : T.Known) → S.declares schema.now classes → T.knows tx.old schema.now g → Ends result (with_classes classes (T.view tx.new g)) (each (posts_last (numbers (S.tables schema.now)) (last_place (numbers (S.tables schema.now)) kept) kind.now) (T.view tx.old g).touched (with_classes classes (T.view tx.old g))) }
     ensures kept { (g : T.Known) → T.knows tx.old schema.now g → Leaves result (T.knows tx.new schema.now g) (T.failed tx.new g) }
+    ensures faults { (b : T.Base) → T.usable tx.old b → Leaves result (T.usable tx.new b) (T.ended tx.new b) }
 {
     let ids = tx.touched(schema)?;
     post_each(schema, tx, kept, kind, ids.as_slice())
@@ -114,6 +119,7 @@ fn post_touched<S: Schema, T: Acts<S>>(
 ) -> Result<(), Stop>
     ensures acts { (classes : Items Declared) (g : T.Known) → S.declares schema.now classes → T.knows tx.old schema.now g → IfOk result (λ _. with_classes classes (T.view tx.new g) ≡ posted (numbers (S.tables schema.now)) (last_place (numbers (S.tables schema.now)) kept) kind.now (with_classes classes (T.view tx.old g))) }
     ensures kept { (g : T.Known) → T.knows tx.old schema.now g → Leaves result (T.knows tx.new schema.now g) (T.failed tx.new g) }
+    ensures faults { (b : T.Base) → T.usable tx.old b → Leaves result (T.usable tx.new b) (T.ended tx.new b) }
     ensures settled { IfErr result IsFault }
 {
     match post_all(schema, tx, kept, kind) {
@@ -127,6 +133,7 @@ fn post_touched<S: Schema, T: Acts<S>>(
 pub fn post_committed<S: Schema, T: Acts<S>>(schema: &S, tx: &mut T) -> Result<(), Stop>
     ensures acts { (classes : Items Declared) (g : T.Known) → S.declares schema.now classes → T.knows tx.old schema.now g → IfOk result (λ _. with_classes classes (T.view tx.new g) ≡ posted (numbers (S.tables schema.now)) (both_lists (numbers (S.tables schema.now))) Kind.TCommit (with_classes classes (T.view tx.old g))) }
     ensures kept { (g : T.Known) → T.knows tx.old schema.now g → Leaves result (T.knows tx.new schema.now g) (T.failed tx.new g) }
+    ensures faults { (b : T.Base) → T.usable tx.old b → Leaves result (T.usable tx.new b) (T.ended tx.new b) }
     ensures settled { IfErr result IsFault }
 {
     post_touched(schema, tx, true, &Kind::TCommit)
@@ -136,6 +143,7 @@ pub fn post_committed<S: Schema, T: Acts<S>>(schema: &S, tx: &mut T) -> Result<(
 pub fn post_aborted<S: Schema, T: Acts<S>>(schema: &S, tx: &mut T) -> Result<(), Stop>
     ensures acts { (classes : Items Declared) (g : T.Known) → S.declares schema.now classes → T.knows tx.old schema.now g → IfOk result (λ _. with_classes classes (T.view tx.new g) ≡ posted (numbers (S.tables schema.now)) (whole_list (numbers (S.tables schema.now))) Kind.TAbort (with_classes classes (T.view tx.old g))) }
     ensures kept { (g : T.Known) → T.knows tx.old schema.now g → Leaves result (T.knows tx.new schema.now g) (T.failed tx.new g) }
+    ensures faults { (b : T.Base) → T.usable tx.old b → Leaves result (T.usable tx.new b) (T.ended tx.new b) }
     ensures settled { IfErr result IsFault }
 {
     post_touched(schema, tx, false, &Kind::TAbort)

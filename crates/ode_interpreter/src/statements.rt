@@ -32,6 +32,7 @@ pub(crate) fn exec_all<S: Schema, T: Acts<S>>(
 ) -> Result<Option<Value>, Stop>
     ensures acts { (classes : Items Declared) (g : T.Known) → S.declares schema.now classes → T.knows tx.old schema.now g → EndsBy (flow_of (scene on.new)) result (with_classes classes (T.view tx.new g)) (in_turn (map (execute (numbers (S.tables schema.now)) (deeper (numbers (S.tables schema.now)) levels)) body.now) (scene on.old) (with_classes classes (T.view tx.old g))) }
     ensures kept { (g : T.Known) → T.knows tx.old schema.now g → Leaves result (T.knows tx.new schema.now g) (T.failed tx.new g) }
+    ensures faults { (b : T.Base) → T.usable tx.old b → Leaves result (T.usable tx.new b) (T.ended tx.new b) }
 {
     for s in body {
         match exec(alloc, schema, tx, on, levels, s)? {
@@ -55,6 +56,7 @@ pub(crate) fn run_body<S: Schema, T: Acts<S>>(
 ) -> Result<Option<Value>, Stop>
     ensures acts { (classes : Items Declared) (g : T.Known) → S.declares schema.now classes → T.knows tx.old schema.now g → Ends result (with_classes classes (T.view tx.new g)) (executes (numbers (S.tables schema.now)) (deeper (numbers (S.tables schema.now)) levels) body.now (scene on) (with_classes classes (T.view tx.old g))) }
     ensures kept { (g : T.Known) → T.knows tx.old schema.now g → Leaves result (T.knows tx.new schema.now g) (T.failed tx.new g) }
+    ensures faults { (b : T.Base) → T.usable tx.old b → Leaves result (T.usable tx.new b) (T.ended tx.new b) }
 {
     let mut on = on;
     match exec_all(alloc, schema, tx, &mut on, levels, body)? {
@@ -76,6 +78,7 @@ pub(crate) fn exec<S: Schema, T: Acts<S>>(
 ) -> Result<Option<Value>, Stop>
     ensures acts { (classes : Items Declared) (g : T.Known) → S.declares schema.now classes → T.knows tx.old schema.now g → EndsBy (flow_of (scene on.new)) result (with_classes classes (T.view tx.new g)) (execute (numbers (S.tables schema.now)) (deeper (numbers (S.tables schema.now)) levels) s.now (scene on.old) (with_classes classes (T.view tx.old g))) }
     ensures kept { (g : T.Known) → T.knows tx.old schema.now g → Leaves result (T.knows tx.new schema.now g) (T.failed tx.new g) }
+    ensures faults { (b : T.Base) → T.usable tx.old b → Leaves result (T.usable tx.new b) (T.ended tx.new b) }
 {
     tx.count(schema)?;
     match s {
@@ -137,6 +140,7 @@ pub(crate) fn bind<S: Schema, T: Acts<S>>(
 ) -> Result<(), Stop>
     ensures acts { (classes : Items Declared) (g : T.Known) → S.declares schema.now classes → T.knows tx.old schema.now g → EndsBy (λ _. Goes (scene on.new)) result (with_classes classes (T.view tx.new g)) (binds (numbers (S.tables schema.now)) (deeper (numbers (S.tables schema.now)) levels) var.now rhs.now (scene on.old) (with_classes classes (T.view tx.old g))) }
     ensures kept { (g : T.Known) → T.knows tx.old schema.now g → Leaves result (T.knows tx.new schema.now g) (T.failed tx.new g) }
+    ensures faults { (b : T.Base) → T.usable tx.old b → Leaves result (T.usable tx.new b) (T.ended tx.new b) }
 {
     let v = right(alloc, schema, tx, levels, on, rhs)?;
     set(schema, tx, on, var, v)
@@ -154,6 +158,7 @@ pub(crate) fn show<S: Schema, T: Acts<S>>(
 ) -> Result<(), Stop>
     ensures acts { (classes : Items Declared) (g : T.Known) → S.declares schema.now classes → T.knows tx.old schema.now g → EndsBy (λ _. Goes (scene on.now)) result (with_classes classes (T.view tx.new g)) (shows (numbers (S.tables schema.now)) (deeper (numbers (S.tables schema.now)) levels) rhs.now (scene on.now) (with_classes classes (T.view tx.old g))) }
     ensures kept { (g : T.Known) → T.knows tx.old schema.now g → Leaves result (T.knows tx.new schema.now g) (T.failed tx.new g) }
+    ensures faults { (b : T.Base) → T.usable tx.old b → Leaves result (T.usable tx.new b) (T.ended tx.new b) }
 {
     let v = right(alloc, schema, tx, levels, on, rhs)?;
     tx.show(schema, &v)
@@ -172,6 +177,7 @@ pub(crate) fn right<S: Schema, T: Acts<S>>(
 ) -> Result<Value, Stop>
     ensures acts { (classes : Items Declared) (g : T.Known) → S.declares schema.now classes → T.knows tx.old schema.now g → Ends result (with_classes classes (T.view tx.new g)) (right (numbers (S.tables schema.now)) (deeper (numbers (S.tables schema.now)) levels) rhs.now (scene on.now) (with_classes classes (T.view tx.old g))) }
     ensures kept { (g : T.Known) → T.knows tx.old schema.now g → Leaves result (T.knows tx.new schema.now g) (T.failed tx.new g) }
+    ensures faults { (b : T.Base) → T.usable tx.old b → Leaves result (T.usable tx.new b) (T.ended tx.new b) }
 {
     match rhs {
         Rhs::Plain(e) => tx.evaluate(schema, on, e),
@@ -217,6 +223,7 @@ pub(crate) fn create<S: Schema, T: Acts<S>>(
 ) -> Result<Value, Stop>
     ensures acts { (classes : Items Declared) (g : T.Known) → S.declares schema.now classes → T.knows tx.old schema.now g → Ends result (with_classes classes (T.view tx.new g)) (creates (numbers (S.tables schema.now)) (actions_of (deeper (numbers (S.tables schema.now)) levels)) class.now fields.now (scene on.now) (with_classes classes (T.view tx.old g))) }
     ensures kept { (g : T.Known) → T.knows tx.old schema.now g → Leaves result (T.knows tx.new schema.now g) (T.failed tx.new g) }
+    ensures faults { (b : T.Base) → T.usable tx.old b → Leaves result (T.usable tx.new b) (T.ended tx.new b) }
 {
     let object = make_named(alloc, schema, tx, on, class, fields)?;
     let r = Ref {
@@ -241,6 +248,7 @@ pub(crate) fn delete<S: Schema, T: Acts<S>>(
 ) -> Result<(), Stop>
     ensures acts { (classes : Items Declared) (g : T.Known) → S.declares schema.now classes → T.knows tx.old schema.now g → Ends result (with_classes classes (T.view tx.new g)) (deletes (numbers (S.tables schema.now)) (actions_of (deeper (numbers (S.tables schema.now)) levels)) e.now (scene on.now) (with_classes classes (T.view tx.old g))) }
     ensures kept { (g : T.Known) → T.knows tx.old schema.now g → Leaves result (T.knows tx.new schema.now g) (T.failed tx.new g) }
+    ensures faults { (b : T.Base) → T.usable tx.old b → Leaves result (T.usable tx.new b) (T.ended tx.new b) }
 {
     let r = reference(schema, tx, on, e)?;
     touch(alloc, schema, tx, levels, r.object)?;
@@ -262,6 +270,7 @@ pub(crate) fn new_version<S: Schema, T: Acts<S>>(
 ) -> Result<Value, Stop>
     ensures acts { (classes : Items Declared) (g : T.Known) → S.declares schema.now classes → T.knows tx.old schema.now g → Ends result (with_classes classes (T.view tx.new g)) (copies (numbers (S.tables schema.now)) (actions_of (deeper (numbers (S.tables schema.now)) levels)) e.now (scene on.now) (with_classes classes (T.view tx.old g))) }
     ensures kept { (g : T.Known) → T.knows tx.old schema.now g → Leaves result (T.knows tx.new schema.now g) (T.failed tx.new g) }
+    ensures faults { (b : T.Base) → T.usable tx.old b → Leaves result (T.usable tx.new b) (T.ended tx.new b) }
 {
     let r = reference(schema, tx, on, e)?;
     touch(alloc, schema, tx, levels, r.object)?;
@@ -281,6 +290,7 @@ pub(crate) fn drop_version<S: Schema, T: Acts<S>>(
 ) -> Result<(), Stop>
     ensures acts { (classes : Items Declared) (g : T.Known) → S.declares schema.now classes → T.knows tx.old schema.now g → Ends result (with_classes classes (T.view tx.new g)) (drops_version (numbers (S.tables schema.now)) (actions_of (deeper (numbers (S.tables schema.now)) levels)) e.now (scene on.now) (with_classes classes (T.view tx.old g))) }
     ensures kept { (g : T.Known) → T.knows tx.old schema.now g → Leaves result (T.knows tx.new schema.now g) (T.failed tx.new g) }
+    ensures faults { (b : T.Base) → T.usable tx.old b → Leaves result (T.usable tx.new b) (T.ended tx.new b) }
 {
     let r = reference(schema, tx, on, e)?;
     touch(alloc, schema, tx, levels, r.object)?;
@@ -301,6 +311,7 @@ pub(crate) fn activate<S: Schema, T: Acts<S>>(
 ) -> Result<Value, Stop>
     ensures acts { (classes : Items Declared) (g : T.Known) → S.declares schema.now classes → T.knows tx.old schema.now g → Ends result (with_classes classes (T.view tx.new g)) (activates (numbers (S.tables schema.now)) (actions_of (deeper (numbers (S.tables schema.now)) levels)) of.now trigger.now args.now (scene on.now) (with_classes classes (T.view tx.old g))) }
     ensures kept { (g : T.Known) → T.knows tx.old schema.now g → Leaves result (T.knows tx.new schema.now g) (T.failed tx.new g) }
+    ensures faults { (b : T.Base) → T.usable tx.old b → Leaves result (T.usable tx.new b) (T.ended tx.new b) }
 {
     let r = reference(schema, tx, on, of)?;
     let args = evaluate_all(alloc, schema, tx, on, args)?;
@@ -323,6 +334,7 @@ pub(crate) fn deactivate<S: Schema, T: Acts<S>>(
 ) -> Result<(), Stop>
     ensures acts { (classes : Items Declared) (g : T.Known) → S.declares schema.now classes → T.knows tx.old schema.now g → Ends result (with_classes classes (T.view tx.new g)) (deactivates (numbers (S.tables schema.now)) (actions_of (deeper (numbers (S.tables schema.now)) levels)) e.now number.now (scene on.now) (with_classes classes (T.view tx.old g))) }
     ensures kept { (g : T.Known) → T.knows tx.old schema.now g → Leaves result (T.knows tx.new schema.now g) (T.failed tx.new g) }
+    ensures faults { (b : T.Base) → T.usable tx.old b → Leaves result (T.usable tx.new b) (T.ended tx.new b) }
 {
     let r = reference(schema, tx, on, e)?;
     let v = tx.evaluate(schema, on, number)?;
@@ -345,6 +357,7 @@ pub(crate) fn call<S: Schema, T: Acts<S>>(
 ) -> Result<Value, Stop>
     ensures acts { (classes : Items Declared) (g : T.Known) → S.declares schema.now classes → T.knows tx.old schema.now g → Ends result (with_classes classes (T.view tx.new g)) (calls_deeper (numbers (S.tables schema.now)) (deeper (numbers (S.tables schema.now)) levels) r name.now args.now (with_classes classes (T.view tx.old g))) }
     ensures kept { (g : T.Known) → T.knows tx.old schema.now g → Leaves result (T.knows tx.new schema.now g) (T.failed tx.new g) }
+    ensures faults { (b : T.Base) → T.usable tx.old b → Leaves result (T.usable tx.new b) (T.ended tx.new b) }
 {
     if levels == 0 {
         return Err(Stop::Abort(Reason::Depth));
@@ -366,6 +379,7 @@ pub(crate) fn call_inside<S: Schema, T: Acts<S>>(
 ) -> Result<Value, Stop>
     ensures acts { (classes : Items Declared) (g : T.Known) → S.declares schema.now classes → T.knows tx.old schema.now g → Ends result (with_classes classes (T.view tx.new g)) (calls_inside (numbers (S.tables schema.now)) (level (numbers (S.tables schema.now)) (deeper (numbers (S.tables schema.now)) levels)) r name.now args.now (with_classes classes (T.view tx.old g))) }
     ensures kept { (g : T.Known) → T.knows tx.old schema.now g → Leaves result (T.knows tx.new schema.now g) (T.failed tx.new g) }
+    ensures faults { (b : T.Base) → T.usable tx.old b → Leaves result (T.usable tx.new b) (T.ended tx.new b) }
 {
     touch(alloc, schema, tx, levels, r.object)?;
     tx.stand(schema, r)?;
@@ -392,6 +406,7 @@ pub(crate) fn run_method<S: Schema, T: Acts<S>>(
 ) -> Result<Value, Stop>
     ensures acts { (classes : Items Declared) (g : T.Known) → S.declares schema.now classes → T.knows tx.old schema.now g → is_touched r.object (T.view tx.old g) ≡ true → Ends result (with_classes classes (T.view tx.new g)) (runs_method (numbers (S.tables schema.now)) (level (numbers (S.tables schema.now)) (deeper (numbers (S.tables schema.now)) levels)) r name.now args.now method.now (with_classes classes (T.view tx.old g))) }
     ensures kept { (g : T.Known) → T.knows tx.old schema.now g → Leaves result (T.knows tx.new schema.now g) (T.failed tx.new g) }
+    ensures faults { (b : T.Base) → T.usable tx.old b → Leaves result (T.usable tx.new b) (T.ended tx.new b) }
 {
     let on = Scene {
         this: r,
@@ -416,6 +431,7 @@ pub(crate) fn call_after<S: Schema, T: Acts<S>>(
 ) -> Result<(), Stop>
     ensures acts { (classes : Items Declared) (g : T.Known) → S.declares schema.now classes → T.knows tx.old schema.now g → is_touched r.object (T.view tx.old g) ≡ true → Ends result (with_classes classes (T.view tx.new g)) (calls_behind (numbers (S.tables schema.now)) (actions_of (deeper (numbers (S.tables schema.now)) levels)) r name.now args.now (with_classes classes (T.view tx.old g))) }
     ensures kept { (g : T.Known) → T.knows tx.old schema.now g → Leaves result (T.knows tx.new schema.now g) (T.failed tx.new g) }
+    ensures faults { (b : T.Base) → T.usable tx.old b → Leaves result (T.usable tx.new b) (T.ended tx.new b) }
 {
     if !tx.denotes(schema, r)? {
         return Ok(());
@@ -437,6 +453,7 @@ pub(crate) fn post_before<S: Schema, T: Acts<S>>(
 ) -> Result<(), Stop>
     ensures acts { (classes : Items Declared) (g : T.Known) → S.declares schema.now classes → T.knows tx.old schema.now g → is_touched id (T.view tx.old g) ≡ true → Ends result (with_classes classes (T.view tx.new g)) (posts (numbers (S.tables schema.now)) (actions_of (deeper (numbers (S.tables schema.now)) levels)) id (Kind.Before name.now) args.now (with_classes classes (T.view tx.old g))) }
     ensures kept { (g : T.Known) → T.knows tx.old schema.now g → Leaves result (T.knows tx.new schema.now g) (T.failed tx.new g) }
+    ensures faults { (b : T.Base) → T.usable tx.old b → Leaves result (T.usable tx.new b) (T.ended tx.new b) }
 {
     let before = Kind::Before(name.copy(alloc)?);
     post(alloc, schema, tx, levels, id, &before, args.as_slice())
@@ -455,6 +472,7 @@ pub(crate) fn post_after<S: Schema, T: Acts<S>>(
 ) -> Result<(), Stop>
     ensures acts { (classes : Items Declared) (g : T.Known) → S.declares schema.now classes → T.knows tx.old schema.now g → is_touched id (T.view tx.old g) ≡ true → Ends result (with_classes classes (T.view tx.new g)) (posts (numbers (S.tables schema.now)) (actions_of (deeper (numbers (S.tables schema.now)) levels)) id (Kind.After name.now) args.now (with_classes classes (T.view tx.old g))) }
     ensures kept { (g : T.Known) → T.knows tx.old schema.now g → Leaves result (T.knows tx.new schema.now g) (T.failed tx.new g) }
+    ensures faults { (b : T.Base) → T.usable tx.old b → Leaves result (T.usable tx.new b) (T.ended tx.new b) }
 {
     let after = Kind::After(name.copy(alloc)?);
     post(alloc, schema, tx, levels, id, &after, args.as_slice())
@@ -472,6 +490,7 @@ pub(crate) fn touch<S: Schema, T: Acts<S>>(
 ) -> Result<(), Stop>
     ensures acts { (classes : Items Declared) (g : T.Known) → S.declares schema.now classes → T.knows tx.old schema.now g → Ends result (with_classes classes (T.view tx.new g)) (touches (numbers (S.tables schema.now)) (actions_of (deeper (numbers (S.tables schema.now)) levels)) id (with_classes classes (T.view tx.old g))) }
     ensures kept { (g : T.Known) → T.knows tx.old schema.now g → Leaves result (T.knows tx.new schema.now g) (T.failed tx.new g) }
+    ensures faults { (b : T.Base) → T.usable tx.old b → Leaves result (T.usable tx.new b) (T.ended tx.new b) }
 {
     if tx.join(schema, id)? {
         return post(alloc, schema, tx, levels, id, &Kind::TBegin, &[]);
@@ -493,6 +512,7 @@ pub(crate) fn post<S: Schema, T: Acts<S>>(
 ) -> Result<(), Stop>
     ensures acts { (classes : Items Declared) (g : T.Known) → S.declares schema.now classes → T.knows tx.old schema.now g → is_touched id (T.view tx.old g) ≡ true → Ends result (with_classes classes (T.view tx.new g)) (posts (numbers (S.tables schema.now)) (actions_of (deeper (numbers (S.tables schema.now)) levels)) id kind.now args.now (with_classes classes (T.view tx.old g))) }
     ensures kept { (g : T.Known) → T.knows tx.old schema.now g → Leaves result (T.knows tx.new schema.now g) (T.failed tx.new g) }
+    ensures faults { (b : T.Base) → T.usable tx.old b → Leaves result (T.usable tx.new b) (T.ended tx.new b) }
 {
     if tx.is_listed(schema, id, kind)? {
         let firings = tx.arise(schema, id, kind, args)?;
@@ -513,6 +533,7 @@ pub(crate) fn fire_all<S: Schema, T: Acts<S>>(
     requires { All (λ f. S.has_trigger schema.now f.trigger.class f.trigger.place) firings.now }
     ensures acts { (classes : Items Declared) (g : T.Known) → S.declares schema.now classes → T.knows tx.old schema.now g → Ends result (with_classes classes (T.view tx.new g)) (each (treats (actions_of (deeper (numbers (S.tables schema.now)) levels))) (map (firing (S.trigger schema.now)) firings.now) (with_classes classes (T.view tx.old g))) }
     ensures kept { (g : T.Known) → T.knows tx.old schema.now g → Leaves result (T.knows tx.new schema.now g) (T.failed tx.new g) }
+    ensures faults { (b : T.Base) → T.usable tx.old b → Leaves result (T.usable tx.new b) (T.ended tx.new b) }
 {
     for f in firings {
         fire(alloc, schema, tx, levels, f)?;
@@ -533,6 +554,7 @@ pub(crate) fn fire<S: Schema, T: Acts<S>>(
     requires { S.has_trigger schema.now f.now.trigger.class f.now.trigger.place }
     ensures acts { (classes : Items Declared) (g : T.Known) → S.declares schema.now classes → T.knows tx.old schema.now g → Ends result (with_classes classes (T.view tx.new g)) (treats (actions_of (deeper (numbers (S.tables schema.now)) levels)) (firing (S.trigger schema.now) f.now) (with_classes classes (T.view tx.old g))) }
     ensures kept { (g : T.Known) → T.knows tx.old schema.now g → Leaves result (T.knows tx.new schema.now g) (T.failed tx.new g) }
+    ensures faults { (b : T.Base) → T.usable tx.old b → Leaves result (T.usable tx.new b) (T.ended tx.new b) }
 {
     match schema.trigger(f.trigger).mode {
         Mode::Immediate => act(alloc, schema, tx, levels, f),
@@ -555,6 +577,7 @@ pub(crate) fn act<S: Schema, T: Acts<S>>(
     requires { S.has_trigger schema.now f.now.trigger.class f.now.trigger.place }
     ensures acts { (classes : Items Declared) (g : T.Known) → S.declares schema.now classes → T.knows tx.old schema.now g → Ends result (with_classes classes (T.view tx.new g)) (runs (actions_of (deeper (numbers (S.tables schema.now)) levels)) (firing (S.trigger schema.now) f.now) (with_classes classes (T.view tx.old g))) }
     ensures kept { (g : T.Known) → T.knows tx.old schema.now g → Leaves result (T.knows tx.new schema.now g) (T.failed tx.new g) }
+    ensures faults { (b : T.Base) → T.usable tx.old b → Leaves result (T.usable tx.new b) (T.ended tx.new b) }
 {
     tx.tell(schema, f)?;
     tx.live(schema, f.object)?;
@@ -583,6 +606,7 @@ pub(crate) fn enter<S: Schema, T: Acts<S>>(
 ) -> Result<Option<Value>, Stop>
     ensures acts { (classes : Items Declared) (g : T.Known) → S.declares schema.now classes → T.knows tx.old schema.now g → Ends result (with_classes classes (T.view tx.new g)) (enters (actions_of (deeper (numbers (S.tables schema.now)) levels)) body.now (scene on) (with_classes classes (T.view tx.old g))) }
     ensures kept { (g : T.Known) → T.knows tx.old schema.now g → Leaves result (T.knows tx.new schema.now g) (T.failed tx.new g) }
+    ensures faults { (b : T.Base) → T.usable tx.old b → Leaves result (T.usable tx.new b) (T.ended tx.new b) }
 {
     if levels == 0 {
         return Err(Stop::Abort(Reason::Depth));

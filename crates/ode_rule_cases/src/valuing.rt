@@ -26,6 +26,10 @@ impl Frame for Empty {
 
     ghost shows = { λ _ _. Unit {0} };
 
+    ghost Base = { Unit {0} };
+
+    ghost follows = { λ _ _. Unit {0} };
+
     ghost scene = { λ _. no_frame };
 
     ghost stopped = { λ _. None };

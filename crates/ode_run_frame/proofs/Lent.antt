@@ -5,7 +5,7 @@ use Rattle.ode_host.proofs.Moments.{looks_none}
 use Rattle.ode_host.specs.View.{View}
 use Rattle.ode_keep.specs.Entries.{Entries}
 use Rattle.ode_overlay.specs.Layers.{Layer}
-use Rattle.ode_run_frame.specs.Knowing.{Behind, Known, Shown}
+use Rattle.ode_run_frame.specs.Knowing.{Base, Behind, Follows, Known, Shown, Since}
 use Rattle.ode_run_frame.specs.Reads.{Reads}
 use Rattle.ode_run_frame.specs.declared.unread.Unread.{Unread}
 use Rattle.ode_value.specs.Worlds.{Bones}
@@ -33,3 +33,25 @@ module _ {H K : Type 0} (seen : H → View) (holds : K → View → Entries → 
       subst (λ g. Behind before (seen g) (holds k (seen g)) (live k) s base) (sym host)
       (subst (λ q. Behind before (seen h') (holds q (seen h')) (live q) s base) (sym heap)
       (subst (λ t. Behind before (seen h') (holds k' (seen h')) (live k') t base) stopped behind))
+
+module _ {H K : Type 0} (seen : H → View) (live : K → Bool) where
+  -- at first, where no records are known
+  pub begins_plain : (heap_name host_name : ℕ) (h : H) (k : K) → IsTrue (live k)
+      → Follows seen (live k) heap_name host_name h None (record { heap = heap_name; host = host_name; began = h })
+  begins_plain heap_name host_name h k usable = record {
+    heap = refl;
+    host = refl;
+    since = record {
+      looks = looks_none (seen h);
+      faults = record { later = omega arith; rose = λ is. absurd (cc is); calm = inr refl };
+      usable = usable;
+    };
+  }
+
+  -- where the heap and the host are what the frame left of them
+  pub ends_plain : (before : View) (k k' : K) (h h' : H) (s s' : Option Unread) → k ≡ k' → h ≡ h' → s' ≡ s
+      → Since before (seen h') (live k') s' → Since before (seen h) (live k) s
+  ends_plain before k k' h h' s s' heap host stopped since =
+      subst (λ g. Since before (seen g) (live k) s) (sym host)
+      (subst (λ q. Since before (seen h') (live q) s) (sym heap)
+      (subst (λ t. Since before (seen h') (live k') t) stopped since))

@@ -41,3 +41,23 @@ pub record Shown {H : Type 0} (seen : H → View) (holds : Entries → Type 0) (
   pub host : host_name ≡ k.host
   pub behind : Behind (seen k.began) (seen now) holds live stopped k.entries
   pub reads : Reads classes k.entries x k.bones
+
+-- ---- where no records are known
+
+-- the names of the heap and the host that are lent, and the host as it began
+pub record Base (H : Type 0) : Type 0 where
+  pub heap : ℕ
+  pub host : ℕ
+  pub began : H
+
+-- The host only looked; the disk failed exactly where that stopped it, and till then the keeper may be used.
+pub record Since (before after : View) (live : Bool) (stopped : Option Unread) : Type 0 where
+  pub looks : Looks before after
+  pub faults : RoseIf (stopped ≡ Some DiskFault) before.disk_faults after.disk_faults
+  pub usable : Until stopped (live ≡ true)
+
+-- the frame still has the heap and the host that it was lent
+pub record Follows {H : Type 0} (seen : H → View) (live : Bool) (heap_name host_name : ℕ) (now : H) (stopped : Option Unread) (b : Base H) : Type 0 where
+  pub heap : heap_name ≡ b.heap
+  pub host : host_name ≡ b.host
+  pub since : Since (seen b.began) (seen now) live stopped

@@ -2,7 +2,7 @@
 ghost use Rattle.std.specs.Prelude.{◌≡◌, IsTrue, None};
 ghost use Rattle.ode_expr.specs.Answers.{Answers, stopped_by};
 ghost use Rattle.ode_keep.specs.Entries.{Entries};
-ghost use Rattle.ode_run_frame.specs.Knowing.{Behind};
+ghost use Rattle.ode_run_frame.specs.Knowing.{Behind, Since};
 ghost use Rattle.ode_run_frame.specs.Reads.{Reads};
 ghost use Rattle.ode_value.specs.Evaluation.{evaluate as value_of};
 ghost use Rattle.ode_value.specs.Worlds.{Bones};
@@ -34,6 +34,7 @@ pub fn evaluate<'a, H: Host, K: Keep<H>>(
         → Answers (value_of e.now b (record { this = scene.now.this; locals = scene.now.locals })) result }
     ensures behind { (base : Entries) (b : Bones) → K.holds heap.old (H.view host.old) base → Reads classes.now base overlay.now b
         → Behind (H.view host.old) (H.view host.new) (K.holds heap.new (H.view host.new)) (K.live heap.new) (stopped_by result None) base }
+    ensures since { Since (H.view host.old) (H.view host.new) (K.live heap.new) (stopped_by result None) }
 {
     let mut frame = Reading {
         scene,

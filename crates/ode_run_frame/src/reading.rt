@@ -4,7 +4,7 @@ ghost use Rattle.ode_host.specs.Causes.{RoseIf};
 ghost use Rattle.ode_host.specs.Host.{Looks};
 ghost use Rattle.ode_keep.specs.Entries.{Entries};
 ghost use Rattle.ode_overlay.specs.Answers.{Answers, UnlessFault, is_usable};
-ghost use Rattle.ode_run_frame.specs.Knowing.{Known as Knowledge, Shown};
+ghost use Rattle.ode_run_frame.specs.Knowing.{Base as Beginning, Follows, Known as Knowledge, Shown};
 ghost use Rattle.ode_run_frame.specs.Reads.{number_in, number_read, stop_of};
 ghost use Rattle.ode_versions.specs.Versions.{IsVersionList};
 
@@ -94,6 +94,10 @@ impl<'a, H: Host, K: Keep<H>> Frame for Reading<'a, H, K> {
     ghost bones = { λ k. k.bones };
 
     ghost shows = { λ f k. Shown H.view (K.holds f.heap.now (H.view f.host.now)) (K.live f.heap.now) f.heap.ghost_name f.host.ghost_name f.host.now f.stopped f.classes.now f.overlay.now k };
+
+    ghost Base = { Beginning H };
+
+    ghost follows = { λ f b. Follows H.view (K.live f.heap.now) f.heap.ghost_name f.host.ghost_name f.host.now f.stopped b };
 
     ghost scene = { λ f. record { this = f.scene.now.this; locals = f.scene.now.locals } };
 

@@ -11,6 +11,7 @@ invariant-round g l =
     record {
       room : l.at + l.ran ≤ l.counter;
       kept : (k : g.T.Acts.Known) → g.T.Acts.knows l.fn.tx l.schema k → g.T.Acts.knows l.tx l.schema k;
+      serves : (b : g.T.Acts.Base) → g.T.Acts.usable l.fn.tx b → g.T.Acts.usable l.tx b;
       rest : (classes : List Declared) (k : g.T.Acts.Known) → g.S.Schema.declares l.schema classes → g.T.Acts.knows l.fn.tx l.schema k
           → goes_round past (l.rounds - l.counter) l.at l.ran (with_classes classes (g.T.Acts.view l.tx k))
           ≡ goes_round past l.rounds 0 0 (with_classes classes (g.T.Acts.view l.fn.tx k));

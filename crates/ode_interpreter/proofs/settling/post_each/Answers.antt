@@ -14,6 +14,7 @@ returns-in_err-post_last-clause-acts g c = λ classes k d known all.
 pub loop-id-preserved : goal.loop-id-preserved
 loop-id-preserved g c = record {
   kept = first_of (search rules, grind (arith, common_steps));
+  serves = first_of (search rules, grind (arith, common_steps));
   still = λ classes k d known all j e less.
       let now = c.loop-id.invariant.still classes k d known all in
       let kept = c.loop-id.invariant.kept k known in

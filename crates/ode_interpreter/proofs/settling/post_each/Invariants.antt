@@ -16,6 +16,7 @@ invariant-loop-id g l =
     let place : Place (Unit {0}) ℕ = last_place past l.kept in
     record {
       kept : (k : g.T.Acts.Known) → g.T.Acts.knows l.fn.tx l.schema k → g.T.Acts.knows l.tx l.schema k;
+      serves : (b : g.T.Acts.Base) → g.T.Acts.usable l.fn.tx b → g.T.Acts.usable l.tx b;
       still : (classes : List Declared) (k : g.T.Acts.Known) → g.S.Schema.declares l.schema classes → g.T.Acts.knows l.fn.tx l.schema k
           → All (λ id. is_touched id (g.T.Acts.view l.fn.tx k) ≡ true) l.fn.ids → All (λ id. is_touched id (g.T.Acts.view l.tx k) ≡ true) l.ids;
       rest : (classes : List Declared) (k : g.T.Acts.Known) → g.S.Schema.declares l.schema classes → g.T.Acts.knows l.fn.tx l.schema k

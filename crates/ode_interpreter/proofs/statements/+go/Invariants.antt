@@ -92,6 +92,7 @@ invariant-exec_all-loop-s g l =
     let d : Option (Inner (Unit {0}) ℕ) = deeper past l.levels in
     record {
       kept : (k : g.T.Acts.Known) → g.T.Acts.knows l.fn.tx l.schema k → g.T.Acts.knows l.tx l.schema k;
+      serves : (b : g.T.Acts.Base) → g.T.Acts.usable l.fn.tx b → g.T.Acts.usable l.tx b;
       rest : (classes : List Declared) (k : g.T.Acts.Known) → g.S.Schema.declares l.schema classes → g.T.Acts.knows l.fn.tx l.schema k
           → in_turn (map (execute past d) (drop l.s-index l.body)) (scene l.on) (with_classes classes (g.T.Acts.view l.tx k))
           ≡ in_turn (map (execute past d) l.fn.body) (scene l.fn.on) (with_classes classes (g.T.Acts.view l.fn.tx k));
@@ -103,6 +104,7 @@ invariant-fire_all-loop-f g l =
     let d : Option (Body (Unit {0}) ℕ) = actions_of (deeper past l.levels) in
     record {
       kept : (k : g.T.Acts.Known) → g.T.Acts.knows l.fn.tx l.schema k → g.T.Acts.knows l.tx l.schema k;
+      serves : (b : g.T.Acts.Base) → g.T.Acts.usable l.fn.tx b → g.T.Acts.usable l.tx b;
       rest : (classes : List Declared) (k : g.T.Acts.Known) → g.S.Schema.declares l.schema classes → g.T.Acts.knows l.fn.tx l.schema k
           → each (treats d) (map (firing (g.S.Schema.trigger l.schema)) (drop l.f-index l.firings)) (with_classes classes (g.T.Acts.view l.tx k))
           ≡ each (treats d) (map (firing (g.S.Schema.trigger l.schema)) l.fn.firings) (with_classes classes (g.T.Acts.view l.fn.tx k));
