@@ -20,7 +20,7 @@ use Rattle.ode_overlay.specs.Layers.{Layer}
 use Rattle.ode_overlay.specs.declared.error.OverlayError.{OverlayError}
 use Rattle.ode_overlay_laws.specs.Standing.{object_as, version_as}
 use Rattle.ode_point_laws.specs.Points.{point_of}
-use Rattle.ode_run.specs.Stopping.{read}
+use Rattle.ode_run.specs.Stopping.{at_hand}
 use Rattle.ode_schema.specs.Parts.{Parts, trigger_of}
 use Rattle.ode_states.specs.Machine.{checked}
 use Rattle.ode_states.specs.declared.fired.Fired.{Fired}
@@ -51,9 +51,9 @@ no_fields o is = sym (ap (λ (f : Option versions.Version). option_map_or (λ (w
 
 -- ---- what is read
 
-pub read_gives : {R : Type 0} (result : Result R OverlayError) (answer : Answer R) → Answers result answer → IfOk (read result) (λ v. answer ≡ Ok v)
-read_gives (Ok v) answer gives = gives
-read_gives (Err why) answer gives = tt
+pub hand_gives : {R : Type 0} (result : Result R OverlayError) (answer : Answer R) → Answers result answer → IfOk (at_hand result) (λ v. answer ≡ Ok v)
+hand_gives (Ok v) answer gives = gives
+hand_gives (Err why) answer gives = tt
 
 -- ---- how a point ends
 

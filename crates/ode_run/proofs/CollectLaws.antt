@@ -1,21 +1,29 @@
 -- Firings that are collected, or dropped.
-use Rattle.std.proofs.Common.{◌≡◌, ◌++◌, ℕ, Bool, true, false, cond, List, Result, Some, None, sym, ap, subst, ◌∙◌}
+use Rattle.std.proofs.Common.{◌≡◌, ◌+◌, ◌++◌, ◌≤◌, ℕ, Bool, true, false, cond, List, length, Result, Some, None, refl, sym, ap, subst, ◌∙◌, arith}
+use Rattle.std.proofs.lemmas.Bool.Decides.{nat_tests}
+use Rattle.std.specs.Prelude.{◌&&◌, nat_le, nat_lt}
 use Rattle.ode_interpreter.specs.Seen.{Ends}
 use Rattle.ode_interpreter.specs.declared.stop.Stop.{Stop}
 use Rattle.ode_laws.specs.Alike.{NumberTx, NumberWorld}
 use Rattle.ode_objects.specs.Values.{are_args}
-use Rattle.ode_overlay.specs.Layers.{Layer}
+use Rattle.ode_overlay.specs.Layers.{Layer, generation_of}
+use Rattle.ode_overlay.specs.declared.origin.Origin.{Origin}
+use Rattle.ode_overlay.specs.declared.origin.Origin.TheVariants as from
+use Rattle.ode_overlay_laws.specs.Standing.{origin_as}
 use Rattle.ode_run.specs.Collecting.{Gathers}
 use Rattle.ode_run.specs.Knowing.{beside}
 use Rattle.ode_states.specs.declared.fired.Fired.{Fired}
-use Rattle.ode_value.specs.Acts.{Deed, Outcome, Done, prints}
-use Rattle.ode_value.specs.Posting.{collects, dropped_text}
+use Rattle.ode_value.specs.Changes.{key_count}
+use Rattle.ode_value.specs.Acts.{Deed, Outcome, Done, does, prints}
+use Rattle.ode_value.specs.Limits.{change_limit, generation_limit, number_limit, queue_limit}
+use Rattle.ode_value.specs.Posting.{collects, dropped_text, has_room, waiting, with_entry}
 use Rattle.ode_value.specs.Settling.{says}
+use Rattle.ode_value.specs.Transactions as transactions
 use Rattle.ode_value.specs.Transactions.{Firing}
 use Rattle.ode_value.specs.Worlds.{Declared}
 use Rattle.ode_value.specs.declared.value.Value.{Value}
 use Rattle.ode_view_laws.specs.Showing.{ShowsCollected}
-use Rattle.ode_view_laws.specs.Viewing.{running}
+use Rattle.ode_view_laws.specs.Viewing.{Beside, running}
 
 pub kept_is : (values kept : List Value) → Some kept ≡ cond (are_args values) (Some values) None → kept ≡ values
 kept_is values kept is = by_test (are_args values) is where
@@ -54,3 +62,24 @@ dropped_last = told_then says true
 pub said : (all : List Declared) (first : NumberWorld) (x : Layer) (ds : List (ℕ × Fired)) (text t line : List ℕ) (left : ℕ) → t ≡ text ++ line
     → says line (running all first x (beside first ds text left)) ≡ Done tt (running all first x (beside first ds t left))
 said all first x ds text t line left is = ap (λ (s : List ℕ). Done tt (running all first x (beside first ds s left))) (sym is)
+
+-- ---- where there is no generation
+
+generation_as : (origin : Origin) → transactions.generation_of (origin_as origin) ≡ generation_of origin
+generation_as from.Script = refl
+generation_as (from.Entry number generation) = refl
+generation_as (from.Tick instant object place) = refl
+generation_as (from.Move instant) = refl
+
+no_room : (y : NumberTx) → generation_limit ≤ transactions.generation_of y.origin → has_room y ≡ false
+no_room y last =
+    let none : nat_le (transactions.generation_of y.origin + 1) generation_limit ≡ false = grind (arith, nat_tests) in
+    ap (λ (b : Bool). b && nat_lt (key_count y) change_limit && nat_le (length (waiting y.origin y.first.bones.queue) + length y.collected + 1) queue_limit && nat_lt (y.first.bones.next_entry + length y.collected) number_limit) none
+
+none_gathered : (tells : List ℕ → Deed (Unit {0}) ℕ) (independent : Bool) (f : Firing) (y : NumberTx) → has_room y ≡ false → Gathers tells independent f y y false
+none_gathered tells independent f y none = ap (λ (room : Bool). cond room (does (with_entry independent f)) (tells (dropped_text f)) y) none
+
+pub no_generation : (tells : List ℕ → Deed (Unit {0}) ℕ) (independent : Bool) (f : Firing) (all : List Declared) (first : NumberWorld) (x : Layer) (b : Beside) → generation_limit ≤ generation_of x.origin
+    → Gathers tells independent f (running all first x b) (running all first x b) false
+no_generation tells independent f all first x b last =
+    none_gathered tells independent f (running all first x b) (no_room (running all first x b) (subst (λ (n : ℕ). generation_limit ≤ n) (sym (generation_as x.origin)) last))

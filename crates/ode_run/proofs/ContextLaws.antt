@@ -146,7 +146,7 @@ module _ {H K : Type 0} (seen : H → View) (held : K → View → Entries → T
       leaves_by (Err (stop.Abort why)) state left = goes_on (Err (stop.Abort why)) (λ e. absurd (cc e)) state left.runs (λ s. s)
       leaves_by (Err stop.Memory) state left = goes_on (Err stop.Memory) (λ e. absurd (cc e)) state left.runs (λ s. s)
       leaves_by (Err stop.DiskFault) state left = ends_here (Err stop.DiskFault) stop.DiskFault refl left tt
-      leaves_by (Err (stop.Damaged key)) state left = ends_here (Err (stop.Damaged key)) (stop.Damaged key) refl left left.failed.sound
+      leaves_by (Err (stop.Damaged key)) state left = absurd left.failed.sound
 
     pub leaves_over : {R : Type 0} (result : Result R Stop) → IsKept seen held live w w' p result → (entries : Entries) (first : NumberWorld) → p.classes ≡ declared_in first → Open w entries first
         → LeavesOpen result (IsOpen (held q (seen h)) (live q) x left w.bytes entries first) (seen w.host.now) (seen h)

@@ -28,12 +28,11 @@ use Rattle.ode_overlay.specs.Layers.{Layer}
 use Rattle.ode_overlay.specs.declared.error.OverlayError.{OverlayError}
 use Rattle.ode_overlay.specs.declared.error.OverlayError.TheVariants as error
 use Rattle.ode_run.specs.Knowing.{Failed, Holds, Known, beside}
-use Rattle.ode_run.specs.Stopping.{ended, named, named_by, no_record, read, read_as}
+use Rattle.ode_run.specs.Stopping.{at_hand, ended, named, named_by, read, read_as}
 use Rattle.ode_run.specs.Telling.{EndsThen, calm}
 use Rattle.ode_value.specs.Acts.{Act, Outcome, Done, Aborted, found, gives, go_on, valued}
 use Rattle.ode_value.specs.Changes.{class_of, is_live}
 use Rattle.ode_value.specs.Denoting.{object_at}
-use Rattle.ode_value.specs.Keys.{counters_key}
 use Rattle.ode_value.specs.Worlds.{Declared, Object}
 use Rattle.ode_value.specs.declared.reason.Reason.TheVariants as reason
 use Rattle.ode_value.specs.declared.key.Key.{Key}
@@ -106,9 +105,9 @@ known_left base first x x' (Err why) answer leaves same known stays = subst (IsK
 
 -- ---- what a call leaves
 
--- where it names a key as damaged, that is the counters'
+-- it names no key as damaged
 abbrev pub IsSoundCall : {R : Type 0} → Result R OverlayError → Type 0
-IsSoundCall result = (key : Key) → result ≡ Err (error.Damaged key) → key ≡ counters_key
+IsSoundCall result = (key : Key) → result ≡ Err (error.Damaged key) → ⊥
 
 -- so it is where it does what an act does
 pub shown_sound : {R S : Type 0} (next : R → Act (Unit {0}) ℕ S) (view : Layer → NumberTx) (x x' : Layer) (result : Result R OverlayError) (answer : Answer (R × Layer)) (outcome : Outcome (Unit {0}) ℕ S)
@@ -116,15 +115,15 @@ pub shown_sound : {R S : Type 0} (next : R → Act (Unit {0}) ℕ S) (view : Lay
 shown_sound {R} {S} next view x x' result answer outcome leaves shows key is =
     let names : answer ≡ Err (error.Damaged key) = subst (λ (r : Result R OverlayError). Leaves r x' answer) is leaves in
     let s = subst (λ a. Shows view next x a outcome) names shows in
-    absurd (cc s.1.0)
+    cc s.1.0
 
--- where it names none
+-- where none is named
 pub none_sound : {R : Type 0} (result : Result R OverlayError) → named_by result ≡ None → IsSoundCall result
-none_sound {R} result none key is = let some : named_by result ≡ Some key = ap (λ (r : Result R OverlayError). named_by r) is in absurd (cc (none, some))
+none_sound {R} result none key is = let some : named_by result ≡ Some key = ap (λ (r : Result R OverlayError). named_by r) is in cc (none, some)
 
 -- and where its answer is never that one
 pub read_sound : {R : Type 0} (result : Result R OverlayError) (answer : Answer R) → Answers result answer → ((key : Key) → answer ≡ Err (error.Damaged key) → ⊥) → IsSoundCall result
-read_sound {R} result answer gives never key is = absurd (never key (subst (λ (r : Result R OverlayError). Answers r answer) is gives))
+read_sound {R} result answer gives never key is = never key (subst (λ (r : Result R OverlayError). Answers r answer) is gives)
 
 module _ {H K : Type 0} (seen : H → View) (held : K → View → Entries → Type 0) (live : K → Bool) where
   module _ (h h' : H) (q q' : K) (x x' : Layer) (left bytes : ℕ) (k : Known H) (holds : Holds seen (held q (seen h)) (live q) h x left bytes k) (looks : Looks (seen h) (seen h')) where
@@ -164,18 +163,11 @@ module _ {H K : Type 0} (seen : H → View) (held : K → View → Entries → T
       };
     }
 
-    damaged : (key : Key) → key ≡ counters_key → (seen h').disk_faults ≡ (seen h).disk_faults → Failed seen h' k (stop.Damaged key)
-    damaged key sound same = record {
-      sound = sound;
-      looks = looked;
-      faults = record { later = looked.keeps.disk_faults; rose = λ e. absurd (cc e); calm = inr (same ∙ holds.faults) };
-    }
-
     pub call_leaves : {R : Type 0} (result : Result R OverlayError) → IsSoundCall result → IsKnown k.entries k.first x' → UnlessFault result ((base : Entries) → held q (seen h) base → held q' (seen h') base)
         → live q' ≡ is_usable result → RoseIf (IsErrOf result error.DiskFault) (seen h).disk_faults (seen h').disk_faults → interpreter.Leaves (ended result) After (Failed seen h' k)
     call_leaves (Ok v) sound known keeps usable cause = goes_on usable (keeps k.entries holds.records) (no_fault (Ok v) (λ is. absurd (cc is)) cause) known
     call_leaves (Err error.DiskFault) sound known keeps usable cause = faulted (Err error.DiskFault) refl cause
-    call_leaves (Err (error.Damaged key)) sound known keeps usable cause = damaged key (sound key refl) (no_fault (Err (error.Damaged key)) (λ is. absurd (cc is)) cause)
+    call_leaves (Err (error.Damaged key)) sound known keeps usable cause = absurd (sound key refl)
     call_leaves (Err error.Memory) sound known keeps usable cause = goes_on usable (keeps k.entries holds.records) (no_fault (Err error.Memory) (λ is. absurd (cc is)) cause) known
     call_leaves (Err (error.NoObject id)) sound known keeps usable cause = goes_on usable (keeps k.entries holds.records) (no_fault (Err (error.NoObject id)) (λ is. absurd (cc is)) cause) known
     call_leaves (Err (error.NoVersion r)) sound known keeps usable cause = goes_on usable (keeps k.entries holds.records) (no_fault (Err (error.NoVersion r)) (λ is. absurd (cc is)) cause) known
@@ -211,27 +203,20 @@ module _ {H K : Type 0} (seen : H → View) (held : K → View → Entries → T
     named_leaves (Err error.TooLong) key named known keeps usable cause = absurd (cc named)
     named_leaves (Err error.NoNumber) key named known keeps usable cause = absurd (cc named)
 
-    pub placed_leaves : {R : Type 0} (result : Result R OverlayError) → IsKnown k.entries k.first x' → UnlessFault result ((base : Entries) → held q (seen h) base → held q' (seen h') base)
-        → live q' ≡ is_usable result → RoseIf (IsErrOf result error.DiskFault) (seen h).disk_faults (seen h').disk_faults → interpreter.Leaves (no_record (read result)) After (Failed seen h' k)
-    placed_leaves (Err (error.Damaged key)) known keeps usable cause = damaged counters_key refl (no_fault (Err (error.Damaged key)) (λ is. absurd (cc is)) cause)
-    placed_leaves (Ok v) known keeps usable cause = reading_leaves (Ok v) (λ key is. absurd (cc is)) known keeps usable cause
-    placed_leaves (Err error.DiskFault) known keeps usable cause = reading_leaves (Err error.DiskFault) (λ key is. absurd (cc is)) known keeps usable cause
-    placed_leaves (Err error.Memory) known keeps usable cause = reading_leaves (Err error.Memory) (λ key is. absurd (cc is)) known keeps usable cause
-    placed_leaves (Err (error.NoObject id)) known keeps usable cause = reading_leaves (Err (error.NoObject id)) (λ key is. absurd (cc is)) known keeps usable cause
-    placed_leaves (Err (error.NoVersion r)) known keeps usable cause = reading_leaves (Err (error.NoVersion r)) (λ key is. absurd (cc is)) known keeps usable cause
-    placed_leaves (Err (error.LastVersion id)) known keeps usable cause = reading_leaves (Err (error.LastVersion id)) (λ key is. absurd (cc is)) known keeps usable cause
-    placed_leaves (Err error.TooManyChanges) known keeps usable cause = reading_leaves (Err error.TooManyChanges) (λ key is. absurd (cc is)) known keeps usable cause
-    placed_leaves (Err error.TooLong) known keeps usable cause = reading_leaves (Err error.TooLong) (λ key is. absurd (cc is)) known keeps usable cause
-    placed_leaves (Err error.NoNumber) known keeps usable cause = reading_leaves (Err error.NoNumber) (λ key is. absurd (cc is)) known keeps usable cause
+    pub at_hand_leaves : {R : Type 0} (result : Result R OverlayError) → IsKnown k.entries k.first x' → UnlessFault result ((base : Entries) → held q (seen h) base → held q' (seen h') base)
+        → live q' ≡ is_usable result → RoseIf (IsErrOf result error.DiskFault) (seen h).disk_faults (seen h').disk_faults → interpreter.Leaves (at_hand result) After (Failed seen h' k)
+    at_hand_leaves (Ok v) known keeps usable cause = goes_on usable (keeps k.entries holds.records) (no_fault (Ok v) (λ is. absurd (cc is)) cause) known
+    at_hand_leaves (Err error.DiskFault) known keeps usable cause = faulted (Err error.DiskFault) refl cause
+    at_hand_leaves (Err error.Memory) known keeps usable cause = goes_on usable (keeps k.entries holds.records) (no_fault (Err error.Memory) (λ is. absurd (cc is)) cause) known
+    at_hand_leaves (Err (error.Damaged key)) known keeps usable cause = goes_on usable (keeps k.entries holds.records) (no_fault (Err (error.Damaged key)) (λ is. absurd (cc is)) cause) known
+    at_hand_leaves (Err (error.NoObject id)) known keeps usable cause = goes_on usable (keeps k.entries holds.records) (no_fault (Err (error.NoObject id)) (λ is. absurd (cc is)) cause) known
+    at_hand_leaves (Err (error.NoVersion r)) known keeps usable cause = goes_on usable (keeps k.entries holds.records) (no_fault (Err (error.NoVersion r)) (λ is. absurd (cc is)) cause) known
+    at_hand_leaves (Err (error.LastVersion id)) known keeps usable cause = goes_on usable (keeps k.entries holds.records) (no_fault (Err (error.LastVersion id)) (λ is. absurd (cc is)) cause) known
+    at_hand_leaves (Err error.TooManyChanges) known keeps usable cause = goes_on usable (keeps k.entries holds.records) (no_fault (Err error.TooManyChanges) (λ is. absurd (cc is)) cause) known
+    at_hand_leaves (Err error.TooLong) known keeps usable cause = goes_on usable (keeps k.entries holds.records) (no_fault (Err error.TooLong) (λ is. absurd (cc is)) cause) known
+    at_hand_leaves (Err error.NoNumber) known keeps usable cause = goes_on usable (keeps k.entries holds.records) (no_fault (Err error.NoNumber) (λ is. absurd (cc is)) cause) known
 
 -- ---- what is read
-
-pub no_record_gives : {R : Type 0} (result : Result R Stop) (P : R → Type 0) → IfOk result P → IfOk (no_record result) P
-no_record_gives (Ok v) P is = is
-no_record_gives (Err (stop.Abort why)) P is = tt
-no_record_gives (Err stop.Memory) P is = tt
-no_record_gives (Err stop.DiskFault) P is = tt
-no_record_gives (Err (stop.Damaged key)) P is = tt
 
 -- what a call reads is known
 pub read_is : {R : Type 0} (result : Result R OverlayError) (answer : Answer R) (value : R) → Answers result answer → answer ≡ Ok value → IfOk (read result) (λ v. v ≡ value)
@@ -354,6 +339,4 @@ module _ {H K : Type 0} (seen : H → View) (held : K → View → Entries → T
   calm_leaves h h' q q' x x' left bytes k (Err error.TooManyChanges) sound e1 e2 holds known = moved h h' q q' x x' left bytes k e1 e2 holds known
   calm_leaves h h' q q' x x' left bytes k (Err error.TooLong) sound e1 e2 holds known = moved h h' q q' x x' left bytes k e1 e2 holds known
   calm_leaves h h' q q' x x' left bytes k (Err error.NoNumber) sound e1 e2 holds known = moved h h' q q' x x' left bytes k e1 e2 holds known
-  calm_leaves h h' q q' x x' left bytes k (Err (error.Damaged key)) sound e1 e2 holds known =
-      let there = moved h h' q q' x x' left bytes k e1 e2 holds known in
-      record { sound = sound key refl; looks = there.looks; faults = record { later = there.looks.keeps.disk_faults; rose = λ e. absurd (cc e); calm = inr there.faults } }
+  calm_leaves h h' q q' x x' left bytes k (Err (error.Damaged key)) sound e1 e2 holds known = absurd (sound key refl)

@@ -13,5 +13,6 @@ pub mod MakeLaws
 pub mod ObjectLaws
 pub mod OffLaws
 pub mod PlaceLaws
+pub mod ServeLaws
 pub mod SettleLaws
 pub mod WholeLaws

@@ -1,20 +1,16 @@
 -- Touched objects and deferred firings, by places.
-use Rattle.std.proofs.Common.{◌≡◌, ◌+◌, ◌-◌, ◌≤◌, ℕ, zero, suc, Bool, List, [], ◌∷◌, ◌++◌, drop, length, map, Some, None, refl, sym, ap, ◌∙◌, inr, arith}
+use Rattle.std.proofs.Common.{◌≡◌, ◌+◌, ◌-◌, ◌≤◌, ℕ, zero, suc, List, [], ◌∷◌, ◌++◌, drop, length, map, Some, None, refl, sym, ap, ◌∙◌, arith}
 use Rattle.std.specs.Prelude.{slice_get}
 use Rattle.std.specs.Option.{option_map}
-use Rattle.ode_host.specs.View.{View}
 use Rattle.ode_interpreter.specs.Seen.{firing}
-use Rattle.ode_interpreter.specs.declared.stop.Stop.TheVariants as stop
-use Rattle.ode_keep.specs.Entries.{Entries}
 use Rattle.ode_known_laws.specs.Knowing.{declared_in}
 use Rattle.ode_laws.specs.Alike.{NumberTx, NumberWorld}
 use Rattle.ode_overlay.specs.Layers.{Layer}
-use Rattle.ode_run.specs.Knowing.{Failed, Holds, Known, beside, deferred_as}
+use Rattle.ode_run.specs.Knowing.{beside, deferred_as}
 use Rattle.ode_schema.specs.Parts.{trigger_of}
 use Rattle.ode_states.specs.declared.fired.Fired.{Fired}
 use Rattle.ode_value.specs.Acts.{Done, reads}
 use Rattle.ode_value.specs.Completing.{rounds}
-use Rattle.ode_value.specs.Keys.{counters_key}
 use Rattle.ode_value.specs.Limits.{budget_limit, cascade_limit}
 use Rattle.ode_value.specs.Worlds.{Declared}
 use Rattle.ode_value.specs.declared.class.Class.{Class}
@@ -65,13 +61,3 @@ module _ (all : List Declared) (first : NumberWorld) (x : Layer) (deferred : Lis
   deferred_is classes same at object f is =
       ap (λ q. Done q now) (map_at (deferred_as (declared_in first)) deferred at ∙ ap (option_map (deferred_as (declared_in first))) is)
       ∙ ap (λ (cs : List Class). Done (Some (deferred_as cs (object, f))) now) (sym same)
-
--- ---- records that can't be damaged so
-
-pub not_there : {H : Type 0} (seen : H → View) (held : Entries → Type 0) (live : Bool) (h : H) (x : Layer) (left bytes : ℕ) (k : Known H)
-    → Holds seen held live h x left bytes k → Failed seen h k (stop.Damaged counters_key)
-not_there seen held live h x left bytes k holds = record {
-  sound = refl;
-  looks = holds.looks;
-  faults = record { later = holds.looks.keeps.disk_faults; rose = λ e. absurd (cc e); calm = inr holds.faults };
-}

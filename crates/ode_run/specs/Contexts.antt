@@ -85,8 +85,7 @@ module _ {H K : Type 0} (seen : H → View) (held : K → View → Entries → T
 
 -- ---- what a call leaves
 
--- the context, unless the disk failed or something is damaged, which no record is; the host only looked, and the disk failed exactly where
--- that is the stop
+-- the context, unless the disk failed: no record is damaged; the host only looked, and the disk failed exactly where that is the stop
 pub record LeavesOpen {R : Type 0} (result : Result R Stop) (context : Type 0) (before after : View) : Type 0 where
   pub stays : Leaves result context IsSound
   pub looks : Looks before after

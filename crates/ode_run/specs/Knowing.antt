@@ -12,7 +12,6 @@ use Rattle.ode_overlay.specs.Layers.{Layer}
 use Rattle.ode_run.specs.declared.work.Work.{Work}
 use Rattle.ode_schema.specs.Parts.{Parts, trigger_of}
 use Rattle.ode_states.specs.declared.fired.Fired.{Fired}
-use Rattle.ode_value.specs.Keys.{counters_key}
 use Rattle.ode_value.specs.Limits.{budget_limit}
 use Rattle.ode_value.specs.Transactions.{Firing}
 use Rattle.ode_value.specs.Weights.{weight}
@@ -65,13 +64,12 @@ pub record Holds {H : Type 0} (seen : H → View) (held : Entries → Type 0) (l
   pub budget : left ≤ budget_limit
   pub bytes : size ≡ weight k.first.bones
 
--- No record is damaged. The counters' key, which none of the calls reads, stands for what no table or record can take: an activation that
--- its trigger's table doesn't let go on, or a value.
+-- no record is damaged
 abbrev pub IsSound : Stop → Type 0
 IsSound (Abort why) = Unit {0}
 IsSound Memory = Unit {0}
 IsSound DiskFault = Unit {0}
-IsSound (Damaged key) = key ≡ counters_key
+IsSound (Damaged key) = ⊥
 
 -- where a call failed, the host only looked, the disk failed exactly where that is the stop, and no record is damaged
 pub record Failed {H : Type 0} (seen : H → View) (now : H) (k : Known H) (stop : Stop) : Type 0 where

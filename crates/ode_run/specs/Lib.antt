@@ -3,6 +3,7 @@ pub mod Collecting
 pub mod Contexts
 pub mod Ending
 pub mod Knowing
+pub mod Serving
 pub mod Stopping
 pub mod Telling
 pub mod Testing

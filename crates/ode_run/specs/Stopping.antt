@@ -9,7 +9,6 @@ use Rattle.ode_overlay.specs.declared.error.OverlayError.TheVariants as error
 use Rattle.ode_run_frame.specs.declared.unread.Unread.{Unread}
 use Rattle.ode_run_frame.specs.declared.unread.Unread.TheVariants as unread
 use Rattle.ode_value.specs.Evaluation.{reason_of}
-use Rattle.ode_value.specs.Keys.{counters_key}
 use Rattle.ode_value.specs.declared.key.Key.{Key}
 use Rattle.ode_value.specs.declared.reason.Reason.TheVariants as reason
 
@@ -73,10 +72,18 @@ named_by (Err error.TooManyChanges) = None
 named_by (Err error.TooLong) = None
 named_by (Err error.NoNumber) = None
 
--- How one ends that reads no record: what is damaged isn't one.
-abbrev pub no_record : {R : Type 0} → Result R Stop → Result R Stop
-no_record (Ok v) = Ok v
-no_record (Err (stop.Abort why)) = Err (stop.Abort why)
-no_record (Err stop.Memory) = Err stop.Memory
-no_record (Err stop.DiskFault) = Err stop.DiskFault
-no_record (Err (stop.Damaged key)) = Err (stop.Damaged counters_key)
+-- How one ends that reads no record: what it says is damaged isn't one, so want of memory is told.
+abbrev pub stop_at_hand : OverlayError → Stop
+stop_at_hand error.DiskFault = stop.DiskFault
+stop_at_hand error.Memory = stop.Memory
+stop_at_hand (error.Damaged key) = stop.Memory
+stop_at_hand (error.NoObject id) = stop.Memory
+stop_at_hand (error.NoVersion r) = stop.Memory
+stop_at_hand (error.LastVersion id) = stop.Memory
+stop_at_hand error.TooManyChanges = stop.Memory
+stop_at_hand error.TooLong = stop.Memory
+stop_at_hand error.NoNumber = stop.Memory
+
+abbrev pub at_hand : {R : Type 0} → Result R OverlayError → Result R Stop
+at_hand (Ok v) = Ok v
+at_hand (Err why) = Err (stop_at_hand why)

@@ -6,6 +6,7 @@ ghost use Rattle.ode_known_laws.specs.Knowing.{declared_in};
 ghost use Rattle.ode_objects.specs.Values.{are_args, are_kept};
 ghost use Rattle.ode_run.specs.Activating.{IsOfClass, Names, trigger_at};
 ghost use Rattle.ode_run.specs.Knowing.{Failed, IsRunning, Known, Lent, tx};
+ghost use Rattle.ode_run.specs.Serving.{IsServing, Stops};
 ghost use Rattle.ode_run.specs.Telling.{EndsThen};
 ghost use Rattle.ode_states.specs.Machine.{checked};
 ghost use Rattle.ode_value.specs.Lengths.{values_length};
@@ -25,7 +26,7 @@ use ode_keep::Keep;
 use ode_known_laws::activations_known;
 use ode_schema::Program;
 use ode_types::Classes;
-use ode_value::{Key, List, Name, Reason, Ref, Value};
+use ode_value::{List, Name, Reason, Ref, Value};
 use std::alloc::Global;
 
 // Whether a record can hold arguments, where they are short enough.
@@ -50,6 +51,7 @@ impl<'a, H: Host, K: Keep<H>> Work<'a, H, K> {
         ensures kept { (all : Items Declared) (k : Known H) (name : Items ℕ) (decl : TriggerDecl) → classes.now ≡ declared_in k.first → IsRunning H.view K.holds K.live self.old k
             → are_args args ≡ nat_le (values_length args) args_limit → Names (tx all k self.old) of.object name (trigger_at t decl)
             → Leaves result (IsRunning H.view K.holds K.live self.new k) (Failed H.view self.new.host.now k) }
+        ensures faults { (began : H) → IsServing H.view K.live began self.old → Leaves result (IsServing H.view K.live began self.new) (Stops (H.view began) (H.view self.new.host.now)) }
         ensures lent { (k : Known H) → Lent k self.old → Lent k self.new }
     {
         activations_known();
@@ -64,7 +66,6 @@ impl<'a, H: Host, K: Keep<H>> Work<'a, H, K> {
     }
 
     // A new activation of the trigger of a name, for an object of a class.
-    #[tactic(auto, using(crate::proofs::PlaceLaws::not_there))]
     fn activate_of(
         &mut self,
         alloc: Global,
@@ -80,19 +81,14 @@ impl<'a, H: Host, K: Keep<H>> Work<'a, H, K> {
         ensures kept { (all : Items Declared) (k : Known H) → checked all ≡ program.now.classes → program.now.classes ≡ declared_in k.first → IsRunning H.view K.holds K.live self.old k
             → IsOfClass (tx all k self.old) of.object class
             → Leaves result (IsRunning H.view K.holds K.live self.new k) (Failed H.view self.new.host.now k) }
+        ensures faults { (began : H) → IsServing H.view K.live began self.old → Leaves result (IsServing H.view K.live began self.new) (Stops (H.view began) (H.view self.new.host.now)) }
         ensures lent { (k : Known H) → Lent k self.old → Lent k self.new }
     {
         let Some(t) = program.trigger_named(class, name) else {
             return Err(Stop::Abort(Reason::NoObject(0)));
         };
         if !fit_record(args.as_slice()) {
-            return Err(Stop::Damaged {
-                key: Key {
-                    kind: Key::COUNTERS,
-                    a: 0,
-                    b: 0,
-                },
-            });
+            return Err(Stop::Memory);
         }
         let number = self.switch_on_named(program.classes(), of, t, args)?;
         self.tell_number(alloc, program.classes(), number)
@@ -111,6 +107,7 @@ impl<'a, H: Host, K: Keep<H>> Work<'a, H, K> {
             → Ends result (tx all k self.new) (switches_on_named (numbers tables) of name.now args (tx all k self.old)) }
         ensures kept { (k : Known H) → program.now.classes ≡ declared_in k.first → IsRunning H.view K.holds K.live self.old k
             → Leaves result (IsRunning H.view K.holds K.live self.new k) (Failed H.view self.new.host.now k) }
+        ensures faults { (began : H) → IsServing H.view K.live began self.old → Leaves result (IsServing H.view K.live began self.new) (Stops (H.view began) (H.view self.new.host.now)) }
         ensures lent { (k : Known H) → Lent k self.old → Lent k self.new }
     {
         match self.head(program.classes(), of.object)? {

@@ -8,12 +8,19 @@ use ode_value::{Expr, Kind, List, Name, Ref, Value};
 
 impl<'a, 'b, H: Host, K: Keep<H>> Acts<Program<'b>> for Work<'a, H, K> {
     ghost use Rattle.ode_run.specs.Knowing.{Fails, Known as Knowledge, Knows, tx};
+    ghost use Rattle.ode_run.specs.Serving.{GoesOn, Halts};
 
     ghost Known = { Knowledge H };
 
     ghost knows = { λ w p k. Knows H.view K.holds K.live w p k };
 
     ghost failed = { λ w k stop. Fails H.view w k stop };
+
+    ghost Base = { Knowledge H };
+
+    ghost usable = { λ w k. GoesOn H.view K.live w k };
+
+    ghost ended = { λ w k stop. Halts H.view w k stop };
 
     ghost declared = { λ k. k.first.bones.classes };
 

@@ -11,7 +11,7 @@ ghost use Rattle.ode_overlay.specs.Reading.{acts};
 ghost use Rattle.ode_overlay_laws.specs.Standing.{object_as};
 ghost use Rattle.ode_point_laws.specs.Points.{point_of};
 ghost use Rattle.ode_run.specs.Knowing.{Failed, IsRunning, Known, Lent, tx};
-ghost use Rattle.ode_run.specs.Stopping.{no_record};
+ghost use Rattle.ode_run.specs.Serving.{IsServing, Stops};
 ghost use Rattle.ode_schema.specs.Parts.{table_by, trigger_of, trigger_under};
 ghost use Rattle.ode_states.specs.Advance.{IsReady, advanced, fired_in};
 ghost use Rattle.ode_states.specs.Machine.{checked};
@@ -20,7 +20,7 @@ ghost use Rattle.ode_value.specs.Pasts.{numbers};
 ghost use Rattle.ode_value.specs.Posting.{is_touched};
 ghost use Rattle.ode_value.specs.Worlds.{Declared};
 
-use crate::stopping::read;
+use crate::stopping::{at_hand, read};
 use crate::work::Work;
 use ode_arising_laws::points_show;
 use ode_held_laws::objects_are_read_fresh;
@@ -33,7 +33,7 @@ use ode_overlay::Overlay;
 use ode_schema::Program;
 use ode_states::{Fired, advance};
 use ode_types::{Classes, Running};
-use ode_value::{Key, Kind, List, Reason, Value};
+use ode_value::{Kind, List, Reason, Value};
 use ode_view_laws::overlays_have_views;
 use std::alloc::{AllocError, Global};
 
@@ -172,26 +172,8 @@ pub(crate) fn firings_of(
     Ok(firings)
 }
 
-// What a call answered that reads no record: what is damaged isn't one.
-fn no_record(answer: Result<List<Running>, Stop>) -> Result<List<Running>, Stop>
-    ensures is { result ≡ no_record answer }
-    ensures fault { IfErr answer IsFault → IfErr result IsFault }
-{
-    match answer {
-        Err(Stop::Damaged { .. }) => Err(Stop::Damaged {
-            key: Key {
-                kind: Key::COUNTERS,
-                a: 0,
-                b: 0,
-            },
-        }),
-        answer => answer,
-    }
-}
-
 impl<'a, H: Host, K: Keep<H>> Work<'a, H, K> {
     // The activations of an object of a class, where each goes on by its trigger's table.
-    #[tactic(auto, using(crate::proofs::PlaceLaws::not_there))]
     pub(crate) fn activations(
         &mut self,
         program: &Program,
@@ -205,19 +187,14 @@ impl<'a, H: Host, K: Keep<H>> Work<'a, H, K> {
         ensures same { (self.new.overlay.now ≡ self.old.overlay.now) × (self.new.deferred.now ≡ self.old.deferred.now) × (self.new.text.now ≡ self.old.text.now) × (self.new.budget.now ≡ self.old.budget.now) }
         ensures kept { (k : Known H) → program.now.classes ≡ declared_in k.first → IsRunning H.view K.holds K.live self.old k
             → Leaves result (IsRunning H.view K.holds K.live self.new k) (Failed H.view self.new.host.now k) }
+        ensures faults { (began : H) → IsServing H.view K.live began self.old → Leaves result (IsServing H.view K.live began self.new) (Stops (H.view began) (H.view self.new.host.now)) }
         ensures lent { (k : Known H) → Lent k self.old → Lent k self.new }
     {
         let there = self.stored(program, id)?;
         if all_go_on(program, class, there.as_slice()) {
             Ok(there)
         } else {
-            Err(Stop::Damaged {
-                key: Key {
-                    kind: Key::COUNTERS,
-                    a: 0,
-                    b: 0,
-                },
-            })
+            Err(Stop::Memory)
         }
     }
 
@@ -229,14 +206,13 @@ impl<'a, H: Host, K: Keep<H>> Work<'a, H, K> {
         ensures same { (self.new.overlay.now ≡ self.old.overlay.now) × (self.new.deferred.now ≡ self.old.deferred.now) × (self.new.text.now ≡ self.old.text.now) × (self.new.budget.now ≡ self.old.budget.now) }
         ensures kept { (k : Known H) → program.now.classes ≡ declared_in k.first → IsRunning H.view K.holds K.live self.old k
             → Leaves result (IsRunning H.view K.holds K.live self.new k) (Failed H.view self.new.host.now k) }
+        ensures faults { (began : H) → IsServing H.view K.live began self.old → Leaves result (IsServing H.view K.live began self.new) (Stops (H.view began) (H.view self.new.host.now)) }
         ensures lent { (k : Known H) → Lent k self.old → Lent k self.new }
     {
         if !self.heap.live() {
             return Err(Stop::DiskFault);
         }
-        no_record(read(
-            self.overlay.acts(program.classes(), self.heap, self.host, id, program.maps()),
-        ))
+        at_hand(self.overlay.acts(program.classes(), self.heap, self.host, id, program.maps()))
     }
 
     // The activations of an object are these from now on. It is never refused.
@@ -252,6 +228,7 @@ impl<'a, H: Host, K: Keep<H>> Work<'a, H, K> {
         ensures same { (self.new.deferred.now ≡ self.old.deferred.now) × (self.new.text.now ≡ self.old.text.now) × (self.new.budget.now ≡ self.old.budget.now) }
         ensures kept { (k : Known H) → classes.now ≡ declared_in k.first → IsRunning H.view K.holds K.live self.old k
             → Leaves result (IsRunning H.view K.holds K.live self.new k) (Failed H.view self.new.host.now k) }
+        ensures faults { (began : H) → IsServing H.view K.live began self.old → Leaves result (IsServing H.view K.live began self.new) (Stops (H.view began) (H.view self.new.host.now)) }
         ensures lent { (k : Known H) → Lent k self.old → Lent k self.new }
     {
         puts_known();
@@ -281,6 +258,7 @@ impl<'a, H: Host, K: Keep<H>> Work<'a, H, K> {
             (arises (numbers (table_by program.now.tables program.now.maps)) (both_lists (numbers (table_by program.now.tables program.now.maps))) id kind.now args.now (tx all k self.old)) }
         ensures kept { (k : Known H) → program.now.classes ≡ declared_in k.first → IsRunning H.view K.holds K.live self.old k
             → Leaves result (IsRunning H.view K.holds K.live self.new k) (Failed H.view self.new.host.now k) }
+        ensures faults { (began : H) → IsServing H.view K.live began self.old → Leaves result (IsServing H.view K.live began self.new) (Stops (H.view began) (H.view self.new.host.now)) }
         ensures lent { (k : Known H) → Lent k self.old → Lent k self.new }
         ensures declared { IfOk result (All (λ f. IsSome (trigger_under program.now.classes f.trigger.class f.trigger.place))) }
     {

@@ -6,6 +6,7 @@ ghost use Rattle.ode_keep.specs.Entries.{Entries};
 ghost use Rattle.ode_laws.specs.Alike.{NumberWorld};
 ghost use Rattle.ode_run.specs.Contexts.{ContextRuns, EndsWhere, IsContext, LeavesOpen, parts_of, tables_of, tx_of};
 ghost use Rattle.ode_run.specs.Knowing.{deferred_as};
+ghost use Rattle.ode_run.specs.Serving.{LeavesUsable};
 ghost use Rattle.ode_schema.specs.Parts.{AreFit, trigger_under};
 ghost use Rattle.ode_value.specs.Completing.{completes};
 ghost use Rattle.ode_value.specs.Executing.{commands, first_actions, outermost};
@@ -56,6 +57,8 @@ pub fn exec<H: Host, K: Keep<H>>(
         → EndsWhere result (ContextRuns H.view K.holds K.live l w ctx.new host.new) (commands lists s.now x) }
     ensures leaves { (entries : Entries) (first : NumberWorld) → IsContext H.view K.holds K.live entries first ctx.old host.old
         → LeavesOpen result (IsContext H.view K.holds K.live entries first ctx.new host.new) (H.view host.old) (H.view host.new) }
+    // So do the keeper and the host's faults, whatever the records are.
+    ensures faults { K.live ctx.old.heap ≡ true → LeavesUsable result (K.live ctx.new.heap) (H.view host.old) (H.view host.new) }
     ensures same { (parts_of ctx.new ≡ parts_of ctx.old) × (ctx.new.depth ≡ ctx.old.depth) × (ctx.new.bytes ≡ ctx.old.bytes) }
 {
     acts_run_alike();
@@ -89,6 +92,8 @@ pub fn call<H: Host, K: Keep<H>>(
         → Ends result (tx_of first ctx.new) (calls_deeper (numbers (tables_of ctx.old)) (outermost (numbers (tables_of ctx.old))) of method.now args (tx_of first ctx.old)) }
     ensures leaves { (entries : Entries) (first : NumberWorld) → IsContext H.view K.holds K.live entries first ctx.old host.old
         → LeavesOpen result (IsContext H.view K.holds K.live entries first ctx.new host.new) (H.view host.old) (H.view host.new) }
+    // So do the keeper and the host's faults, whatever the records are.
+    ensures faults { K.live ctx.old.heap ≡ true → LeavesUsable result (K.live ctx.new.heap) (H.view host.old) (H.view host.new) }
     ensures same { (parts_of ctx.new ≡ parts_of ctx.old) × (ctx.new.depth ≡ ctx.old.depth) × (ctx.new.bytes ≡ ctx.old.bytes) }
 {
     let program = Program::new(&ctx.classes, &ctx.tables, &ctx.alphabets, &ctx.maps);
@@ -124,6 +129,8 @@ pub fn touch<H: Host, K: Keep<H>>(
         → EndsWhere result (ContextRuns H.view K.holds K.live l w ctx.new host.new) (touches lists (first_actions lists) id x) }
     ensures leaves { (entries : Entries) (first : NumberWorld) → IsContext H.view K.holds K.live entries first ctx.old host.old
         → LeavesOpen result (IsContext H.view K.holds K.live entries first ctx.new host.new) (H.view host.old) (H.view host.new) }
+    // So do the keeper and the host's faults, whatever the records are.
+    ensures faults { K.live ctx.old.heap ≡ true → LeavesUsable result (K.live ctx.new.heap) (H.view host.old) (H.view host.new) }
     ensures same { (parts_of ctx.new ≡ parts_of ctx.old) × (ctx.new.depth ≡ ctx.old.depth) × (ctx.new.bytes ≡ ctx.old.bytes) }
 {
     acts_run_alike();
@@ -160,6 +167,8 @@ pub fn post<H: Host, K: Keep<H>>(
         → is_touched id x ≡ true → EndsWhere result (ContextRuns H.view K.holds K.live l w ctx.new host.new) (posts lists (first_actions lists) id kind.now args.now x) }
     ensures leaves { (entries : Entries) (first : NumberWorld) → IsContext H.view K.holds K.live entries first ctx.old host.old
         → LeavesOpen result (IsContext H.view K.holds K.live entries first ctx.new host.new) (H.view host.old) (H.view host.new) }
+    // So do the keeper and the host's faults, whatever the records are.
+    ensures faults { K.live ctx.old.heap ≡ true → LeavesUsable result (K.live ctx.new.heap) (H.view host.old) (H.view host.new) }
     ensures same { (parts_of ctx.new ≡ parts_of ctx.old) × (ctx.new.depth ≡ ctx.old.depth) × (ctx.new.bytes ≡ ctx.old.bytes) }
 {
     acts_run_alike();
@@ -198,6 +207,8 @@ pub fn fire_now<H: Host, K: Keep<H>>(
         → EndsWhere result (ContextRuns H.view K.holds K.live l w ctx.new host.new) (runs (first_actions lists) (deferred_as ctx.old.classes (id, f.now)) x) }
     ensures leaves { (entries : Entries) (first : NumberWorld) → IsContext H.view K.holds K.live entries first ctx.old host.old
         → LeavesOpen result (IsContext H.view K.holds K.live entries first ctx.new host.new) (H.view host.old) (H.view host.new) }
+    // So do the keeper and the host's faults, whatever the records are.
+    ensures faults { K.live ctx.old.heap ≡ true → LeavesUsable result (K.live ctx.new.heap) (H.view host.old) (H.view host.new) }
     ensures same { (parts_of ctx.new ≡ parts_of ctx.old) × (ctx.new.depth ≡ ctx.old.depth) × (ctx.new.bytes ≡ ctx.old.bytes) }
 {
     acts_run_alike();
@@ -232,6 +243,8 @@ pub fn complete<H: Host, K: Keep<H>>(
         → EndsWhere result (ContextRuns H.view K.holds K.live l w ctx.new host.new) (completes lists x) }
     ensures leaves { (entries : Entries) (first : NumberWorld) → IsContext H.view K.holds K.live entries first ctx.old host.old
         → LeavesOpen result (IsContext H.view K.holds K.live entries first ctx.new host.new) (H.view host.old) (H.view host.new) }
+    // So do the keeper and the host's faults, whatever the records are.
+    ensures faults { K.live ctx.old.heap ≡ true → LeavesUsable result (K.live ctx.new.heap) (H.view host.old) (H.view host.new) }
     ensures same { (parts_of ctx.new ≡ parts_of ctx.old) × (ctx.new.depth ≡ ctx.old.depth) × (ctx.new.bytes ≡ ctx.old.bytes) }
 {
     acts_run_alike();

@@ -4,6 +4,7 @@ ghost use Rattle.ode_interpreter.specs.Seen.{Ends, Leaves};
 ghost use Rattle.ode_known_laws.specs.Knowing.{declared_in};
 ghost use Rattle.ode_objects.specs.Values.{is_kept};
 ghost use Rattle.ode_run.specs.Knowing.{Failed, IsRunning, Known, Lent, tx};
+ghost use Rattle.ode_run.specs.Serving.{IsServing, Stops};
 ghost use Rattle.ode_run.specs.Stopping.{named_by};
 ghost use Rattle.ode_run.specs.Telling.{EndsThen};
 ghost use Rattle.ode_value.specs.Completing.{weighs};
@@ -22,7 +23,7 @@ use ode_lines::version_line;
 use ode_objects::is_kept;
 use ode_types::Classes;
 use ode_value::limits::WEIGHT_LIMIT;
-use ode_value::{Key, Reason, Ref, Value};
+use ode_value::{Reason, Ref, Value};
 use std::alloc::Global;
 
 // A world that weighed this and grew so is light enough.
@@ -40,6 +41,7 @@ impl<'a, H: Host, K: Keep<H>> Work<'a, H, K> {
             → Ends result (tx all k self.new) (sets_field of place v (tx all k self.old)) }
         ensures kept { (k : Known H) → classes.now ≡ declared_in k.first → is_kept v ≡ true → IsRunning H.view K.holds K.live self.old k
             → Leaves result (IsRunning H.view K.holds K.live self.new k) (Failed H.view self.new.host.now k) }
+        ensures faults { (began : H) → IsServing H.view K.live began self.old → Leaves result (IsServing H.view K.live began self.new) (Stops (H.view began) (H.view self.new.host.now)) }
         ensures lent { (k : Known H) → Lent k self.old → Lent k self.new }
     {
         writes_known();
@@ -60,7 +62,6 @@ impl<'a, H: Host, K: Keep<H>> Work<'a, H, K> {
     }
 
     /// A field of the version that a reference denotes is set.
-    #[tactic(auto, using(crate::proofs::PlaceLaws::not_there))]
     pub fn set_field(
         &mut self,
         classes: &Classes,
@@ -72,16 +73,11 @@ impl<'a, H: Host, K: Keep<H>> Work<'a, H, K> {
             → Ends result (tx all k self.new) (sets_field of place v (tx all k self.old)) }
         ensures kept { (k : Known H) → classes.now ≡ declared_in k.first → IsRunning H.view K.holds K.live self.old k
             → Leaves result (IsRunning H.view K.holds K.live self.new k) (Failed H.view self.new.host.now k) }
+        ensures faults { (began : H) → IsServing H.view K.live began self.old → Leaves result (IsServing H.view K.live began self.new) (Stops (H.view began) (H.view self.new.host.now)) }
         ensures lent { (k : Known H) → Lent k self.old → Lent k self.new }
     {
         if !is_kept(&v) {
-            return Err(Stop::Damaged {
-                key: Key {
-                    kind: Key::COUNTERS,
-                    a: 0,
-                    b: 0,
-                },
-            });
+            return Err(Stop::Memory);
         }
         self.write_kept(classes, of, place, v)
     }
@@ -92,6 +88,7 @@ impl<'a, H: Host, K: Keep<H>> Work<'a, H, K> {
             → EndsThen tells_version result (tx all k self.new) (derives of (tx all k self.old)) }
         ensures kept { (k : Known H) → classes.now ≡ declared_in k.first → IsRunning H.view K.holds K.live self.old k
             → Leaves result (IsRunning H.view K.holds K.live self.new k) (Failed H.view self.new.host.now k) }
+        ensures faults { (began : H) → IsServing H.view K.live began self.old → Leaves result (IsServing H.view K.live began self.new) (Stops (H.view began) (H.view self.new.host.now)) }
         ensures lent { (k : Known H) → Lent k self.old → Lent k self.new }
     {
         derivations_known();
@@ -109,6 +106,7 @@ impl<'a, H: Host, K: Keep<H>> Work<'a, H, K> {
             → Ends result (tx all k self.new) (derives of (tx all k self.old)) }
         ensures kept { (k : Known H) → classes.now ≡ declared_in k.first → IsRunning H.view K.holds K.live self.old k
             → Leaves result (IsRunning H.view K.holds K.live self.new k) (Failed H.view self.new.host.now k) }
+        ensures faults { (began : H) → IsServing H.view K.live began self.old → Leaves result (IsServing H.view K.live began self.new) (Stops (H.view began) (H.view self.new.host.now)) }
         ensures lent { (k : Known H) → Lent k self.old → Lent k self.new }
     {
         let version = self.derive_version(classes, of)?;
@@ -123,6 +121,7 @@ impl<'a, H: Host, K: Keep<H>> Work<'a, H, K> {
             → Ends result (tx k.first.bones.classes k self.new) (weighs (tx k.first.bones.classes k self.old)) }
         ensures kept { (k : Known H) → classes.now ≡ declared_in k.first → IsRunning H.view K.holds K.live self.old k
             → Leaves result (IsRunning H.view K.holds K.live self.new k) (Failed H.view self.new.host.now k) }
+        ensures faults { (began : H) → IsServing H.view K.live began self.old → Leaves result (IsServing H.view K.live began self.new) (Stops (H.view began) (H.view self.new.host.now)) }
         ensures lent { (k : Known H) → Lent k self.old → Lent k self.new }
     {
         worlds_known();

@@ -1,5 +1,5 @@
 //! Detached firings are collected.
-ghost use Rattle.std.specs.Prelude.{◌≡◌, ◌+◌, List as Items, IfErr, IfOk, true};
+ghost use Rattle.std.specs.Prelude.{◌≡◌, ◌+◌, ◌≤◌, List as Items, None, IfErr, IfOk, true};
 ghost use Rattle.std.specs.Option.{IfSome, IsSome};
 ghost use Rattle.ode_interpreter.specs.Seen.{Ends, IsFault, Leaves, firing};
 ghost use Rattle.ode_known_laws.specs.Knowing.{declared_in};
@@ -7,9 +7,11 @@ ghost use Rattle.ode_objects.specs.Values.{are_args};
 ghost use Rattle.ode_overlay.specs.Layers.{generation_of};
 ghost use Rattle.ode_run.specs.Collecting.{Gathers};
 ghost use Rattle.ode_run.specs.Knowing.{Failed, IsRunning, Known, Lent, tx};
+ghost use Rattle.ode_run.specs.Serving.{IsServing, Stops};
 ghost use Rattle.ode_schema.specs.Parts.{trigger_of, trigger_under};
 ghost use Rattle.ode_states.specs.Machine.{checked};
 ghost use Rattle.ode_value.specs.Acts.{prints};
+ghost use Rattle.ode_value.specs.Limits.{generation_limit};
 ghost use Rattle.ode_value.specs.Posting.{collects};
 ghost use Rattle.ode_value.specs.Settling.{says};
 ghost use Rattle.ode_value.specs.Worlds.{Declared};
@@ -26,7 +28,8 @@ use ode_objects::KeptArgs;
 use ode_overlay::Overlay;
 use ode_schema::Program;
 use ode_types::Classes;
-use ode_value::{Key, List, Value};
+use ode_value::limits::GENERATION_LIMIT;
+use ode_value::{List, Value};
 use std::alloc::{AllocError, Global};
 
 // The arguments again, where a record can hold them.
@@ -41,16 +44,23 @@ fn kept_again(alloc: Global, args: &List<Value>) -> Result<Option<List<Value>>, 
     }
 }
 
-// The generation of what is collected.
+// The generation of what is collected, where there is one more.
+#[tactic(auto, unfolding(ode_value::specs::Limits::generation_limit))]
 fn next_generation(overlay: &Overlay) -> Option<u8>
-    ensures { IfSome result (λ n. n ≡ generation_of overlay.now.origin + 1) }
+    ensures next { IfSome result (λ n. n ≡ generation_of overlay.now.origin + 1) }
+    ensures last { result ≡ None → generation_limit ≤ generation_of overlay.now.origin }
 {
-    overlay.generation().checked_add(1)
+    let generation = overlay.generation();
+    if generation < GENERATION_LIMIT {
+        Some(generation + 1)
+    } else {
+        None
+    }
 }
 
 impl<'a, H: Host, K: Keep<H>> Work<'a, H, K> {
     // A firing is collected, where there is room for it; whether it is.
-    #[tactic(auto, using(crate::proofs::PlaceLaws::not_there))]
+    #[tactic(auto, using(crate::proofs::CollectLaws::no_generation))]
     fn gather(
         &mut self,
         alloc: Global,
@@ -65,26 +75,15 @@ impl<'a, H: Host, K: Keep<H>> Work<'a, H, K> {
         ensures fault { IfErr result IsFault }
         ensures kept { (k : Known H) → classes.now ≡ declared_in k.first → IsRunning H.view K.holds K.live self.old k
             → Leaves result (IsRunning H.view K.holds K.live self.new k) (Failed H.view self.new.host.now k) }
+        ensures faults { (began : H) → IsServing H.view K.live began self.old → Leaves result (IsServing H.view K.live began self.new) (Stops (H.view began) (H.view self.new.host.now)) }
         ensures lent { (k : Known H) → Lent k self.old → Lent k self.new }
     {
         collections_known();
         let Some(args) = kept_again(alloc, &f.args)? else {
-            return Err(Stop::Damaged {
-                key: Key {
-                    kind: Key::COUNTERS,
-                    a: 0,
-                    b: 0,
-                },
-            });
+            return Err(Stop::Memory);
         };
         let Some(generation) = next_generation(self.overlay) else {
-            return Err(Stop::Damaged {
-                key: Key {
-                    kind: Key::COUNTERS,
-                    a: 0,
-                    b: 0,
-                },
-            });
+            return Ok(false);
         };
         let entry = Entry {
             object: f.object,
@@ -111,6 +110,7 @@ impl<'a, H: Host, K: Keep<H>> Work<'a, H, K> {
             → Ends result (tx all k self.new) (collects prints independent (firing (trigger_of program.now.classes) f.now) (tx all k self.old)) }
         ensures kept { (k : Known H) → program.now.classes ≡ declared_in k.first → IsRunning H.view K.holds K.live self.old k
             → Leaves result (IsRunning H.view K.holds K.live self.new k) (Failed H.view self.new.host.now k) }
+        ensures faults { (began : H) → IsServing H.view K.live began self.old → Leaves result (IsServing H.view K.live began self.new) (Stops (H.view began) (H.view self.new.host.now)) }
         ensures lent { (k : Known H) → Lent k self.old → Lent k self.new }
     {
         if self.gather(alloc, program.classes(), independent, f)? {
@@ -127,6 +127,7 @@ impl<'a, H: Host, K: Keep<H>> Work<'a, H, K> {
             → Ends result (tx all k self.new) (says line.now (tx all k self.old)) }
         ensures kept { (k : Known H) → classes.now ≡ declared_in k.first → IsRunning H.view K.holds K.live self.old k
             → Leaves result (IsRunning H.view K.holds K.live self.new k) (Failed H.view self.new.host.now k) }
+        ensures faults { (began : H) → IsServing H.view K.live began self.old → Leaves result (IsServing H.view K.live began self.new) (Stops (H.view began) (H.view self.new.host.now)) }
         ensures lent { (k : Known H) → Lent k self.old → Lent k self.new }
     {
         add(self.text, line)?;
@@ -141,6 +142,7 @@ impl<'a, H: Host, K: Keep<H>> Work<'a, H, K> {
             → Ends result (tx all k self.new) (collects says true (firing (trigger_of program.now.classes) f.now) (tx all k self.old)) }
         ensures kept { (k : Known H) → program.now.classes ≡ declared_in k.first → IsRunning H.view K.holds K.live self.old k
             → Leaves result (IsRunning H.view K.holds K.live self.new k) (Failed H.view self.new.host.now k) }
+        ensures faults { (began : H) → IsServing H.view K.live began self.old → Leaves result (IsServing H.view K.live began self.new) (Stops (H.view began) (H.view self.new.host.now)) }
         ensures lent { (k : Known H) → Lent k self.old → Lent k self.new }
     {
         if self.gather(alloc, program.classes(), true, f)? {

@@ -1,12 +1,10 @@
 //! Objects are made, and activations go on.
-ghost use Rattle.std.specs.Prelude.{◌≡◌, ℕ, List as Items, [], nat_le, true};
+ghost use Rattle.std.specs.Prelude.{◌≡◌, ℕ, List as Items, [], true};
 ghost use Rattle.ode_activation_laws.specs.Switching.{tells_line};
 ghost use Rattle.ode_interpreter.specs.Seen.{Ends, Leaves};
-ghost use Rattle.ode_objects.specs.Values.{are_fields, are_kept, is_kept};
+ghost use Rattle.ode_objects.specs.Values.{are_kept, is_kept};
 ghost use Rattle.ode_overlay_laws.specs.Following.{on_live, tells_new};
 ghost use Rattle.ode_run.specs.Telling.{EndsThen, calm};
-ghost use Rattle.ode_value.specs.Lengths.{version_size};
-ghost use Rattle.ode_value.specs.Limits.{value_limit};
 ghost use Rattle.ode_value.specs.Making.{makes};
 ghost use Rattle.ode_value.specs.Pasts.{numbers};
 ghost use Rattle.ode_value.specs.Statements.{activates_initial};
@@ -14,6 +12,7 @@ ghost use Rattle.ode_value.specs.Tables.{Table};
 ghost use Rattle.ode_value.specs.declared.member.TriggerDecl.{TriggerDecl};
 ghost use Rattle.ode_known_laws.specs.Knowing.{declared_in};
 ghost use Rattle.ode_run.specs.Knowing.{Failed, IsRunning, Known, Lent, tx};
+ghost use Rattle.ode_run.specs.Serving.{IsServing, Stops};
 ghost use Rattle.ode_value.specs.Worlds.{Declared};
 
 use crate::stopping::ended;
@@ -24,7 +23,7 @@ use ode_keep::Keep;
 use ode_known_laws::{activations_known, makings_known};
 use ode_overlay::OverlayError;
 use ode_types::Classes;
-use ode_value::{Key, List, Value};
+use ode_value::{List, Value};
 use std::alloc::Global;
 
 pub(crate) fn is_kept(value: &Value) -> bool
@@ -66,6 +65,7 @@ impl<'a, H: Host, K: Keep<H>> Work<'a, H, K> {
             → EndsThen tells_new result (tx all k self.new) (makes (numbers tables) class fields (tx all k self.old)) }
         ensures kept { (k : Known H) → classes.now ≡ declared_in k.first → are_kept fields ≡ true → IsRunning H.view K.holds K.live self.old k
             → Leaves result (IsRunning H.view K.holds K.live self.new k) (Failed H.view self.new.host.now k) }
+        ensures faults { (began : H) → IsServing H.view K.live began self.old → Leaves result (IsServing H.view K.live began self.new) (Stops (H.view began) (H.view self.new.host.now)) }
         ensures lent { (k : Known H) → Lent k self.old → Lent k self.new }
     {
         makings_known();
@@ -76,7 +76,6 @@ impl<'a, H: Host, K: Keep<H>> Work<'a, H, K> {
     }
 
     /// A new object of the class of a number, with these fields. It has no activations yet.
-    #[tactic(auto, using(crate::proofs::PlaceLaws::not_there))]
     pub fn make(
         &mut self,
         alloc: Global,
@@ -88,16 +87,11 @@ impl<'a, H: Host, K: Keep<H>> Work<'a, H, K> {
             → Ends result (tx all k self.new) (makes (numbers tables) class fields (tx all k self.old)) }
         ensures kept { (k : Known H) → classes.now ≡ declared_in k.first → IsRunning H.view K.holds K.live self.old k
             → Leaves result (IsRunning H.view K.holds K.live self.new k) (Failed H.view self.new.host.now k) }
+        ensures faults { (began : H) → IsServing H.view K.live began self.old → Leaves result (IsServing H.view K.live began self.new) (Stops (H.view began) (H.view self.new.host.now)) }
         ensures lent { (k : Known H) → Lent k self.old → Lent k self.new }
     {
         if !are_kept(fields.as_slice()) {
-            return Err(Stop::Damaged {
-                key: Key {
-                    kind: Key::COUNTERS,
-                    a: 0,
-                    b: 0,
-                },
-            });
+            return Err(Stop::Memory);
         }
         let id = self.create(classes, class, fields)?;
         self.tell_new(alloc, classes, id)
@@ -115,6 +109,7 @@ impl<'a, H: Host, K: Keep<H>> Work<'a, H, K> {
             → EndsThen tells_line result (tx all k self.new) (on_live id (activates_initial (numbers tables) id (record { class = t.class; place = t.place; decl = decl })) (tx all k self.old)) }
         ensures kept { (k : Known H) → classes.now ≡ declared_in k.first → IsRunning H.view K.holds K.live self.old k
             → Leaves result (IsRunning H.view K.holds K.live self.new k) (Failed H.view self.new.host.now k) }
+        ensures faults { (began : H) → IsServing H.view K.live began self.old → Leaves result (IsServing H.view K.live began self.new) (Stops (H.view began) (H.view self.new.host.now)) }
         ensures lent { (k : Known H) → Lent k self.old → Lent k self.new }
     {
         activations_known();
@@ -135,7 +130,6 @@ impl<'a, H: Host, K: Keep<H>> Work<'a, H, K> {
     }
 
     /// A new object has an activation of an initial trigger.
-    #[tactic(auto, using(crate::proofs::PlaceLaws::not_there))]
     pub fn activate_initial(
         &mut self,
         alloc: Global,
@@ -147,16 +141,11 @@ impl<'a, H: Host, K: Keep<H>> Work<'a, H, K> {
             → Ends result (tx all k self.new) (activates_initial (numbers tables) id (record { class = t.class; place = t.place; decl = decl }) (tx all k self.old)) }
         ensures kept { (k : Known H) → classes.now ≡ declared_in k.first → IsRunning H.view K.holds K.live self.old k
             → Leaves result (IsRunning H.view K.holds K.live self.new k) (Failed H.view self.new.host.now k) }
+        ensures faults { (began : H) → IsServing H.view K.live began self.old → Leaves result (IsServing H.view K.live began self.new) (Stops (H.view began) (H.view self.new.host.now)) }
         ensures lent { (k : Known H) → Lent k self.old → Lent k self.new }
     {
         if !self.is_live(classes, id)? {
-            return Err(Stop::Damaged {
-                key: Key {
-                    kind: Key::COUNTERS,
-                    a: 0,
-                    b: 0,
-                },
-            });
+            return Err(Stop::Memory);
         }
         let number = self.switch_on(alloc, classes, id, t)?;
         self.tell_active(alloc, classes, number)

@@ -8,6 +8,7 @@ ghost use Rattle.ode_value.specs.Acts.{reads};
 ghost use Rattle.ode_value.specs.Completing.{rounds};
 ghost use Rattle.ode_known_laws.specs.Knowing.{declared_in};
 ghost use Rattle.ode_run.specs.Knowing.{Failed, IsRunning, Known, Lent, tx};
+ghost use Rattle.ode_run.specs.Serving.{IsServing, Stops};
 ghost use Rattle.ode_value.specs.Worlds.{Declared};
 
 use crate::work::Work;
@@ -17,8 +18,8 @@ use ode_keep::Keep;
 use ode_overlay::Overlay;
 use ode_schema::Program;
 use ode_types::Classes;
+use ode_value::List;
 use ode_value::limits::CASCADE_LIMIT;
-use ode_value::{Key, List};
 use std::alloc::{AllocError, Global};
 
 // All touched objects.
@@ -60,6 +61,7 @@ impl<'a, H: Host, K: Keep<H>> Work<'a, H, K> {
             → Ends result (tx all k self.new) (reads (λ y. y.touched) (tx all k self.old)) }
         ensures kept { (k : Known H) → classes.now ≡ declared_in k.first → IsRunning H.view K.holds K.live self.old k
             → Leaves result (IsRunning H.view K.holds K.live self.new k) (Failed H.view self.new.host.now k) }
+        ensures faults { (began : H) → IsServing H.view K.live began self.old → Leaves result (IsServing H.view K.live began self.new) (Stops (H.view began) (H.view self.new.host.now)) }
         ensures lent { (k : Known H) → Lent k self.old → Lent k self.new }
         ensures fault { IfErr result IsFault }
     {
@@ -74,6 +76,7 @@ impl<'a, H: Host, K: Keep<H>> Work<'a, H, K> {
             → Ends result (tx all k self.new) (reads rounds (tx all k self.old)) }
         ensures kept { (k : Known H) → classes.now ≡ declared_in k.first → IsRunning H.view K.holds K.live self.old k
             → Leaves result (IsRunning H.view K.holds K.live self.new k) (Failed H.view self.new.host.now k) }
+        ensures faults { (began : H) → IsServing H.view K.live began self.old → Leaves result (IsServing H.view K.live began self.new) (Stops (H.view began) (H.view self.new.host.now)) }
         ensures lent { (k : Known H) → Lent k self.old → Lent k self.new }
         ensures fault { IfErr result IsFault }
     {
@@ -87,7 +90,7 @@ impl<'a, H: Host, K: Keep<H>> Work<'a, H, K> {
     }
 
     /// The firing that was deferred at a place.
-    #[tactic(auto, using(crate::proofs::PlaceLaws::deferred_is, crate::proofs::PlaceLaws::none_deferred, crate::proofs::PlaceLaws::not_there))]
+    #[tactic(auto, using(crate::proofs::PlaceLaws::deferred_is, crate::proofs::PlaceLaws::none_deferred))]
     pub fn deferred_at(
         &mut self,
         alloc: Global,
@@ -98,6 +101,7 @@ impl<'a, H: Host, K: Keep<H>> Work<'a, H, K> {
             → EndsBy (option_map (firing (trigger_of program.now.classes))) result (tx all k self.new) (reads (λ y. slice_get y.deferred at) (tx all k self.old)) }
         ensures kept { (k : Known H) → program.now.classes ≡ declared_in k.first → IsRunning H.view K.holds K.live self.old k
             → Leaves result (IsRunning H.view K.holds K.live self.new k) (Failed H.view self.new.host.now k) }
+        ensures faults { (began : H) → IsServing H.view K.live began self.old → Leaves result (IsServing H.view K.live began self.new) (Stops (H.view began) (H.view self.new.host.now)) }
         ensures lent { (k : Known H) → Lent k self.old → Lent k self.new }
         ensures fault { IfErr result IsFault }
         ensures declared { IfOk result (λ found. IfSome found (λ f. IsSome (trigger_under program.now.classes f.trigger.class f.trigger.place))) }
@@ -110,13 +114,7 @@ impl<'a, H: Host, K: Keep<H>> Work<'a, H, K> {
             place: fired.trigger,
         };
         if program.trigger_at(trigger).is_none() {
-            return Err(Stop::Damaged {
-                key: Key {
-                    kind: Key::COUNTERS,
-                    a: 0,
-                    b: 0,
-                },
-            });
+            return Err(Stop::Memory);
         }
         Ok(Some(Firing {
             object: *object,

@@ -3,7 +3,6 @@ ghost use Rattle.std.specs.Prelude.{◌≡◌, ℕ, List as Items, None, false, 
 ghost use Rattle.std.specs.Option.{IfSome};
 ghost use Rattle.ode_interpreter.specs.Seen.{Ends, Leaves};
 ghost use Rattle.ode_overlay_laws.specs.Following.{on_live};
-ghost use Rattle.ode_states.specs.Machine.{checked};
 ghost use Rattle.ode_value.specs.Making.{removes};
 ghost use Rattle.ode_value.specs.Pasts.{numbers};
 ghost use Rattle.ode_value.specs.Same.{same_value};
@@ -12,6 +11,7 @@ ghost use Rattle.ode_value.specs.Tables.{Table};
 ghost use Rattle.ode_value.specs.declared.value.Value.TheVariants as value;
 ghost use Rattle.ode_known_laws.specs.Knowing.{declared_in};
 ghost use Rattle.ode_run.specs.Knowing.{Failed, IsRunning, Known, Lent, tx};
+ghost use Rattle.ode_run.specs.Serving.{IsServing, Stops};
 ghost use Rattle.ode_value.specs.Worlds.{Declared};
 
 use crate::stopping::ended;
@@ -43,6 +43,7 @@ impl<'a, H: Host, K: Keep<H>> Work<'a, H, K> {
             → Ends result (tx all k self.new) (on_live id (removes id) (tx all k self.old)) }
         ensures kept { (k : Known H) → classes.now ≡ declared_in k.first → IsRunning H.view K.holds K.live self.old k
             → Leaves result (IsRunning H.view K.holds K.live self.new k) (Failed H.view self.new.host.now k) }
+        ensures faults { (began : H) → IsServing H.view K.live began self.old → Leaves result (IsServing H.view K.live began self.new) (Stops (H.view began) (H.view self.new.host.now)) }
         ensures lent { (k : Known H) → Lent k self.old → Lent k self.new }
     {
         removals_known();
@@ -59,6 +60,7 @@ impl<'a, H: Host, K: Keep<H>> Work<'a, H, K> {
             → Ends result (tx all k self.new) (removes id (tx all k self.old)) }
         ensures kept { (k : Known H) → classes.now ≡ declared_in k.first → IsRunning H.view K.holds K.live self.old k
             → Leaves result (IsRunning H.view K.holds K.live self.new k) (Failed H.view self.new.host.now k) }
+        ensures faults { (began : H) → IsServing H.view K.live began self.old → Leaves result (IsServing H.view K.live began self.new) (Stops (H.view began) (H.view self.new.host.now)) }
         ensures lent { (k : Known H) → Lent k self.old → Lent k self.new }
     {
         if !self.is_live(classes, id)? {
@@ -73,6 +75,7 @@ impl<'a, H: Host, K: Keep<H>> Work<'a, H, K> {
             → Ends result (tx all k self.new) (on_live of.object (switches_off_numbered (numbers tables) of (value.Int (pos number))) (tx all k self.old)) }
         ensures kept { (k : Known H) → classes.now ≡ declared_in k.first → IsRunning H.view K.holds K.live self.old k
             → Leaves result (IsRunning H.view K.holds K.live self.new k) (Failed H.view self.new.host.now k) }
+        ensures faults { (began : H) → IsServing H.view K.live began self.old → Leaves result (IsServing H.view K.live began self.new) (Stops (H.view began) (H.view self.new.host.now)) }
         ensures lent { (k : Known H) → Lent k self.old → Lent k self.new }
     {
         deactivations_known();
@@ -92,6 +95,7 @@ impl<'a, H: Host, K: Keep<H>> Work<'a, H, K> {
             → Ends result (tx all k self.new) (switches_off_numbered (numbers tables) of (value.Int (pos number)) (tx all k self.old)) }
         ensures kept { (k : Known H) → classes.now ≡ declared_in k.first → IsRunning H.view K.holds K.live self.old k
             → Leaves result (IsRunning H.view K.holds K.live self.new k) (Failed H.view self.new.host.now k) }
+        ensures faults { (began : H) → IsServing H.view K.live began self.old → Leaves result (IsServing H.view K.live began self.new) (Stops (H.view began) (H.view self.new.host.now)) }
         ensures lent { (k : Known H) → Lent k self.old → Lent k self.new }
     {
         if !self.is_live(classes, of.object)? {
@@ -107,6 +111,7 @@ impl<'a, H: Host, K: Keep<H>> Work<'a, H, K> {
             → Ends result (tx all k self.new) (switches_off_numbered (numbers tables) of number.now (tx all k self.old)) }
         ensures kept { (k : Known H) → classes.now ≡ declared_in k.first → IsRunning H.view K.holds K.live self.old k
             → Leaves result (IsRunning H.view K.holds K.live self.new k) (Failed H.view self.new.host.now k) }
+        ensures faults { (began : H) → IsServing H.view K.live began self.old → Leaves result (IsServing H.view K.live began self.new) (Stops (H.view began) (H.view self.new.host.now)) }
         ensures lent { (k : Known H) → Lent k self.old → Lent k self.new }
     {
         if let Some(number) = natural(number) {

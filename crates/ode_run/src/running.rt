@@ -6,6 +6,7 @@ ghost use Rattle.ode_keep.specs.Entries.{Entries};
 ghost use Rattle.ode_known_laws.specs.Knowing.{declared_in};
 ghost use Rattle.ode_laws.specs.Alike.{NumberWorld};
 ghost use Rattle.ode_run.specs.Contexts.{IsOpen, LeavesOpen, tables_in, tx_over};
+ghost use Rattle.ode_run.specs.Serving.{LeavesUsable};
 ghost use Rattle.ode_schema.specs.Parts.{trigger_of, trigger_under};
 ghost use Rattle.ode_value.specs.Completing.{completes};
 ghost use Rattle.ode_value.specs.Executing.{commands, first_actions, outermost};
@@ -41,6 +42,7 @@ pub(crate) fn exec_over<'a, H: Host, K: Keep<H>>(
         → Ends result (tx_over first overlay.new deferred.new text.new budget.new) (commands (numbers (tables_in program.now)) s.now (tx_over first overlay.old deferred.old text.old budget.old)) }
     ensures leaves { (entries : Entries) (first : NumberWorld) → program.now.classes ≡ declared_in first → IsOpen (K.holds heap.old (H.view host.old)) (K.live heap.old) overlay.old budget.old bytes entries first
         → LeavesOpen result (IsOpen (K.holds heap.new (H.view host.new)) (K.live heap.new) overlay.new budget.new bytes entries first) (H.view host.old) (H.view host.new) }
+    ensures faults { K.live heap.old ≡ true → LeavesUsable result (K.live heap.new) (H.view host.old) (H.view host.new) }
 {
     let mut work = Work {
         alloc,
@@ -74,6 +76,7 @@ pub(crate) fn call_over<'a, H: Host, K: Keep<H>>(
         → Ends result (tx_over first overlay.new deferred.new text.new budget.new) (calls_deeper (numbers (tables_in program.now)) (outermost (numbers (tables_in program.now))) of method.now args (tx_over first overlay.old deferred.old text.old budget.old)) }
     ensures leaves { (entries : Entries) (first : NumberWorld) → program.now.classes ≡ declared_in first → IsOpen (K.holds heap.old (H.view host.old)) (K.live heap.old) overlay.old budget.old bytes entries first
         → LeavesOpen result (IsOpen (K.holds heap.new (H.view host.new)) (K.live heap.new) overlay.new budget.new bytes entries first) (H.view host.old) (H.view host.new) }
+    ensures faults { K.live heap.old ≡ true → LeavesUsable result (K.live heap.new) (H.view host.old) (H.view host.new) }
 {
     let mut work = Work {
         alloc,
@@ -105,6 +108,7 @@ pub(crate) fn touch_over<'a, H: Host, K: Keep<H>>(
         → Ends result (tx_over first overlay.new deferred.new text.new budget.new) (touches (numbers (tables_in program.now)) (first_actions (numbers (tables_in program.now))) id (tx_over first overlay.old deferred.old text.old budget.old)) }
     ensures leaves { (entries : Entries) (first : NumberWorld) → program.now.classes ≡ declared_in first → IsOpen (K.holds heap.old (H.view host.old)) (K.live heap.old) overlay.old budget.old bytes entries first
         → LeavesOpen result (IsOpen (K.holds heap.new (H.view host.new)) (K.live heap.new) overlay.new budget.new bytes entries first) (H.view host.old) (H.view host.new) }
+    ensures faults { K.live heap.old ≡ true → LeavesUsable result (K.live heap.new) (H.view host.old) (H.view host.new) }
 {
     let mut work = Work {
         alloc,
@@ -138,6 +142,7 @@ pub(crate) fn post_over<'a, H: Host, K: Keep<H>>(
         → is_touched id (tx_over first overlay.old deferred.old text.old budget.old) ≡ true → Ends result (tx_over first overlay.new deferred.new text.new budget.new) (posts (numbers (tables_in program.now)) (first_actions (numbers (tables_in program.now))) id kind.now args.now (tx_over first overlay.old deferred.old text.old budget.old)) }
     ensures leaves { (entries : Entries) (first : NumberWorld) → program.now.classes ≡ declared_in first → IsOpen (K.holds heap.old (H.view host.old)) (K.live heap.old) overlay.old budget.old bytes entries first
         → LeavesOpen result (IsOpen (K.holds heap.new (H.view host.new)) (K.live heap.new) overlay.new budget.new bytes entries first) (H.view host.old) (H.view host.new) }
+    ensures faults { K.live heap.old ≡ true → LeavesUsable result (K.live heap.new) (H.view host.old) (H.view host.new) }
 {
     let mut work = Work {
         alloc,
@@ -170,6 +175,7 @@ pub(crate) fn fire_now_over<'a, H: Host, K: Keep<H>>(
         → Ends result (tx_over first overlay.new deferred.new text.new budget.new) (runs (first_actions (numbers (tables_in program.now))) (firing (trigger_of program.now.classes) f.now) (tx_over first overlay.old deferred.old text.old budget.old)) }
     ensures leaves { (entries : Entries) (first : NumberWorld) → program.now.classes ≡ declared_in first → IsOpen (K.holds heap.old (H.view host.old)) (K.live heap.old) overlay.old budget.old bytes entries first
         → LeavesOpen result (IsOpen (K.holds heap.new (H.view host.new)) (K.live heap.new) overlay.new budget.new bytes entries first) (H.view host.old) (H.view host.new) }
+    ensures faults { K.live heap.old ≡ true → LeavesUsable result (K.live heap.new) (H.view host.old) (H.view host.new) }
 {
     let mut work = Work {
         alloc,
@@ -200,6 +206,7 @@ pub(crate) fn complete_over<'a, H: Host, K: Keep<H>>(
         → Ends result (tx_over first overlay.new deferred.new text.new budget.new) (completes (numbers (tables_in program.now)) (tx_over first overlay.old deferred.old text.old budget.old)) }
     ensures leaves { (entries : Entries) (first : NumberWorld) → program.now.classes ≡ declared_in first → IsOpen (K.holds heap.old (H.view host.old)) (K.live heap.old) overlay.old budget.old bytes entries first
         → LeavesOpen result (IsOpen (K.holds heap.new (H.view host.new)) (K.live heap.new) overlay.new budget.new bytes entries first) (H.view host.old) (H.view host.new) }
+    ensures faults { K.live heap.old ≡ true → LeavesUsable result (K.live heap.new) (H.view host.old) (H.view host.new) }
 {
     let mut work = Work {
         alloc,

@@ -1,6 +1,5 @@
 //! The transaction of a context settles.
-ghost use Rattle.std.specs.Prelude.{◌≡◌, ◌≤◌, ℕ, Bool, IfErr, IfOk, OnErr, OnOk, false, length, true};
-ghost use Rattle.ode_host.specs.View.{View};
+ghost use Rattle.std.specs.Prelude.{◌≡◌, ◌≤◌, IfErr, IfOk, OnErr, OnOk, false, length, true};
 ghost use Rattle.ode_interpreter.specs.Seen.{IsFault};
 ghost use Rattle.ode_keep.specs.Entries.{Entries, applied, value_under};
 ghost use Rattle.ode_keep.specs.ShortValues.{HasShortValues};
@@ -11,6 +10,7 @@ ghost use Rattle.ode_overlay.specs.Rewinding.{rewind};
 ghost use Rattle.ode_overlay.specs.Settling.{growth_told};
 ghost use Rattle.ode_run.specs.Contexts.{ContextRuns, IsContext, IsOpen, LeavesOpen, parts_of, tables_in, tables_of, tx_of, tx_over};
 ghost use Rattle.ode_run.specs.Ending.{last_points};
+ghost use Rattle.ode_run.specs.Serving.{LeavesUsable};
 ghost use Rattle.ode_schema.specs.Parts.{AreFit};
 ghost use Rattle.ode_settled_laws.specs.Holding.{SettledOver};
 ghost use Rattle.ode_value.specs.Firings.{both_lists, whole_list};
@@ -29,7 +29,7 @@ use ode_host::Host;
 use ode_interpreter::{Stop, post_aborted, post_committed};
 use ode_keep::{Batch, Keep, MAX_CHANGES};
 use ode_known_laws::rewinds_known;
-use ode_overlay::{Overlay, OverlayError};
+use ode_overlay::Overlay;
 use ode_schema::Program;
 use ode_settled_laws::transactions_settle_over_records;
 use ode_states::Fired;
@@ -52,6 +52,7 @@ fn commit_over<'a, H: Host, K: Keep<H>>(
         → IfOk result (λ _. tx_over first overlay.new deferred.new text.new budget.new ≡ posted (numbers (tables_in program.now)) (both_lists (numbers (tables_in program.now))) TCommit (tx_over first overlay.old deferred.old text.old budget.old)) }
     ensures leaves { (entries : Entries) (first : NumberWorld) → program.now.classes ≡ declared_in first → IsOpen (K.holds heap.old (H.view host.old)) (K.live heap.old) overlay.old budget.old bytes entries first
         → LeavesOpen result (IsOpen (K.holds heap.new (H.view host.new)) (K.live heap.new) overlay.new budget.new bytes entries first) (H.view host.old) (H.view host.new) }
+    ensures faults { K.live heap.old ≡ true → LeavesUsable result (K.live heap.new) (H.view host.old) (H.view host.new) }
     ensures fault { IfErr result IsFault }
 {
     let mut work = Work {
@@ -83,6 +84,7 @@ fn abort_over<'a, H: Host, K: Keep<H>>(
         → IfOk result (λ _. tx_over first overlay.new deferred.new text.new budget.new ≡ posted (numbers (tables_in program.now)) (whole_list (numbers (tables_in program.now))) TAbort (tx_over first overlay.old deferred.old text.old budget.old)) }
     ensures leaves { (entries : Entries) (first : NumberWorld) → program.now.classes ≡ declared_in first → IsOpen (K.holds heap.old (H.view host.old)) (K.live heap.old) overlay.old budget.old bytes entries first
         → LeavesOpen result (IsOpen (K.holds heap.new (H.view host.new)) (K.live heap.new) overlay.new budget.new bytes entries first) (H.view host.old) (H.view host.new) }
+    ensures faults { K.live heap.old ≡ true → LeavesUsable result (K.live heap.new) (H.view host.old) (H.view host.new) }
     ensures fault { IfErr result IsFault }
 {
     let mut work = Work {
@@ -118,6 +120,7 @@ fn commit<H: Host, K: Keep<H>>(alloc: Global, ctx: &mut Ctx<K>, host: &mut H) ->
         → IfOk result (λ _. tx_of first ctx.new ≡ last_points (tables_of ctx.old) true (tx_of first ctx.old)) }
     ensures leaves { (entries : Entries) (first : NumberWorld) → IsContext H.view K.holds K.live entries first ctx.old host.old
         → LeavesOpen result (IsContext H.view K.holds K.live entries first ctx.new host.new) (H.view host.old) (H.view host.new) }
+    ensures faults { K.live ctx.old.heap ≡ true → LeavesUsable result (K.live ctx.new.heap) (H.view host.old) (H.view host.new) }
     ensures fault { IfErr result IsFault }
     ensures same { (parts_of ctx.new ≡ parts_of ctx.old) × (ctx.new.depth ≡ ctx.old.depth) × (ctx.new.bytes ≡ ctx.old.bytes) }
 {
@@ -142,6 +145,7 @@ fn abort<H: Host, K: Keep<H>>(alloc: Global, ctx: &mut Ctx<K>, host: &mut H) -> 
         → IfOk result (λ _. tx_of first ctx.new ≡ last_points (tables_of ctx.old) false (tx_of first ctx.old)) }
     ensures leaves { (entries : Entries) (first : NumberWorld) → IsContext H.view K.holds K.live entries first ctx.old host.old
         → LeavesOpen result (IsContext H.view K.holds K.live entries first ctx.new host.new) (H.view host.old) (H.view host.new) }
+    ensures faults { K.live ctx.old.heap ≡ true → LeavesUsable result (K.live ctx.new.heap) (H.view host.old) (H.view host.new) }
     ensures fault { IfErr result IsFault }
     ensures same { (parts_of ctx.new ≡ parts_of ctx.old) × (ctx.new.depth ≡ ctx.old.depth) × (ctx.new.bytes ≡ ctx.old.bytes) }
 {
@@ -173,6 +177,7 @@ fn end<H: Host, K: Keep<H>>(
         → IfOk result (λ _. tx_of first ctx.new ≡ last_points (tables_of ctx.old) kept (tx_of first ctx.old)) }
     ensures leaves { (entries : Entries) (first : NumberWorld) → IsContext H.view K.holds K.live entries first ctx.old host.old
         → LeavesOpen result (IsContext H.view K.holds K.live entries first ctx.new host.new) (H.view host.old) (H.view host.new) }
+    ensures faults { K.live ctx.old.heap ≡ true → LeavesUsable result (K.live ctx.new.heap) (H.view host.old) (H.view host.new) }
     ensures fault { IfErr result IsFault }
     ensures same { (parts_of ctx.new ≡ parts_of ctx.old) × (ctx.new.depth ≡ ctx.old.depth) × (ctx.new.bytes ≡ ctx.old.bytes) }
 {
@@ -221,6 +226,8 @@ pub fn settle<H: Host, K: Keep<H>>(
     ensures stands { IfOk result (λ batch. (base : Entries) (q : Row) → value_under (applied batch base) q ≡ stands_after ctx.new.overlay base q) }
     ensures leaves { (entries : Entries) (first : NumberWorld) → IsContext H.view K.holds K.live entries first ctx.old host.old
         → LeavesOpen result (IsContext H.view K.holds K.live entries first ctx.new host.new) (H.view host.old) (H.view host.new) }
+    // The keeper and the host's faults, whatever the records are.
+    ensures faults { K.live ctx.old.heap ≡ true → LeavesUsable result (K.live ctx.new.heap) (H.view host.old) (H.view host.new) }
     ensures fault { IfErr result IsFault }
     ensures same { (parts_of ctx.new ≡ parts_of ctx.old) × (ctx.new.depth ≡ ctx.old.depth) × (ctx.new.bytes ≡ ctx.old.bytes) }
 {

@@ -12,6 +12,7 @@ ghost use Rattle.ode_value.specs.Posting.{fired_text};
 ghost use Rattle.ode_value.specs.Texts.{said_line, value_line};
 ghost use Rattle.ode_known_laws.specs.Knowing.{declared_in};
 ghost use Rattle.ode_run.specs.Knowing.{Failed, IsRunning, Known, Lent, tx};
+ghost use Rattle.ode_run.specs.Serving.{IsServing, Stops};
 ghost use Rattle.ode_value.specs.Worlds.{Declared};
 
 use crate::work::Work;
@@ -31,6 +32,7 @@ impl<'a, H: Host, K: Keep<H>> Work<'a, H, K> {
             → Ends result (tx all k self.new) (prints (value_line v.now) (tx all k self.old)) }
         ensures kept { (k : Known H) → classes.now ≡ declared_in k.first → IsRunning H.view K.holds K.live self.old k
             → Leaves result (IsRunning H.view K.holds K.live self.new k) (Failed H.view self.new.host.now k) }
+        ensures faults { (began : H) → IsServing H.view K.live began self.old → Leaves result (IsServing H.view K.live began self.new) (Stops (H.view began) (H.view self.new.host.now)) }
         ensures lent { (k : Known H) → Lent k self.old → Lent k self.new }
     {
         let line = value_line(alloc, v)?;
@@ -43,6 +45,7 @@ impl<'a, H: Host, K: Keep<H>> Work<'a, H, K> {
             → Ends result (tx all k self.new) (prints (said_line (text_in text.now)) (tx all k self.old)) }
         ensures kept { (k : Known H) → classes.now ≡ declared_in k.first → IsRunning H.view K.holds K.live self.old k
             → Leaves result (IsRunning H.view K.holds K.live self.new k) (Failed H.view self.new.host.now k) }
+        ensures faults { (began : H) → IsServing H.view K.live began self.old → Leaves result (IsServing H.view K.live began self.new) (Stops (H.view began) (H.view self.new.host.now)) }
         ensures lent { (k : Known H) → Lent k self.old → Lent k self.new }
     {
         let line = said_line(alloc, text)?;
@@ -61,6 +64,7 @@ impl<'a, H: Host, K: Keep<H>> Work<'a, H, K> {
             → Ends result (tx all k self.new) (tells_new id (tx all k self.old)) }
         ensures kept { (k : Known H) → classes.now ≡ declared_in k.first → IsRunning H.view K.holds K.live self.old k
             → Leaves result (IsRunning H.view K.holds K.live self.new k) (Failed H.view self.new.host.now k) }
+        ensures faults { (began : H) → IsServing H.view K.live began self.old → Leaves result (IsServing H.view K.live began self.new) (Stops (H.view began) (H.view self.new.host.now)) }
         ensures lent { (k : Known H) → Lent k self.old → Lent k self.new }
     {
         let line = new_line(alloc, id)?;
@@ -79,6 +83,7 @@ impl<'a, H: Host, K: Keep<H>> Work<'a, H, K> {
             → Ends result (tx all k self.new) (tells_line number (tx all k self.old)) }
         ensures kept { (k : Known H) → classes.now ≡ declared_in k.first → IsRunning H.view K.holds K.live self.old k
             → Leaves result (IsRunning H.view K.holds K.live self.new k) (Failed H.view self.new.host.now k) }
+        ensures faults { (began : H) → IsServing H.view K.live began self.old → Leaves result (IsServing H.view K.live began self.new) (Stops (H.view began) (H.view self.new.host.now)) }
         ensures lent { (k : Known H) → Lent k self.old → Lent k self.new }
     {
         let line = active_line(alloc, number)?;
@@ -97,6 +102,7 @@ impl<'a, H: Host, K: Keep<H>> Work<'a, H, K> {
             → Ends result (tx all k self.new) (tells_value number (tx all k self.old)) }
         ensures kept { (k : Known H) → classes.now ≡ declared_in k.first → IsRunning H.view K.holds K.live self.old k
             → Leaves result (IsRunning H.view K.holds K.live self.new k) (Failed H.view self.new.host.now k) }
+        ensures faults { (began : H) → IsServing H.view K.live began self.old → Leaves result (IsServing H.view K.live began self.new) (Stops (H.view began) (H.view self.new.host.now)) }
         ensures lent { (k : Known H) → Lent k self.old → Lent k self.new }
     {
         self.tell_active(alloc, classes, number)?;
@@ -113,6 +119,7 @@ impl<'a, H: Host, K: Keep<H>> Work<'a, H, K> {
             → Ends result (tx all k self.new) (prints (fired_text (firing (trigger_of program.now.classes) f.now)) (tx all k self.old)) }
         ensures kept { (k : Known H) → program.now.classes ≡ declared_in k.first → IsRunning H.view K.holds K.live self.old k
             → Leaves result (IsRunning H.view K.holds K.live self.new k) (Failed H.view self.new.host.now k) }
+        ensures faults { (began : H) → IsServing H.view K.live began self.old → Leaves result (IsServing H.view K.live began self.new) (Stops (H.view began) (H.view self.new.host.now)) }
         ensures lent { (k : Known H) → Lent k self.old → Lent k self.new }
     {
         let line = fired_line(alloc, &program.trigger(f.trigger).name, f.object)?;

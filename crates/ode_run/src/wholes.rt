@@ -5,6 +5,7 @@ ghost use Rattle.ode_interpreter.specs.Seen.{EndsBy, Leaves, firing};
 ghost use Rattle.ode_known_laws.specs.Knowing.{declared_in};
 ghost use Rattle.ode_point_laws.specs.Points.{sees_whole};
 ghost use Rattle.ode_run.specs.Knowing.{Failed, IsRunning, Known, Lent, tx};
+ghost use Rattle.ode_run.specs.Serving.{IsServing, Stops};
 ghost use Rattle.ode_run.specs.Wholes.{merged, standing_as};
 ghost use Rattle.ode_schema.specs.Parts.{table_by, trigger_of, trigger_under};
 ghost use Rattle.ode_states.specs.Machine.{checked};
@@ -106,6 +107,7 @@ impl<'a, H: Host, K: Keep<H>> Work<'a, H, K> {
             (arises (numbers (table_by program.now.tables program.now.maps)) (whole_list (numbers (table_by program.now.tables program.now.maps))) id kind.now args.now (tx all k self.old)) }
         ensures kept { (k : Known H) → program.now.classes ≡ declared_in k.first → IsRunning H.view K.holds K.live self.old k
             → Leaves result (IsRunning H.view K.holds K.live self.new k) (Failed H.view self.new.host.now k) }
+        ensures faults { (began : H) → IsServing H.view K.live began self.old → Leaves result (IsServing H.view K.live began self.new) (Stops (H.view began) (H.view self.new.host.now)) }
         ensures lent { (k : Known H) → Lent k self.old → Lent k self.new }
         ensures declared { IfOk result (All (λ f. IsSome (trigger_under program.now.classes f.trigger.class f.trigger.place))) }
     {

@@ -1,4 +1,5 @@
 use Rattle.ode_run.proofs.ContextLaws.{acts_over, leaves_over}
+use Rattle.ode_run.proofs.ServeLaws.{serves_over}
 use Rattle.ode_run.proofs.running.post_over.Goals as goal
 use Rattle.ode_run.specs.Contexts.{tables_in}
 use Rattle.ode_value.specs.Pasts.{numbers}
@@ -14,3 +15,8 @@ pub returns-clause-leaves : goal.returns-clause-leaves
 returns-clause-leaves g c = λ entries first classes state.
     leaves_over g.H.Host.view g.K.Keep.holds g.K.Keep.live _ c.post.new.tx c.args.program.now _ _ _ _ _ _ (record { heap = c.heap-1.given.1; overlay = c.overlay-1.given.1; deferred = c.deferred-1.given.1; text = c.text-1.given.1; budget = c.budget-1.given.1; host = c.host-1.given.1 })
     c.post.result c.post.ensures.kept entries first classes state
+
+pub returns-clause-faults : goal.returns-clause-faults
+returns-clause-faults g c = λ usable.
+    serves_over g.H.Host.view g.K.Keep.live _ c.post.new.tx _ _ _ _ _ _ (record { heap = c.heap-1.given.1; overlay = c.overlay-1.given.1; deferred = c.deferred-1.given.1; text = c.text-1.given.1; budget = c.budget-1.given.1; host = c.host-1.given.1 })
+    c.post.result c.post.ensures.faults usable

@@ -1,5 +1,6 @@
 use Rattle.std.proofs.Common.{◌≡◌, ◌∙◌, IfOk, ap, refl, subst}
 use Rattle.ode_run.proofs.ContextLaws.{stays_context}
+use Rattle.ode_run.proofs.ServeLaws.{usable_taken}
 use Rattle.ode_run.proofs.SettleLaws.{points_behind, taken_context}
 use Rattle.ode_run.proofs.settling.abort.Goals as goal
 use Rattle.ode_run.specs.Contexts.{IsContext, LeavesOpen, tables_in, tables_of, tx_of}
@@ -32,3 +33,7 @@ returns-clause-leaves g c = λ entries first context.
     subst (λ (h : g.row.H.Denot). LeavesOpen c.abort_over.result (IsContext g.H.Host.view g.K.Keep.holds g.K.Keep.live entries first after c.abort_over.new.host) (g.H.Host.view h) (g.H.Host.view c.abort_over.new.host)) c.take_back.ensures.host
     (stays_context g.H.Host.view g.K.Keep.holds g.K.Keep.live entries first c.abort_over.result (g.H.Host.view c.take_back.new.host) back after c.take_back.new.host c.abort_over.new.host taken refl refl
     (c.abort_over.ensures.leaves entries first (ap (λ (p : Parts). p.classes) c.new-program.ensures ∙ taken.classes) taken.state))
+
+pub returns-clause-faults : goal.returns-clause-faults
+returns-clause-faults g c = λ usable.
+    usable_taken g.H.Host.view g.K.Keep.live c.args.host.now c.take_back.new.host c.take_back.ensures.host c.args.ctx.now c.take_back.new.ctx c.in_ok-take_back.ensures.acts c.abort_over.result (g.K.Keep.live c.abort_over.new.heap) (g.H.Host.view c.abort_over.new.host) usable c.abort_over.ensures.faults

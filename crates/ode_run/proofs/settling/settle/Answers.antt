@@ -1,5 +1,6 @@
 use Rattle.std.proofs.Common.{true, false, rules}
 use Rattle.std.proofs.lemmas.Result.{IfOk-weaker}
+use Rattle.ode_run.proofs.ServeLaws.{usable_behind, usable_too}
 use Rattle.ode_run.proofs.SettleLaws.{leaves_behind, leaves_too, numbered_by, points_stored, runs_stored, settled_by}
 use Rattle.ode_overlay.specs.Settling.{growth_told}
 use Rattle.ode_run.proofs.settling.settle.Goals as goal
@@ -49,3 +50,11 @@ returns-in_err-end-clause-leaves g c = λ entries first context.
 
 pub returns-clause-acts : goal.returns-clause-acts
 returns-clause-acts g c = λ entries first context. IfOk-weaker c.changes.result _ _ (λ batch stands. c.in_ok-end.ensures.acts entries first context) c.changes.ensures.stands
+
+pub returns-clause-faults : goal.returns-clause-faults
+returns-clause-faults g c = λ usable.
+    usable_behind (g.K.Keep.live c.end.new.ctx.heap) (g.H.Host.view c.args.host.now) (g.H.Host.view c.end.new.host) tt c.changes.result c.changes.ensures.memory (c.in_ok-end.ensures.faults usable)
+
+pub returns-in_err-end-clause-faults : goal.returns-in_err-end-clause-faults
+returns-in_err-end-clause-faults g c = λ usable.
+    usable_too (g.K.Keep.live c.end.new.ctx.heap) (g.H.Host.view c.args.host.now) (g.H.Host.view c.end.new.host) c.end.result c.from_residual.result c.in_err-end.field-0.0 (search rules) (search rules) (c.end.ensures.faults usable)

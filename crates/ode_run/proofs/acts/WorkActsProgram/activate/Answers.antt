@@ -1,5 +1,6 @@
 use Rattle.ode_schema.specs.Parts.{table_by}
 use Rattle.ode_run.proofs.ActLaws.{known_behind}
+use Rattle.ode_run.proofs.ServeLaws.{goes_behind}
 use Rattle.ode_run.proofs.acts.WorkActsProgram.activate.Goals as goal
 use Rattle.ode_view_laws.specs.Viewing.{world_now}
 
@@ -10,3 +11,7 @@ returns-clause-acts g c = λ all k declares known. c.activate.ensures.acts all k
 pub returns-clause-kept : goal.returns-clause-kept
 returns-clause-kept g c = λ k known.
     known_behind g.H.Host.view g.K.Keep.holds g.K.Keep.live c.activate.result c.args.self.now c.activate.new.self c.args.schema.now k known (c.activate.ensures.lent k) (c.activate.ensures.kept k known.classes known.runs)
+
+pub returns-clause-faults : goal.returns-clause-faults
+returns-clause-faults g c = λ k before.
+    goes_behind g.H.Host.view g.K.Keep.live c.activate.result c.args.self.now c.activate.new.self k before (c.activate.ensures.lent k) (c.activate.ensures.faults k.began)

@@ -1,6 +1,7 @@
 use Rattle.std.proofs.Common.{◌∙◌}
 use Rattle.ode_schema.specs.Parts.{table_by}
 use Rattle.ode_run.proofs.ActLaws.{known_behind}
+use Rattle.ode_run.proofs.ServeLaws.{goes_behind}
 use Rattle.ode_run.proofs.acts.WorkActsProgram.deactivate.Goals as goal
 use Rattle.ode_view_laws.specs.Viewing.{world_now}
 
@@ -11,3 +12,7 @@ returns-clause-acts g c = λ all k declares known. c.deactivate.ensures.acts all
 pub returns-clause-kept : goal.returns-clause-kept
 returns-clause-kept g c = λ k known.
     known_behind g.H.Host.view g.K.Keep.holds g.K.Keep.live c.deactivate.result c.args.self.now c.deactivate.new.self c.args.schema.now k known (c.deactivate.ensures.lent k) (c.deactivate.ensures.kept k (c.classes.ensures ∙ known.classes) known.runs)
+
+pub returns-clause-faults : goal.returns-clause-faults
+returns-clause-faults g c = λ k before.
+    goes_behind g.H.Host.view g.K.Keep.live c.deactivate.result c.args.self.now c.deactivate.new.self k before (c.deactivate.ensures.lent k) (c.deactivate.ensures.faults k.began)

@@ -1,5 +1,6 @@
 use Rattle.std.proofs.Common.{◌∙◌}
 use Rattle.ode_run.proofs.ActLaws.{known_behind}
+use Rattle.ode_run.proofs.ServeLaws.{goes_behind}
 use Rattle.ode_run.proofs.acts.WorkActsProgram.set_field.Goals as goal
 use Rattle.ode_view_laws.specs.Viewing.{world_now}
 
@@ -10,3 +11,7 @@ returns-clause-acts g c = λ all k declares known. c.set_field.ensures.acts all 
 pub returns-clause-kept : goal.returns-clause-kept
 returns-clause-kept g c = λ k known.
     known_behind g.H.Host.view g.K.Keep.holds g.K.Keep.live c.set_field.result c.args.self.now c.set_field.new.self c.args.schema.now k known (c.set_field.ensures.lent k) (c.set_field.ensures.kept k (c.classes.ensures ∙ known.classes) known.runs)
+
+pub returns-clause-faults : goal.returns-clause-faults
+returns-clause-faults g c = λ k before.
+    goes_behind g.H.Host.view g.K.Keep.live c.set_field.result c.args.self.now c.set_field.new.self k before (c.set_field.ensures.lent k) (c.set_field.ensures.faults k.began)

@@ -1,5 +1,6 @@
 use Rattle.std.proofs.Common.{◌∙◌}
 use Rattle.ode_run.proofs.ActLaws.{known_behind}
+use Rattle.ode_run.proofs.ServeLaws.{goes_behind}
 use Rattle.ode_run.proofs.acts.WorkActsProgram.stand.Goals as goal
 use Rattle.ode_view_laws.specs.Viewing.{world_now}
 
@@ -10,3 +11,7 @@ returns-clause-acts g c = λ all k declares known. c.stand.ensures.acts all k (c
 pub returns-clause-kept : goal.returns-clause-kept
 returns-clause-kept g c = λ k known.
     known_behind g.H.Host.view g.K.Keep.holds g.K.Keep.live c.stand.result c.args.self.now c.stand.new.self c.args.schema.now k known (c.stand.ensures.lent k) (c.stand.ensures.kept k (c.classes.ensures ∙ known.classes) known.runs)
+
+pub returns-clause-faults : goal.returns-clause-faults
+returns-clause-faults g c = λ k before.
+    goes_behind g.H.Host.view g.K.Keep.live c.stand.result c.args.self.now c.stand.new.self k before (c.stand.ensures.lent k) (c.stand.ensures.faults k.began)

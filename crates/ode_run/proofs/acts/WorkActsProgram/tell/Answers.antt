@@ -1,4 +1,5 @@
 use Rattle.ode_run.proofs.ActLaws.{known_behind}
+use Rattle.ode_run.proofs.ServeLaws.{goes_behind}
 use Rattle.ode_run.proofs.acts.WorkActsProgram.tell.Goals as goal
 use Rattle.ode_view_laws.specs.Viewing.{world_now}
 
@@ -9,3 +10,7 @@ returns-clause-acts g c = λ all k declares known. c.tell.ensures.acts all k dec
 pub returns-clause-kept : goal.returns-clause-kept
 returns-clause-kept g c = λ k known.
     known_behind g.H.Host.view g.K.Keep.holds g.K.Keep.live c.tell.result c.args.self.now c.tell.new.self c.args.schema.now k known (c.tell.ensures.lent k) (c.tell.ensures.kept k known.classes known.runs)
+
+pub returns-clause-faults : goal.returns-clause-faults
+returns-clause-faults g c = λ k before.
+    goes_behind g.H.Host.view g.K.Keep.live c.tell.result c.args.self.now c.tell.new.self k before (c.tell.ensures.lent k) (c.tell.ensures.faults k.began)

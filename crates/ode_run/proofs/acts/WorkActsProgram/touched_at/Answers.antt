@@ -1,5 +1,6 @@
 use Rattle.std.proofs.Common.{◌∙◌}
 use Rattle.ode_run.proofs.ActLaws.{known_behind}
+use Rattle.ode_run.proofs.ServeLaws.{goes_behind}
 use Rattle.ode_run.proofs.acts.WorkActsProgram.touched_at.Goals as goal
 use Rattle.ode_view_laws.specs.Viewing.{world_now}
 
@@ -10,3 +11,7 @@ returns-clause-acts g c = λ all k declares known. c.touched_at.ensures.acts all
 pub returns-clause-kept : goal.returns-clause-kept
 returns-clause-kept g c = λ k known.
     known_behind g.H.Host.view g.K.Keep.holds g.K.Keep.live c.touched_at.result c.args.self.now c.touched_at.new.self c.args.schema.now k known (c.touched_at.ensures.lent k) (c.touched_at.ensures.kept k (c.classes.ensures ∙ known.classes) known.runs)
+
+pub returns-clause-faults : goal.returns-clause-faults
+returns-clause-faults g c = λ k before.
+    goes_behind g.H.Host.view g.K.Keep.live c.touched_at.result c.args.self.now c.touched_at.new.self k before (c.touched_at.ensures.lent k) (c.touched_at.ensures.faults k.began)

@@ -7,6 +7,7 @@ use Rattle.ode_overlay.specs.declared.error.OverlayError.{OverlayError}
 use Rattle.ode_overlay_laws.specs.Following.{tells_new}
 use Rattle.ode_run.proofs.EndLaws.{calm_leaves, calm_then, known_left, shown_sound}
 use Rattle.ode_run.proofs.MakeLaws.{fields_fit}
+use Rattle.ode_run.proofs.ServeLaws.{making_serves}
 use Rattle.ode_run.proofs.work.Work.create.Goals as goal
 use Rattle.ode_run.specs.Knowing.{Failed, Holds, beside}
 use Rattle.ode_run.specs.Stopping.{ended}
@@ -34,3 +35,8 @@ returns-clause-kept g c = λ k same fit holds.
     subst (λ (r : Result ℕ Stop). interpreter.Leaves r (Holds g.H.Host.view (g.K.Keep.holds c.create.new._heap (g.H.Host.view c.create.new._host)) (g.K.Keep.live c.create.new._heap) c.create.new._host c.create.new.self c.args.self.now.budget.now c.args.self.now.bytes k) (Failed g.H.Host.view c.create.new._host k))
     (sym (c.ended.ensures ∙ ap (λ (r : Result ℕ OverlayError). ended r) c.calm.ensures))
     (calm_leaves g.H.Host.view g.K.Keep.holds g.K.Keep.live c.args.self.now.host.now c.create.new._host c.args.self.now.heap.now c.create.new._heap x c.create.new.self c.args.self.now.budget.now c.args.self.now.bytes k c.create.result (shown_sound tells_new (λ now. running k.first.bones.classes k.first now b) x c.create.new.self c.create.result (create c.args.class c.args.fields x) _ c.create.ensures.acts law.0) c.create.ensures.heap c.create.ensures.host holds known)
+
+pub returns-clause-faults : goal.returns-clause-faults
+returns-clause-faults g c = λ began serves.
+    making_serves g.H.Host.view g.K.Keep.live (g.H.Host.view began) c.args.self.now.host.now c.create.new._host c.args.self.now.heap.now c.create.new._heap c.create.result _
+    (c.ended.ensures ∙ ap (λ (r : Result ℕ OverlayError). ended r) c.calm.ensures) c.create.ensures.heap c.create.ensures.host serves

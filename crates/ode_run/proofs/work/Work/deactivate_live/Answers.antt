@@ -13,6 +13,7 @@ use Rattle.ode_known_laws.specs.Knowing.{declared_in}
 use Rattle.ode_overlay.specs.Answers.{Leaves}
 use Rattle.ode_overlay.specs.Changing.{deactivate}
 use Rattle.ode_run.proofs.EndLaws.{call_leaves, known_left, shown_ends, shown_sound}
+use Rattle.ode_run.proofs.ServeLaws.{call_serves}
 use Rattle.ode_run.proofs.work.Work.deactivate_live.Goals as goal
 use Rattle.ode_run.specs.Knowing.{Failed, Holds, beside}
 use Rattle.ode_value.specs.Acts.{gives}
@@ -38,3 +39,8 @@ returns-clause-kept g c = λ k same holds.
     subst (λ (r : Result (Unit {0}) Stop). interpreter.Leaves r (Holds g.H.Host.view (g.K.Keep.holds c.deactivate.new.heap (g.H.Host.view c.deactivate.new.host)) (g.K.Keep.live c.deactivate.new.heap) c.deactivate.new.host c.deactivate.new.self c.args.self.now.budget.now c.args.self.now.bytes k) (Failed g.H.Host.view c.deactivate.new.host k)) (sym c.ended.ensures)
     (call_leaves g.H.Host.view g.K.Keep.holds g.K.Keep.live c.args.self.now.host.now c.deactivate.new.host c.args.self.now.heap.now c.deactivate.new.heap x c.deactivate.new.self c.args.self.now.budget.now c.args.self.now.bytes k holds c.deactivate.ensures.looks
     c.deactivate.result (shown_sound gives (λ now. running k.first.bones.classes k.first now b) x c.deactivate.new.self c.deactivate.result (deactivate (declared_in k.first) k.entries c.args.of.object c.args.number x) _ leaves law.0) known c.deactivate.ensures.holds c.deactivate.ensures.usable c.deactivate.ensures.cause)
+
+pub returns-clause-faults : goal.returns-clause-faults
+returns-clause-faults g c = λ began serves.
+    call_serves (g.H.Host.view began) (g.H.Host.view c.args.self.now.host.now) (g.H.Host.view c.deactivate.new.host) (g.K.Keep.live c.args.self.now.heap.now) (g.K.Keep.live c.deactivate.new.heap) serves c.deactivate.ensures.looks
+    c.deactivate.result _ c.ended.ensures c.deactivate.ensures.usable c.deactivate.ensures.cause

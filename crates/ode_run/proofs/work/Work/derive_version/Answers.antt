@@ -6,6 +6,7 @@ use Rattle.ode_known_laws.specs.Knowing.{declared_in}
 use Rattle.ode_overlay.specs.Answers.{Leaves}
 use Rattle.ode_overlay.specs.Changing.{derive}
 use Rattle.ode_run.proofs.EndLaws.{call_leaves, known_left, shown_sound, shown_then}
+use Rattle.ode_run.proofs.ServeLaws.{call_serves}
 use Rattle.ode_run.proofs.work.Work.derive_version.Goals as goal
 use Rattle.ode_run.specs.Knowing.{Failed, Holds, beside}
 use Rattle.ode_run.specs.Telling.{EndsThen}
@@ -36,3 +37,8 @@ returns-clause-kept g c = λ k same holds.
     subst (λ (r : Result Ref Stop). interpreter.Leaves r (Holds g.H.Host.view (g.K.Keep.holds c.derive.new.heap (g.H.Host.view c.derive.new.host)) (g.K.Keep.live c.derive.new.heap) c.derive.new.host c.derive.new.self c.args.self.now.budget.now c.args.self.now.bytes k) (Failed g.H.Host.view c.derive.new.host k)) (sym c.ended.ensures)
     (call_leaves g.H.Host.view g.K.Keep.holds g.K.Keep.live c.args.self.now.host.now c.derive.new.host c.args.self.now.heap.now c.derive.new.heap x c.derive.new.self c.args.self.now.budget.now c.args.self.now.bytes k holds c.derive.ensures.looks
     c.derive.result (shown_sound tells_version (λ now. running k.first.bones.classes k.first now b) x c.derive.new.self c.derive.result (derive (declared_in k.first) k.entries c.args.of x) _ leaves law.0) known c.derive.ensures.holds c.derive.ensures.usable c.derive.ensures.cause)
+
+pub returns-clause-faults : goal.returns-clause-faults
+returns-clause-faults g c = λ began serves.
+    call_serves (g.H.Host.view began) (g.H.Host.view c.args.self.now.host.now) (g.H.Host.view c.derive.new.host) (g.K.Keep.live c.args.self.now.heap.now) (g.K.Keep.live c.derive.new.heap) serves c.derive.ensures.looks
+    c.derive.result _ c.ended.ensures c.derive.ensures.usable c.derive.ensures.cause

@@ -8,6 +8,7 @@ use Rattle.ode_known_laws.specs.Knowing.{declared_in}
 use Rattle.ode_overlay.specs.Answers.{Leaves}
 use Rattle.ode_overlay.specs.Changing.{drop_version}
 use Rattle.ode_run.proofs.EndLaws.{call_leaves, known_left, shown_ends, shown_sound}
+use Rattle.ode_run.proofs.ServeLaws.{call_serves}
 use Rattle.ode_run.proofs.work.Work.drop_version.Goals as goal
 use Rattle.ode_run.specs.Knowing.{Failed, Holds, beside}
 use Rattle.ode_value.specs.Acts.{gives}
@@ -33,3 +34,8 @@ returns-clause-kept g c = λ k same holds.
     subst (λ (r : Result (Unit {0}) Stop). interpreter.Leaves r (Holds g.H.Host.view (g.K.Keep.holds c.drop_version.new.heap (g.H.Host.view c.drop_version.new.host)) (g.K.Keep.live c.drop_version.new.heap) c.drop_version.new.host c.drop_version.new.self c.args.self.now.budget.now c.args.self.now.bytes k) (Failed g.H.Host.view c.drop_version.new.host k)) (sym c.ended.ensures)
     (call_leaves g.H.Host.view g.K.Keep.holds g.K.Keep.live c.args.self.now.host.now c.drop_version.new.host c.args.self.now.heap.now c.drop_version.new.heap x c.drop_version.new.self c.args.self.now.budget.now c.args.self.now.bytes k holds c.drop_version.ensures.looks
     c.drop_version.result (shown_sound gives (λ now. running k.first.bones.classes k.first now b) x c.drop_version.new.self c.drop_version.result (drop_version (declared_in k.first) k.entries c.args.of x) _ leaves law.0) known c.drop_version.ensures.holds c.drop_version.ensures.usable c.drop_version.ensures.cause)
+
+pub returns-clause-faults : goal.returns-clause-faults
+returns-clause-faults g c = λ began serves.
+    call_serves (g.H.Host.view began) (g.H.Host.view c.args.self.now.host.now) (g.H.Host.view c.drop_version.new.host) (g.K.Keep.live c.args.self.now.heap.now) (g.K.Keep.live c.drop_version.new.heap) serves c.drop_version.ensures.looks
+    c.drop_version.result _ c.ended.ensures c.drop_version.ensures.usable c.drop_version.ensures.cause

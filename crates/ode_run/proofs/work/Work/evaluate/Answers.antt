@@ -5,8 +5,10 @@ use Rattle.ode_interpreter.specs.Seen as interpreter
 use Rattle.ode_interpreter.specs.declared.stop.Stop.{Stop}
 use Rattle.ode_run.proofs.EndLaws.{evaluation_leaves, evaluation_named, stopped_too, value_ends}
 use Rattle.ode_run.proofs.MakeLaws.{left_there}
+use Rattle.ode_run.proofs.ServeLaws.{evaluation_goes_on, evaluation_serves}
 use Rattle.ode_run.proofs.work.Work.evaluate.Goals as goal
 use Rattle.ode_run.specs.Knowing.{Failed, Holds, IsRunning, beside}
+use Rattle.ode_run.specs.Serving.{IsServing, Stops}
 use Rattle.ode_run.specs.Stopping.{named}
 use Rattle.ode_run_frame.specs.Reads.{Reads}
 use Rattle.ode_value.specs.Evaluation.{evaluate}
@@ -59,3 +61,21 @@ returns-in_err-untracked-in-Some-clause-kept g c = λ k same holds.
 pub returns-in_err-untracked-in-Some-clause-acts : goal.returns-in_err-untracked-in-Some-clause-acts
 returns-in_err-untracked-in-Some-clause-acts g c = λ all k same holds.
     stopped_too c.untracked.result c.from_residual.result c.in_err-untracked-in-Some.field-0.0 _ _ c.untracked.ensures.fault (search rules) (search rules)
+
+pub returns-in-None-clause-faults : goal.returns-in-None-clause-faults
+returns-in-None-clause-faults g c = λ began serves.
+    evaluation_serves (g.H.Host.view began) (g.H.Host.view c.args.self.now.host.now) (g.H.Host.view c.evaluate-answer.new.host) (g.K.Keep.live c.args.self.now.heap.now) (g.K.Keep.live c.evaluate-answer.new.heap) serves
+    c.evaluate-answer.result _ c.read_as.ensures c.evaluate-answer.ensures.since
+
+pub returns-in_ok-untracked-in-Some-clause-faults : goal.returns-in_ok-untracked-in-Some-clause-faults
+returns-in_ok-untracked-in-Some-clause-faults g c = λ began serves.
+    c.in_ok-untracked-in-Some.ensures.faults began
+    (evaluation_goes_on (g.H.Host.view began) (g.H.Host.view c.args.self.now.host.now) (g.H.Host.view c.evaluate-answer.new.host) (g.K.Keep.live c.args.self.now.heap.now) (g.K.Keep.live c.evaluate-answer.new.heap) serves
+    c.evaluate-answer.result c.in-Some.key (sym c.named.ensures ∙ c.in-Some.is) c.evaluate-answer.ensures.since)
+
+pub returns-in_err-untracked-in-Some-clause-faults : goal.returns-in_err-untracked-in-Some-clause-faults
+returns-in_err-untracked-in-Some-clause-faults g c = λ began serves.
+    left_there c.untracked.result c.from_residual.result c.in_err-untracked-in-Some.field-0.0 (IsServing g.H.Host.view g.K.Keep.live began c.untracked.new.self) (Stops (g.H.Host.view began) (g.H.Host.view c.untracked.new.self.host.now))
+    (c.untracked.ensures.faults began
+    (evaluation_goes_on (g.H.Host.view began) (g.H.Host.view c.args.self.now.host.now) (g.H.Host.view c.evaluate-answer.new.host) (g.K.Keep.live c.args.self.now.heap.now) (g.K.Keep.live c.evaluate-answer.new.heap) serves
+    c.evaluate-answer.result c.in-Some.key (sym c.named.ensures ∙ c.in-Some.is) c.evaluate-answer.ensures.since)) (search rules) (search rules)

@@ -7,6 +7,7 @@ use Rattle.ode_interpreter.specs.Seen as interpreter
 use Rattle.ode_interpreter.specs.declared.stop.Stop.{Stop}
 use Rattle.ode_overlay.specs.Reading.{object}
 use Rattle.ode_run.proofs.EndLaws.{read_is, read_sound, reading_leaves}
+use Rattle.ode_run.proofs.ServeLaws.{reading_serves}
 use Rattle.ode_run.proofs.work.Work.head.Goals as goal
 use Rattle.ode_run.specs.Knowing.{Failed, Holds, beside}
 use Rattle.ode_value.specs.Denoting.{object_at}
@@ -29,3 +30,8 @@ returns-clause-kept g c = λ k same holds.
     subst (λ (r : Result (Option ObjectHead) Stop). interpreter.Leaves r (Holds g.H.Host.view (g.K.Keep.holds c.object.new.heap (g.H.Host.view c.object.new.host)) (g.K.Keep.live c.object.new.heap) c.object.new.host x c.args.self.now.budget.now c.args.self.now.bytes k) (Failed g.H.Host.view c.object.new.host k)) (sym c.read.ensures.is)
     (reading_leaves g.H.Host.view g.K.Keep.holds g.K.Keep.live c.args.self.now.host.now c.object.new.host c.args.self.now.heap.now c.object.new.heap x x c.args.self.now.budget.now c.args.self.now.bytes k holds c.object.ensures.looks
     c.object.result (read_sound c.object.result (object k.entries c.args.id x) (c.object.ensures.value k.entries holds.records) (λ key is. cc (there, is))) holds.known c.object.ensures.holds c.object.ensures.usable c.object.ensures.cause)
+
+pub returns-clause-faults : goal.returns-clause-faults
+returns-clause-faults g c = λ began serves.
+    reading_serves (g.H.Host.view began) (g.H.Host.view c.args.self.now.host.now) (g.H.Host.view c.object.new.host) (g.K.Keep.live c.args.self.now.heap.now) (g.K.Keep.live c.object.new.heap) serves c.object.ensures.looks
+    c.object.result _ c.read.ensures.is c.object.ensures.usable c.object.ensures.cause

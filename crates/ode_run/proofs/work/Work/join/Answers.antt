@@ -8,6 +8,7 @@ use Rattle.ode_known_laws.specs.Knowing.{declared_in}
 use Rattle.ode_overlay.specs.Answers.{Leaves}
 use Rattle.ode_overlay.specs.Changing.{touch}
 use Rattle.ode_run.proofs.EndLaws.{call_leaves, known_left, shown_ends, shown_sound}
+use Rattle.ode_run.proofs.ServeLaws.{call_serves}
 use Rattle.ode_run.proofs.work.Work.join.Goals as goal
 use Rattle.ode_run.specs.Knowing.{Failed, Holds, beside}
 use Rattle.ode_value.specs.Acts.{gives}
@@ -33,3 +34,8 @@ returns-clause-kept g c = λ k same holds.
     subst (λ (r : Result Bool Stop). interpreter.Leaves r (Holds g.H.Host.view (g.K.Keep.holds c.touch.new.heap (g.H.Host.view c.touch.new.host)) (g.K.Keep.live c.touch.new.heap) c.touch.new.host c.touch.new.self c.args.self.now.budget.now c.args.self.now.bytes k) (Failed g.H.Host.view c.touch.new.host k)) (sym c.ended.ensures)
     (call_leaves g.H.Host.view g.K.Keep.holds g.K.Keep.live c.args.self.now.host.now c.touch.new.host c.args.self.now.heap.now c.touch.new.heap x c.touch.new.self c.args.self.now.budget.now c.args.self.now.bytes k holds c.touch.ensures.looks
     c.touch.result (shown_sound gives (λ now. running k.first.bones.classes k.first now b) x c.touch.new.self c.touch.result (touch (declared_in k.first) k.entries c.args.id x) _ leaves law.0) known c.touch.ensures.holds c.touch.ensures.usable c.touch.ensures.cause)
+
+pub returns-clause-faults : goal.returns-clause-faults
+returns-clause-faults g c = λ began serves.
+    call_serves (g.H.Host.view began) (g.H.Host.view c.args.self.now.host.now) (g.H.Host.view c.touch.new.host) (g.K.Keep.live c.args.self.now.heap.now) (g.K.Keep.live c.touch.new.heap) serves c.touch.ensures.looks
+    c.touch.result _ c.ended.ensures c.touch.ensures.usable c.touch.ensures.cause

@@ -9,6 +9,7 @@ use Rattle.ode_overlay.specs.Changing.{put_acts}
 use Rattle.ode_overlay.specs.declared.error.OverlayError.{OverlayError}
 use Rattle.ode_run.proofs.EndLaws.{known_left, reading_leaves}
 use Rattle.ode_run.proofs.ObjectLaws.{puts_sound}
+use Rattle.ode_run.proofs.ServeLaws.{reading_serves}
 use Rattle.ode_run.proofs.work.Work.put_back.Goals as goal
 use Rattle.ode_run.specs.Knowing.{Failed, Holds, beside}
 use Rattle.ode_value.specs.declared.class.Class.{Class}
@@ -26,4 +27,9 @@ returns-clause-kept g c = λ k same holds.
     let sound = puts_sound (declared_in k.first) k.entries x y c.args.id c.args.there read in
     subst (λ (r : Result (Unit {0}) Stop). interpreter.Leaves r (Holds g.H.Host.view (g.K.Keep.holds c.put_acts.new.heap (g.H.Host.view c.put_acts.new.host)) (g.K.Keep.live c.put_acts.new.heap) c.put_acts.new.host c.put_acts.new.self c.args.self.now.budget.now c.args.self.now.bytes k) (Failed g.H.Host.view c.put_acts.new.host k)) (sym c.read.ensures.is)
     (reading_leaves g.H.Host.view g.K.Keep.holds g.K.Keep.live c.args.self.now.host.now c.put_acts.new.host c.args.self.now.heap.now c.put_acts.new.heap x c.put_acts.new.self c.args.self.now.budget.now c.args.self.now.bytes k holds c.put_acts.ensures.looks
-    c.put_acts.result (λ key is. absurd (sound key (subst (λ (r : Result (Unit {0}) OverlayError). Leaves r c.put_acts.new.self (put_acts (declared_in k.first) k.entries c.args.id c.args.there x)) is leaves))) known c.put_acts.ensures.holds c.put_acts.ensures.usable c.put_acts.ensures.cause)
+    c.put_acts.result (λ key is. sound key (subst (λ (r : Result (Unit {0}) OverlayError). Leaves r c.put_acts.new.self (put_acts (declared_in k.first) k.entries c.args.id c.args.there x)) is leaves)) known c.put_acts.ensures.holds c.put_acts.ensures.usable c.put_acts.ensures.cause)
+
+pub returns-clause-faults : goal.returns-clause-faults
+returns-clause-faults g c = λ began serves.
+    reading_serves (g.H.Host.view began) (g.H.Host.view c.args.self.now.host.now) (g.H.Host.view c.put_acts.new.host) (g.K.Keep.live c.args.self.now.heap.now) (g.K.Keep.live c.put_acts.new.heap) serves c.put_acts.ensures.looks
+    c.put_acts.result _ c.read.ensures.is c.put_acts.ensures.usable c.put_acts.ensures.cause

@@ -9,6 +9,7 @@ use Rattle.ode_known_laws.specs.Knowing.{declared_in}
 use Rattle.ode_overlay.specs.Answers.{Leaves}
 use Rattle.ode_overlay.specs.Changing.{remove}
 use Rattle.ode_run.proofs.EndLaws.{call_leaves, known_left, shown_ends, shown_sound}
+use Rattle.ode_run.proofs.ServeLaws.{call_serves}
 use Rattle.ode_run.proofs.work.Work.remove_live.Goals as goal
 use Rattle.ode_run.specs.Knowing.{Failed, Holds, beside}
 use Rattle.ode_value.specs.Acts.{gives}
@@ -34,3 +35,8 @@ returns-clause-kept g c = λ k same holds.
     subst (λ (r : Result (Unit {0}) Stop). interpreter.Leaves r (Holds g.H.Host.view (g.K.Keep.holds c.remove.new.heap (g.H.Host.view c.remove.new.host)) (g.K.Keep.live c.remove.new.heap) c.remove.new.host c.remove.new.self c.args.self.now.budget.now c.args.self.now.bytes k) (Failed g.H.Host.view c.remove.new.host k)) (sym c.ended.ensures)
     (call_leaves g.H.Host.view g.K.Keep.holds g.K.Keep.live c.args.self.now.host.now c.remove.new.host c.args.self.now.heap.now c.remove.new.heap x c.remove.new.self c.args.self.now.budget.now c.args.self.now.bytes k holds c.remove.ensures.looks
     c.remove.result (shown_sound gives (λ now. running k.first.bones.classes k.first now b) x c.remove.new.self c.remove.result (remove (declared_in k.first) k.entries c.args.id x) _ leaves law.0) known c.remove.ensures.holds c.remove.ensures.usable c.remove.ensures.cause)
+
+pub returns-clause-faults : goal.returns-clause-faults
+returns-clause-faults g c = λ began serves.
+    call_serves (g.H.Host.view began) (g.H.Host.view c.args.self.now.host.now) (g.H.Host.view c.remove.new.host) (g.K.Keep.live c.args.self.now.heap.now) (g.K.Keep.live c.remove.new.heap) serves c.remove.ensures.looks
+    c.remove.result _ c.ended.ensures c.remove.ensures.usable c.remove.ensures.cause

@@ -14,6 +14,7 @@ use Rattle.ode_known_laws.specs.Knowing.{declared_in}
 use Rattle.ode_overlay.specs.Answers.{Leaves}
 use Rattle.ode_overlay.specs.Changing.{activate}
 use Rattle.ode_run.proofs.EndLaws.{call_leaves, known_left, shown_sound, shown_then}
+use Rattle.ode_run.proofs.ServeLaws.{call_serves}
 use Rattle.ode_run.proofs.work.Work.switch_on.Goals as goal
 use Rattle.ode_run.specs.Knowing.{Failed, Holds, beside}
 use Rattle.ode_value.specs.declared.class.Class.{Class}
@@ -41,3 +42,8 @@ returns-clause-kept g c = λ k same holds.
     subst (λ (r : Result ℕ Stop). interpreter.Leaves r (Holds g.H.Host.view (g.K.Keep.holds c.activate.new.heap (g.H.Host.view c.activate.new.host)) (g.K.Keep.live c.activate.new.heap) c.activate.new.host c.activate.new.self c.args.self.now.budget.now c.args.self.now.bytes k) (Failed g.H.Host.view c.activate.new.host k)) (sym c.ended.ensures)
     (call_leaves g.H.Host.view g.K.Keep.holds g.K.Keep.live c.args.self.now.host.now c.activate.new.host c.args.self.now.heap.now c.activate.new.heap x c.activate.new.self c.args.self.now.budget.now c.args.self.now.bytes k holds c.activate.ensures.looks
     c.activate.result (shown_sound tells_line (λ now. running k.first.bones.classes k.first now b) x c.activate.new.self c.activate.result (activate (declared_in k.first) k.entries c.args.id c.args.t.class c.args.t.place [] x) _ leaves law.0) known c.activate.ensures.holds c.activate.ensures.usable c.activate.ensures.cause)
+
+pub returns-clause-faults : goal.returns-clause-faults
+returns-clause-faults g c = λ began serves.
+    call_serves (g.H.Host.view began) (g.H.Host.view c.args.self.now.host.now) (g.H.Host.view c.activate.new.host) (g.K.Keep.live c.args.self.now.heap.now) (g.K.Keep.live c.activate.new.heap) serves c.activate.ensures.looks
+    c.activate.result _ c.ended.ensures c.activate.ensures.usable c.activate.ensures.cause

@@ -26,3 +26,6 @@ returns-in-None-clause-acts g c = λ all k fits same holds.
     let some : 0 < c.args.of.object = search rules in
     let is : tracked_at c.args.of.object x ≡ None = search rules in
     c.test_untracked.ensures.acts all k fits same holds some is
+
+pub returns-in-Some-clause-faults : goal.returns-in-Some-clause-faults
+returns-in-Some-clause-faults g c = λ began serves. calm_left c.test_denoted.result _ _ c.test_denoted.ensures.calm serves

@@ -26,3 +26,6 @@ returns-clause-acts g c = λ all k fits same holds.
 
 pub returns-clause-kept : goal.returns-clause-kept
 returns-clause-kept g c = λ k same holds. calm_left c.test_each.result _ _ c.test_each.ensures.calm holds
+
+pub returns-clause-faults : goal.returns-clause-faults
+returns-clause-faults g c = λ began serves. calm_left c.test_each.result _ _ c.test_each.ensures.calm serves

@@ -31,3 +31,6 @@ returns-in-None-clause-acts g c = λ all k fits same holds some none.
     let still = same_view all k.first _ _ _ _ _ _ _ _ c.untracked.ensures.same.0 c.untracked.ensures.same.1 c.untracked.ensures.same.2 c.untracked.ensures.same.3 in
     none_tested c.args.of y some (c.in_ok-object.ensures.value all k (c.classes.ensures ∙ same) holds none ∙ ap (seen_as c.args.of.object) c.in-None.is)
     ∙ ap (λ (z : NumberTx). Aborted (reason.NoObject c.args.of.object) z) still
+
+pub returns-in-Some-clause-faults : goal.returns-in-Some-clause-faults
+returns-in-Some-clause-faults g c = λ began serves. calm_left c.test_denoted.result _ _ c.test_denoted.ensures.calm (c.in_ok-object.ensures.faults began serves)

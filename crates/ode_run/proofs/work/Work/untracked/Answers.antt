@@ -10,6 +10,7 @@ use Rattle.ode_overlay.specs.Answers.{Answers, from_records}
 use Rattle.ode_overlay.specs.declared.origin.Origin.TheVariants.{Script}
 use Rattle.ode_run.proofs.EndLaws.{read_sound, reading_leaves}
 use Rattle.ode_run.proofs.ObjectLaws.{whole_seen, whole_there}
+use Rattle.ode_run.proofs.ServeLaws.{reading_serves}
 use Rattle.ode_run.proofs.work.Work.untracked.Goals as goal
 use Rattle.ode_run.specs.Knowing.{Failed, Holds, beside}
 use Rattle.ode_run.specs.Testing.{seen_as}
@@ -39,3 +40,8 @@ returns-clause-kept g c = λ k same holds.
     c.load_whole.result (read_sound c.load_whole.result (from_records (whole_in (declared_in k.first) k.entries c.args.id))
     (subst (λ (cs : List Class). Answers c.load_whole.result (from_records (whole_in cs k.entries c.args.id))) same (c.load_whole.ensures.value k.entries holds.records))
     (whole_there (declared_in k.first) k.entries none (running k.first.bones.classes k.first none nothing_beside) c.args.id read refl)) holds.known c.load_whole.ensures.holds c.load_whole.ensures.usable c.load_whole.ensures.cause)
+
+pub returns-clause-faults : goal.returns-clause-faults
+returns-clause-faults g c = λ began serves.
+    reading_serves (g.H.Host.view began) (g.H.Host.view c.args.self.now.host.now) (g.H.Host.view c.load_whole.new.host) (g.K.Keep.live c.args.self.now.heap.now) (g.K.Keep.live c.load_whole.new.heap) serves c.load_whole.ensures.looks
+    c.load_whole.result _ c.read.ensures.is c.load_whole.ensures.usable c.load_whole.ensures.cause

@@ -9,8 +9,10 @@ use Rattle.ode_overlay.specs.Changing.{write}
 use Rattle.ode_run.proofs.ChangeLaws.{unless_ends}
 use Rattle.ode_run.proofs.EndLaws.{call_leaves, known_left, named_leaves, none_sound, stopped_too}
 use Rattle.ode_run.proofs.MakeLaws.{left_there}
+use Rattle.ode_run.proofs.ServeLaws.{call_serves, named_serves}
 use Rattle.ode_run.proofs.work.Work.write_kept.Goals as goal
 use Rattle.ode_run.specs.Knowing.{Failed, Holds, IsRunning, beside}
+use Rattle.ode_run.specs.Serving.{IsServing, Stops}
 use Rattle.ode_value.specs.Making.{sets_field}
 use Rattle.ode_value.specs.declared.class.Class.{Class}
 use Rattle.ode_version_laws.specs.Denoting.{LacksSlot}
@@ -68,3 +70,21 @@ returns-in_err-untracked-in-Some-clause-kept g c = λ k same fit holds.
 pub returns-in_err-untracked-in-Some-clause-acts : goal.returns-in_err-untracked-in-Some-clause-acts
 returns-in_err-untracked-in-Some-clause-acts g c = λ all k same fit holds.
     stopped_too c.untracked.result c.from_residual.result c.in_err-untracked-in-Some.field-0.0 _ _ c.untracked.ensures.fault (search rules) (search rules)
+
+pub returns-in-None-clause-faults : goal.returns-in-None-clause-faults
+returns-in-None-clause-faults g c = λ began serves.
+    call_serves (g.H.Host.view began) (g.H.Host.view c.args.self.now.host.now) (g.H.Host.view c.write-answer.new.host) (g.K.Keep.live c.args.self.now.heap.now) (g.K.Keep.live c.write-answer.new.heap) serves c.write-answer.ensures.looks
+    c.write-answer.result _ c.ended.ensures c.write-answer.ensures.usable c.write-answer.ensures.cause
+
+pub returns-in_ok-untracked-in-Some-clause-faults : goal.returns-in_ok-untracked-in-Some-clause-faults
+returns-in_ok-untracked-in-Some-clause-faults g c = λ began serves.
+    c.in_ok-untracked-in-Some.ensures.faults began
+    (named_serves (g.H.Host.view began) (g.H.Host.view c.args.self.now.host.now) (g.H.Host.view c.write-answer.new.host) (g.K.Keep.live c.args.self.now.heap.now) (g.K.Keep.live c.write-answer.new.heap) serves c.write-answer.ensures.looks
+    c.write-answer.result c.in-Some.key (sym c.named_by.ensures ∙ c.in-Some.is) c.write-answer.ensures.usable c.write-answer.ensures.cause)
+
+pub returns-in_err-untracked-in-Some-clause-faults : goal.returns-in_err-untracked-in-Some-clause-faults
+returns-in_err-untracked-in-Some-clause-faults g c = λ began serves.
+    left_there c.untracked.result c.from_residual.result c.in_err-untracked-in-Some.field-0.0 (IsServing g.H.Host.view g.K.Keep.live began c.untracked.new.self) (Stops (g.H.Host.view began) (g.H.Host.view c.untracked.new.self.host.now))
+    (c.untracked.ensures.faults began
+    (named_serves (g.H.Host.view began) (g.H.Host.view c.args.self.now.host.now) (g.H.Host.view c.write-answer.new.host) (g.K.Keep.live c.args.self.now.heap.now) (g.K.Keep.live c.write-answer.new.heap) serves c.write-answer.ensures.looks
+    c.write-answer.result c.in-Some.key (sym c.named_by.ensures ∙ c.in-Some.is) c.write-answer.ensures.usable c.write-answer.ensures.cause)) (search rules) (search rules)
