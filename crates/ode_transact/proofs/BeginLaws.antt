@@ -1,5 +1,5 @@
 -- A transaction begins over records that hold a world.
-use Rattle.std.proofs.Common.{◌≡◌, ◌∙◌, ◌<◌, ◌≤◌, ℕ, List, ◌∷◌, length, ◌-◌, Bool, true, false, Option, Some, None, Result, Ok, Err, pos, arith, cond, ap, refl, subst, sym}
+use Rattle.std.proofs.Common.{◌≡◌, ◌∙◌, ◌<◌, ◌≤◌, ◌^◌, ℕ, List, ◌∷◌, length, ◌-◌, Bool, true, false, Option, Some, None, Result, Ok, Err, pos, arith, cond, ap, refl, subst, sym}
 use Rattle.std.specs.Prelude.{IfErr, is_some}
 use Rattle.std.specs.Option.{option_map_or}
 use Rattle.ode_codec.specs.Rules.{IsClock, IsKeptCounters}
@@ -22,7 +22,7 @@ use Rattle.ode_transact.specs.declared.error.EngineError.{EngineError}
 use Rattle.ode_transact.specs.declared.error.EngineError.TheVariants as engine
 use Rattle.ode_value.specs.GoodWorlds.{IsGood}
 use Rattle.ode_value.specs.Language.{Language, ListWorld}
-use Rattle.ode_value.specs.Limits.{queue_limit, transaction_limit}
+use Rattle.ode_value.specs.Limits.{number_limit, queue_limit, transaction_limit}
 use Rattle.ode_value.specs.Posting.{waiting}
 use Rattle.ode_value.specs.Transactions.{Queue}
 use Rattle.ode_value.specs.Worlds.{Bones, Entry, Position}
@@ -79,6 +79,10 @@ pub not_refused : (l : Language) (w : ListWorld) (origin : Origin) (counters : C
 not_refused l w origin counters queued good same_counters same_queue left refused =
     refused (subst IsKeptCounters (sym same_counters) (counters_are_kept l w good)) (subst (λ (c : Counters). c.next_transaction < transaction_limit) (sym same_counters) left)
     (subst (λ (n : ℕ). cond (comes_from_entry origin) (n - 1) n ≤ queue_limit) (sym same_queue) (no_more (comes_from_entry origin) (length w.bones.queue) good.bones.few))
+
+-- where one is left for an entry of the queue, one is left
+pub still_left : (number : ℕ) → number < number_limit → number < transaction_limit
+still_left number left = let below : number < 2 ^ 62 = left in omega (arith, below)
 
 -- ---- errors
 

@@ -54,6 +54,10 @@ calls_none v = record {
   print_faults = rose_none ⊥ v.print_faults (λ none. none);
 }
 
+-- and then the host only looked
+pub calls_look : (before mid now : View) → HostCalls ⊥ ⊥ before mid → Looks mid now → now.disk_faults ≡ mid.disk_faults → HostCalls ⊥ ⊥ before now
+calls_look before mid now calls looks calm = host_calls_on ⊥ ⊥ ⊥ ⊥ before mid now (λ none. none) (λ none. none) calls (looks_then ⊥ ⊥ mid now now looks calm (calls_none now))
+
 module _ {H K : Type 0} (seen : H → View) (held : K → View → Entries → Type 0) (live : K → Bool) (means : Meaning) where
   -- So many entries ran over the file that there was before: it holds the world that they left, their texts are printed, and no stop so far
   -- left anything else.
@@ -65,7 +69,6 @@ module _ {H K : Type 0} (seen : H → View) (held : K → View → Entries → T
     pub is : IsDrained most ran w now settled
     pub printed : Printed (texts_of settled) (seen before) (seen after)
     pub moments : (said : List ℕ) (more : List Item) → (seen before).text ≡ Some said → LeavesOnly (seen before) (seen after) (IsAfterSome (HoldsBy l means) (items_of settled ++ more) w said)
-    pub calls : HostCalls ⊥ ⊥ (seen before) (seen after)
 
   -- none yet
   pub drain_starts : (l : Language) (w : ListWorld) (o : Opened K) (host : H) (most : ℕ) → IsWell l w → IsAtRest seen held live l w o host → HasDrained l w o host host most 0
@@ -77,7 +80,6 @@ module _ {H K : Type 0} (seen : H → View) (held : K → View → Entries → T
     is = nothing_drained most w;
     printed = λ text said. said ∙ ap (λ (t : List ℕ). Some t) (sym (append-nil text));
     moments = λ said more printed. started (seen host) (IsAfterSome (HoldsBy l means) more w said);
-    calls = calls_none (seen host);
   }
 
   module _ (stands : (k : K) (h : H) (entries : Entries) → held k (seen h) entries → (file : List ℕ) × Stands file (seen h) × means file entries)
@@ -101,8 +103,8 @@ module _ {H K : Type 0} (seen : H → View) (held : K → View → Entries → T
       moments_on mid looks said more printed =
           looks_on (seen before) (seen after) (seen mid) (IsAfterSome (HoldsBy l means) (items_of so.settled ++ more) w said) (so.moments said more printed) (now_left said more printed) looks
 
-      abbrev pub drain_looks : (p : Opened K) (mid : H) → Looks (seen after) (seen mid) → (seen mid).disk_faults ≡ (seen after).disk_faults → IsAtRest seen held live l so.now p mid → HasDrained l w p before mid most ran
-      drain_looks p mid looks calm rest = record {
+      abbrev pub drain_looks : (p : Opened K) (mid : H) → Looks (seen after) (seen mid) → IsAtRest seen held live l so.now p mid → HasDrained l w p before mid most ran
+      drain_looks p mid looks rest = record {
         now = so.now;
         settled = so.settled;
         well = so.well;
@@ -110,7 +112,6 @@ module _ {H K : Type 0} (seen : H → View) (held : K → View → Entries → T
         is = so.is;
         printed = λ text said. looks.text ∙ so.printed text said;
         moments = moments_on mid looks;
-        calls = host_calls_on ⊥ ⊥ ⊥ ⊥ (seen before) (seen after) (seen mid) (λ none. none) (λ none. none) so.calls (looks_then ⊥ ⊥ (seen after) (seen mid) (seen mid) looks calm (calls_none (seen mid)));
       }
 
       -- as moments of the whole drain
@@ -153,8 +154,8 @@ module _ {H K : Type 0} (seen : H → View) (held : K → View → Entries → T
       pub drain_goes : (number : ℕ) (entry : stored.Entry) (front : IsFront so.now number entry) → ran < most → (p : Opened K) (end : H) → IsWell l (settled_entry so.now number entry).0
           → IsAtRest seen held live l (settled_entry so.now number entry).0 p end → Printed (settled_entry so.now number entry).1 (seen after) (seen end)
           → ((text : List ℕ) → (seen after).text ≡ Some text → LeavesOnly (seen after) (seen end) (LeavesSettling (HoldsBy l means) so.now (settled_entry so.now number entry).0 text (settled_entry so.now number entry).1))
-          → HostCalls ⊥ ⊥ (seen after) (seen end) → HasDrained l w p before end most (ran + 1)
-      drain_goes number entry front less p end well rest printed run calls = record {
+          → HasDrained l w p before end most (ran + 1)
+      drain_goes number entry front less p end well rest printed run = record {
         now = (settled_entry so.now number entry).0;
         settled = so.settled ++ settled_entry so.now number entry ∷ [];
         well = well;
@@ -162,7 +163,6 @@ module _ {H K : Type 0} (seen : H → View) (held : K → View → Entries → T
         is = drained number entry front less (seen end);
         printed = printed_join so.settled (settled_entry so.now number entry) (seen before) (seen after) (seen end) so.printed printed;
         moments = λ said more is. moved number entry front less (seen end) said more is run;
-        calls = host_calls_on ⊥ ⊥ ⊥ ⊥ (seen before) (seen after) (seen end) (λ none. none) (λ none. none) so.calls calls;
       }
 
   -- where none is left to run, or nothing runs, that is the whole drain

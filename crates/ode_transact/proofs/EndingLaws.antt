@@ -33,6 +33,7 @@ use Rattle.ode_transact.specs.declared.error.EngineError.{EngineError}
 use Rattle.ode_transact.specs.declared.error.EngineError.TheVariants as engine
 use Rattle.ode_good_laws.specs.Well.{IsWell}
 use Rattle.ode_value.specs.Language.{Language, ListTx, ListWorld}
+use Rattle.ode_value.specs.Limits.{weight_limit}
 use Rattle.ode_value.specs.Objects.{Histories, Starts}
 use Rattle.ode_value.specs.Pasts.{lists}
 use Rattle.ode_value.specs.Settling.{Settled, abort, commit}
@@ -94,6 +95,11 @@ batch_runs {H} {K} seen held means entries changes said text printed heap now ol
     (subst (λ (h : H). held heap (seen h) entries → (seen h).text ≡ Some said → LeavesOnly (seen h) (seen new) (LeavesBatch means entries changes said text)) at
     (subst (λ (k : K). held k (seen mid) entries → (seen mid).text ≡ Some said → LeavesOnly (seen mid) (seen new) (LeavesBatch means entries changes said text)) same run))
 
+-- calls that change nothing leave what the heap holds
+pub heap_back : {H K : Type 0} (seen : H → View) (held : K → View → Entries → Type 0) (entries : Entries) (heap now : K) (old mid : H) → now ≡ heap → mid ≡ old → held heap (seen old) entries → held now (seen mid) entries
+heap_back {H} {K} seen held entries heap now old mid same at records =
+    subst (λ (k : K). held k (seen mid) entries) (sym same) (subst (λ (h : H). held heap (seen h) entries) (sym at) records)
+
 -- printed after calls that only looked, in other words
 pub printed_behind : {R : Type 0} (result : Result R EngineError) (text printed : List ℕ) (old mid new : View) → Looks old mid → text ≡ printed → OnOk result (Printed text mid new) → OnOk result (Printed printed old new)
 printed_behind (Err why) text printed old mid new looks is prints = prints
@@ -102,7 +108,7 @@ printed_behind (Ok done) text printed old mid new looks is prints =
 
 -- ---- what it leaves at the end
 
-light_enough : (bytes : ℕ) → bytes ≤ 8388608 → bytes < 2 ^ 64
+light_enough : (bytes : ℕ) → bytes ≤ weight_limit → bytes < 2 ^ 64
 light_enough bytes light = omega (arith, light)
 
 module _ {H K : Type 0} (seen : H → View) (held : K → View → Entries → Type 0) (live : K → Bool) where

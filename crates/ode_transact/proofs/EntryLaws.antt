@@ -26,7 +26,7 @@ use Rattle.ode_value.specs.Objects.{Histories, Starts}
 use Rattle.ode_value.specs.Pasts.{lists}
 use Rattle.ode_value.specs.Posting.{posts, runs}
 use Rattle.ode_value.specs.Worlds as worlds
-use Rattle.ode_value.specs.Worlds.{Bones, Declared, Entry, Object}
+use Rattle.ode_value.specs.Worlds.{Bones, Entry, Object}
 use Rattle.ode_value.specs.declared.class.Class.{Class}
 use Rattle.ode_value.specs.declared.event.Kind.{Kind}
 use Rattle.ode_value.specs.declared.member.TriggerDecl.{TriggerDecl}

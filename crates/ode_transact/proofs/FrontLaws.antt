@@ -85,6 +85,10 @@ no_next w most none = none_next w most (nat_lt w.bones.transaction number_limit)
 
 -- ---- by the number that was read
 
+-- a number is left for it
+pub front_left : (w : ListWorld) (number : ℕ) (entry : stored.Entry) → IsFront w number entry → w.bones.transaction < number_limit
+front_left w number entry front = let left = front.left in grind (arith, nat_tests, left)
+
 not_left : (number n : ℕ) → 2 ^ 62 ≤ number → number ≡ n → nat_lt n number_limit ≡ false
 not_left number n past is = grind (arith, nat_tests, past, is)
 

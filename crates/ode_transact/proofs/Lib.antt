@@ -4,12 +4,15 @@ pub mod BeginLaws
 pub mod RestLaws
 pub mod LookLaws
 pub mod GoesLaws
+pub mod UsableLaws
 pub mod TouchLaws
 pub mod EntryLaws
 pub mod RunLaws
 pub mod TransactLaws
 pub mod DrainLaws
 pub mod EndingLaws
+pub mod DamageLaws
+pub mod RecordLaws
 pub mod FrontLaws
 pub mod DrainSteps
 pub mod TransactSteps

@@ -1,11 +1,14 @@
 -- How a call of a context ended, as one of the engine.
-use Rattle.std.proofs.Common.{ℕ, Result, Ok, Err, refl}
-use Rattle.std.specs.Prelude.{IfOk, IsErrOf}
+use Rattle.std.proofs.Common.{◌≡◌, ℕ, Bool, true, Result, Ok, Err, refl}
+use Rattle.std.specs.Prelude.{IfErr, IfOk, IsErrOf}
 use Rattle.ode_host.proofs.Calls.{rose_as}
 use Rattle.ode_host.specs.Causes.{RoseIf}
+use Rattle.ode_interpreter.specs.Seen.{Leaves}
 use Rattle.ode_interpreter.specs.declared.stop.Stop.{Stop}
 use Rattle.ode_interpreter.specs.declared.stop.Stop.TheVariants as stop
 use Rattle.ode_run.specs.Contexts.{EndsWhere}
+use Rattle.ode_run.specs.Knowing.{IsSound}
+use Rattle.ode_transact.specs.Errors.{OnDamaged}
 use Rattle.ode_transact.specs.Working.{EndedAs, ending_of}
 use Rattle.ode_transact.specs.declared.error.EngineError.TheVariants as engine
 use Rattle.ode_value.specs.Acts.{Outcome, Done, Aborted}
@@ -50,3 +53,19 @@ ended_silent (Err (stop.Abort why)) is = cc is
 ended_silent (Err stop.Memory) is = cc is
 ended_silent (Err stop.DiskFault) is = cc is
 ended_silent (Err (stop.Damaged key)) is = cc is
+
+-- the keeper may be used, where it was done or aborted
+pub ended_usable : (answer : Result (Unit {0}) Stop) (live : Bool) → Leaves answer (live ≡ true) (λ why. Unit {0}) → IfOk (ending_of answer) (λ _. live ≡ true)
+ended_usable (Ok v) live usable = usable
+ended_usable (Err (stop.Abort why)) live usable = usable
+ended_usable (Err stop.Memory) live usable = tt
+ended_usable (Err stop.DiskFault) live usable = tt
+ended_usable (Err (stop.Damaged key)) live usable = tt
+
+-- what is damaged came of no sound call
+pub ended_undamaged : (answer : Result (Unit {0}) Stop) (P : Type 0) → ((IfErr answer IsSound → ⊥) → P) → OnDamaged (ending_of answer) P
+ended_undamaged (Ok v) P so = tt
+ended_undamaged (Err (stop.Abort why)) P so = tt
+ended_undamaged (Err stop.Memory) P so = tt
+ended_undamaged (Err stop.DiskFault) P so = tt
+ended_undamaged (Err (stop.Damaged key)) P so = so (λ none. none)

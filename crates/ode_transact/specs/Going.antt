@@ -1,12 +1,9 @@
 -- How a call of a context goes.
-use Rattle.std.specs.Prelude.{ℕ, [], Result, IsErrOf, slice_get}
-use Rattle.ode_host.specs.Causes.{RoseIf}
-use Rattle.ode_host.specs.Host.{Looks}
-use Rattle.ode_host.specs.View.{View}
+use Rattle.std.specs.Prelude.{ℕ, [], Result, IfErr, slice_get}
 use Rattle.ode_interpreter.specs.declared.stop.Stop.{Stop}
-use Rattle.ode_interpreter.specs.declared.stop.Stop.TheVariants as stop
 use Rattle.ode_machine.specs.TimeRows.{kinds_of}
 use Rattle.ode_run.specs.Contexts.{EndsWhere}
+use Rattle.ode_run.specs.Knowing.{IsSound}
 use Rattle.ode_value.specs.Acts.{Deed, Outcome, ◌>>=◌, ◌>>◌, finds, reads, when}
 use Rattle.ode_value.specs.Changes.{is_live, lives, object}
 use Rattle.ode_value.specs.Classes.{trigger_at}
@@ -18,12 +15,10 @@ use Rattle.ode_value.specs.Pasts.{Past}
 use Rattle.ode_value.specs.Posting.{posts, runs, touches}
 use Rattle.ode_value.specs.Worlds.{Entry}
 
--- It ended as an act over lists, where this holds of what the act reached. It only looked at the host, and the disk failed exactly where that
--- is the stop.
-pub record Goes {R : Type 0} (result : Result R Stop) (P : ListTx → Type 0) (outcome : Outcome Histories Starts R) (before after : View) : Type 0 where
+-- it ended as an act over lists, where this holds of what the act reached, and no record is damaged
+pub record Goes {R : Type 0} (result : Result R Stop) (P : ListTx → Type 0) (outcome : Outcome Histories Starts R) : Type 0 where
   pub ends : EndsWhere result P outcome
-  pub looks : Looks before after
-  pub faults : RoseIf (IsErrOf result stop.DiskFault) before.disk_faults after.disk_faults
+  pub sound : IfErr result IsSound
 
 -- ---- the parts of what a transaction does
 

@@ -1,14 +1,14 @@
 //! A transaction settles, and its context goes back to an opened file.
 ghost use Rattle.std.specs.Prelude.{◌≡◌, ◌<◌, ◌≤◌, ◌++◌, ◌^◌, ◌+ℤ◌, ℕ, List as Items, IfOk, IsErrOf, IsTrue, OnOk, Some, length, pos, true};
 ghost use Rattle.ode_transact.specs.Ending.{line_of};
-ghost use Rattle.ode_transact.specs.Errors.{fault_of};
+ghost use Rattle.ode_transact.specs.Errors.{OnDamaged, fault_of};
 ghost use Rattle.ode_transact.specs.Resting.{HoldsBy, IsAtRest, resting_parts};
 ghost use Rattle.ode_transact.specs.Settling.{LeavesBatch};
 ghost use Rattle.ode_transact.specs.Working.{settled_by};
 ghost use Rattle.ode_good_laws.specs.Well.{IsWell};
 ghost use Rattle.ode_host.specs.Causes.{RoseIf};
 ghost use Rattle.ode_host.specs.Host.{HostCalls, LeavesOnly, Looks, Printed};
-ghost use Rattle.ode_keep.specs.Entries.{Entries, applied};
+ghost use Rattle.ode_keep.specs.Entries.{Entries, applied, record_bytes};
 ghost use Rattle.ode_keep.specs.ShortValues.{HasShortValues};
 ghost use Rattle.ode_machine.specs.Moments.{LeavesSettling};
 ghost use Rattle.ode_overlay.specs.Settling.{growth_told};
@@ -22,7 +22,7 @@ use crate::settling::hand_over;
 use ode_heap::Heap;
 use ode_heap_laws::heaps_show_held_worlds;
 use ode_host::Host;
-use ode_keep::{Batch, Keep, MAX_CHANGES};
+use ode_keep::{Batch, Keep, MAX_CHANGES, MAX_RECORD_BYTES};
 use ode_lines::{aborted_line, committed_line};
 use ode_opened::Opened;
 use ode_overlay::Overlay;
@@ -90,19 +90,18 @@ fn number_of<H: Host, K: Keep<H>>(
     ctx: &mut Ctx<K>,
     host: &mut H,
 ) -> Result<u64, EngineError>
+    requires live { IsTrue (K.live ctx.old.heap) }
     ensures is { (l : Language) (w : ListWorld) (t : ListTx) → ContextRuns H.view K.holds K.live l w ctx.old host.old t → IfOk result (λ number. number ≡ w.bones.transaction) }
     ensures stays { (l : Language) (w : ListWorld) (t : ListTx) → ContextRuns H.view K.holds K.live l w ctx.old host.old t
         → OnOk result (ContextRuns H.view K.holds K.live l w ctx.new host.new t) }
+    ensures usable { OnOk result (IsTrue (K.live ctx.new.heap)) }
     ensures looks { Looks (H.view host.old) (H.view host.new) }
-    ensures cause { (l : Language) (w : ListWorld) (t : ListTx) → ContextRuns H.view K.holds K.live l w ctx.old host.old t
-        → RoseIf (IsErrOf result EngineError.DiskFault) (H.view host.old).disk_faults (H.view host.new).disk_faults }
+    ensures cause { RoseIf (IsErrOf result EngineError.DiskFault) (H.view host.old).disk_faults (H.view host.new).disk_faults }
     ensures silent { IsErrOf result EngineError.WriteFault → ⊥ }
+    ensures undamaged { OnDamaged result ((l : Language) (w : ListWorld) (t : ListTx) → ContextRuns H.view K.holds K.live l w ctx.old host.old t → ⊥) }
     ensures same { parts_of ctx.new ≡ parts_of ctx.old }
 {
     heaps_show_held_worlds();
-    if !ctx.heap.live() {
-        return Err(EngineError::DiskFault);
-    }
     let counters = ctx.heap.counters(alloc, host)?;
     Ok(counters.next_transaction)
 }
@@ -114,6 +113,7 @@ fn changes_of<H: Host, K: Keep<H>>(
     host: &mut H,
     ending: &Option<Reason>,
 ) -> Result<Batch, EngineError>
+    requires live { IsTrue (K.live ctx.old.heap) }
     requires fit { AreFit (parts_of ctx.old) }
     ensures settles { (l : Language) (w : ListWorld) (t : ListTx) (is : ContextRuns H.view K.holds K.live l w ctx.old host.old t)
         → IfOk result (λ batch. SettledOver l (tables_of ctx.old) w (growth_told ctx.new.overlay) (applied batch is.entries) ctx.new.text (line_of w.bones.transaction ending.now) (settled_by ending.now t)) }
@@ -122,20 +122,14 @@ fn changes_of<H: Host, K: Keep<H>>(
     ensures few { IfOk result (λ batch. length batch ≤ MAX_CHANGES) }
     ensures short { IfOk result HasShortValues }
     ensures usable { OnOk result (IsTrue (K.live ctx.new.heap)) }
-    ensures looks { (l : Language) (w : ListWorld) (t : ListTx) → ContextRuns H.view K.holds K.live l w ctx.old host.old t → Looks (H.view host.old) (H.view host.new) }
-    ensures cause { (l : Language) (w : ListWorld) (t : ListTx) → ContextRuns H.view K.holds K.live l w ctx.old host.old t
-        → RoseIf (IsErrOf result EngineError.DiskFault) (H.view host.old).disk_faults (H.view host.new).disk_faults }
+    ensures looks { Looks (H.view host.old) (H.view host.new) }
+    ensures cause { RoseIf (IsErrOf result EngineError.DiskFault) (H.view host.old).disk_faults (H.view host.new).disk_faults }
     ensures silent { IsErrOf result EngineError.WriteFault → ⊥ }
+    ensures undamaged { OnDamaged result ((l : Language) (w : ListWorld) (t : ListTx) → ContextRuns H.view K.holds K.live l w ctx.old host.old t → ⊥) }
     ensures same { parts_of ctx.new ≡ parts_of ctx.old }
 {
     match settle(alloc, ctx, host, ending.is_none()) {
-        Ok(batch) => {
-            if ctx.heap.live() {
-                Ok(batch)
-            } else {
-                Err(EngineError::DiskFault)
-            }
-        }
+        Ok(batch) => Ok(batch),
         Err(stop) => Err(fault_of(stop)),
     }
 }
@@ -158,6 +152,8 @@ fn close<H: Host, K: Keep<H> + Drop>(
     ensures parts { IfOk result (λ rest. resting_parts rest ≡ parts_of ctx) }
     ensures bytes { IfOk result (λ rest. (sum : ℕ) → pos ctx.bytes +ℤ growth_told ctx.overlay ≡ pos sum → sum < 2 ^ 64 → rest.bytes ≡ sum) }
     ensures usable { IfOk result (λ rest. K.live rest.keeper ≡ true) }
+    ensures undamaged { OnDamaged result ((entries : Entries) → K.holds ctx.heap (H.view host.old) entries
+        → record_bytes (applied batch.now entries) ≤ MAX_RECORD_BYTES → ⊥) }
     ensures leaves { HostCalls (IsErrOf result EngineError.DiskFault) (IsErrOf result EngineError.WriteFault) (H.view host.old) (H.view host.new) }
 {
     let Ctx {
@@ -191,6 +187,7 @@ pub fn end<H: Host, K: Keep<H> + Drop>(
     host: &mut H,
     ending: Option<Reason>,
 ) -> Result<Opened<K>, EngineError>
+    requires live { IsTrue (K.live ctx.heap) }
     requires fit { AreFit (parts_of ctx) }
     // Then the file holds the world that the machine's transaction leaves, and its text is printed.
     ensures done { (l : Language) (w : ListWorld) (t : ListTx) → ContextRuns H.view K.holds K.live l w ctx host.old t → IsWell l (settled_by ending t).0
@@ -203,8 +200,9 @@ pub fn end<H: Host, K: Keep<H> + Drop>(
         → LeavesOnly (H.view host.old) (H.view host.new) (LeavesSettling (HoldsBy l K.means) w (settled_by ending t).0 said (settled_by ending t).1) }
     ensures parts { IfOk result (λ rest. resting_parts rest ≡ parts_of ctx) }
     ensures usable { IfOk result (λ rest. K.live rest.keeper ≡ true) }
-    ensures leaves { (l : Language) (w : ListWorld) (t : ListTx) → ContextRuns H.view K.holds K.live l w ctx host.old t
-        → HostCalls (IsErrOf result EngineError.DiskFault) (IsErrOf result EngineError.WriteFault) (H.view host.old) (H.view host.new) }
+    ensures leaves { HostCalls (IsErrOf result EngineError.DiskFault) (IsErrOf result EngineError.WriteFault) (H.view host.old) (H.view host.new) }
+    // Over records that hold a world nothing is damaged, where the world behind it is good.
+    ensures undamaged { OnDamaged result ((l : Language) (w : ListWorld) (t : ListTx) → ContextRuns H.view K.holds K.live l w ctx host.old t → IsWell l (settled_by ending t).0 → ⊥) }
 {
     let mut ctx = ctx;
     let number = number_of(alloc, &mut ctx, host)?;

@@ -1,11 +1,11 @@
 //! What a transaction looks at.
-ghost use Rattle.std.specs.Prelude.{◌≡◌, IfErr, IfOk, IsErrOf, OnOk, slice_get};
+ghost use Rattle.std.specs.Prelude.{◌≡◌, IfErr, IfOk, OnOk, slice_get, true};
 ghost use Rattle.std.specs.Option.{IfSome, is_some, option_and_then, option_map};
 ghost use Rattle.ode_heap.specs.Answering.{head_of_object};
-ghost use Rattle.ode_host.specs.Causes.{RoseIf};
-ghost use Rattle.ode_host.specs.Host.{Looks};
 ghost use Rattle.ode_interpreter.specs.Seen.{IsFault};
 ghost use Rattle.ode_run.specs.Contexts.{ContextRuns, parts_of};
+ghost use Rattle.ode_run.specs.Knowing.{IsSound};
+ghost use Rattle.ode_run.specs.Serving.{LeavesUsable};
 ghost use Rattle.ode_run.specs.Stopping.{read, read_stop};
 ghost use Rattle.ode_schema.specs.Parts.{AreFit, trigger_under};
 ghost use Rattle.ode_types.specs.Families.{class_numbered};
@@ -58,9 +58,10 @@ pub fn head<H: Host, K: Keep<H>>(
     ensures versions { IfOk result (λ found. IfSome found (λ head. IsVersionList head.versions)) }
     ensures stays { (l : Language) (w : ListWorld) (t : ListTx) → ContextRuns H.view K.holds K.live l w ctx.old host.old t
         → OnOk result (ContextRuns H.view K.holds K.live l w ctx.new host.new t) }
-    ensures looks { (l : Language) (w : ListWorld) (t : ListTx) → ContextRuns H.view K.holds K.live l w ctx.old host.old t → Looks (H.view host.old) (H.view host.new) }
-    ensures cause { (l : Language) (w : ListWorld) (t : ListTx) → ContextRuns H.view K.holds K.live l w ctx.old host.old t
-        → RoseIf (IsErrOf result Stop.DiskFault) (H.view host.old).disk_faults (H.view host.new).disk_faults }
+    // No record of such a context is damaged.
+    ensures sound { (l : Language) (w : ListWorld) (t : ListTx) → ContextRuns H.view K.holds K.live l w ctx.old host.old t → IfErr result IsSound }
+    // The keeper and the host's faults, whatever the records are.
+    ensures faults { K.live ctx.old.heap ≡ true → LeavesUsable result (K.live ctx.new.heap) (H.view host.old) (H.view host.new) }
     ensures fault { IfErr result IsFault }
     ensures same { (parts_of ctx.new ≡ parts_of ctx.old) × (ctx.new.bytes ≡ ctx.old.bytes) }
 {

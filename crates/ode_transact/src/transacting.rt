@@ -1,7 +1,8 @@
 //! Whole transactions, and the entries of the queue that run behind them.
-ghost use Rattle.std.specs.Prelude.{◌≡◌, ◌≤◌, ◌+◌, ◌++◌, ℕ, List as Items, IfOk, IsErrOf, IsTrue, OnOk, Some, length, nat_lt, cond, None, true};
+ghost use Rattle.std.specs.Prelude.{◌≡◌, ◌<◌, ◌≤◌, ◌+◌, ◌++◌, ℕ, List as Items, IfOk, IsErrOf, IsTrue, OnOk, Some, length, nat_lt, cond, None, true};
 ghost use Rattle.std.specs.Option.{IfSome};
 ghost use Rattle.ode_transact.specs.Draining.{front_of};
+ghost use Rattle.ode_transact.specs.Errors.{OnDamaged};
 ghost use Rattle.ode_transact.specs.Resting.{HoldsBy, IsAtRest, resting_parts};
 ghost use Rattle.ode_transact.specs.Items.{items_of, texts_of};
 ghost use Rattle.ode_transact.specs.Working.{IsFromFront, work_of};
@@ -55,8 +56,10 @@ pub fn transact<H: Host, K: Keep<H> + Drop>(
         → LeavesOnly (H.view host.old) (H.view host.new) (LeavesSettling (HoldsBy l K.means) w s.0 said s.1) }
     ensures parts { IfOk result (λ after. resting_parts after ≡ resting_parts rest) }
     ensures usable { IfOk result (λ after. K.live after.keeper ≡ true) }
-    ensures leaves { (l : Language) (w : ListWorld) → IsAtRest H.view K.holds K.live l w rest host.old → IsFromFront origin w
-        → HostCalls (IsErrOf result EngineError.DiskFault) (IsErrOf result EngineError.WriteFault) (H.view host.old) (H.view host.new) }
+    ensures leaves { HostCalls (IsErrOf result EngineError.DiskFault) (IsErrOf result EngineError.WriteFault) (H.view host.old) (H.view host.new) }
+    // Over a well world with a number left nothing is damaged, where the world behind it is well.
+    ensures undamaged { OnDamaged result ((l : Language) (w : ListWorld) → IsWell l w → IsAtRest H.view K.holds K.live l w rest host.old → IsFromFront origin w → w.bones.transaction < number_limit
+        → IsWell l (transaction lists (origin_as origin) (work_of work.entry lists) w).0 → ⊥) }
 {
     let mut ctx = begin(alloc, rest, host, origin)?;
     let ending = run(alloc, &mut ctx, host, work)?;
@@ -77,6 +80,7 @@ pub fn next_number<H: Host, K: Keep<H> + Drop>(
     ensures looks { Looks (H.view host.old) (H.view host.new) }
     ensures cause { RoseIf (IsErrOf result EngineError.DiskFault) (H.view host.old).disk_faults (H.view host.new).disk_faults }
     ensures silent { IsErrOf result EngineError.WriteFault → ⊥ }
+    ensures undamaged { OnDamaged result ((l : Language) (w : ListWorld) → IsAtRest H.view K.holds K.live l w rest host.old → ⊥) }
 {
     let Opened {
         keeper,
@@ -116,6 +120,7 @@ fn first_entry<H: Host, K: Keep<H> + Drop>(
     ensures looks { Looks (H.view host.old) (H.view host.new) }
     ensures cause { RoseIf (IsErrOf result EngineError.DiskFault) (H.view host.old).disk_faults (H.view host.new).disk_faults }
     ensures silent { IsErrOf result EngineError.WriteFault → ⊥ }
+    ensures undamaged { OnDamaged result ((l : Language) (w : ListWorld) → IsAtRest H.view K.holds K.live l w rest host.old → ⊥) }
 {
     let Opened {
         keeper,
@@ -182,6 +187,7 @@ fn next_entry<H: Host, K: Keep<H> + Drop>(
     ensures looks { Looks (H.view host.old) (H.view host.new) }
     ensures cause { RoseIf (IsErrOf result EngineError.DiskFault) (H.view host.old).disk_faults (H.view host.new).disk_faults }
     ensures silent { IsErrOf result EngineError.WriteFault → ⊥ }
+    ensures undamaged { OnDamaged result ((l : Language) (w : ListWorld) → IsAtRest H.view K.holds K.live l w rest host.old → ⊥) }
 {
     let (rest, number) = next_number(alloc, rest, host)?;
     if number >= NUMBER_LIMIT {
@@ -211,8 +217,8 @@ pub fn drain<H: Host, K: Keep<H> + Drop>(
     ensures few { IfOk result (λ r. r.1 ≤ most) }
     ensures parts { IfOk result (λ r. resting_parts r.0 ≡ resting_parts rest) }
     ensures usable { IfOk result (λ r. K.live r.0.keeper ≡ true) }
-    ensures leaves { (l : Language) (w : ListWorld) → IsWell l w → IsAtRest H.view K.holds K.live l w rest host.old
-        → HostCalls (IsErrOf result EngineError.DiskFault) (IsErrOf result EngineError.WriteFault) (H.view host.old) (H.view host.new) }
+    ensures leaves { HostCalls (IsErrOf result EngineError.DiskFault) (IsErrOf result EngineError.WriteFault) (H.view host.old) (H.view host.new) }
+    ensures undamaged { OnDamaged result ((l : Language) (w : ListWorld) → IsWell l w → IsAtRest H.view K.holds K.live l w rest host.old → ⊥) }
 {
     transactions_leave_good_worlds();
     let mut rest = rest;
@@ -257,8 +263,9 @@ pub fn transact_and_drain<H: Host, K: Keep<H> + Drop>(
     ensures few { IfOk result (λ r. r.1 ≤ most) }
     ensures parts { IfOk result (λ r. resting_parts r.0 ≡ resting_parts rest) }
     ensures usable { IfOk result (λ r. K.live r.0.keeper ≡ true) }
-    ensures leaves { (l : Language) (w : ListWorld) → IsWell l w → IsAtRest H.view K.holds K.live l w rest host.old → IsFromFront origin w → IsWell l (transaction lists (origin_as origin) (work_of work.entry lists) w).0
-        → HostCalls (IsErrOf result EngineError.DiskFault) (IsErrOf result EngineError.WriteFault) (H.view host.old) (H.view host.new) }
+    ensures leaves { HostCalls (IsErrOf result EngineError.DiskFault) (IsErrOf result EngineError.WriteFault) (H.view host.old) (H.view host.new) }
+    ensures undamaged { OnDamaged result ((l : Language) (w : ListWorld) → IsWell l w → IsAtRest H.view K.holds K.live l w rest host.old → IsFromFront origin w → w.bones.transaction < number_limit
+        → IsWell l (transaction lists (origin_as origin) (work_of work.entry lists) w).0 → ⊥) }
 {
     let rest = transact(alloc, rest, host, origin, work)?;
     drain(alloc, rest, host, most)

@@ -4,7 +4,9 @@ ghost use Rattle.ode_host.specs.Causes.{RoseIf};
 ghost use Rattle.ode_host.specs.Host.{Looks};
 ghost use Rattle.ode_machine.specs.Works.{ticks};
 ghost use Rattle.ode_run.specs.Contexts.{ContextRuns, parts_of};
+ghost use Rattle.ode_run.specs.Serving.{LeavesUsable};
 ghost use Rattle.ode_schema.specs.Parts.{AreFit};
+ghost use Rattle.ode_transact.specs.Errors.{OnDamaged};
 ghost use Rattle.ode_transact.specs.Going.{Goes, fires, posts_kind, posts_place, touches_there};
 ghost use Rattle.ode_transact.specs.Working.{EndedAs, ending_of, entry_of, whole_of, work_of};
 ghost use Rattle.ode_value.specs.Completing.{completes};
@@ -35,7 +37,8 @@ fn touch_there<H: Host, K: Keep<H>>(
 ) -> Result<(), Stop>
     requires fit { AreFit (parts_of ctx.old) }
     ensures goes { (l : Language) (w : ListWorld) (x : ListTx) → ContextRuns H.view K.holds K.live l w ctx.old host.old x
-        → Goes result (ContextRuns H.view K.holds K.live l w ctx.new host.new) (touches_there lists id x) (H.view host.old) (H.view host.new) }
+        → Goes result (ContextRuns H.view K.holds K.live l w ctx.new host.new) (touches_there lists id x) }
+    ensures faults { K.live ctx.old.heap ≡ true → LeavesUsable result (K.live ctx.new.heap) (H.view host.old) (H.view host.new) }
     ensures same { (parts_of ctx.new ≡ parts_of ctx.old) × (ctx.new.bytes ≡ ctx.old.bytes) }
 {
     match head(ctx, host, id)? {
@@ -65,7 +68,8 @@ fn fire_entry<H: Host, K: Keep<H>>(
 ) -> Result<(), Stop>
     requires fit { AreFit (parts_of ctx.old) }
     ensures goes { (l : Language) (w : ListWorld) (x : ListTx) → ContextRuns H.view K.holds K.live l w ctx.old host.old x
-        → Goes result (ContextRuns H.view K.holds K.live l w ctx.new host.new) (fires lists (entry_of entry.now) x) (H.view host.old) (H.view host.new) }
+        → Goes result (ContextRuns H.view K.holds K.live l w ctx.new host.new) (fires lists (entry_of entry.now) x) }
+    ensures faults { K.live ctx.old.heap ≡ true → LeavesUsable result (K.live ctx.new.heap) (H.view host.old) (H.view host.new) }
     ensures same { (parts_of ctx.new ≡ parts_of ctx.old) × (ctx.new.bytes ≡ ctx.old.bytes) }
 {
     if !is_declared(&ctx.classes, entry.class, entry.trigger) {
@@ -84,7 +88,8 @@ fn run_entry<H: Host, K: Keep<H>>(
 ) -> Result<(), Stop>
     requires fit { AreFit (parts_of ctx.old) }
     ensures goes { (l : Language) (w : ListWorld) (x : ListTx) → ContextRuns H.view K.holds K.live l w ctx.old host.old x
-        → Goes result (ContextRuns H.view K.holds K.live l w ctx.new host.new) (runs_entry lists (entry_of entry.now) x) (H.view host.old) (H.view host.new) }
+        → Goes result (ContextRuns H.view K.holds K.live l w ctx.new host.new) (runs_entry lists (entry_of entry.now) x) }
+    ensures faults { K.live ctx.old.heap ≡ true → LeavesUsable result (K.live ctx.new.heap) (H.view host.old) (H.view host.new) }
     ensures same { (parts_of ctx.new ≡ parts_of ctx.old) × (ctx.new.bytes ≡ ctx.old.bytes) }
 {
     touch_there(alloc, ctx, host, entry.object)?;
@@ -102,7 +107,8 @@ fn post_kind<H: Host, K: Keep<H>>(
 ) -> Result<(), Stop>
     requires fit { AreFit (parts_of ctx.old) }
     ensures goes { (l : Language) (w : ListWorld) (x : ListTx) → ContextRuns H.view K.holds K.live l w ctx.old host.old x → is_touched id x ≡ true
-        → Goes result (ContextRuns H.view K.holds K.live l w ctx.new host.new) (posts_kind lists id place class x) (H.view host.old) (H.view host.new) }
+        → Goes result (ContextRuns H.view K.holds K.live l w ctx.new host.new) (posts_kind lists id place class x) }
+    ensures faults { K.live ctx.old.heap ≡ true → LeavesUsable result (K.live ctx.new.heap) (H.view host.old) (H.view host.new) }
     ensures same { (parts_of ctx.new ≡ parts_of ctx.old) × (ctx.new.bytes ≡ ctx.old.bytes) }
 {
     match kind_at(alloc, &ctx.classes, class, place)? {
@@ -121,7 +127,8 @@ fn post_place<H: Host, K: Keep<H>>(
 ) -> Result<(), Stop>
     requires fit { AreFit (parts_of ctx.old) }
     ensures goes { (l : Language) (w : ListWorld) (x : ListTx) → ContextRuns H.view K.holds K.live l w ctx.old host.old x → is_touched id x ≡ true
-        → Goes result (ContextRuns H.view K.holds K.live l w ctx.new host.new) (posts_place lists id place x) (H.view host.old) (H.view host.new) }
+        → Goes result (ContextRuns H.view K.holds K.live l w ctx.new host.new) (posts_place lists id place x) }
+    ensures faults { K.live ctx.old.heap ≡ true → LeavesUsable result (K.live ctx.new.heap) (H.view host.old) (H.view host.new) }
     ensures same { (parts_of ctx.new ≡ parts_of ctx.old) × (ctx.new.bytes ≡ ctx.old.bytes) }
 {
     match head(ctx, host, id)? {
@@ -139,7 +146,8 @@ fn run_tick<H: Host, K: Keep<H>>(
 ) -> Result<(), Stop>
     requires fit { AreFit (parts_of ctx.old) }
     ensures goes { (l : Language) (w : ListWorld) (x : ListTx) → ContextRuns H.view K.holds K.live l w ctx.old host.old x
-        → Goes result (ContextRuns H.view K.holds K.live l w ctx.new host.new) (ticks lists at.now x) (H.view host.old) (H.view host.new) }
+        → Goes result (ContextRuns H.view K.holds K.live l w ctx.new host.new) (ticks lists at.now x) }
+    ensures faults { K.live ctx.old.heap ≡ true → LeavesUsable result (K.live ctx.new.heap) (H.view host.old) (H.view host.new) }
     ensures same { (parts_of ctx.new ≡ parts_of ctx.old) × (ctx.new.bytes ≡ ctx.old.bytes) }
 {
     touch(alloc, ctx, host, at.object)?;
@@ -155,7 +163,8 @@ fn carry<H: Host, K: Keep<H>>(
 ) -> Result<(), Stop>
     requires fit { AreFit (parts_of ctx.old) }
     ensures goes { (l : Language) (w : ListWorld) (x : ListTx) → ContextRuns H.view K.holds K.live l w ctx.old host.old x
-        → Goes result (ContextRuns H.view K.holds K.live l w ctx.new host.new) (work_of work.entry lists x) (H.view host.old) (H.view host.new) }
+        → Goes result (ContextRuns H.view K.holds K.live l w ctx.new host.new) (work_of work.entry lists x) }
+    ensures faults { K.live ctx.old.heap ≡ true → LeavesUsable result (K.live ctx.new.heap) (H.view host.old) (H.view host.new) }
     ensures same { (parts_of ctx.new ≡ parts_of ctx.old) × (ctx.new.bytes ≡ ctx.old.bytes) }
 {
     match work {
@@ -175,7 +184,8 @@ fn carry_whole<H: Host, K: Keep<H>>(
 ) -> Result<(), Stop>
     requires fit { AreFit (parts_of ctx.old) }
     ensures goes { (l : Language) (w : ListWorld) (x : ListTx) → ContextRuns H.view K.holds K.live l w ctx.old host.old x
-        → Goes result (ContextRuns H.view K.holds K.live l w ctx.new host.new) (whole_of work.entry lists x) (H.view host.old) (H.view host.new) }
+        → Goes result (ContextRuns H.view K.holds K.live l w ctx.new host.new) (whole_of work.entry lists x) }
+    ensures faults { K.live ctx.old.heap ≡ true → LeavesUsable result (K.live ctx.new.heap) (H.view host.old) (H.view host.new) }
     ensures same { (parts_of ctx.new ≡ parts_of ctx.old) × (ctx.new.bytes ≡ ctx.old.bytes) }
 {
     carry(alloc, ctx, host, work)?;
@@ -203,10 +213,13 @@ pub fn run<H: Host, K: Keep<H>>(
     requires fit { AreFit (parts_of ctx.old) }
     ensures runs { (l : Language) (w : ListWorld) (x : ListTx) → ContextRuns H.view K.holds K.live l w ctx.old host.old x
         → IfOk result (λ ending. EndedAs ending (ContextRuns H.view K.holds K.live l w ctx.new host.new) (whole_of work.entry lists x)) }
-    ensures looks { (l : Language) (w : ListWorld) (x : ListTx) → ContextRuns H.view K.holds K.live l w ctx.old host.old x → Looks (H.view host.old) (H.view host.new) }
-    ensures cause { (l : Language) (w : ListWorld) (x : ListTx) → ContextRuns H.view K.holds K.live l w ctx.old host.old x
-        → RoseIf (IsErrOf result EngineError.DiskFault) (H.view host.old).disk_faults (H.view host.new).disk_faults }
+    // Whatever the records are, the host only looked, and the keeper may be used behind it.
+    ensures looks { K.live ctx.old.heap ≡ true → Looks (H.view host.old) (H.view host.new) }
+    ensures cause { K.live ctx.old.heap ≡ true → RoseIf (IsErrOf result EngineError.DiskFault) (H.view host.old).disk_faults (H.view host.new).disk_faults }
+    ensures usable { K.live ctx.old.heap ≡ true → IfOk result (λ _. K.live ctx.new.heap ≡ true) }
     ensures silent { IsErrOf result EngineError.WriteFault → ⊥ }
+    // Over records that hold a world nothing is damaged.
+    ensures undamaged { OnDamaged result ((l : Language) (w : ListWorld) (x : ListTx) → ContextRuns H.view K.holds K.live l w ctx.old host.old x → ⊥) }
     ensures same { (parts_of ctx.new ≡ parts_of ctx.old) × (ctx.new.bytes ≡ ctx.old.bytes) }
 {
     ending(carry_whole(alloc, ctx, host, work))
@@ -221,10 +234,13 @@ pub fn run_completion<H: Host, K: Keep<H>>(
     requires fit { AreFit (parts_of ctx.old) }
     ensures runs { (l : Language) (w : ListWorld) (x : ListTx) → ContextRuns H.view K.holds K.live l w ctx.old host.old x
         → IfOk result (λ ending. EndedAs ending (ContextRuns H.view K.holds K.live l w ctx.new host.new) (completes lists x)) }
-    ensures looks { (l : Language) (w : ListWorld) (x : ListTx) → ContextRuns H.view K.holds K.live l w ctx.old host.old x → Looks (H.view host.old) (H.view host.new) }
-    ensures cause { (l : Language) (w : ListWorld) (x : ListTx) → ContextRuns H.view K.holds K.live l w ctx.old host.old x
-        → RoseIf (IsErrOf result EngineError.DiskFault) (H.view host.old).disk_faults (H.view host.new).disk_faults }
+    // Whatever the records are, the host only looked, and the keeper may be used behind it.
+    ensures looks { K.live ctx.old.heap ≡ true → Looks (H.view host.old) (H.view host.new) }
+    ensures cause { K.live ctx.old.heap ≡ true → RoseIf (IsErrOf result EngineError.DiskFault) (H.view host.old).disk_faults (H.view host.new).disk_faults }
+    ensures usable { K.live ctx.old.heap ≡ true → IfOk result (λ _. K.live ctx.new.heap ≡ true) }
     ensures silent { IsErrOf result EngineError.WriteFault → ⊥ }
+    // Over records that hold a world nothing is damaged.
+    ensures undamaged { OnDamaged result ((l : Language) (w : ListWorld) (x : ListTx) → ContextRuns H.view K.holds K.live l w ctx.old host.old x → ⊥) }
     ensures same { (parts_of ctx.new ≡ parts_of ctx.old) × (ctx.new.bytes ≡ ctx.old.bytes) }
 {
     ending(complete(alloc, ctx, host))

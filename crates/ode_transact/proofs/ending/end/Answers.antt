@@ -1,12 +1,21 @@
-use Rattle.std.proofs.Common.{rules, ◌∙◌, ◌++◌, ℕ, List, ap, sym}
+use Rattle.std.proofs.Common.{rules, ◌∙◌, ◌++◌, ◌≤◌, ℕ, List, ap, sym}
+use Rattle.ode_good_laws.specs.Well.{IsWell}
 use Rattle.ode_host.proofs.Moments.{joined, looks_joined}
+use Rattle.ode_keep.specs.Entries.{Changes, Entries, applied, record_bytes}
+use Rattle.ode_keep.specs.declared.limits.TheConstants.{MAX_RECORD_BYTES}
 use Rattle.ode_machine.specs.Moments.{LeavesSettling}
+use Rattle.ode_opened.specs.declared.opened.Opened.{Opened}
+use Rattle.ode_run.specs.Contexts.{ContextRuns}
+use Rattle.ode_transact.proofs.BeginLaws.{damaged_before}
+use Rattle.ode_transact.proofs.DamageLaws.{damaged_so, memory_undamaged}
 use Rattle.ode_transact.proofs.EndingLaws.{batch_leaves, before_leaves, ends_at_rest, fails_apart, fails_as, looks_leave, looks_then, none_rose, printed_behind}
+use Rattle.ode_transact.proofs.RecordLaws.{records_are_light}
 use Rattle.ode_transact.specs.Ending.{line_of}
 use Rattle.ode_transact.specs.Resting.{HoldsBy}
 use Rattle.ode_transact.specs.Working.{settled_by}
 use Rattle.ode_transact.specs.declared.error.EngineError.TheVariants as engine
 use Rattle.ode_transact.proofs.ending.end.Goals as goal
+use Rattle.ode_value.specs.Language.{Language, ListTx, ListWorld}
 
 pub returns-in_err-number-clause-any_moment : goal.returns-in_err-number-clause-any_moment
 returns-in_err-number-clause-any_moment g c = λ l w t said well runs behind printed.
@@ -17,8 +26,8 @@ returns-in_err-number-clause-any_moment g c = λ l w t said well runs behind pri
     c.number_of.ensures.looks
 
 pub returns-in_err-number-clause-leaves : goal.returns-in_err-number-clause-leaves
-returns-in_err-number-clause-leaves g c = λ l w t runs.
-    fails_as c.number_of.result c.from_residual.result c.in_err-number.field-0.0 _ _ (search rules) (search rules) c.number_of.ensures.looks (c.number_of.ensures.cause l w t runs) c.number_of.ensures.silent
+returns-in_err-number-clause-leaves g c =
+    fails_as c.number_of.result c.from_residual.result c.in_err-number.field-0.0 _ _ (search rules) (search rules) c.number_of.ensures.looks c.number_of.ensures.cause c.number_of.ensures.silent
 
 pub returns-in_err-line-clause-any_moment : goal.returns-in_err-line-clause-any_moment
 returns-in_err-line-clause-any_moment g c = λ l w t said well runs behind printed.
@@ -29,8 +38,8 @@ returns-in_err-line-clause-any_moment g c = λ l w t said well runs behind print
     c.number_of.ensures.looks
 
 pub returns-in_err-line-clause-leaves : goal.returns-in_err-line-clause-leaves
-returns-in_err-line-clause-leaves g c = λ l w t runs.
-    fails_apart c.from_residual-in_err-line.result engine.Memory _ _ (search rules) (λ is. cc (is)) (λ is. cc (is)) c.number_of.ensures.looks (none_rose _ _ _ (λ failed. cc (failed)) (c.in_ok-number.ensures.cause l w t runs))
+returns-in_err-line-clause-leaves g c =
+    fails_apart c.from_residual-in_err-line.result engine.Memory _ _ (search rules) (λ is. cc (is)) (λ is. cc (is)) c.number_of.ensures.looks (none_rose _ _ _ (λ failed. cc (failed)) c.in_ok-number.ensures.cause)
 
 pub returns-in_err-batch-clause-any_moment : goal.returns-in_err-batch-clause-any_moment
 returns-in_err-batch-clause-any_moment g c = λ l w t said well runs behind printed.
@@ -38,14 +47,13 @@ returns-in_err-batch-clause-any_moment g c = λ l w t said well runs behind prin
     looks_leave (g.H.Host.view c.args.host.now) _ (LeavesSettling (HoldsBy l g.K.Keep.means) w s.0 said s.1)
     (before_leaves l g.K.Keep.means runs.entries w s.0 said s.1 (g.H.Host.view c.args.host.now) (g.met.K.Keep.stands c.args.ctx.heap c.args.host.now runs.entries runs.context.state.records)
     (g.met.H.Host.text_stands c.args.host.now) printed runs.world well.ones)
-    (looks_joined _ _ _ c.number_of.ensures.looks (c.changes_of.ensures.looks l w t (c.in_ok-number.ensures.stays l w t runs)))
+    (looks_joined _ _ _ c.number_of.ensures.looks c.changes_of.ensures.looks)
 
 pub returns-in_err-batch-clause-leaves : goal.returns-in_err-batch-clause-leaves
-returns-in_err-batch-clause-leaves g c = λ l w t runs.
-    let on = c.in_ok-number.ensures.stays l w t runs in
+returns-in_err-batch-clause-leaves g c =
     looks_then _ _ (g.H.Host.view c.args.host.now) (g.H.Host.view c.number_of.new.host) (g.H.Host.view c.changes_of.new.host) c.number_of.ensures.looks
-    (none_rose _ _ _ (λ failed. cc (failed)) (c.in_ok-number.ensures.cause l w t runs))
-    (fails_as c.changes_of.result c.from_residual-in_err-batch.result c.in_err-batch.field-0.0 _ _ (search rules) (search rules) (c.changes_of.ensures.looks l w t on) (c.changes_of.ensures.cause l w t on) c.changes_of.ensures.silent)
+    (none_rose _ _ _ (λ failed. cc (failed)) c.in_ok-number.ensures.cause)
+    (fails_as c.changes_of.result c.from_residual-in_err-batch.result c.in_err-batch.field-0.0 _ _ (search rules) (search rules) c.changes_of.ensures.looks c.changes_of.ensures.cause c.changes_of.ensures.silent)
 
 pub returns-clause-done : goal.returns-clause-done
 returns-clause-done g c = λ l w t runs well.
@@ -60,7 +68,7 @@ returns-clause-printed g c = λ l w t runs.
     let on = c.in_ok-number.ensures.stays l w t runs in
     let line = c.in_ok-line.ensures ∙ ap (λ (n : ℕ). line_of n c.args.ending) (c.in_ok-number.ensures.is l w t runs) in
     printed_behind c.close.result _ _ (g.H.Host.view c.args.host.now) (g.H.Host.view c.changes_of.new.host) (g.H.Host.view c.close.new.host)
-    (looks_joined _ _ _ c.number_of.ensures.looks (c.changes_of.ensures.looks l w t on))
+    (looks_joined _ _ _ c.number_of.ensures.looks c.changes_of.ensures.looks)
     (ap (λ (b : List ℕ). c.changes_of.new.ctx.text ++ b) (c.as_slice.ensures ∙ line) ∙ sym (c.in_ok-batch.ensures.settles l w t on).prints)
     c.close.ensures.printed
 
@@ -68,7 +76,7 @@ pub returns-clause-any_moment : goal.returns-clause-any_moment
 returns-clause-any_moment g c = λ l w t said well runs behind printed.
     let s = settled_by c.args.ending t in
     let on = c.in_ok-number.ensures.stays l w t runs in
-    let looks = looks_joined _ _ _ c.number_of.ensures.looks (c.changes_of.ensures.looks l w t on) in
+    let looks = looks_joined _ _ _ c.number_of.ensures.looks c.changes_of.ensures.looks in
     let line = c.in_ok-line.ensures ∙ ap (λ (n : ℕ). line_of n c.args.ending) (c.in_ok-number.ensures.is l w t runs) in
     let over = c.in_ok-batch.ensures.settles l w t on in
     let context = c.in_ok-batch.ensures.context l w t on in
@@ -82,9 +90,36 @@ returns-clause-any_moment g c = λ l w t said well runs behind printed.
     (c.close.ensures.any_moment on.entries said context.state.records (looks.text ∙ printed)))
 
 pub returns-clause-leaves : goal.returns-clause-leaves
-returns-clause-leaves g c = λ l w t runs.
-    let on = c.in_ok-number.ensures.stays l w t runs in
+returns-clause-leaves g c =
     looks_then _ _ (g.H.Host.view c.args.host.now) (g.H.Host.view c.changes_of.new.host) (g.H.Host.view c.close.new.host)
-    (looks_joined _ _ _ c.number_of.ensures.looks (c.changes_of.ensures.looks l w t on))
-    (none_rose _ _ _ (λ failed. cc (failed)) (c.in_ok-batch.ensures.cause l w t on) ∙ none_rose _ _ _ (λ failed. cc (failed)) (c.in_ok-number.ensures.cause l w t runs))
+    (looks_joined _ _ _ c.number_of.ensures.looks c.changes_of.ensures.looks)
+    (none_rose _ _ _ (λ failed. cc (failed)) c.in_ok-batch.ensures.cause ∙ none_rose _ _ _ (λ failed. cc (failed)) c.in_ok-number.ensures.cause)
     c.close.ensures.leaves
+
+pub returns-in_err-number-clause-undamaged : goal.returns-in_err-number-clause-undamaged
+returns-in_err-number-clause-undamaged g c =
+    let Before : Type 0 = (l : Language) (w : ListWorld) (t : ListTx) → ContextRuns g.H.Host.view g.K.Keep.holds g.K.Keep.live l w c.args.ctx c.args.host.now t → ⊥ in
+    let Undamaged : Type 0 = (l : Language) (w : ListWorld) (t : ListTx) → ContextRuns g.H.Host.view g.K.Keep.holds g.K.Keep.live l w c.args.ctx c.args.host.now t → IsWell l (settled_by c.args.ending t).0 → ⊥ in
+    damaged_before ℕ (Opened g.row.K.Denot) c.from_residual.result c.in_err-number.field-0.0 (search rules) Before Undamaged (λ damaged l w t runs well. damaged l w t runs) c.in_err-number.ensures.undamaged
+
+pub returns-in_err-line-clause-undamaged : goal.returns-in_err-line-clause-undamaged
+returns-in_err-line-clause-undamaged g c = memory_undamaged c.from_residual-in_err-line.result _ (search rules)
+
+pub returns-in_err-batch-clause-undamaged : goal.returns-in_err-batch-clause-undamaged
+returns-in_err-batch-clause-undamaged g c =
+    let Before : Type 0 = (l : Language) (w : ListWorld) (t : ListTx) → ContextRuns g.H.Host.view g.K.Keep.holds g.K.Keep.live l w c.number_of.new.ctx c.number_of.new.host t → ⊥ in
+    let Undamaged : Type 0 = (l : Language) (w : ListWorld) (t : ListTx) → ContextRuns g.H.Host.view g.K.Keep.holds g.K.Keep.live l w c.args.ctx c.args.host.now t → IsWell l (settled_by c.args.ending t).0 → ⊥ in
+    damaged_before Changes (Opened g.row.K.Denot) c.from_residual-in_err-batch.result c.in_err-batch.field-0.0 (search rules) Before Undamaged (λ damaged l w t runs well. damaged l w t (c.in_ok-number.ensures.stays l w t runs))
+    c.in_err-batch.ensures.undamaged
+
+pub returns-clause-undamaged : goal.returns-clause-undamaged
+returns-clause-undamaged g c =
+    let Before : Type 0 = (entries : Entries) → g.K.Keep.holds c.changes_of.new.ctx.heap (g.H.Host.view c.changes_of.new.host) entries → record_bytes (applied c.in_ok-batch.batch entries) ≤ MAX_RECORD_BYTES → ⊥ in
+    let Undamaged : Type 0 = (l : Language) (w : ListWorld) (t : ListTx) → ContextRuns g.H.Host.view g.K.Keep.holds g.K.Keep.live l w c.args.ctx c.args.host.now t → IsWell l (settled_by c.args.ending t).0 → ⊥ in
+    damaged_so c.close.result Before Undamaged (λ damaged l w t runs well.
+    let on = c.in_ok-number.ensures.stays l w t runs in
+    let context = c.in_ok-batch.ensures.context l w t on in
+    let over = c.in_ok-batch.ensures.settles l w t on in
+    damaged on.entries context.state.records
+    (records_are_light l (applied c.in_ok-batch.batch on.entries) (settled_by c.args.ending t).0 (over.holds well.good).held.world))
+    c.close.ensures.undamaged

@@ -1,10 +1,19 @@
-use Rattle.std.proofs.Common.{rules, ◌∙◌, arith, refl, sym}
+use Rattle.std.proofs.Common.{rules, ◌∙◌, ◌<◌, ℕ, Option, arith, refl, sym}
+use Rattle.ode_codec.specs.declared.record.Entry as stored
+use Rattle.ode_good_laws.specs.Well.{IsWell}
 use Rattle.ode_host.proofs.Calls.{host_calls_as, host_calls_on}
 use Rattle.ode_host.proofs.Moments.{looks_none}
-use Rattle.ode_transact.proofs.DrainSteps.{drain_ends, drain_goes, drain_left, drain_looks, drain_starts, drained_all, front_well, one_left}
+use Rattle.ode_opened.specs.declared.opened.Opened.{Opened}
+use Rattle.ode_overlay.specs.declared.origin.Origin.TheVariants as from
+use Rattle.ode_transact.proofs.BeginLaws.{damaged_before}
+use Rattle.ode_transact.proofs.DrainSteps.{calls_look, calls_none, drain_ends, drain_goes, drain_left, drain_looks, drain_starts, drained_all, front_well, one_left, settled_entry}
 use Rattle.ode_transact.proofs.EndingLaws.{calls_as, fails_as, none_rose}
-use Rattle.ode_transact.proofs.FrontLaws.{next_runs, no_next}
+use Rattle.ode_transact.proofs.FrontLaws.{front_left, next_runs, no_next}
 use Rattle.ode_transact.proofs.transacting.drain.Goals as goal
+use Rattle.ode_transact.specs.Resting.{IsAtRest}
+use Rattle.ode_transact.specs.Working.{IsFromFront}
+use Rattle.ode_value.specs.Language.{Language, ListWorld}
+use Rattle.ode_value.specs.Limits.{number_limit}
 
 pub entries-init : goal.entries-init
 entries-init g c = record {
@@ -12,6 +21,7 @@ entries-init g c = record {
   few = omega arith;
   usable = c.requires.live;
   parts = refl;
+  calls = calls_none (g.H.Host.view c.args.host.now);
 }
 
 pub returns-in_err-back-clause-any_moment : goal.returns-in_err-back-clause-any_moment
@@ -20,8 +30,8 @@ returns-in_err-back-clause-any_moment g c = λ l w said more well rest printed.
     (c.entries.invariant.drained l w well rest) c.next_entry.new.host c.next_entry.ensures.looks said more printed
 
 pub returns-in_err-back-clause-leaves : goal.returns-in_err-back-clause-leaves
-returns-in_err-back-clause-leaves g c = λ l w well rest.
-    host_calls_on ⊥ ⊥ _ _ _ _ _ (λ none. none) (λ none. none) (c.entries.invariant.drained l w well rest).calls
+returns-in_err-back-clause-leaves g c =
+    host_calls_on ⊥ ⊥ _ _ _ _ _ (λ none. none) (λ none. none) c.entries.invariant.calls
     (fails_as c.next_entry.result c.from_residual.result c.in_err-back.field-0.0 _ _ (search rules) (search rules) c.next_entry.ensures.looks c.next_entry.ensures.cause c.next_entry.ensures.silent)
 
 pub returns-in-None-clause-done : goal.returns-in-None-clause-done
@@ -29,7 +39,7 @@ returns-in-None-clause-done g c = λ l w well rest.
     let so = c.entries.invariant.drained l w well rest in
     let next = c.in_ok-back.ensures.is l so.now so.rest in
     let on = drain_looks g.H.Host.view g.K.Keep.holds g.K.Keep.live g.K.Keep.means g.met.K.Keep.stands g.met.H.Host.text_stands l w c.entries.rest c.args.host.now c.entries.host c.args.most c.entries.ran so
-    c.in_ok-back.back c.next_entry.new.host c.next_entry.ensures.looks (none_rose _ _ _ (λ failed. cc (failed)) c.in_ok-back.ensures.cause) next.0 in
+    c.in_ok-back.back c.next_entry.new.host c.next_entry.ensures.looks next.0 in
     let ends = drain_ends g.H.Host.view g.K.Keep.holds g.K.Keep.live g.K.Keep.means l w c.in_ok-back.back c.args.host.now c.next_entry.new.host c.args.most c.entries.ran on (no_next so.now _ (sym c.in-None.is ∙ next.1)) in
     ((ends.0, ends.1), ends.2)
 
@@ -39,19 +49,16 @@ returns-in-None-clause-any_moment g c = λ l w said more well rest printed.
     (c.entries.invariant.drained l w well rest) c.next_entry.new.host c.next_entry.ensures.looks said more printed
 
 pub returns-in-None-clause-leaves : goal.returns-in-None-clause-leaves
-returns-in-None-clause-leaves g c = λ l w well rest.
-    let so = c.entries.invariant.drained l w well rest in
-    let next = c.in_ok-back.ensures.is l so.now so.rest in
-    let on = drain_looks g.H.Host.view g.K.Keep.holds g.K.Keep.live g.K.Keep.means g.met.K.Keep.stands g.met.H.Host.text_stands l w c.entries.rest c.args.host.now c.entries.host c.args.most c.entries.ran so
-    c.in_ok-back.back c.next_entry.new.host c.next_entry.ensures.looks (none_rose _ _ _ (λ failed. cc (failed)) c.in_ok-back.ensures.cause) next.0 in
-    host_calls_as ⊥ ⊥ _ _ _ _ absurd (λ failed. cc (failed)) absurd (λ failed. cc (failed)) on.calls
+returns-in-None-clause-leaves g c =
+    host_calls_as ⊥ ⊥ _ _ _ _ absurd (λ failed. cc (failed)) absurd (λ failed. cc (failed))
+    (calls_look _ _ (g.H.Host.view c.next_entry.new.host) c.entries.invariant.calls c.next_entry.ensures.looks (none_rose _ _ _ (λ failed. cc (failed)) c.in_ok-back.ensures.cause))
 
 pub returns-in_err-rest-in-Some-clause-any_moment : goal.returns-in_err-rest-in-Some-clause-any_moment
 returns-in_err-rest-in-Some-clause-any_moment g c = λ l w said more well rest printed.
     let so = c.entries.invariant.drained l w well rest in
     let next = c.in_ok-back.ensures.is l so.now so.rest in
     let on = drain_looks g.H.Host.view g.K.Keep.holds g.K.Keep.live g.K.Keep.means g.met.K.Keep.stands g.met.H.Host.text_stands l w c.entries.rest c.args.host.now c.entries.host c.args.most c.entries.ran so
-    c.in_ok-back.back c.next_entry.new.host c.next_entry.ensures.looks (none_rose _ _ _ (λ failed. cc (failed)) c.in_ok-back.ensures.cause) next.0 in
+    c.in_ok-back.back c.next_entry.new.host c.next_entry.ensures.looks next.0 in
     let front = next_runs so.now c.in-Some.number c.in-Some.entry (sym c.in-Some.is ∙ next.1) in
     let behind = front_well l so.now c.in-Some.number c.in-Some.entry front (λ most. c.transactions_leave_good_worlds.ensures.drain l most so.now so.well) in
     one_left g.H.Host.view g.K.Keep.holds g.K.Keep.live g.K.Keep.means g.met.K.Keep.stands g.met.H.Host.text_stands l w c.in_ok-back.back c.args.host.now c.next_entry.new.host c.args.most c.entries.ran on
@@ -59,14 +66,10 @@ returns-in_err-rest-in-Some-clause-any_moment g c = λ l w said more well rest p
     (λ text is. c.transact.ensures.any_moment l so.now text so.well next.0 (front.e, front.more, front.front) behind is)
 
 pub returns-in_err-rest-in-Some-clause-leaves : goal.returns-in_err-rest-in-Some-clause-leaves
-returns-in_err-rest-in-Some-clause-leaves g c = λ l w well rest.
-    let so = c.entries.invariant.drained l w well rest in
-    let next = c.in_ok-back.ensures.is l so.now so.rest in
-    let on = drain_looks g.H.Host.view g.K.Keep.holds g.K.Keep.live g.K.Keep.means g.met.K.Keep.stands g.met.H.Host.text_stands l w c.entries.rest c.args.host.now c.entries.host c.args.most c.entries.ran so
-    c.in_ok-back.back c.next_entry.new.host c.next_entry.ensures.looks (none_rose _ _ _ (λ failed. cc (failed)) c.in_ok-back.ensures.cause) next.0 in
-    let front = next_runs so.now c.in-Some.number c.in-Some.entry (sym c.in-Some.is ∙ next.1) in
-    host_calls_on ⊥ ⊥ _ _ _ _ _ (λ none. none) (λ none. none) on.calls
-    (calls_as c.transact.result c.from_residual-in_err-rest-in-Some.result c.in_err-rest-in-Some.field-0.0 _ _ (search rules) (search rules) (c.transact.ensures.leaves l so.now next.0 (front.e, front.more, front.front)))
+returns-in_err-rest-in-Some-clause-leaves g c =
+    host_calls_on ⊥ ⊥ _ _ _ _ _ (λ none. none) (λ none. none)
+    (calls_look _ _ (g.H.Host.view c.next_entry.new.host) c.entries.invariant.calls c.next_entry.ensures.looks (none_rose _ _ _ (λ failed. cc (failed)) c.in_ok-back.ensures.cause))
+    (calls_as c.transact.result c.from_residual-in_err-rest-in-Some.result c.in_err-rest-in-Some.field-0.0 _ _ (search rules) (search rules) c.transact.ensures.leaves)
 
 pub entries-preserved : goal.entries-preserved
 entries-preserved g c = record {
@@ -74,17 +77,20 @@ entries-preserved g c = record {
       let so = c.entries.invariant.drained lang w well rest in
       let next = c.in_ok-back.ensures.is lang so.now so.rest in
       let on = drain_looks g.H.Host.view g.K.Keep.holds g.K.Keep.live g.K.Keep.means g.met.K.Keep.stands g.met.H.Host.text_stands lang w c.entries.rest c.args.host.now c.entries.host c.args.most c.entries.ran so
-      c.in_ok-back.back c.next_entry.new.host c.next_entry.ensures.looks (none_rose _ _ _ (λ failed. cc (failed)) c.in_ok-back.ensures.cause) next.0 in
+      c.in_ok-back.back c.next_entry.new.host c.next_entry.ensures.looks next.0 in
       let front = next_runs so.now c.in-Some.number c.in-Some.entry (sym c.in-Some.is ∙ next.1) in
       let behind = front_well lang so.now c.in-Some.number c.in-Some.entry front (λ most. c.transactions_leave_good_worlds.ensures.drain lang most so.now so.well) in
       let done = c.in_ok-rest-in-Some.ensures.done lang so.now next.0 (front.e, front.more, front.front) behind in
       drain_goes g.H.Host.view g.K.Keep.holds g.K.Keep.live g.K.Keep.means g.met.K.Keep.stands g.met.H.Host.text_stands lang w c.in_ok-back.back c.args.host.now c.next_entry.new.host c.args.most c.entries.ran on
       c.in-Some.number c.in-Some.entry front c.entries-test.true c.in_ok-rest-in-Some.rest c.transact.new.host behind done.0 done.1
-      (λ text is. c.in_ok-rest-in-Some.ensures.any_moment lang so.now text so.well next.0 (front.e, front.more, front.front) behind is)
-      (host_calls_as _ _ ⊥ ⊥ _ _ (λ failed. cc (failed)) absurd (λ failed. cc (failed)) absurd (c.in_ok-rest-in-Some.ensures.leaves lang so.now next.0 (front.e, front.more, front.front)));
+      (λ text is. c.in_ok-rest-in-Some.ensures.any_moment lang so.now text so.well next.0 (front.e, front.more, front.front) behind is);
   few = let less = c.entries-test.true in omega (arith, less);
   usable = c.in_ok-rest-in-Some.ensures.usable;
   parts = c.in_ok-rest-in-Some.ensures.parts ∙ c.in_ok-back.ensures.parts ∙ c.entries.invariant.parts;
+  calls =
+      host_calls_on ⊥ ⊥ ⊥ ⊥ _ _ _ (λ none. none) (λ none. none)
+      (calls_look _ _ (g.H.Host.view c.next_entry.new.host) c.entries.invariant.calls c.next_entry.ensures.looks (none_rose _ _ _ (λ failed. cc (failed)) c.in_ok-back.ensures.cause))
+      (host_calls_as _ _ ⊥ ⊥ _ _ (λ failed. cc (failed)) absurd (λ failed. cc (failed)) absurd c.in_ok-rest-in-Some.ensures.leaves);
 }
 
 pub returns-clause-done : goal.returns-clause-done
@@ -98,3 +104,26 @@ pub returns-clause-any_moment : goal.returns-clause-any_moment
 returns-clause-any_moment g c = λ l w said more well rest printed.
     drain_left g.H.Host.view g.K.Keep.holds g.K.Keep.live g.K.Keep.means g.met.K.Keep.stands g.met.H.Host.text_stands l w c.entries.rest c.args.host.now c.entries.host c.args.most c.entries.ran
     (c.entries.invariant.drained l w well rest) c.entries.host (looks_none (g.H.Host.view c.entries.host)) said more printed
+
+pub returns-clause-leaves : goal.returns-clause-leaves
+returns-clause-leaves g c = host_calls_as ⊥ ⊥ _ _ _ _ absurd (λ failed. cc (failed)) absurd (λ failed. cc (failed)) c.entries.invariant.calls
+
+pub returns-in_err-back-clause-undamaged : goal.returns-in_err-back-clause-undamaged
+returns-in_err-back-clause-undamaged g c =
+    let Before : Type 0 = (l : Language) (w : ListWorld) → IsAtRest g.H.Host.view g.K.Keep.holds g.K.Keep.live l w c.entries.rest c.entries.host → ⊥ in
+    let Undamaged : Type 0 = (l : Language) (w : ListWorld) → IsWell l w → IsAtRest g.H.Host.view g.K.Keep.holds g.K.Keep.live l w c.args.rest c.args.host.now → ⊥ in
+    damaged_before (Opened g.row.K.Denot × Option (ℕ × stored.Entry)) (Opened g.row.K.Denot × ℕ) c.from_residual.result c.in_err-back.field-0.0 (search rules) Before Undamaged
+    (λ damaged l w well rest. let so = c.entries.invariant.drained l w well rest in damaged l so.now so.rest) c.in_err-back.ensures.undamaged
+
+pub returns-in_err-rest-in-Some-clause-undamaged : goal.returns-in_err-rest-in-Some-clause-undamaged
+returns-in_err-rest-in-Some-clause-undamaged g c =
+    let Before : Type 0 = (l : Language) (w : ListWorld) → IsWell l w → IsAtRest g.H.Host.view g.K.Keep.holds g.K.Keep.live l w c.in_ok-back.back c.next_entry.new.host → IsFromFront (from.Entry c.in-Some.number c.in-Some.entry.generation) w → w.bones.transaction < number_limit
+    → IsWell l (settled_entry w c.in-Some.number c.in-Some.entry).0 → ⊥ in
+    let Undamaged : Type 0 = (l : Language) (w : ListWorld) → IsWell l w → IsAtRest g.H.Host.view g.K.Keep.holds g.K.Keep.live l w c.args.rest c.args.host.now → ⊥ in
+    damaged_before (Opened g.row.K.Denot) (Opened g.row.K.Denot × ℕ) c.from_residual-in_err-rest-in-Some.result c.in_err-rest-in-Some.field-0.0 (search rules) Before Undamaged (λ damaged l w well rest.
+    let so = c.entries.invariant.drained l w well rest in
+    let next = c.in_ok-back.ensures.is l so.now so.rest in
+    let front = next_runs so.now c.in-Some.number c.in-Some.entry (sym c.in-Some.is ∙ next.1) in
+    let behind = front_well l so.now c.in-Some.number c.in-Some.entry front (λ most. c.transactions_leave_good_worlds.ensures.drain l most so.now so.well) in
+    damaged l so.now so.well next.0 (front.e, front.more, front.front) (front_left so.now c.in-Some.number c.in-Some.entry front) behind)
+    c.in_err-rest-in-Some.ensures.undamaged

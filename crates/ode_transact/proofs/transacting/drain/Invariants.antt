@@ -3,9 +3,11 @@ use Rattle.ode_transact.proofs.DrainSteps.{HasDrained}
 use Rattle.ode_transact.proofs.transacting.drain.Given as goal
 use Rattle.ode_transact.specs.Resting.{IsAtRest, resting_parts}
 use Rattle.ode_good_laws.specs.Well.{IsWell}
+use Rattle.ode_host.specs.Host.{HostCalls}
 use Rattle.ode_value.specs.Language.{Language, ListWorld}
 
--- So many entries ran: the file holds the world that they left, their texts are printed, and no stop so far left anything else.
+-- So many entries ran: the file holds the world that they left, their texts are printed, and no stop so far left anything else. Whatever the
+-- records are, no call of the host failed so far.
 abbrev pub invariant-entries : goal.invariant-entries
 invariant-entries g l = record {
   drained : (lang : Language) (w : ListWorld) → IsWell lang w → IsAtRest g.H.Host.view g.K.Keep.holds g.K.Keep.live lang w l.fn.rest l.fn.host
@@ -13,6 +15,7 @@ invariant-entries g l = record {
   few : l.ran ≤ l.fn.most;
   usable : IsTrue (g.K.Keep.live l.rest.keeper);
   parts : resting_parts l.rest ≡ resting_parts l.fn.rest;
+  calls : HostCalls ⊥ ⊥ (g.H.Host.view l.fn.host) (g.H.Host.view l.host);
 }
 
 abbrev pub decreases-entries : goal.decreases-entries
