@@ -16,8 +16,10 @@ use Rattle.ode_laws.specs.Alike.{AgreesOn}
 use Rattle.ode_opened.specs.declared.opened.Opened.{Opened}
 use Rattle.ode_schema.specs.Parts.{AreFit, Parts}
 use Rattle.ode_settled_laws.specs.Holding.{IsHeldBy}
+use Rattle.ode_transact.proofs.BeginLaws.{damaged_before}
 use Rattle.ode_transact.proofs.EndingLaws.{none_rose}
 use Rattle.ode_transact.proofs.RestLaws.{rests}
+use Rattle.ode_transact.specs.Errors.{OnDamaged}
 use Rattle.ode_transact.specs.Resting.{IsAtRest, resting_parts, resting_tables}
 use Rattle.ode_transact.specs.declared.error.EngineError.{EngineError}
 use Rattle.ode_transact.specs.declared.error.EngineError.TheVariants as engine
@@ -106,3 +108,7 @@ pub agree_behind : (classes : List Declared) (c : Declared) (own : List Table) (
 agree_behind classes c own alphabets p after class stored is same parts agree =
     subst (λ (ts : ℕ → ℕ → Table). AllByRecursion (AgreesOn (tables_with c.class.number own ts) (tables_in after)) classes) (sym is)
     (subst (λ (q : Parts). AllByRecursion (AgreesOn (tables_with c.class.number own (tables_in p)) (tables_in q)) classes) (ap (λ (k : Class). parts_with k own alphabets p) same ∙ sym parts) agree)
+
+-- what is known of a call before where a record is damaged
+pub damaged_as : {R S : Type 0} (first : Result R EngineError) (result : Result S EngineError) (why : EngineError) (P Q : Type 0) → first ≡ Err why → result ≡ Err why → OnDamaged first P → (P → Q) → OnDamaged result Q
+damaged_as {R} {S} first result why P Q is same damaged to = damaged_before R S result why same P Q to (subst (λ (r : Result R EngineError). OnDamaged r P) is damaged)

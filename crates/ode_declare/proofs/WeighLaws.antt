@@ -1,5 +1,5 @@
 -- A compiled class, weighed.
-use Rattle.std.proofs.Common.{◌≡◌, ◌≤◌, ◌<◌, ◌+◌, ◌-◌, ◌^◌, ◌∙◌, ℕ, Bool, List, Some, Result, Ok, Err, min, ap, sym, subst, arith}
+use Rattle.std.proofs.Common.{◌≡◌, ◌≤◌, ◌<◌, ◌+◌, ◌-◌, ◌^◌, ◌∙◌, ℕ, Bool, List, Some, Result, length, map, min, ap, sym, subst, arith}
 use Rattle.std.specs.Prelude.{IfOk, OnOk}
 use Rattle.ode_class_laws.proofs.Stands.{as_many}
 use Rattle.ode_class_laws.proofs.StoredLaws.{own_is}
@@ -7,7 +7,7 @@ use Rattle.ode_class_laws.specs.Declaring.{bones_with, stored_with}
 use Rattle.ode_class_records.specs.ClassRows.{IsStoredBy, class_rows}
 use Rattle.ode_class_records.specs.Puts.{puts}
 use Rattle.ode_codec.specs.StoredRows.{Stored}
-use Rattle.ode_compile.specs.Compiling.{AreCompiled}
+use Rattle.ode_compile.specs.Compiling.{AreCompiled, size_of_table}
 use Rattle.ode_compile.specs.declared.compiling.Compiled.{Compiled}
 use Rattle.ode_declare.proofs.DeclareLaws.{more_weighs}
 use Rattle.ode_declare.specs.Declaring.{IsMade, IsTaken}
@@ -23,13 +23,14 @@ use Rattle.ode_transact.specs.Settling.{Meaning}
 use Rattle.ode_transact.specs.declared.error.EngineError.{EngineError}
 use Rattle.ode_good_laws.specs.Well.{IsWell}
 use Rattle.ode_value.specs.Language.{Language, ListWorld}
-use Rattle.ode_value.specs.Limits.{weight_limit}
+use Rattle.ode_value.specs.Lengths.{class_records}
+use Rattle.ode_value.specs.Limits.{class_limit, weight_limit}
 use Rattle.ode_value.specs.Objects.{Histories, Starts}
 use Rattle.ode_value.specs.PrintedClasses.{decl_text}
 use Rattle.ode_value.specs.Settling.{Settled}
 use Rattle.ode_value.specs.Tables.{Table}
 use Rattle.ode_value.specs.Weights.{class_weight, weight}
-use Rattle.ode_value.specs.Worlds.{Bones, Declared}
+use Rattle.ode_value.specs.Worlds.{Declared}
 use Rattle.ode_value.specs.declared.class.Class.{Class}
 
 -- a stored class, by its text and tables in other words
@@ -40,6 +41,14 @@ stored_same by c class text text2 own own2 same_text same_own is = record { clas
 stored_made : (by : ℕ → ℕ → Table) (c : Declared) (made : Compiled) → c.class ≡ made.class → decl_text c.tree ≡ made.text → IsStoredBy by c c.class (decl_text c.tree) made.tables → IsStoredBy by c made.class made.text made.tables
 stored_made by c made class text is =
     subst (λ (k : Class). IsStoredBy by c k made.text made.tables) class (subst (λ (t : List ℕ). IsStoredBy by c c.class t made.tables) text is)
+
+-- so many changes are few
+pub few_changes : (text text2 : List ℕ) (own own2 : List Table) (n : ℕ) → text2 ≡ text → own2 ≡ own → n ≡ class_records (length text2) (map size_of_table own2)
+    → class_records (length text) (map size_of_table own) ≤ class_limit → n ≤ class_limit
+few_changes text text2 own own2 n same_text same_own count few =
+    let is : n ≡ class_records (length text) (map size_of_table own) =
+    count ∙ ap (λ (t : List ℕ). class_records (length t) (map size_of_table own2)) same_text ∙ ap (λ (ts : List Table). class_records (length text) (map size_of_table ts)) same_own in
+    subst (λ (k : ℕ). k ≤ class_limit) (sym is) few
 
 -- the changes that put its rows
 abbrev pub PutsMade : Compiled → Changes → Type 0

@@ -1,5 +1,5 @@
 -- How a declaration answers, and what it is over an opened file.
-use Rattle.std.specs.Prelude.{◌≡◌, ℕ, List, Option, Some, None, Ok, Err}
+use Rattle.std.specs.Prelude.{◌≡◌, ℕ, Option, Some, None, Ok, Err}
 use Rattle.ode_class_laws.specs.Declaring.{bones_with}
 use Rattle.ode_class_records.specs.ClassRows.{IsStoredBy, class_rows}
 use Rattle.ode_class_records.specs.Puts.{puts}

@@ -1,5 +1,5 @@
 //! Changes of records: what they put, and those of two batches.
-ghost use Rattle.std.specs.Prelude.{◌≡◌, ◌-◌, ◌^◌, min, OnOk};
+ghost use Rattle.std.specs.Prelude.{◌≡◌, ◌≤◌, ◌+◌, ◌-◌, ◌^◌, min, OnOk, length};
 ghost use Rattle.ode_keep.specs.Entries.{Entries, applied, value_under};
 ghost use Rattle.ode_keep.specs.Growth.{put_bytes};
 ghost use Rattle.ode_keep.specs.ShortValues.{HasShortValues};
@@ -29,6 +29,7 @@ pub(crate) fn put_all(alloc: Global, batch: &mut Batch, more: &Batch) -> Result<
     // They leave what both leave in turn.
     ensures both { OnOk result ((base : Entries) (q : Row) → value_under (applied batch.new base) q ≡ value_under (applied more.now (applied batch.old base)) q) }
     ensures short { OnOk result (HasShortValues batch.old → HasShortValues more.now → HasShortValues batch.new) }
+    ensures few { OnOk result (length batch.new ≤ length batch.old + length more.now) }
 {
     'changes: for (key, value) in more.iter() {
         match value {

@@ -1,5 +1,5 @@
 //! A class is declared.
-ghost use Rattle.std.specs.Prelude.{◌≡◌, ℕ, List as Items, Err, IfOk, IsErrOf, IsTrue, Ok, Some};
+ghost use Rattle.std.specs.Prelude.{◌≡◌, ◌<◌, ℕ, List as Items, Err, IfOk, IsErrOf, IsTrue, Ok, Some};
 ghost use Rattle.std.specs.List.{AllByRecursion};
 ghost use Rattle.std.specs.Option.{IfSome};
 ghost use Rattle.ode_compile.specs.Compiling.{HaveNumbers};
@@ -14,8 +14,10 @@ ghost use Rattle.ode_machine.specs.Moments.{LeavesSettling};
 ghost use Rattle.ode_machine.specs.Refusals.{declared_in};
 ghost use Rattle.ode_machine.specs.Works.{declares};
 ghost use Rattle.ode_schema.specs.Parts.{AreFit};
+ghost use Rattle.ode_transact.specs.Errors.{OnDamaged};
 ghost use Rattle.ode_transact.specs.Resting.{HoldsBy, IsAtRest, resting_parts};
 ghost use Rattle.ode_value.specs.Language.{ListWorld};
+ghost use Rattle.ode_value.specs.Limits.{number_limit};
 ghost use Rattle.ode_value.specs.Pasts.{lists};
 ghost use Rattle.ode_value.specs.Settling.{transaction};
 ghost use Rattle.ode_value.specs.Transactions.{Script};
@@ -62,8 +64,10 @@ pub fn declare<H: Host, K: Keep<H> + Drop>(
     ensures fit { IfOk result (λ r. AreFit (resting_parts r.0)) }
     ensures aligned { IfOk result (λ r. AreAligned (resting_parts r.0)) }
     ensures usable { IfOk result (λ r. IsTrue (K.live r.0.keeper)) }
-    ensures leaves { (w : ListWorld) → IsAtRest H.view K.holds K.live ode w rest host.old
-        → HostCalls (IsErrOf result EngineError.DiskFault) (IsErrOf result EngineError.WriteFault) (H.view host.old) (H.view host.new) }
+    // Over a good world with a number left no record is damaged, where the class is accepted and the world behind is good.
+    ensures undamaged { OnDamaged result ((w : ListWorld) → IsWell ode w → HasText ode (statement.Class decl.now) → IsAtRest H.view K.holds K.live ode w rest host.old → w.bones.transaction < number_limit
+        → ((c : Declared) → declared_in ode w.bones decl.now ≡ Ok c → AllByRecursion HasFewParams c.class.triggers × IsWell ode (transaction lists Script (declares c) w).0) → ⊥) }
+    ensures leaves { HostCalls (IsErrOf result EngineError.DiskFault) (IsErrOf result EngineError.WriteFault) (H.view host.old) (H.view host.new) }
 {
     checked_classes_have_few_parts();
     language_has_sound_rules();

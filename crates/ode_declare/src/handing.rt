@@ -1,23 +1,27 @@
 //! What is handed over for a class, and that it is.
-ghost use Rattle.std.specs.Prelude.{◌≡◌, ◌≤◌, ◌++◌, ℕ, List as Items, IfOk, IsErrOf, IsTrue, OnOk, Some, length, true};
+ghost use Rattle.std.specs.Prelude.{◌≡◌, ◌≤◌, ◌+◌, ◌++◌, ℕ, List as Items, IfOk, IsErrOf, IsTrue, OnOk, Some, length, true};
 ghost use Rattle.ode_declare.specs.Declaring.{IsJoined};
 ghost use Rattle.ode_heap_laws.specs.Few.{HoldsCounted};
 ghost use Rattle.ode_host.specs.Causes.{RoseIf};
 ghost use Rattle.ode_host.specs.Host.{HostCalls, LeavesOnly, Looks, Printed};
-ghost use Rattle.ode_keep.specs.Entries.{Entries, applied, value_under};
+ghost use Rattle.ode_keep.specs.Entries.{Entries, applied, record_bytes, value_under};
 ghost use Rattle.ode_keep.specs.ShortValues.{HasShortValues};
+ghost use Rattle.ode_laws.specs.Alike.{NumberWorld};
+ghost use Rattle.ode_overlay.specs.declared.origin.Origin.TheVariants as from;
+ghost use Rattle.ode_transact.specs.Errors.{OnDamaged};
 ghost use Rattle.ode_transact.specs.Resting.{resting_parts};
 ghost use Rattle.ode_transact.specs.Settling.{LeavesBatch};
 ghost use Rattle.ode_value.specs.Language.{Language, ListWorld};
-ghost use Rattle.ode_value.specs.Settling.{transaction};
+ghost use Rattle.ode_value.specs.Limits.{class_limit};
 ghost use Rattle.ode_value.specs.Texts.{class_line, committed_line};
 ghost use Rattle.ode_value.specs.declared.key.Key.{Key as Row};
+ghost use Rattle.ode_view_laws.specs.Viewing.{began_over};
 
 use crate::batches::put_all;
 use ode_heap::Heap;
 use ode_heap_laws::heaps_show_held_worlds;
 use ode_host::Host;
-use ode_keep::{Batch, Keep, MAX_CHANGES};
+use ode_keep::{Batch, Keep, MAX_CHANGES, MAX_RECORD_BYTES};
 use ode_lines::{class_line, committed_line};
 use ode_opened::Opened;
 use ode_overlay::Overlay;
@@ -41,7 +45,7 @@ fn class_text(alloc: Global, name: &Name, number: u64) -> Result<List<u8>, Alloc
     Ok(List::from_vec(text))
 }
 
-// The changes of a class, and behind them those of its transaction. They are never too many for a keeper.
+// The changes of a class, and behind them those of its transaction. Too many are told at the counters, whose record each settling writes.
 fn joined(alloc: Global, changes: Batch, more: &Batch) -> Result<Batch, EngineError>
     requires short { HasShortValues changes }
     requires short_more { HasShortValues more.now }
@@ -50,6 +54,8 @@ fn joined(alloc: Global, changes: Batch, more: &Batch) -> Result<Batch, EngineEr
     ensures short { IfOk result HasShortValues }
     ensures calm { IsErrOf result EngineError.DiskFault → ⊥ }
     ensures silent { IsErrOf result EngineError.WriteFault → ⊥ }
+    // They aren't too many for a keeper, where both together aren't.
+    ensures undamaged { OnDamaged result (length changes + length more.now ≤ MAX_CHANGES → ⊥) }
 {
     let mut batch = changes;
     put_all(alloc, &mut batch, more)?;
@@ -79,6 +85,7 @@ pub(crate) fn transaction_number<H: Host, K: Keep<H>>(
     ensures looks { Looks (H.view host.old) (H.view host.new) }
     ensures cause { RoseIf (IsErrOf result EngineError.DiskFault) (H.view host.old).disk_faults (H.view host.new).disk_faults }
     ensures silent { IsErrOf result EngineError.WriteFault → ⊥ }
+    ensures undamaged { OnDamaged result ((l : Language) (entries : Entries) (w : ListWorld) → HoldsCounted l entries w → K.holds heap.old (H.view host.old) entries → ⊥) }
 {
     heaps_show_held_worlds();
     let counters = heap.counters(alloc, host)?;
@@ -100,6 +107,8 @@ pub(crate) fn gather(
     ensures text { IfOk result (λ r. r.text ≡ class_line name.now ++ committed_line number) }
     ensures calm { IsErrOf result EngineError.DiskFault → ⊥ }
     ensures silent { IsErrOf result EngineError.WriteFault → ⊥ }
+    // A class within the limits and the counters aren't too many changes for a keeper.
+    ensures undamaged { OnDamaged result ((first : NumberWorld) → overlay.now ≡ began_over from.Script first → length changes ≤ class_limit → ⊥) }
 {
     let more = overlay.as_commit()?;
     let batch = joined(alloc, changes, &more)?;
@@ -124,6 +133,7 @@ pub(crate) fn settle<H: Host, K: Keep<H> + Drop>(
         → LeavesOnly (H.view host.old) (H.view host.new) (LeavesBatch K.means entries batch.now said text.now) }
     ensures usable { IfOk result (λ after. IsTrue (K.live after.keeper)) }
     ensures leaves { HostCalls (IsErrOf result EngineError.DiskFault) (IsErrOf result EngineError.WriteFault) (H.view host.old) (H.view host.new) }
+    ensures undamaged { OnDamaged result ((entries : Entries) → K.holds rest.keeper (H.view host.old) entries → record_bytes (applied batch.now entries) ≤ MAX_RECORD_BYTES → ⊥) }
 {
     let Opened {
         keeper,

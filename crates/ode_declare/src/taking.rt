@@ -1,5 +1,5 @@
 //! A class for which there is room.
-ghost use Rattle.std.specs.Prelude.{◌≡◌, ◌≤◌, ◌++◌, ℕ, List as Items, IfOk, IsErrOf, IsTrue, OnOk, Some, length};
+ghost use Rattle.std.specs.Prelude.{◌≡◌, ◌<◌, ◌≤◌, ◌++◌, ℕ, List as Items, IfOk, IsErrOf, IsTrue, OnOk, Some, length};
 ghost use Rattle.ode_compile.specs.Compiling.{AreCompiled};
 ghost use Rattle.ode_declare.specs.Declaring.{IsTaken};
 ghost use Rattle.ode_declared_laws.specs.Adding.{AreAligned, parts_with};
@@ -12,9 +12,11 @@ ghost use Rattle.ode_keep.specs.ShortValues.{HasShortValues};
 ghost use Rattle.ode_machine.specs.Moments.{LeavesSettling};
 ghost use Rattle.ode_machine.specs.Works.{declares};
 ghost use Rattle.ode_schema.specs.Parts.{AreFit};
+ghost use Rattle.ode_transact.specs.Errors.{OnDamaged};
 ghost use Rattle.ode_transact.specs.Resting.{HoldsBy, IsAtRest, resting_parts, resting_tables};
 ghost use Rattle.ode_types.specs.Checked.{IsChecked};
 ghost use Rattle.ode_value.specs.Language.{Language, ListWorld};
+ghost use Rattle.ode_value.specs.Limits.{class_limit, transaction_limit};
 ghost use Rattle.ode_value.specs.Pasts.{lists};
 ghost use Rattle.ode_value.specs.Settling.{transaction};
 ghost use Rattle.ode_value.specs.Texts.{class_line, committed_line};
@@ -59,6 +61,7 @@ fn prepare<H: Host, K: Keep<H> + Drop>(
     ensures looks { Looks (H.view host.old) (H.view host.new) }
     ensures cause { RoseIf (IsErrOf result EngineError.DiskFault) (H.view host.old).disk_faults (H.view host.new).disk_faults }
     ensures silent { IsErrOf result EngineError.WriteFault → ⊥ }
+    ensures undamaged { OnDamaged result ((l : Language) (w : ListWorld) → IsAtRest H.view K.holds K.live l w rest host.old → w.bones.transaction < transaction_limit → length changes ≤ class_limit → ⊥) }
 {
     declared_classes_settle();
     programs_take_classes();
@@ -99,6 +102,9 @@ pub(crate) fn take_in<H: Host, K: Keep<H> + Drop>(
     ensures aligned { IfOk result (λ after. AreAligned (resting_parts after)) }
     ensures usable { IfOk result (λ after. IsTrue (K.live after.keeper)) }
     ensures leaves { HostCalls (IsErrOf result EngineError.DiskFault) (IsErrOf result EngineError.WriteFault) (H.view host.old) (H.view host.new) }
+    // Over a good world with a number left no record is damaged, where the world behind is good.
+    ensures undamaged { OnDamaged result ((l : Language) (w : ListWorld) (c : Declared) → IsAtRest H.view K.holds K.live l w rest host.old → IsTaken l w c made changes bytes → w.bones.transaction < transaction_limit
+        → length changes ≤ class_limit → IsWell l (transaction lists Script (declares c) w).0 → ⊥) }
 {
     let prepared = prepare(alloc, rest, host, made, changes, bytes)?;
     let (after, gathered) = prepared;

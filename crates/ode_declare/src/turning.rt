@@ -1,12 +1,14 @@
 //! A class for which there is no room.
-ghost use Rattle.std.specs.Prelude.{◌≡◌, ℕ, List as Items, IfOk, IsErrOf, IsTrue, OnOk, Some, true};
+ghost use Rattle.std.specs.Prelude.{◌≡◌, ◌<◌, ℕ, List as Items, IfOk, IsErrOf, IsTrue, OnOk, Some, true};
 ghost use Rattle.ode_good_laws.specs.Well.{IsWell};
 ghost use Rattle.ode_host.specs.Host.{HostCalls, LeavesOnly, Printed};
 ghost use Rattle.ode_machine.specs.Moments.{LeavesSettling};
 ghost use Rattle.ode_schema.specs.Parts.{AreFit};
+ghost use Rattle.ode_transact.specs.Errors.{OnDamaged};
 ghost use Rattle.ode_transact.specs.Resting.{HoldsBy, IsAtRest, resting_parts};
 ghost use Rattle.ode_value.specs.Acts.{with_line};
 ghost use Rattle.ode_value.specs.Language.{Language, ListWorld};
+ghost use Rattle.ode_value.specs.Limits.{transaction_limit};
 ghost use Rattle.ode_value.specs.Pasts.{lists};
 ghost use Rattle.ode_value.specs.Settling.{abort};
 ghost use Rattle.ode_value.specs.Texts.{class_line};
@@ -39,8 +41,9 @@ pub(crate) fn turn_away<H: Host, K: Keep<H> + Drop>(
         → LeavesOnly (H.view host.old) (H.view host.new) (LeavesSettling (HoldsBy l K.means) w s.0 said s.1) }
     ensures parts { IfOk result (λ after. resting_parts after ≡ resting_parts rest) }
     ensures usable { IfOk result (λ after. K.live after.keeper ≡ true) }
-    ensures leaves { (l : Language) (w : ListWorld) → IsAtRest H.view K.holds K.live l w rest host.old
-        → HostCalls (IsErrOf result EngineError.DiskFault) (IsErrOf result EngineError.WriteFault) (H.view host.old) (H.view host.new) }
+    ensures leaves { HostCalls (IsErrOf result EngineError.DiskFault) (IsErrOf result EngineError.WriteFault) (H.view host.old) (H.view host.new) }
+    ensures undamaged { OnDamaged result ((l : Language) (w : ListWorld) → IsAtRest H.view K.holds K.live l w rest host.old → w.bones.transaction < transaction_limit
+        → IsWell l (abort lists Reason.Space (with_line (class_line name.now) (begun Script w))).0 → ⊥) }
 {
     let mut ctx = begin(alloc, rest, host, Origin::Script)?;
     let line = class_line(alloc, name)?;

@@ -1,5 +1,5 @@
 //! A compiled class is declared: it is taken in, or turned away where it is too heavy.
-ghost use Rattle.std.specs.Prelude.{◌≡◌, ◌≤◌, ◌+◌, ◌-◌, ◌^◌, ℕ, List as Items, IfOk, IsErrOf, IsTrue, OnOk, Some, length, map, min};
+ghost use Rattle.std.specs.Prelude.{◌≡◌, ◌<◌, ◌≤◌, ◌+◌, ◌-◌, ◌^◌, ℕ, List as Items, IfOk, IsErrOf, IsTrue, OnOk, Some, length, map, min};
 ghost use Rattle.ode_class_records.specs.ClassRows.{IsStoredBy, class_rows};
 ghost use Rattle.ode_class_records.specs.Puts.{puts};
 ghost use Rattle.ode_compile.specs.Compiling.{AreCompiled, size_of_table};
@@ -12,11 +12,12 @@ ghost use Rattle.ode_keep.specs.ShortValues.{HasShortValues};
 ghost use Rattle.ode_machine.specs.Moments.{LeavesSettling};
 ghost use Rattle.ode_machine.specs.Works.{declares};
 ghost use Rattle.ode_schema.specs.Parts.{AreFit};
+ghost use Rattle.ode_transact.specs.Errors.{OnDamaged};
 ghost use Rattle.ode_transact.specs.Resting.{HoldsBy, IsAtRest, resting_parts};
 ghost use Rattle.ode_types.specs.Checked.{IsChecked};
 ghost use Rattle.ode_value.specs.Language.{Language, ListWorld};
 ghost use Rattle.ode_value.specs.Lengths.{class_records};
-ghost use Rattle.ode_value.specs.Limits.{class_limit};
+ghost use Rattle.ode_value.specs.Limits.{class_limit, transaction_limit};
 ghost use Rattle.ode_value.specs.Pasts.{lists};
 ghost use Rattle.ode_value.specs.Settling.{transaction};
 ghost use Rattle.ode_value.specs.Tables.{Table};
@@ -42,6 +43,7 @@ fn weigh(alloc: Global, made: &Compiled, before: u64) -> Result<(Batch, u64), Al
     ensures rows { IfOk result (λ r. (by : ℕ → ℕ → Table) (c : Declared) → IsStoredBy by c made.now.class made.now.text made.now.tables → r.0 ≡ puts (class_rows by c)) }
     ensures bytes { IfOk result (λ r. r.1 ≡ min (before + min (put_bytes r.0) (2 ^ 64 - 1)) (2 ^ 64 - 1)) }
     ensures short { IfOk result (λ r. HasShortValues r.0) }
+    ensures few { IfOk result (λ r. length r.0 ≤ class_limit) }
 {
     let changes = class_changes(
         alloc,
@@ -78,8 +80,10 @@ pub(crate) fn bring_in<H: Host, K: Keep<H> + Drop>(
     ensures fit { IfOk result (λ after. AreFit (resting_parts after)) }
     ensures aligned { IfOk result (λ after. AreAligned (resting_parts after)) }
     ensures usable { IfOk result (λ after. IsTrue (K.live after.keeper)) }
-    ensures leaves { (l : Language) (w : ListWorld) → IsAtRest H.view K.holds K.live l w rest host.old
-        → HostCalls (IsErrOf result EngineError.DiskFault) (IsErrOf result EngineError.WriteFault) (H.view host.old) (H.view host.new) }
+    ensures leaves { HostCalls (IsErrOf result EngineError.DiskFault) (IsErrOf result EngineError.WriteFault) (H.view host.old) (H.view host.new) }
+    // Over a good world with a number left no record is damaged, where the world behind is good.
+    ensures undamaged { OnDamaged result ((l : Language) (w : ListWorld) (c : Declared) → IsWell l w → IsAtRest H.view K.holds K.live l w rest host.old → IsMade l w c made → w.bones.transaction < transaction_limit
+        → IsWell l (transaction lists Script (declares c) w).0 → ⊥) }
 {
     classes_weigh_their_records();
     declarations_settle();

@@ -1,4 +1,4 @@
-use Rattle.std.proofs.Common.{◌≡◌}
+use Rattle.std.proofs.Common.{◌≡◌, ◌≤◌, ◌+◌, length}
 use Rattle.std.specs.List.{AllByRecursion}
 use Rattle.ode_keep.proofs.Lengths.{IsShortChange}
 use Rattle.ode_keep.specs.Entries.{Entries, applied, value_under}
@@ -11,4 +11,5 @@ invariant-changes l = record {
   both : (base : Entries) (q : Key) → value_under (applied l.key-iterator (applied l.batch base)) q ≡ value_under (applied l.more (applied l.fn.batch base)) q;
   short : HasShortValues l.fn.batch → HasShortValues l.more → HasShortValues l.batch;
   left : HasShortValues l.more → AllByRecursion IsShortChange l.key-iterator;
+  few : length l.batch + length l.key-iterator ≤ length l.fn.batch + length l.more;
 }

@@ -3,7 +3,7 @@ use Rattle.ode_compile.specs.Answers.{Stops}
 use Rattle.ode_compile.specs.Compiling.{compiled}
 use Rattle.ode_declare.proofs.DeclareLaws.{declares_compiled, declares_made, declares_refused, few_made, made_as, meant, none_refused}
 use Rattle.std.proofs.lemmas.Result.{err_from_is_err_and}
-use Rattle.ode_declare.proofs.TakeLaws.{classes_are}
+use Rattle.ode_declare.proofs.TakeLaws.{classes_are, damaged_as}
 use Rattle.ode_declare.proofs.declaring.declare.Goals as goal
 use Rattle.ode_host.proofs.Calls.{host_calls_as, rose_none}
 use Rattle.ode_host.proofs.Moments.{looks_none}
@@ -11,6 +11,7 @@ use Rattle.ode_language.specs.Languages.{ode}
 use Rattle.ode_machine.specs.Moments.{LeavesSettling}
 use Rattle.ode_machine.specs.Refusals.{declared_in}
 use Rattle.ode_machine.specs.Works.{declares}
+use Rattle.ode_transact.proofs.BeginLaws.{still_left}
 use Rattle.ode_transact.proofs.EndingLaws.{before_leaves, calls_as, fails_apart, looks_fail, looks_leave}
 use Rattle.ode_transact.specs.Resting.{HoldsBy}
 use Rattle.ode_transact.specs.declared.error.EngineError.TheVariants as engine
@@ -41,10 +42,10 @@ returns-in_err-after-in-Ok-clause-any_moment g c = λ w d said well text rest is
     c.bring_in.ensures.any_moment ode w d said well rest made
 
 pub returns-in_err-after-in-Ok-clause-leaves : goal.returns-in_err-after-in-Ok-clause-leaves
-returns-in_err-after-in-Ok-clause-leaves g c = λ w rest.
+returns-in_err-after-in-Ok-clause-leaves g c =
     let p = err_from_is_err_and c.from_residual.result c.from_residual.ensures.1 in
     let same : c.from_residual.result ≡ Err c.in_err-after-in-Ok.field-0.0 = rw (p.1, p.2) refl in
-    calls_as c.bring_in.result c.from_residual.result c.in_err-after-in-Ok.field-0.0 _ _ (search rules) same (c.bring_in.ensures.leaves ode w rest)
+    calls_as c.bring_in.result c.from_residual.result c.in_err-after-in-Ok.field-0.0 _ _ (search rules) same c.bring_in.ensures.leaves
 
 pub returns-in_ok-after-in-Ok-clause-done : goal.returns-in_ok-after-in-Ok-clause-done
 returns-in_ok-after-in-Ok-clause-done g c = λ w well text rest.
@@ -68,8 +69,8 @@ returns-in_ok-after-in-Ok-clause-any_moment g c = λ w d said well text rest is 
     c.bring_in.ensures.any_moment ode w d said well rest made
 
 pub returns-in_ok-after-in-Ok-clause-leaves : goal.returns-in_ok-after-in-Ok-clause-leaves
-returns-in_ok-after-in-Ok-clause-leaves g c = λ w rest.
-    host_calls_as _ _ _ _ _ _ (λ failed. cc (failed)) (λ failed. cc (failed)) (λ failed. cc (failed)) (λ failed. cc (failed)) (c.in_ok-after-in-Ok.ensures.leaves ode w rest)
+returns-in_ok-after-in-Ok-clause-leaves g c =
+    host_calls_as _ _ _ _ _ _ (λ failed. cc (failed)) (λ failed. cc (failed)) (λ failed. cc (failed)) (λ failed. cc (failed)) c.in_ok-after-in-Ok.ensures.leaves
 
 pub returns-in-Err-Memory-clause-any_moment : goal.returns-in-Err-Memory-clause-any_moment
 returns-in-Err-Memory-clause-any_moment g c = λ w d said well text rest is few behind printed.
@@ -79,7 +80,7 @@ returns-in-Err-Memory-clause-any_moment g c = λ w d said well text rest is few 
     (looks_none _)
 
 pub returns-in-Err-Memory-clause-leaves : goal.returns-in-Err-Memory-clause-leaves
-returns-in-Err-Memory-clause-leaves g c = λ w rest.
+returns-in-Err-Memory-clause-leaves g c =
     fails_apart _ engine.Memory (g.H.Host.view c.args.host.now) (g.H.Host.view c.args.host.now) refl (λ is. cc (is)) (λ is. cc (is)) (looks_none _) refl
 
 pub returns-in-Err-Refused-clause-done : goal.returns-in-Err-Refused-clause-done
@@ -99,5 +100,17 @@ returns-in-Err-Refused-clause-any_moment g c = λ w d said well text rest is few
     (looks_none _)
 
 pub returns-in-Err-Refused-clause-leaves : goal.returns-in-Err-Refused-clause-leaves
-returns-in-Err-Refused-clause-leaves g c = λ w rest.
+returns-in-Err-Refused-clause-leaves g c =
     looks_fail _ (g.H.Host.view c.args.host.now) (g.H.Host.view c.args.host.now) (looks_none _) (rose_none _ _ (λ failed. cc (failed))) (λ failed. cc (failed))
+
+pub returns-in_err-after-in-Ok-clause-undamaged : goal.returns-in_err-after-in-Ok-clause-undamaged
+returns-in_err-after-in-Ok-clause-undamaged g c =
+    let p = err_from_is_err_and c.from_residual.result c.from_residual.ensures.1 in
+    let same : c.from_residual.result ≡ Err c.in_err-after-in-Ok.field-0.0 = rw (p.1, p.2) refl in
+    damaged_as c.bring_in.result c.from_residual.result c.in_err-after-in-Ok.field-0.0 _ _ (search rules) same c.bring_in.ensures.undamaged (λ damaged w well text rest left accepted.
+    let known = classes_are g.H.Host.view g.K.Keep.holds g.K.Keep.live ode w c.args.rest c.args.host.now rest in
+    let own : Declared = record { class = c.in-Ok.made.class; tree = c.args.decl.now } in
+    let is = meant c.args.rest.classes c.args.decl.now c.in-Ok.made c.in-Ok.ensures.answers c.in-Ok.ensures.text w known in
+    let behind = accepted own is in
+    let made = made_as c.args.rest.classes c.args.decl.now c.in-Ok.made c.in-Ok.ensures.answers c.in-Ok.ensures.text w known c.language_has_sound_rules.ensures c.language_reads_well.ensures text (λ few. c.checked_classes_have_few_parts.ensures c.args.rest.classes own c.as_slice-known.ensures.checked c.in-Ok.ensures.checked few) own is behind.0 in
+    damaged ode w own well rest made (still_left w.bones.transaction left) behind.1)

@@ -1,13 +1,15 @@
 use Rattle.std.proofs.Common.{rules, Err, refl, ◌≡◌, ◌∙◌, ◌<◌, ◌≤◌, ◌+◌, ◌++◌, ◌^◌, ap, length, subst, sym}
 use Rattle.std.proofs.lemmas.Result.{err_from_is_err_and}
-use Rattle.ode_declare.proofs.TakeLaws.{agree_behind, calm_ok, classes_are, keeper_kept, parts_with_class, rose_behind}
+use Rattle.ode_declare.proofs.TakeLaws.{agree_behind, calm_ok, classes_are, damaged_as, keeper_kept, parts_with_class, rose_behind}
 use Rattle.ode_declare.proofs.taking.prepare.Goals as goal
-use Rattle.ode_declared_laws.specs.Adding.{AreAligned, parts_with}
+use Rattle.ode_declared_laws.specs.Adding.{AreAligned}
 use Rattle.ode_host.proofs.Moments.{looks_joined}
 use Rattle.ode_overlay.specs.After.{stands_after}
 use Rattle.ode_overlay.specs.Layers.{Layer}
 use Rattle.ode_schema.specs.Parts.{AreFit, Parts}
+use Rattle.ode_transact.proofs.DamageLaws.{memory_undamaged}
 use Rattle.ode_transact.specs.Resting.{resting_parts}
+use Rattle.ode_transact.specs.declared.error.EngineError.TheVariants as engine
 use Rattle.ode_types.specs.Checked.{IsChecked}
 use Rattle.ode_value.specs.Limits.{name_limit}
 use Rattle.ode_value.specs.Texts.{class_line, committed_line}
@@ -76,3 +78,29 @@ returns-in_err-after-clause-looks g c = looks_joined _ _ _ c.begin.ensures.looks
 
 pub returns-clause-looks : goal.returns-clause-looks
 returns-clause-looks g c = looks_joined _ _ _ c.begin.ensures.looks c.transaction_number.ensures.looks
+
+pub returns-in_err-ctx-clause-undamaged : goal.returns-in_err-ctx-clause-undamaged
+returns-in_err-ctx-clause-undamaged g c =
+    let p = err_from_is_err_and c.from_residual.result c.from_residual.ensures.1 in
+    let same : c.from_residual.result ≡ Err c.in_err-ctx.field-0.0 = rw (p.1, p.2) refl in
+    damaged_as c.begin.result c.from_residual.result c.in_err-ctx.field-0.0 _ _ (search rules) same c.begin.ensures.undamaged (λ damaged l w is left few. damaged l w is tt left)
+
+pub returns-in_err-number-clause-undamaged : goal.returns-in_err-number-clause-undamaged
+returns-in_err-number-clause-undamaged g c =
+    let p = err_from_is_err_and c.from_residual-in_err-number.result c.from_residual-in_err-number.ensures.1 in
+    let same : c.from_residual-in_err-number.result ≡ Err c.in_err-number.field-0.0 = rw (p.1, p.2) refl in
+    damaged_as c.transaction_number.result c.from_residual-in_err-number.result c.in_err-number.field-0.0 _ _ (search rules) same c.transaction_number.ensures.undamaged (λ damaged l w is left few.
+    damaged l is.entries w is.world (c.in_ok-ctx.ensures.beginning l w is tt).records)
+
+pub returns-in_err-gathered-clause-undamaged : goal.returns-in_err-gathered-clause-undamaged
+returns-in_err-gathered-clause-undamaged g c =
+    let p = err_from_is_err_and c.from_residual-in_err-gathered.result c.from_residual-in_err-gathered.ensures.1 in
+    let same : c.from_residual-in_err-gathered.result ≡ Err c.in_err-gathered.field-0.0 = rw (p.1, p.2) refl in
+    damaged_as c.gather.result c.from_residual-in_err-gathered.result c.in_err-gathered.field-0.0 _ _ (search rules) same c.gather.ensures.undamaged (λ damaged l w is left few.
+    damaged is.world.world.stored.world (c.in_ok-ctx.ensures.beginning l w is tt).overlay few)
+
+pub returns-in_err-after-clause-undamaged : goal.returns-in_err-after-clause-undamaged
+returns-in_err-after-clause-undamaged g c =
+    let p = err_from_is_err_and c.from_residual-in_err-after.result c.from_residual-in_err-after.ensures.1 in
+    let same : c.from_residual-in_err-after.result ≡ Err engine.Memory = rw (p.1, p.2) refl in
+    memory_undamaged c.from_residual-in_err-after.result _ same

@@ -1,9 +1,12 @@
-use Rattle.std.proofs.Common.{rules, Err, refl, ◌≡◌, ◌∙◌, subst, sym}
+use Rattle.std.proofs.Common.{rules, Err, refl, ◌≡◌, ◌∙◌, sym}
 use Rattle.std.proofs.lemmas.Result.{err_from_is_err_and}
-use Rattle.ode_declare.proofs.TakeLaws.{parts_alone, parts_kept, taken_rests}
+use Rattle.ode_transact.proofs.DamageLaws.{damaged_so}
+use Rattle.ode_transact.proofs.RecordLaws.{records_are_light}
+use Rattle.ode_declare.proofs.TakeLaws.{damaged_as, parts_alone, parts_kept, taken_rests}
 use Rattle.ode_declare.proofs.taking.take_in.Goals as goal
 use Rattle.ode_declared_laws.specs.Adding.{AreAligned}
 use Rattle.ode_host.proofs.Moments.{joined}
+use Rattle.ode_keep.specs.Entries.{applied}
 use Rattle.ode_machine.specs.Moments.{LeavesSettling}
 use Rattle.ode_machine.specs.Works.{declares}
 use Rattle.ode_schema.specs.Parts.{AreFit}
@@ -59,3 +62,16 @@ returns-clause-aligned g c = parts_kept AreAligned c.settle.result (resting_part
 
 pub returns-clause-usable : goal.returns-clause-usable
 returns-clause-usable g c = c.settle.ensures.usable
+
+pub returns-in_err-prepared-clause-undamaged : goal.returns-in_err-prepared-clause-undamaged
+returns-in_err-prepared-clause-undamaged g c =
+    let p = err_from_is_err_and c.from_residual.result c.from_residual.ensures.1 in
+    let same : c.from_residual.result ≡ Err c.in_err-prepared.field-0.0 = rw (p.1, p.2) refl in
+    damaged_as c.prepare.result c.from_residual.result c.in_err-prepared.field-0.0 _ _ (search rules) same c.prepare.ensures.undamaged (λ damaged l w d is taken left few behind. damaged l w is left few)
+
+pub returns-clause-undamaged : goal.returns-clause-undamaged
+returns-clause-undamaged g c = damaged_so c.settle.result _ _ (λ damaged l w d is taken left few behind.
+    let s = transaction lists Script (declares d) w in
+    let made = c.in_ok-prepared.ensures in
+    let over = made.settles l w d is taken in
+    damaged is.entries (made.holds l w is) (records_are_light l (applied c.in_ok-prepared.prepared.1.batch is.entries) s.0 (over.0.holds behind.good).held.world)) c.settle.ensures.undamaged

@@ -1,9 +1,11 @@
-use Rattle.std.proofs.Common.{rules, ◌≡◌, ◌∙◌, refl, subst, sym}
+use Rattle.std.proofs.Common.{rules, ◌∙◌, refl, subst, sym}
+use Rattle.ode_declare.proofs.TakeLaws.{damaged_as}
 use Rattle.ode_declare.proofs.TurnLaws.{says_line}
 use Rattle.ode_declare.proofs.turning.turn_away.Goals as goal
 use Rattle.ode_host.proofs.Moments.{joined}
 use Rattle.ode_machine.specs.Moments.{LeavesSettling}
 use Rattle.ode_schema.specs.Parts.{AreFit}
+use Rattle.ode_transact.proofs.DamageLaws.{damaged_so, memory_undamaged}
 use Rattle.ode_transact.proofs.EndingLaws.{before_leaves, fails_apart, fails_as, looks_leave, looks_then, none_rose, printed_behind}
 use Rattle.ode_transact.specs.declared.error.EngineError.TheVariants as engine
 use Rattle.ode_transact.specs.Resting.{HoldsBy}
@@ -22,7 +24,7 @@ returns-in_err-ctx-clause-any_moment g c = λ l w said well rest behind printed.
     c.begin.ensures.looks
 
 pub returns-in_err-ctx-clause-leaves : goal.returns-in_err-ctx-clause-leaves
-returns-in_err-ctx-clause-leaves g c = λ l w rest.
+returns-in_err-ctx-clause-leaves g c =
     fails_as c.begin.result c.from_residual.result c.in_err-ctx.field-0.0 _ _ (search rules) (search rules) c.begin.ensures.looks c.begin.ensures.cause c.begin.ensures.silent
 
 pub returns-in_err-line-clause-any_moment : goal.returns-in_err-line-clause-any_moment
@@ -33,11 +35,11 @@ returns-in_err-line-clause-any_moment g c = λ l w said well rest behind printed
     c.begin.ensures.looks
 
 pub returns-in_err-line-clause-leaves : goal.returns-in_err-line-clause-leaves
-returns-in_err-line-clause-leaves g c = λ l w rest.
+returns-in_err-line-clause-leaves g c =
     fails_apart c.from_residual-in_err-line.result engine.Memory (g.H.Host.view c.args.host.now) (g.H.Host.view c.begin.new.host) (search rules) (λ is. cc (is)) (λ is. cc (is)) c.begin.ensures.looks (none_rose _ _ _ (λ failed. cc (failed)) c.in_ok-ctx.ensures.cause)
 
 pub end-requires : goal.end-requires
-end-requires g c = record { fit = subst AreFit (sym c.in_ok-ctx.ensures.parts) c.requires.fit }
+end-requires g c = record { fit = subst AreFit (sym c.in_ok-ctx.ensures.parts) c.requires.fit; live = c.in_ok-ctx.ensures.usable }
 
 pub returns-clause-done : goal.returns-clause-done
 returns-clause-done g c = λ l w rest well.
@@ -57,7 +59,16 @@ returns-clause-any_moment g c = λ l w said well rest behind printed.
     (c.end.ensures.any_moment l w t said well runs behind (c.begin.ensures.looks.text ∙ printed))
 
 pub returns-clause-leaves : goal.returns-clause-leaves
-returns-clause-leaves g c = λ l w rest.
-    let t = with_line (class_line c.args.name.now) (begun Script w) in
+returns-clause-leaves g c = looks_then _ _ _ _ _ c.begin.ensures.looks (none_rose _ _ _ (λ failed. cc (failed)) c.in_ok-ctx.ensures.cause) c.end.ensures.leaves
+
+pub returns-in_err-ctx-clause-undamaged : goal.returns-in_err-ctx-clause-undamaged
+returns-in_err-ctx-clause-undamaged g c =
+    damaged_as c.begin.result c.from_residual.result c.in_err-ctx.field-0.0 _ _ (search rules) (search rules) c.begin.ensures.undamaged (λ damaged l w rest left well. damaged l w rest tt left)
+
+pub returns-in_err-line-clause-undamaged : goal.returns-in_err-line-clause-undamaged
+returns-in_err-line-clause-undamaged g c = memory_undamaged c.from_residual-in_err-line.result _ (search rules)
+
+pub returns-clause-undamaged : goal.returns-clause-undamaged
+returns-clause-undamaged g c = damaged_so c.end.result _ _ (λ damaged l w rest left well.
     let runs = says_line g.H.Host.view g.K.Keep.holds g.K.Keep.live l w c.in_ok-ctx.ctx c.begin.new.host _ (class_line c.args.name.now) c.in_ok-line.ensures (c.in_ok-ctx.ensures.begun l w rest tt) in
-    looks_then _ _ _ _ _ c.begin.ensures.looks (none_rose _ _ _ (λ failed. cc (failed)) c.in_ok-ctx.ensures.cause) (c.end.ensures.leaves l w t runs)
+    damaged l w (with_line (class_line c.args.name.now) (begun Script w)) runs well) c.end.ensures.undamaged

@@ -4,17 +4,20 @@ use Rattle.ode_declare.proofs.TakeLaws.{parts_kept}
 use Rattle.ode_declare.proofs.WeighLaws.{done_as, heavy_is, leaves_as, taken_is}
 use Rattle.ode_declare.proofs.weighing.bring_in.Goals as goal
 use Rattle.ode_declared_laws.specs.Adding.{AreAligned}
+use Rattle.ode_good_laws.specs.Well.{IsWell}
 use Rattle.ode_host.proofs.Moments.{looks_none}
 use Rattle.ode_machine.specs.Moments.{LeavesSettling}
 use Rattle.ode_machine.specs.Works.{declares}
 use Rattle.ode_schema.specs.Parts.{AreFit}
+use Rattle.ode_transact.proofs.DamageLaws.{damaged_so, memory_undamaged}
 use Rattle.ode_transact.proofs.EndingLaws.{before_leaves, fails_apart, looks_leave}
 use Rattle.ode_transact.specs.Resting.{HoldsBy, resting_parts}
 use Rattle.ode_transact.specs.declared.error.EngineError.TheVariants as engine
 use Rattle.ode_value.specs.Acts.{with_line}
 use Rattle.ode_value.specs.Limits.{name_limit, weight_limit}
+use Rattle.ode_value.specs.Objects.{Histories, Starts}
 use Rattle.ode_value.specs.Pasts.{lists}
-use Rattle.ode_value.specs.Settling.{abort, transaction}
+use Rattle.ode_value.specs.Settling.{Settled, abort, transaction}
 use Rattle.ode_value.specs.Texts.{class_line}
 use Rattle.ode_value.specs.Transactions.{Script, begun}
 use Rattle.ode_value.specs.Weights.{weight}
@@ -29,7 +32,7 @@ returns-in_err-weighed-clause-any_moment g c = λ l w d said well rest made behi
     (looks_none _)
 
 pub returns-in_err-weighed-clause-leaves : goal.returns-in_err-weighed-clause-leaves
-returns-in_err-weighed-clause-leaves g c = λ l w rest.
+returns-in_err-weighed-clause-leaves g c =
     let p = err_from_is_err_and c.from_residual.result c.from_residual.ensures.1 in
     let same : c.from_residual.result ≡ Err engine.Memory = rw (p.1, p.2) refl in
     fails_apart c.from_residual.result engine.Memory (g.H.Host.view c.args.host.now) (g.H.Host.view c.args.host.now) same (λ is. cc (is)) (λ is. cc (is)) (looks_none _) refl
@@ -64,7 +67,7 @@ pub returns-then-bytes-gt-WEIGHT_LIMIT-clause-usable : goal.returns-then-bytes-g
 returns-then-bytes-gt-WEIGHT_LIMIT-clause-usable g c = c.turn_away.ensures.usable
 
 pub returns-then-bytes-gt-WEIGHT_LIMIT-clause-leaves : goal.returns-then-bytes-gt-WEIGHT_LIMIT-clause-leaves
-returns-then-bytes-gt-WEIGHT_LIMIT-clause-leaves g c = λ l w rest. c.turn_away.ensures.leaves l w rest
+returns-then-bytes-gt-WEIGHT_LIMIT-clause-leaves g c = c.turn_away.ensures.leaves
 
 pub returns-else-bytes-gt-WEIGHT_LIMIT-clause-done : goal.returns-else-bytes-gt-WEIGHT_LIMIT-clause-done
 returns-else-bytes-gt-WEIGHT_LIMIT-clause-done g c = λ l w d well rest made.
@@ -83,4 +86,28 @@ returns-else-bytes-gt-WEIGHT_LIMIT-clause-any_moment g c = λ l w d said well re
     (taken_is l w d c.args.made made c.requires.compiled weighed.0 c.in_ok-weighed.ensures.rows rest.world.world.stored c.args.rest.bytes weighed.1 was c.in_ok-weighed.ensures.bytes below)
 
 pub returns-else-bytes-gt-WEIGHT_LIMIT-clause-leaves : goal.returns-else-bytes-gt-WEIGHT_LIMIT-clause-leaves
-returns-else-bytes-gt-WEIGHT_LIMIT-clause-leaves g c = λ l w rest. c.take_in.ensures.leaves
+returns-else-bytes-gt-WEIGHT_LIMIT-clause-leaves g c = c.take_in.ensures.leaves
+
+pub returns-in_err-weighed-clause-undamaged : goal.returns-in_err-weighed-clause-undamaged
+returns-in_err-weighed-clause-undamaged g c =
+    let p = err_from_is_err_and c.from_residual.result c.from_residual.ensures.1 in
+    let same : c.from_residual.result ≡ Err engine.Memory = rw (p.1, p.2) refl in
+    memory_undamaged c.from_residual.result _ same
+
+pub returns-then-bytes-gt-WEIGHT_LIMIT-clause-undamaged : goal.returns-then-bytes-gt-WEIGHT_LIMIT-clause-undamaged
+returns-then-bytes-gt-WEIGHT_LIMIT-clause-undamaged g c = damaged_so c.turn_away.result _ _ (λ damaged l w d well rest made left behind.
+    let weighed = c.in_ok-weighed.weighed in
+    let over : weight_limit < weighed.1 = omega (arith, c.if-bytes-gt-WEIGHT_LIMIT.true) in
+    let was = rest.bytes ∙ ap weight rest.world.world.stands.bones in
+    let heavy = heavy_is l w d c.args.made made c.requires.compiled weighed.0 c.in_ok-weighed.ensures.rows rest.world.world.stored c.args.rest.bytes weighed.1 was c.in_ok-weighed.ensures.bytes over in
+    let short : length d.class.name ≤ name_limit = subst (λ (k : Class). length k.name ≤ name_limit) (sym made.class) (search rules) in
+    let aborts = c.declarations_settle.ensures.heavy l w d well.good short heavy ∙ ap (λ (k : Class). abort lists Space (with_line (class_line k.name) (begun Script w))) made.class in
+    damaged l w rest left (subst (λ (s : Settled Histories Starts). IsWell l s.0) aborts behind)) c.turn_away.ensures.undamaged
+
+pub returns-else-bytes-gt-WEIGHT_LIMIT-clause-undamaged : goal.returns-else-bytes-gt-WEIGHT_LIMIT-clause-undamaged
+returns-else-bytes-gt-WEIGHT_LIMIT-clause-undamaged g c = damaged_so c.take_in.result _ _ (λ damaged l w d well rest made left behind.
+    let weighed = c.in_ok-weighed.weighed in
+    let below : weighed.1 ≤ weight_limit = omega (arith, c.if-bytes-gt-WEIGHT_LIMIT.false) in
+    let was = rest.bytes ∙ ap weight rest.world.world.stands.bones in
+    let taken = taken_is l w d c.args.made made c.requires.compiled weighed.0 c.in_ok-weighed.ensures.rows rest.world.world.stored c.args.rest.bytes weighed.1 was c.in_ok-weighed.ensures.bytes below in
+    damaged l w d rest taken left c.in_ok-weighed.ensures.few behind) c.take_in.ensures.undamaged
