@@ -1,25 +1,27 @@
 -- A class is declared, or refused.
-use Rattle.std.proofs.Common.{◌≡◌, ◌∙◌, ◌<◌, List, [], Option, Result, Some, None, Ok, Err, Bool, ℕ, ap, refl, subst, sym}
-use Rattle.std.specs.Prelude.{IsErrOf}
+use Rattle.std.proofs.Common.{◌≡◌, List, Result, Some, None, Ok, Err, Bool, ℕ, refl, subst, sym}
 use Rattle.std.specs.List.{AllByRecursion}
-use Rattle.ode_built_laws.proofs.Runs.{declared_none}
-use Rattle.ode_built_texts.proofs.Goods.{reads_built}
+use Rattle.ode_built_texts.proofs.Checked.{checked_none}
+use Rattle.ode_built_texts.proofs.Pieces.{piece_plain}
 use Rattle.ode_declare.specs.Declaring.{Declares}
 use Rattle.ode_declare.specs.Texts.{HasText}
-use Rattle.ode_engine.proofs.ServeLaws.{AreQuiet, HasSettled, HoldsNow, LeavesOne, quiet_serves, quiet_told, stopped_serves, unsettled_serves}
+use Rattle.ode_engine.proofs.ServeLaws.{HoldsNow, LeavesOne, quiet_serves, stopped_serves, unsettled_serves}
 use Rattle.ode_engine.proofs.SessionLaws.{closed_session}
+use Rattle.ode_engine.specs.Refusing.{IsUndamaged}
 use Rattle.ode_engine.specs.Serving.{Serves}
 use Rattle.ode_engine.specs.declared.commanding.State.{State}
 use Rattle.ode_engine.specs.declared.commanding.State.TheVariants as state
 use Rattle.ode_engine.specs.declared.engine.Done.{Done}
 use Rattle.ode_engine.specs.declared.engine.Done.TheVariants as done
 use Rattle.ode_good_laws.specs.Well.{IsWell}
+use Rattle.ode_good_runs.proofs.Declaring.{declared_is}
 use Rattle.ode_heap_laws.specs.Few.{HasFewParams}
 use Rattle.ode_host.proofs.Moments.{looks_none}
-use Rattle.ode_host.specs.Host.{HostCalls, Looks, Printed, Stands}
+use Rattle.ode_host.specs.Host.{Looks, Printed, Stands}
 use Rattle.ode_host.specs.View.{View}
 use Rattle.ode_keep.specs.Entries.{Entries}
 use Rattle.ode_language.specs.Languages.{ode}
+use Rattle.ode_language_laws.proofs.LanguageRuns.{reads_well, sound_rules}
 use Rattle.ode_machine.specs.Commands.{Step, does_class}
 use Rattle.ode_machine.specs.Refusals.{declared_in}
 use Rattle.ode_machine.specs.Sessions.{Session, closed}
@@ -28,21 +30,24 @@ use Rattle.ode_opened.specs.declared.opened.Opened.{Opened}
 use Rattle.ode_transact.specs.Resting.{IsAtRest}
 use Rattle.ode_transact.specs.Settling.{Meaning}
 use Rattle.ode_transact.specs.declared.error.EngineError.{EngineError}
-use Rattle.ode_transact.specs.declared.error.EngineError.TheVariants as error
 use Rattle.ode_value.specs.Answers.{Answer, ◌>>=◌}
+use Rattle.ode_value.specs.GoodWorlds.{IsClass}
 use Rattle.ode_value.specs.Language.{ListWorld}
 use Rattle.ode_value.specs.Objects.{Histories, Starts}
 use Rattle.ode_value.specs.Pasts.{lists}
 use Rattle.ode_value.specs.Settling.{Settled, transaction}
 use Rattle.ode_value.specs.Transactions.{Script}
 use Rattle.ode_value.specs.Worlds.{Declared}
+use Rattle.ode_value.specs.declared.member.TriggerDecl.{TriggerDecl}
 use Rattle.ode_value.specs.declared.reason.Refusal.{Refusal}
 use Rattle.ode_value.specs.declared.statement.ClassDecl.{ClassDecl}
 use Rattle.ode_value.specs.declared.statement.Statement.TheVariants as statement
 
 -- a class that is read has no triggers, so none of too many parameters
 pub few_kept : (w : ListWorld) (d : ClassDecl) → HasText ode (statement.Class d) → (c : Declared) → declared_in ode w.bones d ≡ Ok c → AllByRecursion HasFewParams c.class.triggers
-few_kept w d text c is = subst (AllByRecursion HasFewParams) (sym (declared_none ode w.bones d (reads_built text.0 (statement.Class d) text.1) c is)) tt
+few_kept w d text c is =
+    let class : IsClass ode w.bones.classes c = declared_is ode sound_rules reads_well text.0 d text.1 w.bones c is in
+    subst (λ (ts : List TriggerDecl). AllByRecursion HasFewParams ts) (sym (checked_none _ c.tree c.class (piece_plain _ (statement.Class c.tree) class.text) class.checked)) tt
 
 -- a host that nothing was done to
 pub same_looks : {H : Type 0} (seen : H → View) (old new : H) → new ≡ old → Looks (seen old) (seen new)
@@ -70,19 +75,17 @@ module _ {H K : Type 0} (seen : H → View) (held : K → View → Entries → T
 
   -- no file came of it
   pub undeclared_serves : (w : ListWorld) (e : EngineError) (old new : H) → Now w old → (a : Answer Declared) → ((c : Declared) → a ≡ Ok c → Leaves w (class_settled w c) old new)
-      → ((why : Refusal) → a ≡ Err why → Looks (seen old) (seen new))
-      → HostCalls (IsErrOf {T = State K × Done} (Err e) error.DiskFault) (IsErrOf {T = State K × Done} (Err e) error.WriteFault) (seen old) (seen new) → Served (closed w) (class_answer w a) (Err e) old new
-  undeclared_serves w e old new now (Ok c) settles refused leaves = unsettled_serves seen held live means ode stands text_stands (closed w) (class_settled w c) e old new (settles c refl) leaves
-  undeclared_serves w e old new now (Err why) settles refused leaves = stopped_serves seen held live means ode stands text_stands (closed w) (Err why) e old new now (refused why refl) leaves
+      → ((why : Refusal) → a ≡ Err why → Looks (seen old) (seen new)) → IsUndamaged e → Served (closed w) (class_answer w a) (Err e) old new
+  undeclared_serves w e old new now (Ok c) settles refused sound = unsettled_serves seen held live means ode stands text_stands (closed w) (class_settled w c) e old new (settles c refl) sound
+  undeclared_serves w e old new now (Err why) settles refused sound = stopped_serves seen held live means ode stands text_stands (closed w) (Err why) e old new now (refused why refl) sound
 
   -- it is refused
-  pub refused_class_serves : (w : ListWorld) (why : Refusal) (o : Opened K) (old new : H) (F P : Type 0) (declared : Declared → Type 0) → IsWell ode w → Now w old → (a : Answer Declared)
-      → Declares a (Some why) (IsAtRest seen held live ode w o new) declared → ((said : Refusal) → a ≡ Err said → Looks (seen old) (seen new)) → HostCalls F P (seen old) (seen new) → (F → ⊥) → (P → ⊥)
+  pub refused_class_serves : (w : ListWorld) (why : Refusal) (o : Opened K) (old new : H) (declared : Declared → Type 0) → IsWell ode w → Now w old → (a : Answer Declared)
+      → Declares a (Some why) (IsAtRest seen held live ode w o new) declared → ((said : Refusal) → a ≡ Err said → Looks (seen old) (seen new))
       → Served (closed w) (class_answer w a) (Ok (state.Rest o, done.Refused why)) old new
-  refused_class_serves w why o old new F P declared well now (Err said) is looks leaves no_disk no_print =
-      quiet_serves seen held live means ode stands text_stands (closed w) (Err said) (state.Rest o) (done.Refused why) old new now (quiet_told F P (seen old) (seen new) no_disk no_print (looks said refl) leaves) refl is.0
-      (closed_session w well) (refl, is.1)
-  refused_class_serves w why o old new F P declared well now (Ok c) is looks leaves no_disk no_print = absurd is
+  refused_class_serves w why o old new declared well now (Err said) is looks =
+      quiet_serves seen held live means ode stands text_stands (closed w) (Err said) (state.Rest o) (done.Refused why) old new now (looks said refl) refl is.0 (closed_session w well) (refl, is.1)
+  refused_class_serves w why o old new declared well now (Ok c) is looks = absurd is
 
   -- it is declared
   pub declared_serves : (w : ListWorld) (o : Opened K) (old mid new : H) (result : Result (State K × Done) EngineError) (unchanged : Type 0) (a : Answer Declared)

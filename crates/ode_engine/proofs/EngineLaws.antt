@@ -1,7 +1,7 @@
 -- What an engine has, and what a call leaves there.
-use Rattle.std.proofs.Common.{◌≡◌, Bool, true, List, ℕ, Option, Result, Some, None, Ok, Err, ap, refl, subst, sym}
-use Rattle.std.specs.Prelude.{IfOk, IsErrOf, OnErr, OnOk}
-use Rattle.ode_engine.specs.Refusing.{turned_down}
+use Rattle.std.proofs.Common.{◌≡◌, Bool, true, Option, Result, Some, None, Ok, Err, ap, subst, sym}
+use Rattle.std.specs.Prelude.{IfErr, IfOk, IsErrOf, OnErr, OnOk}
+use Rattle.ode_engine.specs.Refusing.{IfRefused, IsUndamaged, turned_down}
 use Rattle.ode_engine.specs.Serving.{IsAnswer, IsLive, IsOneOf, IsSession, IsUsable, StandsBy, StandsFor, StandsIn, done_in, rest_in, running_in, state_in}
 use Rattle.ode_engine.specs.declared.commanding.State.{State}
 use Rattle.ode_engine.specs.declared.commanding.State.TheVariants as state
@@ -17,6 +17,7 @@ use Rattle.ode_machine.specs.Commands.{Step}
 use Rattle.ode_machine.specs.Sessions.{Session}
 use Rattle.ode_opened.specs.declared.opened.Opened.{Opened}
 use Rattle.ode_run.specs.declared.context.Ctx.{Ctx}
+use Rattle.ode_transact.specs.Errors.{OnDamaged}
 use Rattle.ode_transact.specs.Resting.{IsAtRest}
 use Rattle.ode_transact.specs.declared.error.EngineError.{EngineError}
 use Rattle.ode_transact.specs.declared.error.EngineError.TheVariants as error
@@ -39,9 +40,9 @@ none_taken live (Some o) running is one = cc (is)
 none_taken live None (Some ctx) is one = cc (is)
 none_taken live None None is one = one
 
-pub turned_usable : {K : Type 0} (live : K → Bool) (s : State K) (turned' : Turned) → IsUsable live s → IfOk (turned_down s turned') (λ r. IsUsable live r.0)
-turned_usable live s (turned.Refused why) is = is
-turned_usable live s (turned.Stopped error) is = tt
+pub turned_usable : {K : Type 0} (live : K → Bool) (s : State K) (turned' : Turned) (P : Type 0) → (P → IsUsable live s) → IfRefused turned' P → IfOk (turned_down s turned') (λ r. IsUsable live r.0)
+turned_usable live s (turned.Refused why) P on is = on is
+turned_usable live s (turned.Stopped error) P on is = tt
 
 module _ {H K : Type 0} (seen : H → View) (held : K → View → Entries → Type 0) (live : K → Bool) (l : Language) where
   pub taken_stands : (session : Session) (rest : Option (Opened K)) (running : Option (Ctx K)) (s : State K) (host : H) → state_in rest running ≡ Some s → StandsBy seen held live l session rest running host
@@ -109,3 +110,11 @@ module _ {H K : Type 0} (seen : H → View) (held : K → View → Entries → T
       → HostCalls (IsErrOf (done_in step) error.DiskFault) (IsErrOf (done_in step) error.WriteFault) old new
   leaves_on step old new calls =
       host_calls_as _ _ _ _ old new (λ is. ap done_in is) (same_err step error.DiskFault) (λ is. ap done_in is) (same_err step error.WriteFault) calls
+
+  -- where it stands for a session no record is damaged
+  pub undamaged_on : (step : Result (State K × Done) EngineError) (S : Session → Type 0) → ((session : Session) → S session → IfErr step IsUndamaged) → OnDamaged (done_in step) ((session : Session) → S session → ⊥)
+  undamaged_on (Ok r) S sound = tt
+  undamaged_on (Err error.Memory) S sound = tt
+  undamaged_on (Err error.DiskFault) S sound = tt
+  undamaged_on (Err error.WriteFault) S sound = tt
+  undamaged_on (Err (error.Damaged key)) S sound = sound

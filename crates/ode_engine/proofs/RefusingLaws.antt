@@ -1,14 +1,14 @@
 -- How a statement is checked, literal by literal.
-use Rattle.std.proofs.Common.{◌≡◌, ◌∙◌, ◌+◌, ◌<◌, ◌==◌, ℕ, Bool, true, false, cond, List, [], ◌∷◌, ◌++◌, drop, get_or, length, map, Result, Option, Some, None, Ok, Err, ap, append-nil, append_assoc, refl, subst, sym}
+use Rattle.std.proofs.Common.{◌≡◌, ◌∙◌, ◌+◌, ◌<◌, ◌==◌, ℕ, Bool, true, false, cond, List, [], ◌∷◌, ◌++◌, drop, get_or, length, map, Result, None, Ok, Err, ap, append-nil, append_assoc, refl, subst, sym}
 use Rattle.std.proofs.lemmas.List.{drop_more}
 use Rattle.std.specs.Prelude.{IsErrOf}
 use Rattle.ode_engine.proofs.FaultLaws.{fault_disk, fault_silent}
 use Rattle.ode_engine.proofs.ServeLaws.{AreQuiet, quiet_by}
-use Rattle.ode_engine.specs.Refusing.{Answers, LeavesChecked, UnlessStopped}
+use Rattle.ode_engine.specs.Refusing.{Answers, IsUndamaged, KeepsChecked, LeavesChecked}
 use Rattle.ode_engine.specs.declared.refusing.Turned.{Turned}
 use Rattle.ode_engine.specs.declared.refusing.Turned.TheVariants as turned
-use Rattle.ode_host.proofs.Calls.{host_calls_on, rose_as, rose_none, rose_on}
-use Rattle.ode_host.proofs.Moments.{looks_joined, looks_none}
+use Rattle.ode_host.proofs.Calls.{host_calls_on, rose_as, rose_on}
+use Rattle.ode_host.proofs.Moments.{looks_joined}
 use Rattle.ode_host.specs.Causes.{RoseIf}
 use Rattle.ode_host.specs.Host.{Looks}
 use Rattle.ode_host.specs.View.{View}
@@ -80,7 +80,7 @@ leaves_fault F why context a b to back looks rose = record {
 -- behind calls that only looked, and told no fault
 pub leaves_behind : {R S : Type 0} (t : Turned) (context : Type 0) (a b c : View) → AreQuiet a b → LeavesChecked {R = R} (Err t) context b c → LeavesChecked {R = S} (Err t) context a c
 leaves_behind {R = R} {S = S} t context a b c quiet leaves = record {
-  stays = by_turned t leaves.stays;
+  stays = leaves.stays;
   looks = looks_joined a b c quiet.0 leaves.looks;
   faults = rose_on ⊥ _ a.disk_faults b.disk_faults c.disk_faults (λ none. none) quiet.1.disk_faults
       (rose_as _ _ b.disk_faults c.disk_faults (λ is. ap Err (same_turned t (turned.Stopped error.DiskFault) is)) (λ is. ap Err (same_turned t (turned.Stopped error.DiskFault) is)) leaves.faults);
@@ -89,14 +89,34 @@ leaves_behind {R = R} {S = S} t context a b c quiet leaves = record {
   same_turned : {T : Type 0} (t u : Turned) → ◌≡◌ {A = Result T Turned} (Err t) (Err u) → t ≡ u
   same_turned t u is = cc (is)
 
-  by_turned : (t : Turned) → UnlessStopped {R = R} (Err t) context → UnlessStopped {R = S} (Err t) context
-  by_turned (turned.Refused why) stays = stays
-  by_turned (turned.Stopped error) stays = tt
-
 pub quiet_on : {R : Type 0} (v : R) (context : Type 0) (a b c : View) → AreQuiet a b → LeavesChecked (Ok v) context b c → AreQuiet a c
 quiet_on v context a b c quiet leaves =
     let more : AreQuiet b c = quiet_by (Ok v ≡ Err (turned.Stopped error.DiskFault)) b c (λ is. cc (is)) leaves.looks leaves.faults in
     (looks_joined a b c quiet.0 more.0, host_calls_on ⊥ ⊥ ⊥ ⊥ a b c (λ none. none) (λ none. none) quiet.1 more.1)
+
+-- ---- over records that hold a world
+
+pub keeps_ok : {R : Type 0} (v : R) (context : Type 0) → context → KeepsChecked (Ok v) context
+keeps_ok v context stays = record { stays = stays; sound = λ e is. absurd (cc (is)) }
+
+pub keeps_refused : {R : Type 0} (why : Refusal) (context : Type 0) → context → KeepsChecked {R = R} (Err (turned.Refused why)) context
+keeps_refused why context stays = record { stays = stays; sound = λ e is. absurd (cc (is)) }
+
+pub keeps_stopped : {R : Type 0} (by : EngineError) (context : Type 0) → IsUndamaged by → KeepsChecked {R = R} (Err (turned.Stopped by)) context
+keeps_stopped by context sound = record { stays = tt; sound = λ e is. subst IsUndamaged (same_error by e is) sound } where
+  same_error : {T : Type 0} (a b : EngineError) → ◌≡◌ {A = Result T Turned} (Err (turned.Stopped a)) (Err (turned.Stopped b)) → a ≡ b
+  same_error a b is = cc (is)
+
+-- as the answer of another call
+pub keeps_as : {R S : Type 0} (t : Turned) (context : Type 0) → KeepsChecked {R = R} (Err t) context → KeepsChecked {R = S} (Err t) context
+keeps_as (turned.Refused why) context keeps = keeps_refused why context keeps.stays
+keeps_as (turned.Stopped by) context keeps = keeps_stopped by context (keeps.sound by refl)
+
+-- the static rules end by no error but want of memory
+pub keeps_rules : {R : Type 0} (result : Result R Turned) (context : Type 0) → context → ((e : EngineError) → IsErrOf result (turned.Stopped e) → e ≡ error.Memory) → KeepsChecked result context
+keeps_rules (Ok v) context stays calm = keeps_ok v context stays
+keeps_rules (Err (turned.Refused why)) context stays calm = keeps_refused why context stays
+keeps_rules {R = R} (Err (turned.Stopped e)) context stays calm = subst (λ (by : EngineError). KeepsChecked {R = R} (Err (turned.Stopped by)) context) (sym (calm e refl)) (keeps_stopped error.Memory context tt)
 
 -- ---- the literals in order
 

@@ -1,11 +1,11 @@
 -- Statements, from what they are made of.
-use Rattle.std.proofs.Common.{◌≡◌, ◌∙◌, ◌<◌, List, [], Option, Result, Some, Ok, Err, Bool, true, ℕ, ap, refl, subst, sym}
-use Rattle.ode_declare.specs.Declaring.{Declares}
+use Rattle.std.proofs.Common.{◌≡◌, ◌∙◌, ◌<◌, List, [], Option, Result, Some, Ok, Err, Bool, ℕ, ap, refl, subst, sym}
+use Rattle.std.specs.Prelude.{IsErrOf}
 use Rattle.ode_declare.specs.Texts.{HasText}
-use Rattle.ode_engine.proofs.FaultLaws.{fault_disk, fault_silent}
-use Rattle.ode_engine.proofs.ServeLaws.{AreQuiet, HasSettled, HoldsNow, LeavesOne, behind_serves, quiet_by, quiet_serves, stopped_serves, told_by}
+use Rattle.ode_engine.proofs.FaultLaws.{fault_disk, fault_silent, fault_undamaged}
+use Rattle.ode_engine.proofs.ServeLaws.{AreQuiet, HoldsNow, behind_serves, quiet_by, quiet_serves, stopped_serves, told_by, told_none}
 use Rattle.ode_engine.proofs.SessionLaws.{begun_session, closed_session, fell_well, more_session}
-use Rattle.ode_engine.specs.Refusing.{Answers, LeavesChecked, back, turned_down}
+use Rattle.ode_engine.specs.Refusing.{Answers, KeepsChecked, LeavesChecked, back, turned_down}
 use Rattle.ode_engine.specs.Serving.{IsSession, Serves}
 use Rattle.ode_engine.specs.declared.commanding.State.{State}
 use Rattle.ode_engine.specs.declared.commanding.State.TheVariants as state
@@ -21,31 +21,28 @@ use Rattle.ode_interpreter.specs.declared.stop.Stop.{Stop}
 use Rattle.ode_interpreter.specs.declared.stop.Stop.TheVariants as stop
 use Rattle.ode_keep.specs.Entries.{Entries}
 use Rattle.ode_language.specs.Languages.{ode}
-use Rattle.ode_machine.specs.Commands.{Step, carried, does_class, goes_on, settles}
-use Rattle.ode_machine.specs.Refusals.{checked_in, declared_in}
+use Rattle.ode_machine.specs.Commands.{Step, carried, goes_on, settles}
+use Rattle.ode_machine.specs.Refusals.{checked_in}
 use Rattle.ode_machine.specs.Sessions.{Session, closed, opened}
-use Rattle.ode_opened.specs.declared.opened.Opened.{Opened}
-use Rattle.ode_run.specs.Contexts.{ContextRuns, EndsWhere, LeavesOpen, parts_of}
+use Rattle.ode_run.specs.Contexts.{ContextRuns, EndsWhere}
+use Rattle.ode_run.specs.Knowing.{IsSound}
 use Rattle.ode_run.specs.declared.context.Ctx.{Ctx}
-use Rattle.ode_transact.proofs.TransactLaws.{ended_settles, transaction_settles}
 use Rattle.ode_transact.specs.Errors.{fault_of}
 use Rattle.ode_transact.specs.Resting.{IsAtRest}
 use Rattle.ode_transact.specs.Settling.{Meaning}
-use Rattle.ode_transact.specs.Working.{EndedAs, settled_by}
+use Rattle.ode_transact.specs.Working.{settled_by}
 use Rattle.ode_transact.specs.declared.error.EngineError.{EngineError}
 use Rattle.ode_transact.specs.declared.error.EngineError.TheVariants as error
-use Rattle.ode_value.specs.Acts.{Outcome, Done as Reached, Aborted, ◌>>◌}
+use Rattle.ode_value.specs.Acts.{Outcome, Done as Reached, Aborted}
 use Rattle.ode_value.specs.Answers.{Answer, ◌>>=◌}
-use Rattle.ode_value.specs.Completing.{completes}
 use Rattle.ode_value.specs.Executing.{commands}
 use Rattle.ode_value.specs.Language.{ListTx, ListWorld}
 use Rattle.ode_value.specs.Limits.{number_limit}
 use Rattle.ode_value.specs.Objects.{Histories, Starts}
 use Rattle.ode_value.specs.Pasts.{lists}
-use Rattle.ode_value.specs.Settling.{Settled, abort, settle, transaction}
+use Rattle.ode_value.specs.Settling.{Settled, abort, transaction}
 use Rattle.ode_value.specs.Transactions.{Script, begun}
 use Rattle.ode_value.specs.declared.reason.Reason.{Reason}
-use Rattle.ode_value.specs.declared.reason.Refusal.{Refusal}
 use Rattle.ode_value.specs.declared.statement.Statement.TheVariants as statement
 use Rattle.ode_value.specs.declared.statement.Stmt.{Stmt}
 
@@ -53,6 +50,26 @@ use Rattle.ode_value.specs.declared.statement.Stmt.{Stmt}
 
 pub checked_as : (answer : Answer Stmt) (s found : Stmt) → answer ≡ Ok found → s ≡ found → answer ≡ Ok s
 checked_as answer s found is same = subst (λ (q : Stmt). answer ≡ Ok q) (sym same) is
+
+-- ---- what is told
+
+-- a fault of a call that looks
+pub fault_told : {R : Type 0} (F : Type 0) (why : Stop) (old new : View) → (F → why ≡ stop.DiskFault) → (why ≡ stop.DiskFault → F) → Looks old new → RoseIf F old.disk_faults new.disk_faults
+    → HostCalls (IsErrOf {T = R} (Err (fault_of why)) error.DiskFault) (IsErrOf {T = R} (Err (fault_of why)) error.WriteFault) old new
+fault_told F why old new to back looks rose = told_by F (fault_of why) old new (λ f. ap fault_of (to f)) (λ is. back (fault_disk why is)) (fault_silent why) looks rose
+
+-- a check that went through
+pub checked_quiet : (s : Stmt) (usable : Type 0) (old new : View) → LeavesChecked (Ok s) usable old new → AreQuiet old new
+checked_quiet s usable old new leaves = quiet_by (◌≡◌ {A = Result Stmt Turned} (Ok s) (Err (turned.Stopped error.DiskFault))) old new (λ is. cc (is)) leaves.looks leaves.faults
+
+-- one that didn't
+pub turned_told : {K : Type 0} (turned' : Turned) (s : State K) (usable : Type 0) (old new : View) → LeavesChecked {R = Stmt} (Err turned') usable old new
+    → HostCalls (IsErrOf (turned_down s turned') error.DiskFault) (IsErrOf (turned_down s turned') error.WriteFault) old new
+turned_told (turned.Refused why) s usable old new leaves =
+    told_none (s, done.Refused why) old new (quiet_by (◌≡◌ {A = Result Stmt Turned} (Err (turned.Refused why)) (Err (turned.Stopped error.DiskFault))) old new (λ is. cc (is)) leaves.looks leaves.faults)
+turned_told (turned.Stopped e) s usable old new leaves =
+    told_by (◌≡◌ {A = Result Stmt Turned} (Err (turned.Stopped e)) (Err (turned.Stopped error.DiskFault))) e old new (λ is. cc (is)) (λ is. ap (λ (d : EngineError). Err (turned.Stopped d)) is)
+    (λ is. leaves.silent (ap (λ (d : EngineError). Err (turned.Stopped d)) is)) leaves.looks leaves.faults
 
 module _ {H K : Type 0} (seen : H → View) (held : K → View → Entries → Type 0) (live : K → Bool) (means : Meaning)
     (stands : (keeper : K) (host : H) (entries : Entries) → held keeper (seen host) entries → (file : List ℕ) × Stands file (seen host) × means file entries)
@@ -68,21 +85,21 @@ module _ {H K : Type 0} (seen : H → View) (held : K → View → Entries → T
 
   -- ---- a checked statement inside
 
-  done_by : (w : ListWorld) (t : ListTx) (read s : Stmt) (ctx : Ctx K) (old new : H) → IsSession ode (opened w t) → Now w old → AreQuiet (seen old) (seen new) → HasText ode (statement.Simple read)
+  done_by : (w : ListWorld) (t : ListTx) (read s : Stmt) (ctx : Ctx K) (old new : H) → IsSession ode (opened w t) → Now w old → Looks (seen old) (seen new) → HasText ode (statement.Simple read)
       → checked_in ode t.now.bones read ≡ Ok s → (p : Outcome Histories Starts (Unit {0})) → commands lists s t ≡ p → EndsWhere (Ok tt) (Runs w ctx new) p
       → Served (opened w t) (Ok (goes_on w p)) (Ok (state.Running ctx, done.Settled 0)) old new
   done_by w t read s ctx old new session now looked text checked (Reached tt x) is ends =
       quiet_serves seen held live means ode stands text_stands (opened w t) (Ok (opened w x, [])) (state.Running ctx) (done.Settled 0) old new now looked refl refl (more_session w t x session read s text checked is) (x, refl, ends.1)
   done_by w t read s ctx old new session now looked text checked (Aborted reason x) is ends = absurd ends
 
-  pub done_serves : (w : ListWorld) (t : ListTx) (read s : Stmt) (ctx : Ctx K) (old new : H) → IsSession ode (opened w t) → Now w old → AreQuiet (seen old) (seen new) → HasText ode (statement.Simple read)
+  pub done_serves : (w : ListWorld) (t : ListTx) (read s : Stmt) (ctx : Ctx K) (old new : H) → IsSession ode (opened w t) → Now w old → Looks (seen old) (seen new) → HasText ode (statement.Simple read)
       → checked_in ode t.now.bones read ≡ Ok s → EndsWhere (Ok tt) (Runs w ctx new) (commands lists s t)
       → Served (opened w t) (Ok (goes_on w (commands lists s t))) (Ok (state.Running ctx, done.Settled 0)) old new
   done_serves w t read s ctx old new session now looked text checked ends = done_by w t read s ctx old new session now looked text checked (commands lists s t) refl ends
 
   -- it is aborted
   fell_by : (w : ListWorld) (t : ListTx) (read s : Stmt) (why : Reason) (result : Result (State K × Done) EngineError) (P : ListTx → Type 0) (old mid new : H) → IsSession ode (opened w t) → Now w old
-      → AreQuiet (seen old) (seen mid) → HasText ode (statement.Simple read) → checked_in ode t.now.bones read ≡ Ok s
+      → Looks (seen old) (seen mid) → HasText ode (statement.Simple read) → checked_in ode t.now.bones read ≡ Ok s
       → ((x : ListTx) → P x → IsWell ode (abort lists why x).0 → Served (opened w t) (Ok (settles (abort lists why x))) result mid new)
       → (p : Outcome Histories Starts (Unit {0})) → commands lists s t ≡ p → EndsWhere (Err (stop.Abort why)) P p → Served (opened w t) (Ok (goes_on w p)) result old new
   fell_by w t read s why result P old mid new session now looked text checked settled (Aborted reason x) is ends =
@@ -92,59 +109,38 @@ module _ {H K : Type 0} (seen : H → View) (held : K → View → Entries → T
   fell_by w t read s why result P old mid new session now looked text checked settled (Reached answer x) is ends = absurd ends
 
   pub fell_serves : (w : ListWorld) (t : ListTx) (read s : Stmt) (why : Reason) (result : Result (State K × Done) EngineError) (P : ListTx → Type 0) (old mid new : H) → IsSession ode (opened w t) → Now w old
-      → AreQuiet (seen old) (seen mid) → HasText ode (statement.Simple read) → checked_in ode t.now.bones read ≡ Ok s
+      → Looks (seen old) (seen mid) → HasText ode (statement.Simple read) → checked_in ode t.now.bones read ≡ Ok s
       → ((x : ListTx) → P x → IsWell ode (abort lists why x).0 → Served (opened w t) (Ok (settles (abort lists why x))) result mid new)
       → EndsWhere (Err (stop.Abort why)) P (commands lists s t) → Served (opened w t) (Ok (goes_on w (commands lists s t))) result old new
   fell_serves w t read s why result P old mid new session now looked text checked settled ends =
       fell_by w t read s why result P old mid new session now looked text checked settled (commands lists s t) refl ends
 
   -- a fault of a call that looks
-  pub fault_serves : (session : Session) (answer : Answer Step) (why : Stop) (F : Type 0) (old new : H) → Now session.world old → Looks (seen old) (seen new) → (F → why ≡ stop.DiskFault) → (why ≡ stop.DiskFault → F)
-      → RoseIf F (seen old).disk_faults (seen new).disk_faults → Served session answer (Err (fault_of why)) old new
-  fault_serves session answer why F old new now looks to back rose =
-      stopped_serves seen held live means ode stands text_stands session answer (fault_of why) old new now looks
-      (told_by F (fault_of why) (seen old) (seen new) (λ f. ap fault_of (to f)) (λ is. back (fault_disk why is)) (fault_silent why) looks rose)
-
-  -- an error of a call that looks
-  pub error_serves : (session : Session) (answer : Answer Step) (e : EngineError) (F : Type 0) (old new : H) → Now session.world old → Looks (seen old) (seen new) → (F → e ≡ error.DiskFault) → (e ≡ error.DiskFault → F)
-      → (e ≡ error.WriteFault → ⊥) → RoseIf F (seen old).disk_faults (seen new).disk_faults → Served session answer (Err e) old new
-  error_serves session answer e F old new now looks to back silent rose =
-      stopped_serves seen held live means ode stands text_stands session answer e old new now looks (told_by F e (seen old) (seen new) to back silent looks rose)
+  pub fault_serves : (session : Session) (answer : Answer Step) (why : Stop) (old new : H) → Now session.world old → Looks (seen old) (seen new) → IsSound why → Served session answer (Err (fault_of why)) old new
+  fault_serves session answer why old new now looks sound = stopped_serves seen held live means ode stands text_stands session answer (fault_of why) old new now looks (fault_undamaged why sound)
 
   -- ---- a statement is checked
 
-  pub checked_quiet : (s : Stmt) (context : Type 0) (old new : View) → LeavesChecked (Ok s) context old new → AreQuiet old new
-  checked_quiet s context old new leaves = quiet_by (◌≡◌ {A = Result Stmt Turned} (Ok s) (Err (turned.Stopped error.DiskFault))) old new (λ is. cc (is)) leaves.looks leaves.faults
-
-  pub turned_quiet : (why : Refusal) (context : Type 0) (old new : View) → LeavesChecked {R = Stmt} (Err (turned.Refused why)) context old new → AreQuiet old new
-  turned_quiet why context old new leaves = quiet_by (◌≡◌ {A = Result Stmt Turned} (Err (turned.Refused why)) (Err (turned.Stopped error.DiskFault))) old new (λ is. cc (is)) leaves.looks leaves.faults
-
-  pub check_stopped_serves : (session : Session) (answer : Answer Step) (e : EngineError) (context : Type 0) (old new : H) → Now session.world old
-      → LeavesChecked {R = Stmt} (Err (turned.Stopped e)) context (seen old) (seen new) → Served session answer (Err e) old new
-  check_stopped_serves session answer e context old new now leaves =
-      stopped_serves seen held live means ode stands text_stands session answer e old new now leaves.looks
-      (told_by (◌≡◌ {A = Result Stmt Turned} (Err (turned.Stopped e)) (Err (turned.Stopped error.DiskFault))) e (seen old) (seen new) (λ is. cc (is)) (λ is. ap (λ (d : EngineError). Err (turned.Stopped d)) is)
-      (λ is. leaves.silent (ap (λ (d : EngineError). Err (turned.Stopped d)) is)) leaves.looks leaves.faults)
-
-  pub checked_inside_serves : (w : ListWorld) (t : ListTx) (read s found : Stmt) (result : Result (State K × Done) EngineError) (context : Type 0) (old mid new : H) → Now w old → LeavesChecked (Ok found) context (seen old) (seen mid)
+  pub checked_inside_serves : (w : ListWorld) (t : ListTx) (read s : Stmt) (result : Result (State K × Done) EngineError) (old mid new : H) → Now w old → Looks (seen old) (seen mid)
       → checked_in ode t.now.bones read ≡ Ok s → Served (opened w t) (Ok (goes_on w (commands lists s t))) result mid new
       → Served (opened w t) (carried ode (opened w t) (statement.Simple read)) result old new
-  checked_inside_serves w t read s found result context old mid new now leaves is serves =
-      behind_serves seen held live means ode stands text_stands (opened w t) (carried ode (opened w t) (statement.Simple read)) result old mid new now (checked_quiet found context (seen old) (seen mid) leaves)
+  checked_inside_serves w t read s result old mid new now looks is serves =
+      behind_serves seen held live means ode stands text_stands (opened w t) (carried ode (opened w t) (statement.Simple read)) result old mid new now looks
       (subst (λ (a : Answer Stmt). Served (opened w t) (a >>= (λ c. Ok (goes_on w (commands lists c t)))) result mid new) (sym is) serves)
 
-  pub turned_inside_serves : (w : ListWorld) (t : ListTx) (read : Stmt) (turned' : Turned) (ctx : Ctx K) (old new : H) → IsSession ode (opened w t) → Now w old
-      → LeavesChecked {R = Stmt} (Err turned') (Runs w ctx new t) (seen old) (seen new) → Answers {R = Stmt} (Err turned') (checked_in ode t.now.bones read)
+  pub turned_inside_serves : (w : ListWorld) (t : ListTx) (read : Stmt) (turned' : Turned) (ctx : Ctx K) (old new : H) → IsSession ode (opened w t) → Now w old → Looks (seen old) (seen new)
+      → KeepsChecked {R = Stmt} (Err turned') (Runs w ctx new t) → Answers {R = Stmt} (Err turned') (checked_in ode t.now.bones read)
       → Served (opened w t) (carried ode (opened w t) (statement.Simple read)) (turned_down (state.Running ctx) turned') old new
-  turned_inside_serves w t read (turned.Refused why) ctx old new session now leaves is =
+  turned_inside_serves w t read (turned.Refused why) ctx old new session now looks keeps is =
       subst (λ (a : Answer Stmt). Served (opened w t) (a >>= (λ c. Ok (goes_on w (commands lists c t)))) (Ok (state.Running ctx, done.Refused why)) old new) (sym is)
-      (quiet_serves seen held live means ode stands text_stands (opened w t) (Err why) (state.Running ctx) (done.Refused why) old new now (turned_quiet why (Runs w ctx new t) (seen old) (seen new) leaves) refl refl session (t, refl, leaves.stays))
-  turned_inside_serves w t read (turned.Stopped e) ctx old new session now leaves is = check_stopped_serves (opened w t) (carried ode (opened w t) (statement.Simple read)) e (Runs w ctx new t) old new now leaves
+      (quiet_serves seen held live means ode stands text_stands (opened w t) (Err why) (state.Running ctx) (done.Refused why) old new now looks refl refl session (t, refl, keeps.stays))
+  turned_inside_serves w t read (turned.Stopped e) ctx old new session now looks keeps is =
+      stopped_serves seen held live means ode stands text_stands (opened w t) (carried ode (opened w t) (statement.Simple read)) e old new now looks (keeps.sound e refl)
 
   -- ---- a transaction ended
 
   pub ended_serves : (session : Session) (s : Settled Histories Starts) (ending : Option Reason) (x : ListTx) (result : Result (State K × Done) EngineError) (old mid new : H) → Now session.world old
-      → AreQuiet (seen old) (seen mid) → s ≡ settled_by ending x → IsWell ode s.0 → (IsWell ode (settled_by ending x).0 → Served session (Ok (settles (settled_by ending x))) result mid new)
+      → Looks (seen old) (seen mid) → s ≡ settled_by ending x → IsWell ode s.0 → (IsWell ode (settled_by ending x).0 → Served session (Ok (settles (settled_by ending x))) result mid new)
       → Served session (Ok (settles s)) result old new
   ended_serves session s ending x result old mid new now looked is well settled =
       behind_serves seen held live means ode stands text_stands session (Ok (settles s)) result old mid new now looked
@@ -165,28 +161,24 @@ module _ {H K : Type 0} (seen : H → View) (held : K → View → Entries → T
     bytes = runs.context.state.bytes;
   }
 
-  pub checked_outside_serves : (w : ListWorld) (read s found : Stmt) (result : Result (State K × Done) EngineError) (context : Type 0) (old mid new : H) → Now w old → LeavesChecked (Ok found) context (seen old) (seen mid)
+  pub checked_outside_serves : (w : ListWorld) (read s : Stmt) (result : Result (State K × Done) EngineError) (old mid new : H) → Now w old → Looks (seen old) (seen mid)
       → checked_in ode w.bones read ≡ Ok s → Served (closed w) (Ok (settles (transaction lists Script (commands lists s) w))) result mid new
       → Served (closed w) (carried ode (closed w) (statement.Simple read)) result old new
-  checked_outside_serves w read s found result context old mid new now leaves is serves =
-      behind_serves seen held live means ode stands text_stands (closed w) (carried ode (closed w) (statement.Simple read)) result old mid new now (checked_quiet found context (seen old) (seen mid) leaves)
+  checked_outside_serves w read s result old mid new now looks is serves =
+      behind_serves seen held live means ode stands text_stands (closed w) (carried ode (closed w) (statement.Simple read)) result old mid new now looks
       (subst (λ (a : Answer Stmt). Served (closed w) (a >>= (λ c. Ok (settles (transaction lists Script (commands lists c) w)))) result mid new) (sym is) serves)
 
-  pub turned_outside_serves : (w : ListWorld) (read : Stmt) (turned' : Turned) (ctx : Ctx K) (result : Result (State K × Done) EngineError) (old new : H) → IsWell ode w → Now w old
-      → LeavesChecked {R = Stmt} (Err turned') (Runs w ctx new (begun Script w)) (seen old) (seen new) → Answers {R = Stmt} (Err turned') (checked_in ode w.bones read)
-      → (live ctx.heap ≡ true → result ≡ turned_down (state.Rest (back ctx)) turned') → ((e : EngineError) → turned' ≡ turned.Stopped e → result ≡ Err e)
-      → Served (closed w) (carried ode (closed w) (statement.Simple read)) result old new
-  turned_outside_serves w read (turned.Refused why) ctx result old new well now leaves is goes stops =
-      let same : result ≡ Ok (state.Rest (back ctx), done.Refused why) = goes leaves.stays.context.state.usable in
-      subst (λ (r : Result (State K × Done) EngineError). Served (closed w) (carried ode (closed w) (statement.Simple read)) r old new) (sym same)
-      (subst (λ (a : Answer Stmt). Served (closed w) (a >>= (λ c. Ok (settles (transaction lists Script (commands lists c) w)))) (Ok (state.Rest (back ctx), done.Refused why)) old new) (sym is)
-      (quiet_serves seen held live means ode stands text_stands (closed w) (Err why) (state.Rest (back ctx)) (done.Refused why) old new now (turned_quiet why (Runs w ctx new (begun Script w)) (seen old) (seen new) leaves) refl refl
-      (closed_session w well) (refl, back_at_rest w ctx new (begun Script w) leaves.stays)))
-  turned_outside_serves w read (turned.Stopped e) ctx result old new well now leaves is goes stops =
-      subst (λ (r : Result (State K × Done) EngineError). Served (closed w) (carried ode (closed w) (statement.Simple read)) r old new) (sym (stops e refl))
-      (check_stopped_serves (closed w) (carried ode (closed w) (statement.Simple read)) e (Runs w ctx new (begun Script w)) old new now leaves)
+  pub turned_outside_serves : (w : ListWorld) (read : Stmt) (turned' : Turned) (ctx : Ctx K) (old new : H) → IsWell ode w → Now w old → Looks (seen old) (seen new)
+      → KeepsChecked {R = Stmt} (Err turned') (Runs w ctx new (begun Script w)) → Answers {R = Stmt} (Err turned') (checked_in ode w.bones read)
+      → Served (closed w) (carried ode (closed w) (statement.Simple read)) (turned_down (state.Rest (back ctx)) turned') old new
+  turned_outside_serves w read (turned.Refused why) ctx old new well now looks keeps is =
+      subst (λ (a : Answer Stmt). Served (closed w) (a >>= (λ c. Ok (settles (transaction lists Script (commands lists c) w)))) (Ok (state.Rest (back ctx), done.Refused why)) old new) (sym is)
+      (quiet_serves seen held live means ode stands text_stands (closed w) (Err why) (state.Rest (back ctx)) (done.Refused why) old new now looks refl refl
+      (closed_session w well) (refl, back_at_rest w ctx new (begun Script w) keeps.stays))
+  turned_outside_serves w read (turned.Stopped e) ctx old new well now looks keeps is =
+      stopped_serves seen held live means ode stands text_stands (closed w) (carried ode (closed w) (statement.Simple read)) e old new now looks (keeps.sound e refl)
 
-  pub begun_serves : (w : ListWorld) (ctx : Ctx K) (old new : H) → IsWell ode w → w.bones.transaction < number_limit → Now w old → AreQuiet (seen old) (seen new) → Runs w ctx new (begun Script w)
+  pub begun_serves : (w : ListWorld) (ctx : Ctx K) (old new : H) → IsWell ode w → w.bones.transaction < number_limit → Now w old → Looks (seen old) (seen new) → Runs w ctx new (begun Script w)
       → Served (closed w) (carried ode (closed w) statement.Begin) (Ok (state.Running ctx, done.Settled 0)) old new
   begun_serves w ctx old new well left now looked runs =
       quiet_serves seen held live means ode stands text_stands (closed w) (Ok (opened w (begun Script w), [])) (state.Running ctx) (done.Settled 0) old new now looked refl refl (begun_session w well left) (begun Script w, refl, runs)

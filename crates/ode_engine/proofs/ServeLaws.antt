@@ -1,6 +1,7 @@
 -- What calls of an engine come to, from the calls that they are made of.
-use Rattle.std.proofs.Common.{◌≡◌, ◌∙◌, ◌+◌, ◌<◌, ℕ, suc, List, [], ◌∷◌, ◌++◌, length, Bool, Result, Some, Ok, Err, ap, append-nil, append_assoc, arith, refl, subst, sym}
+use Rattle.std.proofs.Common.{◌≡◌, ◌∙◌, ◌+◌, ℕ, suc, List, [], ◌∷◌, ◌++◌, length, Bool, Result, Some, Ok, Err, ap, append-nil, append_assoc, arith, refl, subst, sym}
 use Rattle.std.specs.Prelude.{IsErrOf, OnOk}
+use Rattle.ode_engine.specs.Refusing.{IsUndamaged}
 use Rattle.ode_engine.specs.Serving.{IsAnswer, IsSession, Serves, StandsIn, session_after, settlings}
 use Rattle.ode_engine.specs.declared.commanding.State.{State}
 use Rattle.ode_engine.specs.declared.commanding.State.TheVariants as state
@@ -54,14 +55,19 @@ quiet_none v = (looks_none v, record { keeps = (looks_none v).keeps; disk_faults
 pub quiet_by : (F : Type 0) (old new : View) → (F → ⊥) → Looks old new → RoseIf F old.disk_faults new.disk_faults → AreQuiet old new
 quiet_by F old new none looks rose = (looks, disk_host F ⊥ ⊥ old new none absurd (λ none. none) (looks_calls F old new looks rose))
 
-pub quiet_told : (F P : Type 0) (old new : View) → (F → ⊥) → (P → ⊥) → Looks old new → HostCalls F P old new → AreQuiet old new
-quiet_told F P old new no_disk no_print looks calls = (looks, host_calls_as F P ⊥ ⊥ old new no_disk absurd no_print absurd calls)
-
 -- one of them told this fault
 pub told_by : {R : Type 0} (F : Type 0) (e : EngineError) (old new : View) → (F → e ≡ error.DiskFault) → (e ≡ error.DiskFault → F) → (e ≡ error.WriteFault → ⊥) → Looks old new
     → RoseIf F old.disk_faults new.disk_faults → HostCalls (IsErrOf {T = R} (Err e) error.DiskFault) (IsErrOf {T = R} (Err e) error.WriteFault) old new
 told_by F e old new to back silent looks rose =
     disk_host F (Err e ≡ Err error.DiskFault) (Err e ≡ Err error.WriteFault) old new (λ f. ap Err (to f)) (λ is. back (cc (is))) (λ is. silent (cc (is))) (looks_calls F old new looks rose)
+
+-- none of them did
+pub told_none : {R : Type 0} (v : R) (old new : View) → AreQuiet old new → HostCalls (IsErrOf {T = R} (Ok v) error.DiskFault) (IsErrOf {T = R} (Ok v) error.WriteFault) old new
+told_none v old new quiet = host_calls_as ⊥ ⊥ (Ok v ≡ Err error.DiskFault) (Ok v ≡ Err error.WriteFault) old new absurd (λ is. cc (is)) absurd (λ is. cc (is)) quiet.1
+
+-- those of more calls behind such
+pub told_on : (F P : Type 0) (old mid new : View) → HostCalls ⊥ ⊥ old mid → HostCalls F P mid new → HostCalls F P old new
+told_on F P old mid new quiet more = host_calls_on ⊥ ⊥ F P old mid new (λ none. none) (λ none. none) quiet more
 
 -- ---- what is held now
 
@@ -108,27 +114,26 @@ module _ {H K : Type 0} (seen : H → View) (held : K → View → Entries → T
   Served = Serves seen held live means l
 
   -- an error, where nothing but looks was done
-  pub stopped_serves : (session : Session) (answer : Answer Step) (e : EngineError) (old new : H) → Now session.world old → Looks (seen old) (seen new)
-      → HostCalls (IsErrOf {T = State K × Done} (Err e) error.DiskFault) (IsErrOf {T = State K × Done} (Err e) error.WriteFault) (seen old) (seen new) → Served session answer (Err e) old new
-  stopped_serves session answer e old new now looks leaves = record {
+  pub stopped_serves : (session : Session) (answer : Answer Step) (e : EngineError) (old new : H) → Now session.world old → Looks (seen old) (seen new) → IsUndamaged e → Served session answer (Err e) old new
+  stopped_serves session answer e old new now looks sound = record {
     answers = tt;
     goes_on = tt;
     stands = tt;
     printed = tt;
     any_moment = λ said more is. looked_leaves session.world old new now looks (items_of (settlings answer) ++ more) said is;
-    leaves = leaves;
+    sound = sound;
   }
 
   -- an answer by which nothing is settled
-  pub quiet_serves : (session : Session) (answer : Answer Step) (s : State K) (d : Done) (old new : H) → Now session.world old → AreQuiet (seen old) (seen new) → settlings answer ≡ []
+  pub quiet_serves : (session : Session) (answer : Answer Step) (s : State K) (d : Done) (old new : H) → Now session.world old → Looks (seen old) (seen new) → settlings answer ≡ []
       → IsAnswer d answer → IsSession l (session_after session answer) → StandsIn seen held live l (session_after session answer) s new → Served session answer (Ok (s, d)) old new
-  quiet_serves session answer s d old new now quiet none says goes_on is = record {
+  quiet_serves session answer s d old new now looks none says goes_on is = record {
     answers = says;
     goes_on = goes_on;
     stands = is;
-    printed = subst (λ (settled : Settlings). Printed (texts_of settled) (seen old) (seen new)) (sym none) (λ text told. quiet.0.text ∙ told ∙ ap Some (sym (append-nil text)));
-    any_moment = λ said more told. looked_leaves session.world old new now quiet.0 (items_of (settlings answer) ++ more) said told;
-    leaves = host_calls_as ⊥ ⊥ _ _ (seen old) (seen new) absurd (λ told. cc (told)) absurd (λ told. cc (told)) quiet.1;
+    printed = subst (λ (settled : Settlings). Printed (texts_of settled) (seen old) (seen new)) (sym none) (λ text told. looks.text ∙ told ∙ ap Some (sym (append-nil text)));
+    any_moment = λ said more told. looked_leaves session.world old new now looks (items_of (settlings answer) ++ more) said told;
+    sound = tt;
   }
 
   printed_behind : (result : Result (State K × Done) EngineError) (text : List ℕ) (old mid new : View) → mid.text ≡ old.text → OnOk result (Printed text mid new) → OnOk result (Printed text old new)
@@ -136,18 +141,18 @@ module _ {H K : Type 0} (seen : H → View) (held : K → View → Entries → T
   printed_behind (Err e) text old mid new same printed = tt
 
   -- behind calls that only looked
-  pub behind_serves : (session : Session) (answer : Answer Step) (result : Result (State K × Done) EngineError) (old mid new : H) → Now session.world old → AreQuiet (seen old) (seen mid)
+  pub behind_serves : (session : Session) (answer : Answer Step) (result : Result (State K × Done) EngineError) (old mid new : H) → Now session.world old → Looks (seen old) (seen mid)
       → Served session answer result mid new → Served session answer result old new
-  behind_serves session answer result old mid new now quiet serves = record {
+  behind_serves session answer result old mid new now looks serves = record {
     answers = serves.answers;
     goes_on = serves.goes_on;
     stands = serves.stands;
-    printed = printed_behind result (texts_of (settlings answer)) (seen old) (seen mid) (seen new) quiet.0.text serves.printed;
+    printed = printed_behind result (texts_of (settlings answer)) (seen old) (seen mid) (seen new) looks.text serves.printed;
     any_moment = λ said more is.
         joined (seen old) (seen mid) (seen new) (IsAfterSome (HoldsBy l means) (items_of (settlings answer) ++ more) session.world said)
-        (looked_leaves session.world old mid now quiet.0 (items_of (settlings answer) ++ more) said is)
-        (serves.any_moment said more (quiet.0.text ∙ is));
-    leaves = host_calls_on ⊥ ⊥ _ _ (seen old) (seen mid) (seen new) (λ none. none) (λ none. none) quiet.1 serves.leaves;
+        (looked_leaves session.world old mid now looks (items_of (settlings answer) ++ more) said is)
+        (serves.any_moment said more (looks.text ∙ is));
+    sound = serves.sound;
   }
 
   -- ---- a transaction settles, and the drain follows
@@ -160,18 +165,16 @@ module _ {H K : Type 0} (seen : H → View) (held : K → View → Entries → T
   pub record HasSettled (w : ListWorld) (s : Settled Histories Starts) (old new : H) : Type 0 where
     pub printed : Printed s.1 (seen old) (seen new)
     pub any_moment : LeavesOne w s old new
-    pub leaves : HostCalls ⊥ ⊥ (seen old) (seen new)
 
   -- it has not
-  pub unsettled_serves : (session : Session) (s : Settled Histories Starts) (e : EngineError) (old new : H) → LeavesOne session.world s old new
-      → HostCalls (IsErrOf {T = State K × Done} (Err e) error.DiskFault) (IsErrOf {T = State K × Done} (Err e) error.WriteFault) (seen old) (seen new) → Served session (Ok (settles s)) (Err e) old new
-  unsettled_serves session s e old new leaves_one leaves = record {
+  pub unsettled_serves : (session : Session) (s : Settled Histories Starts) (e : EngineError) (old new : H) → LeavesOne session.world s old new → IsUndamaged e → Served session (Ok (settles s)) (Err e) old new
+  unsettled_serves session s e old new leaves_one sound = record {
     answers = tt;
     goes_on = tt;
     stands = tt;
     printed = tt;
     any_moment = λ said more is. settling_leaves (HoldsBy l means) s.1 (items_of (drain lists drain_limit s.0) ++ more) session.world s.0 said (seen old) (seen new) (leaves_one said is);
-    leaves = leaves;
+    sound = sound;
   }
 
   -- what a stop leaves of the drain behind it
@@ -188,26 +191,25 @@ module _ {H K : Type 0} (seen : H → View) (held : K → View → Entries → T
       (subst (λ (t : List ℕ). LeavesOnly (seen mid) (seen new) (IsAfterSome (HoldsBy l means) items s.0 (said ++ t))) (sym (append-nil s.1)) (drained (said ++ s.1) more (one.printed said is)))
 
   pub undrained_serves : (session : Session) (s : Settled Histories Starts) (e : EngineError) (old mid new : H) → HasSettled session.world s old mid → LeavesDrain s.0 mid new
-      → HostCalls (IsErrOf {T = State K × Done} (Err e) error.DiskFault) (IsErrOf {T = State K × Done} (Err e) error.WriteFault) (seen mid) (seen new) → Served session (Ok (settles s)) (Err e) old new
-  undrained_serves session s e old mid new one drained leaves = record {
+      → IsUndamaged e → Served session (Ok (settles s)) (Err e) old new
+  undrained_serves session s e old mid new one drained sound = record {
     answers = tt;
     goes_on = tt;
     stands = tt;
     printed = tt;
     any_moment = drained_leaves session.world s old mid new one drained;
-    leaves = host_calls_on ⊥ ⊥ _ _ (seen old) (seen mid) (seen new) (λ none. none) (λ none. none) one.leaves leaves;
+    sound = sound;
   }
 
   pub drained_serves : (session : Session) (s : Settled Histories Starts) (o : Opened K) (ran : ℕ) (old mid new : H) → HasSettled session.world s old mid → LeavesDrain s.0 mid new
-      → HostCalls ⊥ ⊥ (seen mid) (seen new) → ran ≡ length (drain lists drain_limit s.0) → IsSession l (settles s).0
+      → ran ≡ length (drain lists drain_limit s.0) → IsSession l (settles s).0
       → IsAtRest seen held live l (world_after s.0 (drain lists drain_limit s.0)) o new → Printed (texts_of (drain lists drain_limit s.0)) (seen mid) (seen new)
       → Served session (Ok (settles s)) (Ok (state.Rest o, done.Settled (ran + 1))) old new
-  drained_serves session s o ran old mid new one drained leaves count goes_on rests printed = record {
+  drained_serves session s o ran old mid new one drained count goes_on rests printed = record {
     answers = one_more ran (length (drain lists drain_limit s.0)) count;
     goes_on = goes_on;
     stands = (refl, rests);
     printed = λ said is. printed (said ++ s.1) (one.printed said is) ∙ ap Some (append_assoc said s.1 (texts_of (drain lists drain_limit s.0)));
     any_moment = drained_leaves session.world s old mid new one drained;
-    leaves = host_calls_on ⊥ ⊥ _ _ (seen old) (seen mid) (seen new) (λ none. none) (λ none. none) one.leaves
-        (host_calls_as ⊥ ⊥ _ _ (seen mid) (seen new) absurd (λ told. cc (told)) absurd (λ told. cc (told)) leaves);
+    sound = tt;
   }

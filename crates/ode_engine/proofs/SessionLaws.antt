@@ -1,7 +1,6 @@
 -- Sessions go on: what a transaction that has come from a world that is well leaves is well again.
 use Rattle.std.proofs.Common.{◌≡◌, ◌<◌, List, [], ◌∷◌, Option, Result, Ok, Err, None, Some, ap, arith, refl, subst, sym}
 use Rattle.std.specs.List.{AllByRecursion}
-use Rattle.ode_accepted_laws.specs.Languages.{HasSoundRules}
 use Rattle.ode_declare.specs.Texts.{HasText}
 use Rattle.ode_engine.specs.Serving.{HasCome, HasComeOpen, IsSession, Line}
 use Rattle.ode_good_laws.proofs.GoodAgain.{drain_well, statement_well}
@@ -9,7 +8,6 @@ use Rattle.ode_good_laws.specs.Well.{IsWell}
 use Rattle.ode_good_runs.proofs.Declaring.{class_well, declared_is}
 use Rattle.ode_good_runs.proofs.Going.{Goes, IsFirst, IsGoing, begun_going, commits_well, settles_well, statement_goes, well_first}
 use Rattle.ode_good_runs.proofs.Literals.{literals_fit, then_ok}
-use Rattle.ode_good_runs.specs.Reading.{ReadsWell}
 use Rattle.ode_language.specs.Languages.{ode}
 use Rattle.ode_language_laws.proofs.LanguageRuns.{reads_well, sound_rules}
 use Rattle.ode_machine.specs.Commands.{after, commits, settles}
@@ -39,7 +37,7 @@ check_passed : (r : Result Stmt CheckError) (c : Stmt) → checks r ≡ Ok c →
 check_passed (Ok s) c is = cc (is)
 check_passed (Err error) c is = absurd (cc (is))
 
-room : (w : ListWorld) → w.bones.transaction < number_limit → w.bones.transaction < transaction_limit
+pub room : (w : ListWorld) → w.bones.transaction < number_limit → w.bones.transaction < transaction_limit
 room w less = omega (arith, less)
 
 module _ (w : ListWorld) (well : IsWell ode w) where

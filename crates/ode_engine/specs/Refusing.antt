@@ -14,20 +14,37 @@ use Rattle.ode_transact.specs.declared.error.EngineError.{EngineError}
 use Rattle.ode_transact.specs.declared.error.EngineError.TheVariants as error
 use Rattle.ode_value.specs.Answers.{Answer}
 
+-- an error by which no record is damaged
+abbrev pub IsUndamaged : EngineError → Type 0
+IsUndamaged error.Memory = Unit {0}
+IsUndamaged error.DiskFault = Unit {0}
+IsUndamaged error.WriteFault = Unit {0}
+IsUndamaged (error.Damaged key) = ⊥
+
 -- the answer; an error may come in its place
 abbrev pub Answers : {R : Type 0} → Result R Turned → Answer R → Type 0
 Answers (Ok v) answer = answer ≡ Ok v
 Answers (Err (Refused why)) answer = answer ≡ Err why
 Answers (Err (Stopped error)) answer = Unit {0}
 
+-- what holds where a statement is refused
+abbrev pub IfRefused : Turned → Type 0 → Type 0
+IfRefused (Refused why) P = P
+IfRefused (Stopped error) P = Unit {0}
+
 -- what holds but at an error
 abbrev pub UnlessStopped : {R : Type 0} → Result R Turned → Type 0 → Type 0
-UnlessStopped (Err (Stopped error)) P = Unit {0}
-UnlessStopped _ P = P
+UnlessStopped (Ok v) P = P
+UnlessStopped (Err turned) P = IfRefused turned P
 
--- what is left: this, but at an error; the host only looked, the disk failed exactly where that is the error, and no print did
-pub record LeavesChecked {R : Type 0} (result : Result R Turned) (context : Type 0) (before after : View) : Type 0 where
+-- Over records that hold a world: this, but at an error, and no record is damaged.
+pub record KeepsChecked {R : Type 0} (result : Result R Turned) (context : Type 0) : Type 0 where
   pub stays : UnlessStopped result context
+  pub sound : (error : EngineError) → IsErrOf result (Stopped error) → IsUndamaged error
+
+-- Over any records: this, but at an error; the host only looked, the disk failed exactly where that is the error, and no print did.
+pub record LeavesChecked {R : Type 0} (result : Result R Turned) (usable : Type 0) (before after : View) : Type 0 where
+  pub stays : UnlessStopped result usable
   pub looks : Looks before after
   pub faults : RoseIf (IsErrOf result (Stopped error.DiskFault)) before.disk_faults after.disk_faults
   pub silent : IsErrOf result (Stopped error.WriteFault) → ⊥

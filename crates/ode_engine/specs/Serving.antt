@@ -1,14 +1,15 @@
 -- When an engine stands for a session of the machine, and what its calls come to.
-use Rattle.std.specs.Prelude.{◌≡◌, ◌<◌, ℕ, List, [], ◌∷◌, ◌++◌, length, Bool, true, Option, Some, None, Result, Ok, Err, IfOk, IsErrOf, OnOk}
+use Rattle.std.specs.Prelude.{◌≡◌, ◌<◌, ℕ, List, [], ◌∷◌, ◌++◌, length, Bool, true, Option, Some, None, Result, Ok, Err, IfErr, IfOk, OnOk}
 use Rattle.ode_declare.specs.Texts.{HasText}
 use Rattle.ode_declared_laws.specs.Adding.{AreAligned}
+use Rattle.ode_engine.specs.Refusing.{IsUndamaged}
 use Rattle.ode_engine.specs.declared.commanding.State.{State}
 use Rattle.ode_engine.specs.declared.commanding.State.TheVariants as state
 use Rattle.ode_engine.specs.declared.engine.Done.{Done}
 use Rattle.ode_engine.specs.declared.engine.Done.TheVariants as done
 use Rattle.ode_engine.specs.declared.engine.Engine.{Engine}
 use Rattle.ode_good_laws.specs.Well.{IsWell}
-use Rattle.ode_host.specs.Host.{HostCalls, LeavesOnly, Printed}
+use Rattle.ode_host.specs.Host.{LeavesOnly, Printed}
 use Rattle.ode_host.specs.View.{View}
 use Rattle.ode_keep.specs.Entries.{Entries}
 use Rattle.ode_machine.specs.Commands.{Step, carried}
@@ -24,7 +25,6 @@ use Rattle.ode_transact.specs.Items.{items_of, texts_of}
 use Rattle.ode_transact.specs.Resting.{HoldsBy, IsAtRest, resting_parts}
 use Rattle.ode_transact.specs.Settling.{Meaning}
 use Rattle.ode_transact.specs.declared.error.EngineError.{EngineError}
-use Rattle.ode_transact.specs.declared.error.EngineError.TheVariants as error
 use Rattle.ode_value.specs.Acts.{Done as Reached}
 use Rattle.ode_value.specs.Answers.{Answer, ◌>>◌}
 use Rattle.ode_value.specs.Executing.{commands}
@@ -59,10 +59,10 @@ done_in (Err error) = Err error
 -- ---- the condition of a call
 
 module _ {K : Type 0} (live : K → Bool) where
-  -- either the opened file is there, whose keeper may be used, or the context of an open transaction; and its lists fit its classes
+  -- either the opened file is there, or the context of an open transaction; its keeper may be used, and its lists fit its classes
   abbrev pub IsOneOf : Option (Opened K) → Option (Ctx K) → Type 0
   IsOneOf (Some o) None = (live o.keeper ≡ true) × AreFit (resting_parts o) × AreAligned (resting_parts o)
-  IsOneOf None (Some ctx) = AreFit (parts_of ctx) × AreAligned (parts_of ctx)
+  IsOneOf None (Some ctx) = (live ctx.heap ≡ true) × AreFit (parts_of ctx) × AreAligned (parts_of ctx)
   IsOneOf _ _ = ⊥
 
   -- that of what an engine has
@@ -145,7 +145,7 @@ module _ {H K : Type 0} (seen : H → View) (held : K → View → Entries → T
 
   -- What a call came to from a session on that the machine gives this answer: at `Ok` it says that answer, what is there stands for the
   -- session behind it, and the texts of what was settled are printed. A stop on the way leaves the world that some of them left, and a front
-  -- of the text up to the next one, whatever comes behind. The host's faults are those that are told.
+  -- of the text up to the next one, whatever comes behind. No record is damaged.
   pub record Serves (means : Meaning) (l : Language) (session : Session) (answer : Answer Step) (result : Result (State K × Done) EngineError) (old new : H) : Type 0 where
     pub answers : IfOk result (λ r. IsAnswer r.1 answer)
     pub goes_on : OnOk result (IsSession l (session_after session answer))
@@ -153,4 +153,4 @@ module _ {H K : Type 0} (seen : H → View) (held : K → View → Entries → T
     pub printed : OnOk result (Printed (texts_of (settlings answer)) (seen old) (seen new))
     pub any_moment : (said : List ℕ) (more : List Item) → (seen old).text ≡ Some said
         → LeavesOnly (seen old) (seen new) (IsAfterSome (HoldsBy l means) (items_of (settlings answer) ++ more) session.world said)
-    pub leaves : HostCalls (IsErrOf result error.DiskFault) (IsErrOf result error.WriteFault) (seen old) (seen new)
+    pub sound : IfErr result IsUndamaged

@@ -1,11 +1,12 @@
 //! Statements, over an opened file and inside a transaction.
-ghost use Rattle.std.specs.Prelude.{◌≡◌, ◌<◌, Err, IfOk, IsTrue, Ok, false, true};
+ghost use Rattle.std.specs.Prelude.{◌≡◌, ◌<◌, IfOk, IsErrOf, IsTrue, Ok, false};
 ghost use Rattle.ode_compile.specs.Compiling.{HaveNumbers};
 ghost use Rattle.ode_declare.specs.Texts.{HasText};
 ghost use Rattle.ode_declared_laws.specs.Adding.{AreAligned};
-ghost use Rattle.ode_engine.specs.Refusing.{back, turned_down};
+ghost use Rattle.ode_engine.specs.Refusing.{turned_down};
 ghost use Rattle.ode_engine.specs.Serving.{IsServed, IsSession, IsUsable, Serves, StandsIn, answer_to};
 ghost use Rattle.ode_good_laws.specs.Well.{IsWell};
+ghost use Rattle.ode_host.specs.Host.{HostCalls};
 ghost use Rattle.ode_language.specs.Languages.{ode};
 ghost use Rattle.ode_machine.specs.Commands.{carried, commits, finish, goes_on, settles};
 ghost use Rattle.ode_machine.specs.Refusals.{checked_in, place_of};
@@ -54,29 +55,6 @@ fn turned_down<K: Drop>(state: State<K>, turned: Turned) -> Result<(State<K>, Do
     }
 }
 
-// The same where a context goes back to the file that it began over. It may be used where its keeper may.
-fn turned_back<H: Host, K: Keep<H> + Drop>(
-    ctx: Ctx<K>,
-    turned: Turned,
-) -> Result<(State<K>, Done), EngineError>
-    requires fit { AreFit (parts_of ctx) }
-    requires aligned { AreAligned (parts_of ctx) }
-    ensures back { K.live ctx.heap ≡ true → result ≡ turned_down (State.Rest (back ctx)) turned }
-    ensures stopped { (error : EngineError) → turned ≡ Turned.Stopped error → result ≡ Err error }
-    ensures usable { IfOk result (λ r. IsUsable K.live r.0) }
-{
-    match turned {
-        Turned::Refused(why) => {
-            if ctx.heap.live() {
-                Ok((State::Rest(put_back(ctx)), Done::Refused(why)))
-            } else {
-                Err(EngineError::DiskFault)
-            }
-        }
-        Turned::Stopped(error) => Err(error),
-    }
-}
-
 // An open transaction settles, and the drain follows.
 fn settle<H: Host, K: Keep<H> + Drop>(
     alloc: Global,
@@ -84,11 +62,13 @@ fn settle<H: Host, K: Keep<H> + Drop>(
     host: &mut H,
     ending: Option<Reason>,
 ) -> Result<(State<K>, Done), EngineError>
+    requires live { IsTrue (K.live ctx.heap) }
     requires fit { AreFit (parts_of ctx) }
     requires aligned { AreAligned (parts_of ctx) }
     ensures serves { (session : Session) (t : ListTx) → IsWell ode session.world → ContextRuns H.view K.holds K.live ode session.world ctx host.old t → IsWell ode (settled_by ending t).0
         → Serves H.view K.holds K.live K.means ode session (Ok (settles (settled_by ending t))) result host.old host.new }
     ensures usable { IfOk result (λ r. IsUsable K.live r.0) }
+    ensures leaves { HostCalls (IsErrOf result EngineError.DiskFault) (IsErrOf result EngineError.WriteFault) (H.view host.old) (H.view host.new) }
 {
     let rest = end(alloc, ctx, host, ending)?;
     let (rest, ran) = drain(alloc, rest, host, DRAIN_LIMIT)?;
@@ -102,12 +82,14 @@ fn run_inside<H: Host, K: Keep<H> + Drop>(
     host: &mut H,
     s: &Stmt,
 ) -> Result<(State<K>, Done), EngineError>
+    requires live { IsTrue (K.live ctx.heap) }
     requires fit { AreFit (parts_of ctx) }
     requires aligned { AreAligned (parts_of ctx) }
     ensures serves { (w : ListWorld) (t : ListTx) (read : Stmt) → IsSession ode (opened w t) → ContextRuns H.view K.holds K.live ode w ctx host.old t
         → HasText ode (statement.Simple read) → checked_in ode t.now.bones read ≡ Ok s.now
         → Serves H.view K.holds K.live K.means ode (opened w t) (Ok (goes_on w (commands lists s.now t))) result host.old host.new }
     ensures usable { IfOk result (λ r. IsUsable K.live r.0) }
+    ensures leaves { HostCalls (IsErrOf result EngineError.DiskFault) (IsErrOf result EngineError.WriteFault) (H.view host.old) (H.view host.new) }
 {
     let mut ctx = ctx;
     match exec(alloc, &mut ctx, host, s) {
@@ -124,11 +106,13 @@ fn simple_inside<H: Host, K: Keep<H> + Drop>(
     host: &mut H,
     s: &Stmt,
 ) -> Result<(State<K>, Done), EngineError>
+    requires live { IsTrue (K.live ctx.heap) }
     requires fit { AreFit (parts_of ctx) }
     requires aligned { AreAligned (parts_of ctx) }
     ensures serves { (w : ListWorld) (t : ListTx) → IsSession ode (opened w t) → ContextRuns H.view K.holds K.live ode w ctx host.old t → HasText ode (statement.Simple s.now)
         → Serves H.view K.holds K.live K.means ode (opened w t) (carried ode (opened w t) (statement.Simple s.now)) result host.old host.new }
     ensures usable { IfOk result (λ r. IsUsable K.live r.0) }
+    ensures leaves { HostCalls (IsErrOf result EngineError.DiskFault) (IsErrOf result EngineError.WriteFault) (H.view host.old) (H.view host.new) }
 {
     let mut ctx = ctx;
     match checked(alloc, &mut ctx, host, s) {
@@ -143,11 +127,13 @@ fn commit<H: Host, K: Keep<H> + Drop>(
     ctx: Ctx<K>,
     host: &mut H,
 ) -> Result<(State<K>, Done), EngineError>
+    requires live { IsTrue (K.live ctx.heap) }
     requires fit { AreFit (parts_of ctx) }
     requires aligned { AreAligned (parts_of ctx) }
     ensures serves { (w : ListWorld) (t : ListTx) → IsSession ode (opened w t) → ContextRuns H.view K.holds K.live ode w ctx host.old t
         → Serves H.view K.holds K.live K.means ode (opened w t) (Ok (settles (commits t))) result host.old host.new }
     ensures usable { IfOk result (λ r. IsUsable K.live r.0) }
+    ensures leaves { HostCalls (IsErrOf result EngineError.DiskFault) (IsErrOf result EngineError.WriteFault) (H.view host.old) (H.view host.new) }
 {
     let mut ctx = ctx;
     let ending = run_completion(alloc, &mut ctx, host)?;
@@ -161,11 +147,13 @@ fn abort<H: Host, K: Keep<H> + Drop>(
     host: &mut H,
     why: Reason,
 ) -> Result<(State<K>, Done), EngineError>
+    requires live { IsTrue (K.live ctx.heap) }
     requires fit { AreFit (parts_of ctx) }
     requires aligned { AreAligned (parts_of ctx) }
     ensures serves { (w : ListWorld) (t : ListTx) → IsSession ode (opened w t) → ContextRuns H.view K.holds K.live ode w ctx host.old t
         → Serves H.view K.holds K.live K.means ode (opened w t) (Ok (settles (abort lists why t))) result host.old host.new }
     ensures usable { IfOk result (λ r. IsUsable K.live r.0) }
+    ensures leaves { HostCalls (IsErrOf result EngineError.DiskFault) (IsErrOf result EngineError.WriteFault) (H.view host.old) (H.view host.new) }
 {
     settle(alloc, ctx, host, Some(why))
 }
@@ -177,12 +165,14 @@ fn command_inside<H: Host, K: Keep<H> + Drop>(
     host: &mut H,
     s: &Statement,
 ) -> Result<(State<K>, Done), EngineError>
+    requires live { IsTrue (K.live ctx.heap) }
     requires fit { AreFit (parts_of ctx) }
     requires aligned { AreAligned (parts_of ctx) }
     requires text { HasText ode s.now }
     ensures serves { (w : ListWorld) (t : ListTx) → IsSession ode (opened w t) → ContextRuns H.view K.holds K.live ode w ctx host.old t
         → Serves H.view K.holds K.live K.means ode (opened w t) (answer_to ode (opened w t) s.now) result host.old host.new }
     ensures usable { IfOk result (λ r. IsUsable K.live r.0) }
+    ensures leaves { HostCalls (IsErrOf result EngineError.DiskFault) (IsErrOf result EngineError.WriteFault) (H.view host.old) (H.view host.new) }
 {
     if let Err(why) = place_of(s, true) {
         return Ok((State::Running(ctx), Done::Refused(why)));
@@ -202,11 +192,13 @@ fn run_whole<H: Host, K: Keep<H> + Drop>(
     host: &mut H,
     s: &Stmt,
 ) -> Result<(State<K>, Done), EngineError>
+    requires live { IsTrue (K.live ctx.heap) }
     requires fit { AreFit (parts_of ctx) }
     requires aligned { AreAligned (parts_of ctx) }
     ensures serves { (w : ListWorld) → IsWell ode w → ContextRuns H.view K.holds K.live ode w ctx host.old (begun Script w) → IsWell ode (transaction lists Script (commands lists s.now) w).0
         → Serves H.view K.holds K.live K.means ode (closed w) (Ok (settles (transaction lists Script (commands lists s.now) w))) result host.old host.new }
     ensures usable { IfOk result (λ r. IsUsable K.live r.0) }
+    ensures leaves { HostCalls (IsErrOf result EngineError.DiskFault) (IsErrOf result EngineError.WriteFault) (H.view host.old) (H.view host.new) }
 {
     let mut ctx = ctx;
     let ending = run(alloc, &mut ctx, host, Work::Statement(s))?;
@@ -220,16 +212,18 @@ fn simple_begun<H: Host, K: Keep<H> + Drop>(
     host: &mut H,
     s: &Stmt,
 ) -> Result<(State<K>, Done), EngineError>
+    requires live { IsTrue (K.live ctx.heap) }
     requires fit { AreFit (parts_of ctx) }
     requires aligned { AreAligned (parts_of ctx) }
     ensures serves { (w : ListWorld) → IsWell ode w → ContextRuns H.view K.holds K.live ode w ctx host.old (begun Script w) → w.bones.transaction < number_limit → HasText ode (statement.Simple s.now)
         → Serves H.view K.holds K.live K.means ode (closed w) (carried ode (closed w) (statement.Simple s.now)) result host.old host.new }
     ensures usable { IfOk result (λ r. IsUsable K.live r.0) }
+    ensures leaves { HostCalls (IsErrOf result EngineError.DiskFault) (IsErrOf result EngineError.WriteFault) (H.view host.old) (H.view host.new) }
 {
     let mut ctx = ctx;
     match checked(alloc, &mut ctx, host, s) {
         Ok(s) => run_whole(alloc, ctx, host, s.get()),
-        Err(turned) => turned_back::<H, K>(ctx, turned),
+        Err(turned) => turned_down(State::Rest(put_back(ctx)), turned),
     }
 }
 
@@ -246,6 +240,7 @@ fn simple<H: Host, K: Keep<H> + Drop>(
     ensures serves { (w : ListWorld) → IsWell ode w → IsAtRest H.view K.holds K.live ode w rest host.old → w.bones.transaction < number_limit → HasText ode (statement.Simple s.now)
         → Serves H.view K.holds K.live K.means ode (closed w) (carried ode (closed w) (statement.Simple s.now)) result host.old host.new }
     ensures usable { IfOk result (λ r. IsUsable K.live r.0) }
+    ensures leaves { HostCalls (IsErrOf result EngineError.DiskFault) (IsErrOf result EngineError.WriteFault) (H.view host.old) (H.view host.new) }
 {
     let ctx = begin(alloc, rest, host, Origin::Script)?;
     simple_begun(alloc, ctx, host, s)
@@ -265,6 +260,7 @@ fn class<H: Host, K: Keep<H> + Drop>(
     ensures serves { (w : ListWorld) → IsWell ode w → IsAtRest H.view K.holds K.live ode w rest host.old → w.bones.transaction < number_limit → HasText ode (statement.Class decl.now)
         → Serves H.view K.holds K.live K.means ode (closed w) (carried ode (closed w) (statement.Class decl.now)) result host.old host.new }
     ensures usable { IfOk result (λ r. IsUsable K.live r.0) }
+    ensures leaves { HostCalls (IsErrOf result EngineError.DiskFault) (IsErrOf result EngineError.WriteFault) (H.view host.old) (H.view host.new) }
 {
     let (rest, refused) = declare(alloc, rest, host, decl)?;
     match refused {
@@ -288,6 +284,7 @@ fn leave_open<H: Host, K: Keep<H> + Drop>(
     ensures serves { (w : ListWorld) → IsWell ode w → IsAtRest H.view K.holds K.live ode w rest host.old → w.bones.transaction < number_limit
         → Serves H.view K.holds K.live K.means ode (closed w) (carried ode (closed w) statement.Begin) result host.old host.new }
     ensures usable { IfOk result (λ r. IsUsable K.live r.0) }
+    ensures leaves { HostCalls (IsErrOf result EngineError.DiskFault) (IsErrOf result EngineError.WriteFault) (H.view host.old) (H.view host.new) }
 {
     let ctx = begin(alloc, rest, host, Origin::Script)?;
     Ok((State::Running(ctx), Done::Settled(0)))
@@ -308,6 +305,7 @@ fn carry_out<H: Host, K: Keep<H> + Drop>(
     ensures serves { (w : ListWorld) → IsWell ode w → IsAtRest H.view K.holds K.live ode w rest host.old → w.bones.transaction < number_limit → place_of s.now false ≡ Ok tt
         → Serves H.view K.holds K.live K.means ode (closed w) (carried ode (closed w) s.now) result host.old host.new }
     ensures usable { IfOk result (λ r. IsUsable K.live r.0) }
+    ensures leaves { HostCalls (IsErrOf result EngineError.DiskFault) (IsErrOf result EngineError.WriteFault) (H.view host.old) (H.view host.new) }
 {
     match s {
         Statement::Begin => leave_open(alloc, rest, host),
@@ -332,6 +330,7 @@ fn command_at_rest<H: Host, K: Keep<H> + Drop>(
     ensures serves { (w : ListWorld) → IsWell ode w → IsAtRest H.view K.holds K.live ode w rest host.old
         → Serves H.view K.holds K.live K.means ode (closed w) (answer_to ode (closed w) s.now) result host.old host.new }
     ensures usable { IfOk result (λ r. IsUsable K.live r.0) }
+    ensures leaves { HostCalls (IsErrOf result EngineError.DiskFault) (IsErrOf result EngineError.WriteFault) (H.view host.old) (H.view host.new) }
 {
     if let Err(why) = place_of(s, false) {
         return Ok((State::Rest(rest), Done::Refused(why)));
@@ -359,6 +358,7 @@ pub(crate) fn command_in<H: Host, K: Keep<H> + Drop>(
     ensures serves { (session : Session) → IsSession ode session → StandsIn H.view K.holds K.live ode session state host.old
         → Serves H.view K.holds K.live K.means ode session (answer_to ode session s.now) result host.old host.new }
     ensures usable { IfOk result (λ r. IsUsable K.live r.0) }
+    ensures leaves { HostCalls (IsErrOf result EngineError.DiskFault) (IsErrOf result EngineError.WriteFault) (H.view host.old) (H.view host.new) }
 {
     match state {
         State::Rest(rest) => command_at_rest(alloc, rest, host, s),
@@ -376,6 +376,7 @@ pub(crate) fn finish_in<H: Host, K: Keep<H> + Drop>(
     ensures serves { (session : Session) → IsSession ode session → StandsIn H.view K.holds K.live ode session state host.old
         → Serves H.view K.holds K.live K.means ode session (Ok (finish session)) result host.old host.new }
     ensures usable { IfOk result (λ r. IsUsable K.live r.0) }
+    ensures leaves { HostCalls (IsErrOf result EngineError.DiskFault) (IsErrOf result EngineError.WriteFault) (H.view host.old) (H.view host.new) }
 {
     match state {
         State::Rest(rest) => Ok((State::Rest(rest), Done::Settled(0))),

@@ -10,6 +10,7 @@ ghost use Rattle.ode_machine.specs.Moments.{IsAfterSome};
 ghost use Rattle.ode_machine.specs.Runs.{Item};
 ghost use Rattle.ode_machine.specs.Sessions.{Session};
 ghost use Rattle.ode_schema.specs.Parts.{AreFit};
+ghost use Rattle.ode_transact.specs.Errors.{OnDamaged};
 ghost use Rattle.ode_transact.specs.Items.{items_of, texts_of};
 ghost use Rattle.ode_transact.specs.Resting.{HoldsBy, resting_parts};
 ghost use Rattle.ode_value.specs.Draining.{drain as drained};
@@ -138,8 +139,10 @@ impl<K: Drop> Engine<K> {
         // A stop leaves the world that some of them left, and a front of the text up to the next one; whatever comes behind.
         ensures any_moment { (session : Session) (said : Items ℕ) (more : Items Item) → StandsFor H.view K.holds K.live ode session self.old host.old → (H.view host.old).text ≡ Some said
             → LeavesOnly (H.view host.old) (H.view host.new) (IsAfterSome (HoldsBy ode K.means) (items_of (settlings (answer_to ode session s.now)) ++ more) session.world said) }
-        ensures leaves { (session : Session) → StandsFor H.view K.holds K.live ode session self.old host.old
-            → HostCalls (IsErrOf result EngineError.DiskFault) (IsErrOf result EngineError.WriteFault) (H.view host.old) (H.view host.new) }
+        // The host's faults are those that are told, whatever the records are.
+        ensures leaves { HostCalls (IsErrOf result EngineError.DiskFault) (IsErrOf result EngineError.WriteFault) (H.view host.old) (H.view host.new) }
+        // No record is damaged where it stands for a session.
+        ensures undamaged { OnDamaged result ((session : Session) → StandsFor H.view K.holds K.live ode session self.old host.old → ⊥) }
         ensures live { OnOk result (IsLive K.live self.new) }
         ensures dead { OnErr result (self.new.live ≡ false) }
     {
@@ -166,8 +169,10 @@ impl<K: Drop> Engine<K> {
             → OnOk result (Printed (texts_of (drained lists drain_limit session.world)) (H.view host.old) (H.view host.new)) }
         ensures any_moment { (session : Session) (said : Items ℕ) (more : Items Item) → StandsFor H.view K.holds K.live ode session self.old host.old → (H.view host.old).text ≡ Some said
             → LeavesOnly (H.view host.old) (H.view host.new) (IsAfterSome (HoldsBy ode K.means) (items_of (drained lists drain_limit session.world) ++ more) session.world said) }
-        ensures leaves { (session : Session) → StandsFor H.view K.holds K.live ode session self.old host.old
-            → HostCalls (IsErrOf result EngineError.DiskFault) (IsErrOf result EngineError.WriteFault) (H.view host.old) (H.view host.new) }
+        // The host's faults are those that are told, whatever the records are.
+        ensures leaves { HostCalls (IsErrOf result EngineError.DiskFault) (IsErrOf result EngineError.WriteFault) (H.view host.old) (H.view host.new) }
+        // No record is damaged where it stands for a session.
+        ensures undamaged { OnDamaged result ((session : Session) → StandsFor H.view K.holds K.live ode session self.old host.old → ⊥) }
         ensures live { OnOk result (IsLive K.live self.new) }
         ensures dead { OnErr result (self.new.live ≡ false) }
     {
@@ -195,8 +200,10 @@ impl<K: Drop> Engine<K> {
             → OnOk result (Printed (texts_of (finish session).1) (H.view host.old) (H.view host.new)) }
         ensures any_moment { (session : Session) (said : Items ℕ) (more : Items Item) → StandsFor H.view K.holds K.live ode session self.old host.old → (H.view host.old).text ≡ Some said
             → LeavesOnly (H.view host.old) (H.view host.new) (IsAfterSome (HoldsBy ode K.means) (items_of (finish session).1 ++ more) session.world said) }
-        ensures leaves { (session : Session) → StandsFor H.view K.holds K.live ode session self.old host.old
-            → HostCalls (IsErrOf result EngineError.DiskFault) (IsErrOf result EngineError.WriteFault) (H.view host.old) (H.view host.new) }
+        // The host's faults are those that are told, whatever the records are.
+        ensures leaves { HostCalls (IsErrOf result EngineError.DiskFault) (IsErrOf result EngineError.WriteFault) (H.view host.old) (H.view host.new) }
+        // No record is damaged where it stands for a session.
+        ensures undamaged { OnDamaged result ((session : Session) → StandsFor H.view K.holds K.live ode session self.old host.old → ⊥) }
         ensures live { OnOk result (IsLive K.live self.new) }
         ensures dead { OnErr result (self.new.live ≡ false) }
     {

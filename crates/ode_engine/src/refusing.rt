@@ -1,7 +1,7 @@
 //! Why a statement is refused: its place, a number for its transaction, what its literals denote, and the static rules.
-ghost use Rattle.std.specs.Prelude.{◌≡◌, IsErrOf, Option, not};
+ghost use Rattle.std.specs.Prelude.{◌≡◌, IsErrOf, IsTrue, Option, not, true};
 ghost use Rattle.std.specs.Option.{IfSome, option_map};
-ghost use Rattle.ode_engine.specs.Refusing.{Answers, LeavesChecked};
+ghost use Rattle.ode_engine.specs.Refusing.{Answers, KeepsChecked, LeavesChecked};
 ghost use Rattle.ode_heap.specs.Answering.{head_of_object};
 ghost use Rattle.ode_language.specs.Languages.{ode};
 ghost use Rattle.ode_machine.specs.Refusals.{checked_in, class_behind, classes_behind, is_lone, place_of};
@@ -85,11 +85,13 @@ fn class_behind(of: Ref, found: &Option<ObjectHead>) -> Result<u32, Refusal>
 
 // That of one, looked up in the world now.
 fn class_of<H: Host, K: Keep<H>>(ctx: &mut Ctx<K>, host: &mut H, of: &Ref) -> Result<u32, Turned>
+    requires live { IsTrue (K.live ctx.old.heap) }
     requires fit { AreFit (parts_of ctx.old) }
     ensures answers { (l : Language) (w : ListWorld) (t : ListTx) → ContextRuns H.view K.holds K.live l w ctx.old host.old t
         → Answers result (class_behind of.now (object_of t.now.bones of.now)) }
-    ensures leaves { (l : Language) (w : ListWorld) (t : ListTx) → ContextRuns H.view K.holds K.live l w ctx.old host.old t
-        → LeavesChecked result (ContextRuns H.view K.holds K.live l w ctx.new host.new t) (H.view host.old) (H.view host.new) }
+    ensures keeps { (l : Language) (w : ListWorld) (t : ListTx) → ContextRuns H.view K.holds K.live l w ctx.old host.old t
+        → KeepsChecked result (ContextRuns H.view K.holds K.live l w ctx.new host.new t) }
+    ensures leaves { LeavesChecked result (K.live ctx.new.heap ≡ true) (H.view host.old) (H.view host.new) }
     ensures same { parts_of ctx.new ≡ parts_of ctx.old }
 {
     if of.object == 0 {
@@ -111,11 +113,13 @@ fn classes_behind<H: Host, K: Keep<H>>(
     host: &mut H,
     refs: &[Ref],
 ) -> Result<List<(Ref, u32)>, Turned>
+    requires live { IsTrue (K.live ctx.old.heap) }
     requires fit { AreFit (parts_of ctx.old) }
     ensures answers { (l : Language) (w : ListWorld) (t : ListTx) → ContextRuns H.view K.holds K.live l w ctx.old host.old t
         → Answers result (classes_behind t.now.bones refs.now) }
-    ensures leaves { (l : Language) (w : ListWorld) (t : ListTx) → ContextRuns H.view K.holds K.live l w ctx.old host.old t
-        → LeavesChecked result (ContextRuns H.view K.holds K.live l w ctx.new host.new t) (H.view host.old) (H.view host.new) }
+    ensures keeps { (l : Language) (w : ListWorld) (t : ListTx) → ContextRuns H.view K.holds K.live l w ctx.old host.old t
+        → KeepsChecked result (ContextRuns H.view K.holds K.live l w ctx.new host.new t) }
+    ensures leaves { LeavesChecked result (K.live ctx.new.heap ≡ true) (H.view host.old) (H.view host.new) }
     ensures same { parts_of ctx.new ≡ parts_of ctx.old }
 {
     let mut classes = List::new(alloc);
@@ -150,11 +154,13 @@ pub(crate) fn checked<H: Host, K: Keep<H>>(
     host: &mut H,
     s: &Stmt,
 ) -> Result<Boxed<Stmt>, Turned>
+    requires live { IsTrue (K.live ctx.old.heap) }
     requires fit { AreFit (parts_of ctx.old) }
     ensures answers { (w : ListWorld) (t : ListTx) → ContextRuns H.view K.holds K.live ode w ctx.old host.old t
         → Answers result (checked_in ode t.now.bones s.now) }
-    ensures leaves { (w : ListWorld) (t : ListTx) → ContextRuns H.view K.holds K.live ode w ctx.old host.old t
-        → LeavesChecked result (ContextRuns H.view K.holds K.live ode w ctx.new host.new t) (H.view host.old) (H.view host.new) }
+    ensures keeps { (w : ListWorld) (t : ListTx) → ContextRuns H.view K.holds K.live ode w ctx.old host.old t
+        → KeepsChecked result (ContextRuns H.view K.holds K.live ode w ctx.new host.new t) }
+    ensures leaves { LeavesChecked result (K.live ctx.new.heap ≡ true) (H.view host.old) (H.view host.new) }
     ensures same { parts_of ctx.new ≡ parts_of ctx.old }
 {
     let refs = literals(alloc, s)?;

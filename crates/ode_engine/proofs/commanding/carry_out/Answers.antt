@@ -1,6 +1,7 @@
 use Rattle.std.proofs.Common.{◌≡◌, Ok, [], refl, subst, sym}
 use Rattle.ode_again_laws.proofs.Numbered.{piece_numbers}
 use Rattle.ode_declare.specs.Texts.{HasText}
+use Rattle.ode_host.proofs.Moments.{looks_none}
 use Rattle.ode_language.specs.Languages.{ode}
 use Rattle.ode_machine.specs.Commands.{carried}
 use Rattle.ode_machine.specs.Sessions.{closed}
@@ -10,7 +11,7 @@ use Rattle.ode_engine.specs.Serving.{Serves}
 use Rattle.ode_engine.specs.declared.commanding.State.TheVariants as state
 use Rattle.ode_engine.specs.declared.engine.Done.TheVariants as done
 use Rattle.ode_engine.proofs.PlaceLaws.{empty_outside}
-use Rattle.ode_engine.proofs.ServeLaws.{quiet_none, quiet_serves, rest_now}
+use Rattle.ode_engine.proofs.ServeLaws.{quiet_none, quiet_serves, rest_now, told_none}
 use Rattle.ode_engine.proofs.SessionLaws.{closed_session}
 use Rattle.ode_engine.proofs.commanding.carry_out.Goals as goal
 
@@ -38,4 +39,7 @@ returns-in_default-clause-serves g c w well rests left place =
     let lone : c.args.s.now ≡ statement.Empty = empty_outside c.args.s.now c.requires.served place c.in_default.not-Begin c.in_default.not-Class c.in_default.not-Simple in
     subst (λ (s : Statement). Serves g.H.Host.view g.K.Keep.holds g.K.Keep.live g.K.Keep.means ode (closed w) (carried ode (closed w) s) (Ok (state.Rest c.args.rest, done.Settled 0)) c.args.host.now c.args.host.now) (sym lone)
     (quiet_serves g.H.Host.view g.K.Keep.holds g.K.Keep.live g.K.Keep.means ode g.met.K.Keep.stands g.met.H.Host.text_stands (closed w) (Ok (closed w, [])) (state.Rest c.args.rest) (done.Settled 0) c.args.host.now c.args.host.now
-    (rest_now g.H.Host.view g.K.Keep.holds g.K.Keep.live ode w c.args.rest c.args.host.now well rests) (quiet_none (g.H.Host.view c.args.host.now)) refl refl (closed_session w well) (refl, rests))
+    (rest_now g.H.Host.view g.K.Keep.holds g.K.Keep.live ode w c.args.rest c.args.host.now well rests) (looks_none (g.H.Host.view c.args.host.now)) refl refl (closed_session w well) (refl, rests))
+
+pub returns-in_default-clause-leaves : goal.returns-in_default-clause-leaves
+returns-in_default-clause-leaves g c = told_none _ _ _ (quiet_none (g.H.Host.view c.args.host.now))

@@ -1,5 +1,6 @@
 use Rattle.std.proofs.Common.{◌≡◌, ◌∙◌, [], Err, Ok, refl, subst, sym}
 use Rattle.ode_declare.specs.Texts.{HasText}
+use Rattle.ode_host.proofs.Moments.{looks_none}
 use Rattle.ode_language.specs.Languages.{ode}
 use Rattle.ode_machine.specs.Commands.{Step}
 use Rattle.ode_machine.specs.Sessions.{opened}
@@ -10,13 +11,13 @@ use Rattle.ode_engine.specs.Serving.{Serves, answer_to}
 use Rattle.ode_engine.specs.declared.commanding.State.TheVariants as state
 use Rattle.ode_engine.specs.declared.engine.Done.TheVariants as done
 use Rattle.ode_engine.proofs.PlaceLaws.{empty_inside, misplaced_inside, place_ok}
-use Rattle.ode_engine.proofs.ServeLaws.{quiet_none, quiet_serves, running_now}
+use Rattle.ode_engine.proofs.ServeLaws.{quiet_none, quiet_serves, running_now, told_none}
 use Rattle.ode_engine.proofs.commanding.command_inside.Goals as goal
 
 pub returns-in-Err-clause-serves : goal.returns-in-Err-clause-serves
 returns-in-Err-clause-serves g c w t session runs =
     subst (λ (a : Answer Step). Serves g.H.Host.view g.K.Keep.holds g.K.Keep.live g.K.Keep.means ode (opened w t) a (Ok (state.Running c.args.ctx, done.Refused c.in-Err.why)) c.args.host.now c.args.host.now) (sym (misplaced_inside w t c.args.s.now c.in-Err.why (sym c.place_of.ensures ∙ c.in-Err.is)))
-    (quiet_serves g.H.Host.view g.K.Keep.holds g.K.Keep.live g.K.Keep.means ode g.met.K.Keep.stands g.met.H.Host.text_stands (opened w t) (Err c.in-Err.why) (state.Running c.args.ctx) (done.Refused c.in-Err.why) c.args.host.now c.args.host.now (running_now g.H.Host.view g.K.Keep.holds g.K.Keep.live ode w c.args.ctx c.args.host.now t session.well runs) (quiet_none (g.H.Host.view c.args.host.now)) refl refl session (t, refl, runs))
+    (quiet_serves g.H.Host.view g.K.Keep.holds g.K.Keep.live g.K.Keep.means ode g.met.K.Keep.stands g.met.H.Host.text_stands (opened w t) (Err c.in-Err.why) (state.Running c.args.ctx) (done.Refused c.in-Err.why) c.args.host.now c.args.host.now (running_now g.H.Host.view g.K.Keep.holds g.K.Keep.live ode w c.args.ctx c.args.host.now t session.well runs) (looks_none (g.H.Host.view c.args.host.now)) refl refl session (t, refl, runs))
 
 pub returns-in-Commit-clause-serves : goal.returns-in-Commit-clause-serves
 returns-in-Commit-clause-serves g c w t session runs =
@@ -36,4 +37,10 @@ returns-in_default-s-clause-serves g c w t session runs =
     let lone : c.args.s.now ≡ statement.Empty = empty_inside c.args.s.now (sym c.place_of.ensures ∙ place_ok c.place_of.result c.in_default.not-Err) c.in_default-s.not-Commit c.in_default-s.not-Abort c.in_default-s.not-Simple in
     subst (λ (s : Statement). Serves g.H.Host.view g.K.Keep.holds g.K.Keep.live g.K.Keep.means ode (opened w t) (answer_to ode (opened w t) s) (Ok (state.Running c.args.ctx, done.Settled 0)) c.args.host.now c.args.host.now) (sym lone)
     (quiet_serves g.H.Host.view g.K.Keep.holds g.K.Keep.live g.K.Keep.means ode g.met.K.Keep.stands g.met.H.Host.text_stands (opened w t) (Ok (opened w t, [])) (state.Running c.args.ctx) (done.Settled 0) c.args.host.now c.args.host.now
-    (running_now g.H.Host.view g.K.Keep.holds g.K.Keep.live ode w c.args.ctx c.args.host.now t session.well runs) (quiet_none (g.H.Host.view c.args.host.now)) refl refl session (t, refl, runs))
+    (running_now g.H.Host.view g.K.Keep.holds g.K.Keep.live ode w c.args.ctx c.args.host.now t session.well runs) (looks_none (g.H.Host.view c.args.host.now)) refl refl session (t, refl, runs))
+
+pub returns-in-Err-clause-leaves : goal.returns-in-Err-clause-leaves
+returns-in-Err-clause-leaves g c = told_none _ _ _ (quiet_none (g.H.Host.view c.args.host.now))
+
+pub returns-in_default-s-clause-leaves : goal.returns-in_default-s-clause-leaves
+returns-in_default-s-clause-leaves g c = told_none _ _ _ (quiet_none (g.H.Host.view c.args.host.now))

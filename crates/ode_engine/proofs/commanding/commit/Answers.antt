@@ -1,25 +1,38 @@
+use Rattle.std.proofs.Common.{Ok}
 use Rattle.std.proofs.lemmas.Result.{err_from_is_err_and}
 use Rattle.ode_language.specs.Languages.{ode}
-use Rattle.ode_machine.specs.Commands.{commits}
+use Rattle.ode_machine.specs.Commands.{commits, settles}
 use Rattle.ode_machine.specs.Sessions.{opened}
 use Rattle.ode_run.specs.Contexts.{ContextRuns}
 use Rattle.ode_transact.proofs.TransactLaws.{ended_settles}
 use Rattle.ode_value.specs.Completing.{completes}
 use Rattle.ode_value.specs.Pasts.{lists}
-use Rattle.ode_engine.proofs.RunLaws.{ended_serves, error_serves}
-use Rattle.ode_engine.proofs.ServeLaws.{quiet_by, running_now}
+use Rattle.ode_engine.proofs.FaultLaws.{undamaged_by}
+use Rattle.ode_engine.proofs.RunLaws.{ended_serves}
+use Rattle.ode_engine.proofs.ServeLaws.{quiet_by, running_now, stopped_serves, told_by, told_on}
 use Rattle.ode_engine.proofs.SessionLaws.{committed_well}
 use Rattle.ode_engine.proofs.commanding.commit.Goals as goal
+
+pub settle-requires-clause-live : goal.settle-requires-clause-live
+settle-requires-clause-live g c = c.in_ok-ending.ensures.usable c.requires.live
 
 pub returns-in_err-ending-clause-serves : goal.returns-in_err-ending-clause-serves
 returns-in_err-ending-clause-serves g c w t session runs =
     let p = err_from_is_err_and c.from_residual.result c.from_residual.ensures.1 in
-    rw (p.1, p.2) (error_serves g.H.Host.view g.K.Keep.holds g.K.Keep.live g.K.Keep.means g.met.K.Keep.stands g.met.H.Host.text_stands (opened w t) _ _ _ c.args.host.now c.run_completion.new.host (running_now g.H.Host.view g.K.Keep.holds g.K.Keep.live ode w c.args.ctx c.args.host.now t session.well runs)
-    (c.in_err-ending.ensures.looks ode w t runs) (λ is. cc (is)) (λ is. cc (is)) (λ is. c.in_err-ending.ensures.silent (cc (is))) (c.in_err-ending.ensures.cause ode w t runs))
+    rw (p.1, p.2) (stopped_serves g.H.Host.view g.K.Keep.holds g.K.Keep.live g.K.Keep.means ode g.met.K.Keep.stands g.met.H.Host.text_stands (opened w t) (Ok (settles (commits t))) _ c.args.host.now c.run_completion.new.host (running_now g.H.Host.view g.K.Keep.holds g.K.Keep.live ode w c.args.ctx c.args.host.now t session.well runs)
+    (c.in_err-ending.ensures.looks c.requires.live) (undamaged_by _ _ c.in_err-ending.ensures.undamaged (λ never. never ode w t runs)))
+
+pub returns-in_err-ending-clause-leaves : goal.returns-in_err-ending-clause-leaves
+returns-in_err-ending-clause-leaves g c =
+    let p = err_from_is_err_and c.from_residual.result c.from_residual.ensures.1 in
+    rw (p.1, p.2) (told_by _ _ _ _ (λ is. cc (is)) (λ is. cc (is)) (λ is. c.in_err-ending.ensures.silent (cc (is))) (c.in_err-ending.ensures.looks c.requires.live) (c.in_err-ending.ensures.cause c.requires.live))
 
 pub returns-clause-serves : goal.returns-clause-serves
 returns-clause-serves g c w t session runs =
     let ended = ended_settles c.in_ok-ending.ending (ContextRuns g.H.Host.view g.K.Keep.holds g.K.Keep.live ode w c.run_completion.new.ctx c.run_completion.new.host) (completes lists t) (c.in_ok-ending.ensures.runs ode w t runs) in
     ended_serves g.H.Host.view g.K.Keep.holds g.K.Keep.live g.K.Keep.means g.met.K.Keep.stands g.met.H.Host.text_stands (opened w t) (commits t) c.in_ok-ending.ending ended.0 _ c.args.host.now c.run_completion.new.host c.settle.new.host (running_now g.H.Host.view g.K.Keep.holds g.K.Keep.live ode w c.args.ctx c.args.host.now t session.well runs)
-    (quiet_by _ _ _ (λ is. cc (is)) (c.in_ok-ending.ensures.looks ode w t runs) (c.in_ok-ending.ensures.cause ode w t runs)) ended.2 (committed_well w session.well t session.came)
-    (λ well. c.settle.ensures.serves (opened w t) ended.0 session.well ended.1 well)
+    (c.in_ok-ending.ensures.looks c.requires.live) ended.2 (committed_well w session.well t session.came) (λ well. c.settle.ensures.serves (opened w t) ended.0 session.well ended.1 well)
+
+pub returns-clause-leaves : goal.returns-clause-leaves
+returns-clause-leaves g c =
+    told_on _ _ _ _ _ (quiet_by _ _ _ (λ is. cc (is)) (c.in_ok-ending.ensures.looks c.requires.live) (c.in_ok-ending.ensures.cause c.requires.live)).1 c.settle.ensures.leaves

@@ -2,10 +2,12 @@ use Rattle.std.proofs.Common.{◌≡◌, ◌∙◌, false, subst, sym}
 use Rattle.std.specs.Prelude.{IfOk, IsErrOf, OnErr, OnOk}
 use Rattle.ode_host.specs.Host.{HostCalls, Printed}
 use Rattle.ode_language.specs.Languages.{ode}
+use Rattle.ode_machine.specs.Sessions.{Session}
 use Rattle.ode_transact.specs.Items.{texts_of}
+use Rattle.ode_transact.specs.Errors.{OnDamaged}
 use Rattle.ode_transact.specs.declared.error.EngineError.TheVariants as error
 use Rattle.ode_engine.specs.Serving.{IsAnswer, IsLive, StandsFor, answer_to, session_after, settlings}
-use Rattle.ode_engine.proofs.EngineLaws.{err_on, leaves_on, live_on, none_taken, ok_on, says_on, stands_on, taken_stands, taken_usable}
+use Rattle.ode_engine.proofs.EngineLaws.{err_on, leaves_on, live_on, ok_on, says_on, stands_on, taken_stands, taken_usable, undamaged_on}
 use Rattle.ode_engine.proofs.engine.Engine.command.Goals as goal
 
 pub command_in-step-requires-clause-usable : goal.command_in-step-requires-clause-usable
@@ -37,11 +39,16 @@ returns-in-Some-clause-any_moment g c session said more is told =
     serves.any_moment said more told
 
 pub returns-in-Some-clause-leaves : goal.returns-in-Some-clause-leaves
-returns-in-Some-clause-leaves g c session is =
-    let serves = c.command_in-step.ensures.serves session is.goes_on (taken_stands g.H.Host.view g.K.Keep.holds g.K.Keep.live ode session c.args.self.now.rest c.args.self.now.running c.in-Some.state c.args.host.now (sym c.take.ensures.took ∙ c.in-Some.is) is.has) in
+returns-in-Some-clause-leaves g c =
     let old = g.H.Host.view c.args.host.now in
     let new = g.H.Host.view c.command_in-step.new.host in
-    subst (λ r. HostCalls (IsErrOf r error.DiskFault) (IsErrOf r error.WriteFault) old new) (sym c.answer.ensures.says) (leaves_on g.H.Host.view g.K.Keep.holds g.K.Keep.live ode c.command_in-step.result old new serves.leaves)
+    subst (λ r. HostCalls (IsErrOf r error.DiskFault) (IsErrOf r error.WriteFault) old new) (sym c.answer.ensures.says) (leaves_on g.H.Host.view g.K.Keep.holds g.K.Keep.live ode c.command_in-step.result old new c.command_in-step.ensures.leaves)
+
+pub returns-in-Some-clause-undamaged : goal.returns-in-Some-clause-undamaged
+returns-in-Some-clause-undamaged g c =
+    subst (λ r. OnDamaged r ((session : Session) → StandsFor g.H.Host.view g.K.Keep.holds g.K.Keep.live ode session c.args.self.now c.args.host.now → ⊥)) (sym c.answer.ensures.says)
+    (undamaged_on g.H.Host.view g.K.Keep.holds g.K.Keep.live ode c.command_in-step.result (λ session. StandsFor g.H.Host.view g.K.Keep.holds g.K.Keep.live ode session c.args.self.now c.args.host.now)
+    (λ session is. (c.command_in-step.ensures.serves session is.goes_on (taken_stands g.H.Host.view g.K.Keep.holds g.K.Keep.live ode session c.args.self.now.rest c.args.self.now.running c.in-Some.state c.args.host.now (sym c.take.ensures.took ∙ c.in-Some.is) is.has)).sound))
 
 pub returns-in-Some-clause-live : goal.returns-in-Some-clause-live
 returns-in-Some-clause-live g c =

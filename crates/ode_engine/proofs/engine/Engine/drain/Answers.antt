@@ -1,12 +1,15 @@
-use Rattle.std.proofs.Common.{◌∙◌, refl, sym}
+use Rattle.std.proofs.Common.{◌∙◌, refl, subst, sym}
 use Rattle.ode_host.proofs.Calls.{host_calls_as}
 use Rattle.ode_language.specs.Languages.{ode}
-use Rattle.ode_machine.specs.Sessions.{closed}
+use Rattle.ode_machine.specs.Sessions.{Session, closed}
+use Rattle.ode_transact.specs.Errors.{OnDamaged}
 use Rattle.ode_value.specs.Draining.{drain as drained, world_after}
 use Rattle.ode_value.specs.Limits.{drain_limit}
 use Rattle.ode_value.specs.Pasts.{lists}
+use Rattle.ode_engine.specs.Serving.{StandsFor}
 use Rattle.ode_engine.specs.declared.commanding.State.TheVariants as state
 use Rattle.ode_engine.proofs.EngineLaws.{closed_rest, put_stands}
+use Rattle.ode_engine.proofs.FaultLaws.{damaged_as}
 use Rattle.ode_engine.proofs.SessionLaws.{drained_session}
 use Rattle.ode_engine.proofs.engine.Engine.drain.Goals as goal
 
@@ -40,13 +43,16 @@ returns-in-Ok-clause-any_moment g c session said more is told =
     c.in-Ok.ensures.any_moment ode session.world said more is.goes_on.well rests told
 
 pub returns-in-Ok-clause-leaves : goal.returns-in-Ok-clause-leaves
-unfolding drain_limit
-returns-in-Ok-clause-leaves g c session is =
-    let rests = closed_rest g.H.Host.view g.K.Keep.holds g.K.Keep.live ode session c.args.self.now.rest c.args.self.now.running c.in-Some.rest c.args.host.now (sym c.take.ensures.value ∙ c.in-Some.is) c.requires.closed is.has in
-    host_calls_as _ _ _ _ _ _ (λ told. cc (told)) (λ told. cc (told)) (λ told. cc (told)) (λ told. cc (told)) (c.in-Ok.ensures.leaves ode session.world is.goes_on.well rests)
+returns-in-Ok-clause-leaves g c = host_calls_as _ _ _ _ _ _ (λ told. cc (told)) (λ told. cc (told)) (λ told. cc (told)) (λ told. cc (told)) c.in-Ok.ensures.leaves
 
 pub returns-in-Err-clause-any_moment : goal.returns-in-Err-clause-any_moment
 unfolding drain_limit
 returns-in-Err-clause-any_moment g c session said more is told =
     let rests = closed_rest g.H.Host.view g.K.Keep.holds g.K.Keep.live ode session c.args.self.now.rest c.args.self.now.running c.in-Some.rest c.args.host.now (sym c.take.ensures.value ∙ c.in-Some.is) c.requires.closed is.has in
     c.in-Err.ensures.any_moment ode session.world said more is.goes_on.well rests told
+
+pub returns-in-Err-clause-undamaged : goal.returns-in-Err-clause-undamaged
+returns-in-Err-clause-undamaged g c =
+    subst (λ r. OnDamaged r ((session : Session) → StandsFor g.H.Host.view g.K.Keep.holds g.K.Keep.live ode session c.args.self.now c.args.host.now → ⊥)) (sym c.fail.ensures.says)
+    (damaged_as c.in-Err.error _ _ c.in-Err.ensures.undamaged (λ never session is. never ode session.world is.goes_on.well
+    (closed_rest g.H.Host.view g.K.Keep.holds g.K.Keep.live ode session c.args.self.now.rest c.args.self.now.running c.in-Some.rest c.args.host.now (sym c.take.ensures.value ∙ c.in-Some.is) c.requires.closed is.has)))
