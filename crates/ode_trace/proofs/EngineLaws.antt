@@ -1,15 +1,13 @@
 -- What an engine stands for over a host, and what its calls come to as pieces.
 use Rattle.std.proofs.Common.{◌≡◌, ◌∙◌, ℕ, List, [], ◌∷◌, ◌++◌, Bool, true, false, Option, Result, Some, None, Ok, Err, append-nil, ap, refl, subst, sym}
-use Rattle.std.specs.Prelude.{IsErrOf, IsTrue, OnOk}
-use Rattle.ode_engine.specs.Serving.{IsAnswer, IsLive, IsOneOf, IsServed, IsSession, StandsBy, StandsFor, answer_to, session_after, settlings}
+use Rattle.std.specs.Prelude.{IsTrue, OnOk}
+use Rattle.ode_engine.specs.Serving.{IsAnswer, IsLive, IsOneOf, IsServed, StandsBy, StandsFor, answer_to, settlings}
 use Rattle.ode_engine.specs.declared.engine.Done.{Done}
 use Rattle.ode_engine.specs.declared.engine.Done.TheVariants as done
 use Rattle.ode_engine.specs.declared.engine.Engine.{Engine}
 use Rattle.ode_good_laws.specs.Well.{IsWell}
-use Rattle.ode_heap_laws.specs.Few.{HoldsCounted}
-use Rattle.ode_host.proofs.Calls.{host_calls_as, host_calls_on, rose_none}
-use Rattle.ode_host.proofs.Moments.{joined, looks_none, now_from, started}
-use Rattle.ode_host.specs.Host.{CutPrint, HostCalls, LeavesCut, LeavesOnly, Printed, Prints, Stands}
+use Rattle.ode_host.proofs.Moments.{joined, now_from, started}
+use Rattle.ode_host.specs.Host.{CutPrint, LeavesCut, LeavesOnly, Printed, Prints, Stands}
 use Rattle.ode_host.specs.View.{View}
 use Rattle.ode_keep.specs.Entries.{Entries}
 use Rattle.ode_language.specs.Answers.{Answers}
@@ -26,16 +24,18 @@ use Rattle.ode_opened.specs.declared.opened.Opened.{Opened}
 use Rattle.ode_run.specs.declared.context.Ctx.{Ctx}
 use Rattle.ode_declared_laws.specs.Adding.{AreAligned}
 use Rattle.ode_schema.specs.Parts.{AreFit}
+use Rattle.ode_trace.proofs.CallLaws.{damage_as}
 use Rattle.ode_trace.proofs.MachineLaws.{finish_ends, none_refused, texts_are}
 use Rattle.ode_trace.specs.Statuses.{unread}
-use Rattle.ode_trace.specs.Running.{Begins, Carries, Commands, EndsWith, Serves}
+use Rattle.ode_trace.specs.Running.{Carries, Commands, EndsWith}
+use Rattle.ode_transact.specs.Errors.{OnDamaged}
 use Rattle.ode_transact.specs.Items.{items_of, texts_of}
 use Rattle.ode_transact.specs.Resting.{HoldsBy, IsAtRest, resting_parts}
 use Rattle.ode_transact.specs.Settling.{Meaning}
 use Rattle.ode_transact.specs.declared.error.EngineError.{EngineError}
 use Rattle.ode_transact.specs.declared.error.EngineError.TheVariants as error
 use Rattle.ode_value.specs.Answers.{Answer, ◌>>=◌, ◌>>◌}
-use Rattle.ode_value.specs.Language.{ListTx, ListWorld, Settlings}
+use Rattle.ode_value.specs.Language.{ListWorld}
 use Rattle.ode_value.specs.Texts.{refused_line}
 use Rattle.ode_value.specs.declared.reason.Refusal.{Refusal}
 use Rattle.ode_value.specs.declared.statement.Statement.{Statement}
@@ -70,20 +70,9 @@ pub on_any : {R E : Type 0} (r : Result R E) (P : Type 0) → P → OnOk r P
 on_any (Ok x) P is = is
 on_any (Err e) P is = tt
 
--- one error of two results
-err_as : {R S : Type 0} (e f : EngineError) → IsErrOf {T = R} (Err e) f → IsErrOf {T = S} (Err e) f
-err_as e f is = let same : e ≡ f = cc (is) in ap Err same
-
 -- nothing more
 pub no_more : (holds : Holding) (items : List Item) (w : ListWorld) (text : List ℕ) (old new : View) → LeavesOnly old new (IsAfterSome holds (items ++ []) w text) → LeavesOnly old new (IsAfterSome holds items w text)
 no_more holds items w text old new run = subst (λ (l : List Item). LeavesOnly old new (IsAfterSome holds l w text)) (append-nil items) run
-
-pub no_calls : (F P : Type 0) (v : View) → (F → ⊥) → (P → ⊥) → HostCalls F P v v
-no_calls F P v no_disk no_print = record {
-  keeps = (looks_none v).keeps;
-  disk_faults = rose_none F v.disk_faults no_disk;
-  print_faults = rose_none P v.print_faults no_print;
-}
 
 module _ {H K : Type 0} (seen : H → View) (held : K → View → Entries → Type 0) (live : K → Bool) (means : Meaning)
     (stands : (keeper : K) (host : H) (entries : Entries) → held keeper (seen host) entries → (file : List ℕ) × Stands file (seen host) × means file entries)
@@ -181,7 +170,7 @@ module _ {H K : Type 0} (seen : H → View) (held : K → View → Entries → T
     stands = tt;
     printed = tt;
     any_moment = λ said more told. started (seen host) (IsAfterSome (HoldsBy ode means) (items_of (settlings answer) ++ more) session.world said);
-    leaves = no_calls (IsErrOf {T = Done} (Err error.Memory) error.DiskFault) (IsErrOf {T = Done} (Err error.Memory) error.WriteFault) (seen host) (λ is. cc (is)) (λ is. cc (is));
+    sound = tt;
   }
 
   unread_by : (session : Session) (why : Refusal) (e : Engine K) (host : H) → For session e host → Came session (Err why) (Ok (done.Refused why)) e host host
@@ -190,7 +179,7 @@ module _ {H K : Type 0} (seen : H → View) (held : K → View → Entries → T
     stands = is;
     printed = λ text told. told ∙ ap Some (sym (append-nil text));
     any_moment = λ said more told. started (seen host) (IsAfterSome (HoldsBy ode means) more session.world said);
-    leaves = no_calls (IsErrOf (Ok (done.Refused why)) error.DiskFault) (IsErrOf (Ok (done.Refused why)) error.WriteFault) (seen host) (λ is. cc (is)) (λ is. cc (is));
+    sound = tt;
   }
 
   pub unread_commands : (session : Session) (piece : List ℕ) (why : Refusal) (e : Engine K) (host : H) → statement_of piece ≡ Err why → For session e host
@@ -227,8 +216,7 @@ module _ {H K : Type 0} (seen : H → View) (held : K → View → Entries → T
     stands = tt;
     printed = tt;
     any_moment = came_leaves session line answer (Err e) engine old new came;
-    leaves = host_calls_as _ _ _ _ (seen old) (seen new) (λ is. err_as {R = Done} {S = Bool} e error.DiskFault is) (λ is. err_as {R = Bool} {S = Done} e error.DiskFault is)
-        (λ is. err_as {R = Done} {S = Bool} e error.WriteFault is) (λ is. err_as {R = Bool} {S = Done} e error.WriteFault is) came.leaves;
+    sound = damage_as Done Bool e ⊥ came.sound;
   }
 
   pub settled_carries : (session : Session) (line : ℕ) (answer : Answer Step) (count : ℕ) (engine : Engine K) (old new : H) → Came session answer (Ok (done.Settled count)) engine old new
@@ -239,7 +227,7 @@ module _ {H K : Type 0} (seen : H → View) (held : K → View → Entries → T
     stands = came.stands;
     printed = λ text told. came.printed text told ∙ ap (λ (l : List ℕ). Some (text ++ l)) (texts_are step.1);
     any_moment = came.any_moment;
-    leaves = host_calls_as _ _ _ _ (seen old) (seen new) (λ is. cc (is)) (λ is. cc (is)) (λ is. cc (is)) (λ is. cc (is)) came.leaves;
+    sound = tt;
   }
 
   -- A refusal: its line is printed, or its print fails.
@@ -256,27 +244,22 @@ module _ {H K : Type 0} (seen : H → View) (held : K → View → Entries → T
         (came.any_moment said (Refuses (refused_line line why) ∷ more) told)
         (refusal_leaves (HoldsBy ode means) (refused_line line why) more session.world there.0 said (seen mid) (seen new) there.2 (cut there.0 said there.1 (mid_text said told)))
 
-    quiet : HostCalls ⊥ ⊥ (seen old) (seen mid)
-    quiet = host_calls_as _ _ ⊥ ⊥ (seen old) (seen mid) (λ is. cc (is)) absurd (λ is. cc (is)) absurd came.leaves
-
-    refused_here : Printed (refused_line line why) (seen mid) (seen new) → ((file : List ℕ) → Stands file (seen mid) → Stands file (seen new)) → HostCalls ⊥ ⊥ (seen mid) (seen new)
-        → Carried session line (Err why) (Ok true) engine old new
-    refused_here printed same leaves = record {
+    refused_here : Printed (refused_line line why) (seen mid) (seen new) → ((file : List ℕ) → Stands file (seen mid) → Stands file (seen new)) → Carried session line (Err why) (Ok true) engine old new
+    refused_here printed same = record {
       stated = refl;
       stands = still_stands session engine mid new same came.stands;
       printed = λ text told. printed text (mid_text text told) ∙ ap (λ (l : List ℕ). Some (text ++ l)) (sym (append-nil (refused_line line why)));
       any_moment = refusal_moments;
-      leaves = host_calls_on ⊥ ⊥ _ _ (seen old) (seen mid) (seen new) (λ none. none) (λ none. none) quiet
-          (host_calls_as ⊥ ⊥ _ _ (seen mid) (seen new) absurd (λ is. cc (is)) absurd (λ is. cc (is)) leaves);
+      sound = tt;
     }
 
-    unsaid_here : (e : EngineError) → HostCalls (IsErrOf {T = Bool} (Err e) error.DiskFault) (IsErrOf {T = Bool} (Err e) error.WriteFault) (seen mid) (seen new) → Carried session line (Err why) (Err e) engine old new
-    unsaid_here e leaves = record {
+    unsaid_here : (e : EngineError) → OnDamaged {R = Bool} (Err e) ⊥ → Carried session line (Err why) (Err e) engine old new
+    unsaid_here e sound = record {
       stated = tt;
       stands = tt;
       printed = tt;
       any_moment = refusal_moments;
-      leaves = host_calls_on ⊥ ⊥ _ _ (seen old) (seen mid) (seen new) (λ none. none) (λ none. none) quiet leaves;
+      sound = sound;
     }
 
   -- ---- the end of the input
@@ -301,14 +284,11 @@ module _ {H K : Type 0} (seen : H → View) (held : K → View → Entries → T
     came_so : Came session (Err why) (Ok (done.Refused why)) engine old mid
     came_so = subst (λ (a : Answer Step). Came session a (Ok (done.Refused why)) engine old mid) is_refusal came
 
-    pub refused_carries : Printed (refused_line line why) (seen mid) (seen new) → ((file : List ℕ) → Stands file (seen mid) → Stands file (seen new)) → HostCalls ⊥ ⊥ (seen mid) (seen new)
-        → Carried session line answer (Ok true) engine old new
-    refused_carries printed same leaves =
-        subst (λ (a : Answer Step). Carried session line a (Ok true) engine old new) (sym is_refusal) (refused_here session line why engine old mid new came_so cut printed same leaves)
+    pub refused_carries : Printed (refused_line line why) (seen mid) (seen new) → ((file : List ℕ) → Stands file (seen mid) → Stands file (seen new)) → Carried session line answer (Ok true) engine old new
+    refused_carries printed same =
+        subst (λ (a : Answer Step). Carried session line a (Ok true) engine old new) (sym is_refusal) (refused_here session line why engine old mid new came_so cut printed same)
 
-    pub unsaid_carries : (e : EngineError) → HostCalls (IsErrOf {T = Unit {0}} (Err e) error.DiskFault) (IsErrOf {T = Unit {0}} (Err e) error.WriteFault) (seen mid) (seen new) → Carried session line answer (Err e) engine old new
-    unsaid_carries e leaves =
+    pub unsaid_carries : (e : EngineError) → OnDamaged {R = Unit {0}} (Err e) ⊥ → Carried session line answer (Err e) engine old new
+    unsaid_carries e sound =
         subst (λ (a : Answer Step). Carried session line a (Err e) engine old new) (sym is_refusal)
-        (unsaid_here session line why engine old mid new came_so cut e
-        (host_calls_as _ _ _ _ (seen mid) (seen new) (λ is. err_as {R = Unit {0}} {S = Bool} e error.DiskFault is) (λ is. err_as {R = Bool} {S = Unit {0}} e error.DiskFault is)
-        (λ is. err_as {R = Unit {0}} {S = Bool} e error.WriteFault is) (λ is. err_as {R = Bool} {S = Unit {0}} e error.WriteFault is) leaves))
+        (unsaid_here session line why engine old mid new came_so cut e (damage_as (Unit {0}) Bool e ⊥ sound))

@@ -1,3 +1,4 @@
+pub mod CallLaws
 pub mod EngineLaws
 pub mod MachineLaws
 pub mod StatusLaws

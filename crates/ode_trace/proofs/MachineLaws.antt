@@ -1,5 +1,5 @@
 -- What a piece comes to: its world, its text, and whether it is refused.
-use Rattle.std.proofs.Common.{◌≡◌, ◌∙◌, ℕ, ℤ, List, [], ◌∷◌, ◌++◌, Bool, true, false, Option, Some, None, Ok, Err, refl, sym, ap}
+use Rattle.std.proofs.Common.{◌≡◌, ℕ, ℤ, List, [], ◌∷◌, ◌++◌, false, Option, Some, None, Ok, Err, refl, sym, ap}
 use Rattle.std.specs.Prelude.{◌||◌}
 use Rattle.ode_machine.specs.Commands.{Step, after, carried, command, does_clock, does_simple, ends_open, finish, goes_on, settles}
 use Rattle.ode_machine.specs.Refusals.{checked_in, declared_in, placed, ticks_in}

@@ -1,6 +1,5 @@
 -- Statuses, by what a run ends with.
-use Rattle.std.proofs.Common.{◌≡◌, ◌⊎◌, inl, inr, Bool, true, false, List, ℕ, Option, Some, [], refl}
-use Rattle.ode_host.specs.declared.status.Status.{Status}
+use Rattle.std.proofs.Common.{◌≡◌, ◌⊎◌, inl, inr, Bool, true, false, List, ℕ, Option, Some, Err, [], refl}
 use Rattle.ode_host.specs.declared.status.Status.TheVariants as status
 use Rattle.ode_script.specs.Cutting.{End}
 use Rattle.ode_script.specs.declared.reader.ScriptError.{ScriptError}
@@ -8,6 +7,7 @@ use Rattle.ode_script.specs.declared.reader.ScriptError.TheVariants as script
 use Rattle.ode_machine.specs.Runs.{status_at}
 use Rattle.ode_trace.specs.Running.{LeavesNothing}
 use Rattle.ode_trace.specs.Statuses.{IsEnding, IsRunStatus, status_of_engine, status_of_script}
+use Rattle.ode_transact.specs.Errors.{OnDamaged}
 use Rattle.ode_transact.specs.declared.error.EngineError.{EngineError}
 use Rattle.ode_transact.specs.declared.error.EngineError.TheVariants as engine
 
@@ -40,6 +40,13 @@ engine_runs engine.Memory = inl tt
 engine_runs engine.DiskFault = inl tt
 engine_runs engine.WriteFault = inl tt
 engine_runs (engine.Damaged key) = inr refl
+
+-- where no record is damaged
+pub engine_answers : (R : Type 0) (e : EngineError) → OnDamaged {R = R} (Err e) ⊥ → IsRunStatus (status_of_engine e)
+engine_answers R engine.Memory is = tt
+engine_answers R engine.DiskFault is = tt
+engine_answers R engine.WriteFault is = tt
+engine_answers R (engine.Damaged key) is = absurd is
 
 pub script_no_disk : (e : ScriptError) → status_of_script e ≡ status.DiskFault → ⊥
 script_no_disk script.Memory is = cc (is)

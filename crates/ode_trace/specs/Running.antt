@@ -1,10 +1,10 @@
 -- What a run of a script leaves: on a host, in an engine, and at a stop.
-use Rattle.std.specs.Prelude.{◌≡◌, ℕ, List, [], ◌++◌, Bool, Option, Some, Result, IfOk, IsErrOf, OnOk}
+use Rattle.std.specs.Prelude.{◌≡◌, ℕ, List, [], ◌++◌, Bool, Option, Some, Result, IfOk, OnOk}
 use Rattle.ode_engine.specs.Serving.{IsAnswer, StandsFor, session_after, settlings}
 use Rattle.ode_engine.specs.declared.engine.Done.{Done}
 use Rattle.ode_engine.specs.declared.engine.Engine.{Engine}
 use Rattle.ode_good_laws.specs.Well.{IsWell}
-use Rattle.ode_host.specs.Host.{HostCalls, LeavesOnly, Printed, Stands}
+use Rattle.ode_host.specs.Host.{LeavesOnly, Printed, Stands}
 use Rattle.ode_host.specs.View.{View}
 use Rattle.ode_host.specs.declared.status.Status.{Status}
 use Rattle.ode_host.specs.declared.status.Status.TheVariants.{Ok, Refused}
@@ -16,11 +16,11 @@ use Rattle.ode_machine.specs.Runs.{Item, Stretch, any_refused, final, pieces_ite
 use Rattle.ode_machine.specs.Sessions.{Session}
 use Rattle.ode_opened.specs.declared.opened.Opened.{Opened}
 use Rattle.ode_script.specs.Cutting.{Ending, Pieces, ending_of}
+use Rattle.ode_transact.specs.Errors.{OnDamaged}
 use Rattle.ode_transact.specs.Items.{items_of, texts_of}
 use Rattle.ode_transact.specs.Resting.{HoldsBy, IsAtRest}
 use Rattle.ode_transact.specs.Settling.{Meaning}
 use Rattle.ode_transact.specs.declared.error.EngineError.{EngineError}
-use Rattle.ode_transact.specs.declared.error.EngineError.TheVariants as error
 use Rattle.ode_value.specs.Answers.{Answer}
 use Rattle.ode_value.specs.Language.{ListWorld}
 
@@ -70,20 +70,20 @@ module _ {H K : Type 0} (seen : H → View) (held : K → View → Entries → T
     pub stands : StandsFor seen held live ode session e host
     pub printed : (seen host).text ≡ Some text
 
-  -- What a call came to from a session on that the machine gives this answer.
+  -- What a call came to from a session on that the machine gives this answer. No record is damaged then.
   pub record Commands (means : Meaning) (session : Session) (answer : Answer Step) (result : Result Done EngineError) (e : Engine K) (old new : H) : Type 0 where
     pub answers : IfOk result (λ done. IsAnswer done answer)
     pub stands : OnOk result (StandsFor seen held live ode (session_after session answer) e new)
     pub printed : OnOk result (Printed (texts_of (settlings answer)) (seen old) (seen new))
     pub any_moment : (said : List ℕ) (more : List Item) → (seen old).text ≡ Some said
         → LeavesOnly (seen old) (seen new) (IsAfterSome (HoldsBy ode means) (items_of (settlings answer) ++ more) session.world said)
-    pub leaves : HostCalls (IsErrOf result error.DiskFault) (IsErrOf result error.WriteFault) (seen old) (seen new)
+    pub sound : OnDamaged result ⊥
 
-  -- One piece, which comes to this stretch, is carried out.
+  -- One piece, which comes to this stretch, is carried out. No record is damaged then.
   pub record Carries (means : Meaning) (session : Session) (stretch : Stretch) (result : Result Bool EngineError) (e : Engine K) (old new : H) : Type 0 where
     pub stated : IfOk result (λ refused. refused ≡ any_refused stretch.1)
     pub stands : OnOk result (StandsFor seen held live ode stretch.0 e new)
     pub printed : OnOk result (Printed (text_of stretch.1) (seen old) (seen new))
     pub any_moment : (said : List ℕ) (more : List Item) → (seen old).text ≡ Some said
         → LeavesOnly (seen old) (seen new) (IsAfterSome (HoldsBy ode means) (stretch.1 ++ more) session.world said)
-    pub leaves : HostCalls (IsErrOf result error.DiskFault) (IsErrOf result error.WriteFault) (seen old) (seen new)
+    pub sound : OnDamaged result ⊥

@@ -14,6 +14,7 @@ ghost use Rattle.ode_schema.specs.Parts.{AreFit};
 ghost use Rattle.ode_script.specs.Cutting.{End, ending_of, pieces};
 ghost use Rattle.ode_trace.specs.Running.{Begins, Carries, Commands, EndsWith, RanAs, Serves};
 ghost use Rattle.ode_trace.specs.Statuses.{IsEnding, IsRunStatus, status_of_engine, status_of_script, unread};
+ghost use Rattle.ode_transact.specs.Errors.{OnDamaged};
 ghost use Rattle.ode_transact.specs.Resting.{HoldsBy, IsAtRest, resting_parts};
 ghost use Rattle.ode_value.specs.Language.{ListWorld};
 ghost use Rattle.ode_value.specs.Limits.{statement_limit};
@@ -39,6 +40,7 @@ fn print_refusal<H: Host>(
     ensures any_moment { (file text : Items ℕ) → Stands file (H.view host.old) → (H.view host.old).text ≡ Some text
         → LeavesOnly (H.view host.old) (H.view host.new) (LeavesCut file text (refused_line line refusal.now)) }
     ensures stands { (file : Items ℕ) → Stands file (H.view host.old) → Stands file (H.view host.new) }
+    ensures sound { OnDamaged result ⊥ }
     ensures leaves { HostCalls (IsErrOf result EngineError.DiskFault) (IsErrOf result EngineError.WriteFault) (H.view host.old) (H.view host.new) }
 {
     let text = refusal_line(alloc, line, refusal)?;
@@ -70,6 +72,7 @@ fn command_piece<H: Host, K: Keep<H> + Drop>(
     requires short { length text.now ≤ statement_limit }
     ensures commands { (session : Session) → StandsFor H.view K.holds K.live ode session engine.old host.old
         → Commands H.view K.holds K.live K.means session (command ode session text.now) result engine.new host.old host.new }
+    ensures leaves { HostCalls (IsErrOf result EngineError.DiskFault) (IsErrOf result EngineError.WriteFault) (H.view host.old) (H.view host.new) }
     ensures live { OnOk result (IsLive K.live engine.new) }
 {
     read_statements_are_built();
@@ -94,6 +97,7 @@ fn carry_out<H: Host, K: Keep<H> + Drop>(
     requires short { length text.now ≤ statement_limit }
     ensures carries { (session : Session) → StandsFor H.view K.holds K.live ode session engine.old host.old
         → Carries H.view K.holds K.live K.means session (piece_stretch ode session line text.now) result engine.new host.old host.new }
+    ensures leaves { HostCalls (IsErrOf result EngineError.DiskFault) (IsErrOf result EngineError.WriteFault) (H.view host.old) (H.view host.new) }
     ensures live { OnOk result (IsLive K.live engine.new) }
 {
     let done = command_piece(alloc, host, engine, text)?;
@@ -143,8 +147,8 @@ fn end_script<H: Host, K: Keep<H> + Drop>(
     ensures any_moment { (session : Session) (text : Items ℕ) → Serves H.view K.holds K.live session engine.old host.old text
         → LeavesOnly (H.view host.old) (H.view host.new) (IsAfterSome (HoldsBy ode K.means) (stretch_of (finish session)).1 session.world text) }
     ensures statuses { IsRunStatus result ⊎ (result ≡ Status.BadFile) }
-    ensures leaves { (session : Session) → StandsFor H.view K.holds K.live ode session engine.old host.old
-        → HostCalls (result ≡ Status.DiskFault) (result ≡ Status.WriteFault) (H.view host.old) (H.view host.new) }
+    ensures answers { (session : Session) → StandsFor H.view K.holds K.live ode session engine.old host.old → IsRunStatus result }
+    ensures leaves { HostCalls (result ≡ Status.DiskFault) (result ≡ Status.WriteFault) (H.view host.old) (H.view host.new) }
     ensures reads { result ≢ Status.ReadFault }
 {
     match engine.finish(host) {
@@ -166,8 +170,8 @@ fn run_pieces<H: Host, K: Keep<H> + Drop, S: Source>(
     ensures any_moment { (session : Session) (script text : Items ℕ) → S.left source.old ≡ Some script → Serves H.view K.holds K.live session engine.old host.old text
         → LeavesOnly (H.view host.old) (H.view host.new) (IsAfterSome (HoldsBy ode K.means) (pieces_items ode (pieces script) session) session.world text) }
     ensures statuses { IsRunStatus result ⊎ (result ≡ Status.BadFile) }
-    ensures leaves { (session : Session) → StandsFor H.view K.holds K.live ode session engine.old host.old
-        → HostCalls (result ≡ Status.DiskFault) (result ≡ Status.WriteFault) (H.view host.old) (H.view host.new) }
+    ensures answers { (session : Session) → StandsFor H.view K.holds K.live ode session engine.old host.old → IsRunStatus result }
+    ensures leaves { HostCalls (result ≡ Status.DiskFault) (result ≡ Status.WriteFault) (H.view host.old) (H.view host.new) }
     ensures reads { RoseIf (result ≡ Status.ReadFault) (S.faults source.old) (S.faults source.new) }
 {
     let mut reader = Reader::new(alloc);
@@ -203,8 +207,10 @@ pub fn run_script<H: Host, K: Keep<H> + Drop, S: Source>(
     ensures any_moment { (w : ListWorld) (script text : Items ℕ) → S.left source.old ≡ Some script → Begins H.view K.holds K.live w opened host.old text
         → LeavesOnly (H.view host.old) (H.view host.new) (IsAfterSome (HoldsBy ode K.means) (trace ode w script) w text) }
     ensures statuses { IsRunStatus result ⊎ (result ≡ Status.BadFile) }
-    ensures leaves { (w : ListWorld) → IsWell ode w → IsAtRest H.view K.holds K.live ode w opened host.old
-        → HostCalls (result ≡ Status.DiskFault) (result ≡ Status.WriteFault) (H.view host.old) (H.view host.new) }
+    // Over a file that holds a world it ends as the machine does, by a fault, or for want of memory.
+    ensures answers { (w : ListWorld) → IsWell ode w → IsAtRest H.view K.holds K.live ode w opened host.old → IsRunStatus result }
+    // A fault is told exactly where its count rose, whatever the file holds.
+    ensures leaves { HostCalls (result ≡ Status.DiskFault) (result ≡ Status.WriteFault) (H.view host.old) (H.view host.new) }
     ensures reads { RoseIf (result ≡ Status.ReadFault) (S.faults source.old) (S.faults source.new) }
 {
     let mut engine = Engine::start(alloc, opened);

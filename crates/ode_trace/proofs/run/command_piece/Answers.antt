@@ -1,12 +1,12 @@
-use Rattle.std.proofs.Common.{◌≡◌, ◌∙◌, Ok, ap, subst, sym}
-use Rattle.ode_engine.specs.Serving.{IsLive}
-use Rattle.ode_trace.proofs.EngineLaws.{called_commands, on_any, unread_stops}
+use Rattle.std.proofs.Common.{◌∙◌, Ok, ap, subst, sym}
+use Rattle.ode_trace.proofs.CallLaws.{damage_gives, unread_told}
+use Rattle.ode_trace.proofs.EngineLaws.{called_commands, unread_stops}
 use Rattle.ode_trace.specs.Running.{Commands}
 use Rattle.ode_machine.specs.Commands.{command}
 use Rattle.ode_language.specs.Languages.{ode}
 use Rattle.ode_transact.specs.declared.error.EngineError.{EngineError}
 use Rattle.ode_engine.specs.declared.engine.Done.{Done}
-use Rattle.std.specs.Prelude.{OnOk, Result}
+use Rattle.std.specs.Prelude.{Result}
 use Rattle.ode_trace.proofs.run.command_piece.Goals as goal
 
 pub returns-in_ok-statement-in-Ok-clause-commands : goal.returns-in_ok-statement-in-Ok-clause-commands
@@ -18,10 +18,13 @@ returns-in_ok-statement-in-Ok-clause-commands g c session stands =
       stands = c.command.ensures.stands session stands;
       printed = c.command.ensures.printed session stands;
       any_moment = λ said more told. c.command.ensures.any_moment session said more stands told;
-      leaves = c.command.ensures.leaves session stands;
+      sound = damage_gives c.command.result _ ⊥ (λ none. none session stands) c.command.ensures.undamaged;
     })
 
 pub returns-in-Err-clause-commands : goal.returns-in-Err-clause-commands
 returns-in-Err-clause-commands g c session stands =
     subst (λ (r : Result Done EngineError). Commands g.H.Host.view g.K.Keep.holds g.K.Keep.live g.K.Keep.means session (command ode session c.args.text.now) r c.args.engine.now c.args.host.now c.args.host.now) (sym c.unread.ensures)
     (unread_stops g.H.Host.view g.K.Keep.holds g.K.Keep.live g.K.Keep.means g.met.K.Keep.stands g.met.K.Keep.stays session c.args.text.now c.in-Err.stop c.args.engine.now c.args.host.now c.in-Err.ensures stands)
+
+pub returns-in-Err-clause-leaves : goal.returns-in-Err-clause-leaves
+returns-in-Err-clause-leaves g c = rw c.unread.ensures (unread_told c.in-Err.stop (g.H.Host.view c.args.host.now))

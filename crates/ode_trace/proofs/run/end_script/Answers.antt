@@ -1,15 +1,13 @@
-use Rattle.std.proofs.Common.{◌≡◌, ◌∙◌, Err, List, [], ℕ, ap, inl, subst, sym}
-use Rattle.ode_host.proofs.Calls.{host_calls_as}
-use Rattle.ode_host.specs.declared.status.Status.TheVariants as status
+use Rattle.std.proofs.Common.{Err, [], subst, sym}
 use Rattle.ode_language.specs.Languages.{ode}
 use Rattle.ode_machine.specs.Commands.{finish}
-use Rattle.ode_machine.specs.Runs.{stretch_of, status_at}
-use Rattle.ode_script.specs.Cutting.{End}
+use Rattle.ode_machine.specs.Runs.{stretch_of}
 use Rattle.ode_transact.specs.Resting.{HoldsBy}
-use Rattle.ode_transact.specs.declared.error.EngineError.TheVariants as engine
-use Rattle.ode_trace.specs.Statuses.{IsEnding, status_of_engine}
+use Rattle.ode_engine.specs.declared.engine.Done.{Done}
+use Rattle.ode_trace.specs.Statuses.{IsRunStatus}
+use Rattle.ode_trace.proofs.CallLaws.{damage_gives, error_stated}
 use Rattle.ode_trace.proofs.EngineLaws.{finished_ends, no_more}
-use Rattle.ode_trace.proofs.StatusLaws.{engine_disk, engine_no_end, engine_no_read, engine_print, engine_runs}
+use Rattle.ode_trace.proofs.StatusLaws.{engine_answers}
 use Rattle.ode_trace.proofs.run.end_script.Goals as goal
 
 pub returns-in-Ok-clause-ends : goal.returns-in-Ok-clause-ends
@@ -33,3 +31,11 @@ returns-then-refused-clause-any_moment g c session text serves =
 pub returns-clause-any_moment : goal.returns-clause-any_moment
 returns-clause-any_moment g c session text serves =
     no_more (HoldsBy ode g.K.Keep.means) (stretch_of (finish session)).1 session.world text _ _ (c.finish.ensures.any_moment session text [] serves.stands serves.printed)
+
+pub returns-clause-answers : goal.returns-clause-answers
+returns-clause-answers g c session stands =
+    subst IsRunStatus (sym c.status_of_engine.ensures)
+    (engine_answers Done c.in-Err.error (damage_gives {R = Done} (Err c.in-Err.error) _ ⊥ (λ none. none session stands) c.in-Err.ensures.undamaged))
+
+pub returns-clause-leaves : goal.returns-clause-leaves
+returns-clause-leaves g c = rw c.status_of_engine.ensures (error_stated Done c.in-Err.error _ _ c.in-Err.ensures.leaves)

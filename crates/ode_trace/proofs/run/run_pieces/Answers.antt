@@ -1,25 +1,23 @@
-use Rattle.std.proofs.Common.{Err, ◌≡◌, ℕ, List, ◌++◌, Bool, Option, Some, ap, refl, sym, subst, ◌∙◌}
+use Rattle.std.proofs.Common.{Err, ◌≡◌, ℕ, List, ◌++◌, Bool, ap, sym, subst, ◌∙◌}
 use Rattle.std.specs.Prelude.{◌||◌}
 use Rattle.ode_host.specs.Host.{LeavesOnly}
 use Rattle.ode_host.specs.declared.status.Status.{Status}
-use Rattle.ode_host.specs.declared.status.Status.TheVariants as status
-use Rattle.ode_host.proofs.Calls.{host_calls_as, host_calls_on, rose_as, rose_none, rose_on}
+use Rattle.ode_host.proofs.Calls.{host_calls_as, rose_as, rose_none, rose_on}
 use Rattle.ode_host.proofs.Moments.{started}
 use Rattle.ode_language.specs.Languages.{ode}
 use Rattle.ode_machine.specs.Moments.{IsAfterSome}
-use Rattle.ode_machine.specs.Runs.{Item, ending_items, piece_stretch, pieces_items, status_at, text_of}
-use Rattle.ode_machine.specs.Sessions.{Session}
+use Rattle.ode_machine.specs.Runs.{Item, ending_items, piece_stretch, pieces_items, text_of}
 use Rattle.ode_script.specs.declared.reader.ScriptError.TheVariants as script
 use Rattle.ode_script.specs.Cutting.{End, Then, ending_of, pieces}
 use Rattle.ode_script.specs.Left.{HasPieces}
 use Rattle.ode_transact.specs.Resting.{HoldsBy}
-use Rattle.ode_transact.specs.declared.error.EngineError.TheVariants as engine
 use Rattle.ode_trace.specs.Running.{LeavesNothing, SoFar}
-use Rattle.ode_trace.specs.Statuses.{IsEnding, status_of_engine, status_of_script}
-use Rattle.ode_trace.proofs.EngineLaws.{ends_now, no_calls}
+use Rattle.ode_trace.specs.Statuses.{IsEnding, IsRunStatus, status_of_script}
+use Rattle.ode_trace.proofs.CallLaws.{answer_quiet, error_stated, no_calls, told_behind}
+use Rattle.ode_trace.proofs.EngineLaws.{ends_now}
 use Rattle.ode_trace.proofs.MachineLaws.{pieces_then, pieces_ended}
 use Rattle.ode_trace.proofs.RunLaws.{ended_ran, error_ran, goes_further, same_at, same_next}
-use Rattle.ode_trace.proofs.StatusLaws.{end_leaves, engine_disk, engine_no_end, engine_no_read, engine_print, script_no_disk, script_no_print, script_read}
+use Rattle.ode_trace.proofs.StatusLaws.{end_leaves, engine_answers, engine_no_end, engine_no_read, script_no_disk, script_no_print, script_read, script_runs}
 use Rattle.ode_trace.proofs.run.run_pieces.Goals as goal
 use Rattle.ode_trace.proofs.run.run_pieces.Goals.{then-refused, else-refused}
 
@@ -35,7 +33,7 @@ pieces-init g c = record {
   );
   moments = λ session script text told serves. started (g.H.Host.view c.args.host.now) (IsAfterSome (HoldsBy ode g.K.Keep.means) (pieces_items ode (pieces script) session) session.world text);
   stands = λ session stands. (session, stands);
-  leaves = λ session stands. no_calls ⊥ ⊥ (g.H.Host.view c.args.host.now) (λ none. none) (λ none. none);
+  leaves = no_calls ⊥ ⊥ (g.H.Host.view c.args.host.now) (λ none. none) (λ none. none);
   live = c.requires.live;
   reads_on = c.new-reader.ensures.live;
   reads = rose_none ⊥ (g.S.Source.faults c.args.source.now) (λ none. none);
@@ -76,10 +74,7 @@ pieces-preserved g c = record {
   stands = λ session stands.
       let now = c.pieces.invariant.stands session stands in
       ((piece_stretch ode now.0 c.in-Ok-Statement.line c.as_slice.result.now).0, (c.in-Ok.ensures.carries now.0 now.1).stands);
-  leaves = λ session stands.
-      let now = c.pieces.invariant.stands session stands in
-      host_calls_on ⊥ ⊥ ⊥ ⊥ _ _ _ (λ none. none) (λ none. none) (c.pieces.invariant.leaves session stands)
-      (host_calls_as _ _ ⊥ ⊥ _ _ (λ is. cc (is)) absurd (λ is. cc (is)) absurd (c.in-Ok.ensures.carries now.0 now.1).leaves);
+  leaves = told_behind ⊥ ⊥ _ _ _ c.pieces.invariant.leaves (answer_quiet c.in-Ok.again _ _ c.in-Ok.ensures.leaves);
   live = c.in-Ok.ensures.live;
   reads_on = c.in-Ok-Statement.ensures.live;
   reads = rose_on ⊥ ⊥ _ _ _ (λ none. none) c.pieces.invariant.reads (rose_as _ ⊥ _ _ (λ is. cc (is)) absurd c.in-Ok-Statement.ensures.cause);
@@ -109,9 +104,12 @@ returns-in-Ok-End-clause-any_moment g c = λ session script text told serves.
     (c.end_script.ensures.any_moment now so_far.2 so_far.4))
 
 pub returns-in-Ok-End-clause-leaves : goal.returns-in-Ok-End-clause-leaves
-returns-in-Ok-End-clause-leaves g c session stands =
+returns-in-Ok-End-clause-leaves g c = told_behind _ _ _ _ _ c.pieces.invariant.leaves c.end_script.ensures.leaves
+
+pub returns-in-Ok-End-clause-answers : goal.returns-in-Ok-End-clause-answers
+returns-in-Ok-End-clause-answers g c session stands =
     let now = c.pieces.invariant.stands session stands in
-    host_calls_on ⊥ ⊥ _ _ _ _ _ (λ none. none) (λ none. none) (c.pieces.invariant.leaves session stands) (c.end_script.ensures.leaves now.0 now.1)
+    c.end_script.ensures.answers now.0 now.1
 
 pub returns-in-Ok-End-clause-reads : goal.returns-in-Ok-End-clause-reads
 returns-in-Ok-End-clause-reads g c =
@@ -127,8 +125,11 @@ returns-in-Err-clause-ran g c = λ session script text told serves is_ending.
     (ends_now g.H.Host.view g.K.Keep.holds g.K.Keep.live g.K.Keep.means g.met.K.Keep.stands g.met.K.Keep.stays so_far.1 c.pieces.engine c.pieces.host so_far.2 so_far.4.stands so_far.4.printed)
 
 pub returns-in-Err-clause-leaves : goal.returns-in-Err-clause-leaves
-returns-in-Err-clause-leaves g c session stands =
-    host_calls_as ⊥ ⊥ _ _ _ _ absurd (λ is. script_no_disk c.in-Err.error (sym c.status_of_script.ensures ∙ is)) absurd (λ is. script_no_print c.in-Err.error (sym c.status_of_script.ensures ∙ is)) (c.pieces.invariant.leaves session stands)
+returns-in-Err-clause-leaves g c =
+    host_calls_as ⊥ ⊥ _ _ _ _ absurd (λ is. script_no_disk c.in-Err.error (sym c.status_of_script.ensures ∙ is)) absurd (λ is. script_no_print c.in-Err.error (sym c.status_of_script.ensures ∙ is)) c.pieces.invariant.leaves
+
+pub returns-in-Err-clause-answers : goal.returns-in-Err-clause-answers
+returns-in-Err-clause-answers g c session stands = subst IsRunStatus (sym c.status_of_script.ensures) (script_runs c.in-Err.error)
 
 pub returns-in-Err-clause-reads : goal.returns-in-Err-clause-reads
 returns-in-Err-clause-reads g c =
@@ -155,13 +156,12 @@ returns-in-Err-carry_out-clause-any_moment g c session script text told serves =
     ((c.in-Err-carry_out.ensures.carries now so_far.4.stands).any_moment so_far.2 (pieces_items ode rest stretch.0) so_far.4.printed))
 
 pub returns-in-Err-carry_out-clause-leaves : goal.returns-in-Err-carry_out-clause-leaves
-returns-in-Err-carry_out-clause-leaves g c session stands =
+returns-in-Err-carry_out-clause-leaves g c = rw c.status_of_engine.ensures (told_behind _ _ _ _ _ c.pieces.invariant.leaves (error_stated Bool c.in-Err-carry_out.error _ _ c.in-Err-carry_out.ensures.leaves))
+
+pub returns-in-Err-carry_out-clause-answers : goal.returns-in-Err-carry_out-clause-answers
+returns-in-Err-carry_out-clause-answers g c session stands =
     let now = c.pieces.invariant.stands session stands in
-    host_calls_on ⊥ ⊥ _ _ _ _ _ (λ none. none) (λ none. none) (c.pieces.invariant.leaves session stands)
-    (host_calls_as _ _ _ _ _ _
-    (λ is. let e : c.in-Err-carry_out.error ≡ engine.DiskFault = cc (is) in c.status_of_engine.ensures ∙ ap status_of_engine e) (λ is. ap Err (engine_disk c.in-Err-carry_out.error (sym c.status_of_engine.ensures ∙ is)))
-    (λ is. let e : c.in-Err-carry_out.error ≡ engine.WriteFault = cc (is) in c.status_of_engine.ensures ∙ ap status_of_engine e) (λ is. ap Err (engine_print c.in-Err-carry_out.error (sym c.status_of_engine.ensures ∙ is)))
-    (c.in-Err-carry_out.ensures.carries now.0 now.1).leaves)
+    subst IsRunStatus (sym c.status_of_engine.ensures) (engine_answers Bool c.in-Err-carry_out.error (c.in-Err-carry_out.ensures.carries now.0 now.1).sound)
 
 pub returns-in-Err-carry_out-clause-reads : goal.returns-in-Err-carry_out-clause-reads
 returns-in-Err-carry_out-clause-reads g c =

@@ -22,7 +22,7 @@ invariant-pieces g l = record {
       LeavesOnly (g.H.Host.view l.fn.host) (g.H.Host.view l.host) (IsAfterSome (HoldsBy ode g.K.Keep.means) (pieces_items ode (pieces script) session) session.world text);
   stands : (session : Session) → StandsFor g.H.Host.view g.K.Keep.holds g.K.Keep.live ode session l.fn.engine l.fn.host →
       (now : Session) × StandsFor g.H.Host.view g.K.Keep.holds g.K.Keep.live ode now l.engine l.host;
-  leaves : (session : Session) → StandsFor g.H.Host.view g.K.Keep.holds g.K.Keep.live ode session l.fn.engine l.fn.host → HostCalls ⊥ ⊥ (g.H.Host.view l.fn.host) (g.H.Host.view l.host);
+  leaves : HostCalls ⊥ ⊥ (g.H.Host.view l.fn.host) (g.H.Host.view l.host);
   live : IsLive g.K.Keep.live l.engine;
   reads_on : IsTrue (is_live l.reader);
   reads : RoseIf ⊥ (g.S.Source.faults l.fn.source) (g.S.Source.faults l.source);

@@ -1,16 +1,15 @@
-use Rattle.std.proofs.Common.{◌≡◌, Err, Some, List, ℕ, ◌++◌, ◌∙◌, ap, sym, subst}
-use Rattle.ode_host.proofs.Calls.{host_calls_as, host_calls_on, rose_none}
+use Rattle.std.proofs.Common.{Err, Some, List, ℕ, ◌++◌, ◌∙◌, ap, sym, subst}
 use Rattle.ode_language.specs.Languages.{ode}
 use Rattle.ode_machine.specs.Runs.{opening, pieces_items, text_of}
 use Rattle.ode_machine.specs.Sessions.{closed}
 use Rattle.ode_script.specs.Cutting.{pieces}
 use Rattle.ode_transact.specs.Resting.{HoldsBy}
-use Rattle.ode_transact.specs.declared.error.EngineError.TheVariants as engine
-use Rattle.ode_trace.specs.Statuses.{IsEnding, IsRunStatus, status_of_engine}
+use Rattle.ode_trace.specs.Statuses.{IsEnding, IsRunStatus}
+use Rattle.ode_trace.proofs.CallLaws.{answer_quiet, damage_gives, error_stated, told_behind}
 use Rattle.ode_trace.proofs.EngineLaws.{started_live, started_stands}
 use Rattle.ode_trace.proofs.MachineLaws.{texts_are}
 use Rattle.ode_trace.proofs.RunLaws.{opened_leaves, opened_ran}
-use Rattle.ode_trace.proofs.StatusLaws.{engine_disk, engine_no_end, engine_no_read, engine_print, engine_runs}
+use Rattle.ode_trace.proofs.StatusLaws.{engine_answers, engine_no_end}
 use Rattle.ode_value.specs.Draining.{drain}
 use Rattle.ode_value.specs.Limits.{drain_limit}
 use Rattle.ode_value.specs.Pasts.{lists}
@@ -37,22 +36,27 @@ returns-in-Ok-clause-any_moment g c w script text told begins =
     (c.drain.ensures.any_moment (closed w) text (pieces_items ode (pieces script) (opening ode w).0) stands begins.printed)
     (c.run_pieces.ensures.any_moment (opening ode w).0 script said told (record { stands = c.in-Ok.ensures.stands (closed w) stands; printed = printed }))
 
-pub returns-in-Ok-clause-leaves : goal.returns-in-Ok-clause-leaves
-returns-in-Ok-clause-leaves g c w well rests =
+pub returns-in-Ok-clause-answers : goal.returns-in-Ok-clause-answers
+returns-in-Ok-clause-answers g c w well rests =
     let stands = started_stands g.H.Host.view g.K.Keep.holds g.K.Keep.live g.K.Keep.means g.met.K.Keep.stands g.met.K.Keep.stays w c.args.opened c.start-engine.result c.args.host.now c.start-engine.ensures.rest well rests in
-    host_calls_on ⊥ ⊥ _ _ _ _ _ (λ none. none) (λ none. none)
-    (host_calls_as _ _ ⊥ ⊥ _ _ (λ is. cc (is)) absurd (λ is. cc (is)) absurd (c.in-Ok.ensures.leaves (closed w) stands))
-    (c.run_pieces.ensures.leaves (opening ode w).0 (c.in-Ok.ensures.stands (closed w) stands))
+    c.run_pieces.ensures.answers (opening ode w).0 (c.in-Ok.ensures.stands (closed w) stands)
+
+pub returns-in-Ok-clause-leaves : goal.returns-in-Ok-clause-leaves
+returns-in-Ok-clause-leaves g c = told_behind _ _ _ _ _ (answer_quiet c.in-Ok.field-0 _ _ c.in-Ok.ensures.leaves) c.run_pieces.ensures.leaves
+
+pub returns-clause-ran : goal.returns-clause-ran
+returns-clause-ran g c w script text told begins is_ending = absurd (engine_no_end c.in-Err.error (subst IsEnding c.status_of_engine.ensures is_ending))
 
 pub returns-clause-any_moment : goal.returns-clause-any_moment
 returns-clause-any_moment g c w script text told begins =
     let stands = started_stands g.H.Host.view g.K.Keep.holds g.K.Keep.live g.K.Keep.means g.met.K.Keep.stands g.met.K.Keep.stays w c.args.opened c.start-engine.result c.args.host.now c.start-engine.ensures.rest begins.well begins.rests in
     c.drain.ensures.any_moment (closed w) text (pieces_items ode (pieces script) (opening ode w).0) stands begins.printed
 
-pub returns-clause-leaves : goal.returns-clause-leaves
-returns-clause-leaves g c w well rests =
+pub returns-clause-answers : goal.returns-clause-answers
+returns-clause-answers g c w well rests =
     let stands = started_stands g.H.Host.view g.K.Keep.holds g.K.Keep.live g.K.Keep.means g.met.K.Keep.stands g.met.K.Keep.stays w c.args.opened c.start-engine.result c.args.host.now c.start-engine.ensures.rest well rests in
-    host_calls_as _ _ _ _ _ _
-    (λ is. let e : c.in-Err.error ≡ engine.DiskFault = cc (is) in c.status_of_engine.ensures ∙ ap status_of_engine e) (λ is. ap Err (engine_disk c.in-Err.error (sym c.status_of_engine.ensures ∙ is)))
-    (λ is. let e : c.in-Err.error ≡ engine.WriteFault = cc (is) in c.status_of_engine.ensures ∙ ap status_of_engine e) (λ is. ap Err (engine_print c.in-Err.error (sym c.status_of_engine.ensures ∙ is)))
-    (c.in-Err.ensures.leaves (closed w) stands)
+    subst IsRunStatus (sym c.status_of_engine.ensures)
+    (engine_answers ℕ c.in-Err.error (damage_gives {R = ℕ} (Err c.in-Err.error) _ ⊥ (λ none. none (closed w) stands) c.in-Err.ensures.undamaged))
+
+pub returns-clause-leaves : goal.returns-clause-leaves
+returns-clause-leaves g c = rw c.status_of_engine.ensures (error_stated ℕ c.in-Err.error _ _ c.in-Err.ensures.leaves)
