@@ -39,7 +39,7 @@ use Rattle.ode_found_laws.proofs.Decoded.{IsHead, IsOwned, object_record, versio
 use Rattle.ode_found_laws.proofs.Families.{is_inherited, same_numbered}
 use Rattle.ode_found_laws.proofs.Grouping.{IsGrouped, numbers}
 use Rattle.ode_found_laws.proofs.Ruled.{all_both, all_flat_back, all_map_back, each_keeps, holds}
-use Rattle.ode_found_laws.proofs.Telling.{head_of, heads_tell, object_reads, own_numbers, version_reads}
+use Rattle.ode_opened_laws.proofs.Telling.{head_of, heads_tell, object_reads, own_numbers, version_reads}
 
 -- an object that the records have whole
 pub record IsRow (o : Object) : Type 0 where
