@@ -1,5 +1,5 @@
 //! Files that hold no database of the built forms.
-use crate::images::{first_file, patched, three_frames, turned};
+use crate::images::{class_file, first_file, patched, three_frames, turned};
 use crate::trial::{FIRST, FIRST_TEXT, new_file, run};
 use ode_host::Status;
 use std::alloc::{AllocError, Global};
@@ -84,17 +84,49 @@ fn counters_with_a_wrong_byte_are_bad(rt: HostRuntime) -> Result<(), Fail> {
     Ok(())
 }
 
-// The head, the text, the object and the version, up to the number that the version holds.
+// The head, the text, the object and the version, up to the number that the version holds. An object's last version number
+// may be greater than the versions that are there.
 #[test]
 fn records_with_a_wrong_byte_are_bad(rt: HostRuntime) -> Result<(), Fail> {
     let alloc = rt.alloc();
     let file = first_file(alloc)?;
     assert_eq!(rt; file.len(), 4290);
-    let places: Vec<usize> = (4160..4281usize).collect(alloc)?;
+    let places: Vec<usize> = (4160..4281usize)
+        .filter(|at| *at < 4251 || *at > 4254)
+        .collect(alloc)?;
     are_bad(&rt, alloc, &file, &places, 0x80)?;
-    // the same, but for the field's name in the text, which no other record has
-    let places: Vec<usize> = (4160..4281usize).filter(|at| *at != 4224).collect(alloc)?;
+    // the same, but for the field's name in the text, which no other record has; and the last number as 0
+    let places: Vec<usize> = (4160..4281usize)
+        .filter(|at| *at != 4224 && (*at < 4251 || *at > 4253))
+        .collect(alloc)?;
     are_bad(&rt, alloc, &file, &places, 0x01)?;
+    Ok(())
+}
+
+// Texts of a class `P` that is kept with them: the first is right, and of the others one isn't as it is printed, one is no
+// class, one isn't accepted, one has another name, and two aren't built.
+const CLASSES: [&str; 7] = [
+    "class P { int n; }",
+    "class P {int n;}",
+    "class P { int n }",
+    "class P { ref Q n; }",
+    "class Q { int n; }",
+    "class P { event after create; }",
+    "class P : P { int n; }",
+];
+
+#[test]
+fn a_class_whose_text_is_wrong_is_bad(rt: HostRuntime) -> Result<(), Fail> {
+    let alloc = rt.alloc();
+    for (number, text) in CLASSES.iter().enumerate() {
+        let image = class_file(alloc, text)?;
+        if number == 0 {
+            let ran = run(alloc, &image, "pnew P();")?;
+            ran.is(&rt, "new #1\ntx 2 committed\n", Status::Ok, "a right class");
+        } else {
+            is_refused(&rt, alloc, &image, "bad file\n", text)?;
+        }
+    }
     Ok(())
 }
 

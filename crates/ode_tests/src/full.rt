@@ -1,52 +1,72 @@
 //! A database that is full.
-use crate::images::{file_with, next_numbers};
+use crate::images::filled;
 use crate::trial::run;
 use ode_host::Status;
 use std::alloc::{AllocError, Global};
 use std::test::Fail;
 
-// The most objects that a class with names of one byte leaves room for: the counters count 62 bytes, the class 64, an
-// object 57, and all of them at most 8,388,608.
-const MOST: u64 = 147_166;
+// So many objects of 4,010 bytes have room beside the counters, which count 62, and the class, which counts 73. 3,563 bytes are left
+// then of the 8,388,608, and an object with texts of 2,048 and 1,461 bytes takes them.
+const MOST: u64 = 2091;
 
-// A file with one class and so many objects, behind one transaction.
-fn filled(alloc: Global, objects: u64) -> Result<Vec<u8>, AllocError> {
-    file_with(alloc, objects, next_numbers(objects.saturating_add(1), 2))
+const LEFT: u32 = 1461;
+
+// `pnew P` with texts of so many blanks.
+fn making(alloc: Global, first: u32, second: u32) -> Result<String, AllocError> {
+    let mut script = String::from_str(alloc, "pnew P(a = \"")?;
+    for _ in 0..first {
+        script.push_str(" ")?;
+    }
+    script.push_str("\", b = \"")?;
+    for _ in 0..second {
+        script.push_str(" ")?;
+    }
+    script.push_str("\");\n")?;
+    Ok(script)
 }
 
-const LAST: &str = "pnew P(n = 7);
-pnew P();
+const LAST: &str = "pnew P();
 class Q { int n; };
-show #147166.n;
-show #147167.n;
+show #1.b == #2091.b;
+show #2092.a;
+pdelete #2091;
+pnew P(b = \"b\");
 ";
 
-const LAST_TEXT: &str = "new #147166
-tx 2 committed
-new #147167
-tx 3 aborted space
-class Q
+const LAST_TEXT: &str = "new #2092
+tx 2 aborted space
+new #2093
+tx 3 committed
+new #2094
 tx 4 aborted space
-value 7
-tx 5 committed
-refused 5 no object #147167
+class Q
+tx 5 aborted space
+value true
+tx 6 committed
+refused 6 no object #2092
+tx 7 committed
+new #2095
+tx 8 committed
 ";
 
 #[test]
 fn what_has_no_room_aborts(rt: HostRuntime) -> Result<(), Fail> {
     let alloc = rt.alloc();
-    let file = filled(alloc, MOST - 1)?;
-    let ran = run(alloc, &file, LAST)?;
+    let file = filled(alloc, MOST)?;
+    let mut script = making(alloc, 2048, LEFT + 1)?;
+    script.push_str(making(alloc, 2048, LEFT)?.as_str())?;
+    script.push_str(LAST)?;
+    let ran = run(alloc, &file, script.as_str())?;
     ran.is(
         &rt,
         LAST_TEXT,
         Status::Refused,
         "the last object that has room",
     );
-    let ran = run(alloc, ran.host.image(), "pnew P(); show #1.n;")?;
+    let ran = run(alloc, ran.host.image(), "pnew P(); show #2095.b;")?;
     ran.is(
         &rt,
-        "new #147168\ntx 6 aborted space\nvalue 5\ntx 7 committed\n",
+        "new #2096\ntx 9 committed\nvalue \"b\"\ntx 10 committed\n",
         Status::Ok,
         "a run on a full database",
     );
@@ -56,14 +76,14 @@ fn what_has_no_room_aborts(rt: HostRuntime) -> Result<(), Fail> {
 #[test]
 fn a_file_with_an_object_too_much_is_bad(rt: HostRuntime) -> Result<(), Fail> {
     let alloc = rt.alloc();
-    let full = run(alloc, &filled(alloc, MOST)?, "show #147166.n;")?;
+    let full = run(alloc, &filled(alloc, MOST)?, "show #2091.a == #1.a;")?;
     full.is(
         &rt,
-        "value 5\ntx 2 committed\n",
+        "value true\ntx 2 committed\n",
         Status::Ok,
         "a full database",
     );
-    let over = run(alloc, &filled(alloc, MOST + 1)?, "show #147166.n;")?;
+    let over = run(alloc, &filled(alloc, MOST + 1)?, "show #2092.a;")?;
     over.is(&rt, "bad file\n", Status::BadFile, "an object too much");
     Ok(())
 }

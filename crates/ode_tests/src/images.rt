@@ -34,16 +34,21 @@ fn put_counters(to: &mut Vec<u8>, next: Numbers) -> Result<(), AllocError> {
     to.extend_from_slice(&[0; 21])
 }
 
-// The head of `class P { int n; }`.
-fn put_head(to: &mut Vec<u8>) -> Result<(), AllocError> {
+// The text of the first script's class.
+const CLASS: &str = "class P { int n; }";
+
+// The head of a class `P` with this text, of less than 256 bytes.
+fn put_head(to: &mut Vec<u8>, text: &str) -> Result<(), AllocError> {
     put_key(to, 2, 1, 0, 12)?;
-    to.extend_from_slice(b"\x01P\0\0\0\0\0\0\0\x12\0\0")
+    to.extend_from_slice(b"\x01P\0\0\0\0\0\0\0")?;
+    put_u8(to, text.len().min(255) as u8)?;
+    put_u16(to, 0)
 }
 
-// Its text.
-fn put_text(to: &mut Vec<u8>) -> Result<(), AllocError> {
-    put_key(to, 3, 1, 0, 18)?;
-    to.extend_from_slice(b"class P { int n; }")
+// The text.
+fn put_text(to: &mut Vec<u8>, text: &str) -> Result<(), AllocError> {
+    put_key(to, 3, 1, 0, text.len().min(255) as u16)?;
+    to.extend_from_slice(text.as_bytes())
 }
 
 // An object of the first class.
@@ -62,18 +67,14 @@ fn put_version(to: &mut Vec<u8>, id: u64) -> Result<(), AllocError> {
     put_i64(to, 5)
 }
 
-// The snapshot of one class and so many objects.
-fn snapshot(alloc: Global, objects: u64, next: Numbers) -> Result<Vec<u8>, AllocError> {
+// The snapshot of the first script's class and one object of it.
+fn snapshot(alloc: Global, next: Numbers) -> Result<Vec<u8>, AllocError> {
     let mut body = Vec::new(alloc);
     put_counters(&mut body, next)?;
-    put_head(&mut body)?;
-    put_text(&mut body)?;
-    for id in 0..objects {
-        put_object(&mut body, id + 1)?;
-    }
-    for id in 0..objects {
-        put_version(&mut body, id + 1)?;
-    }
+    put_head(&mut body, CLASS)?;
+    put_text(&mut body, CLASS)?;
+    put_object(&mut body, 1)?;
+    put_version(&mut body, 1)?;
     Ok(body)
 }
 
@@ -90,14 +91,54 @@ fn file_of(alloc: Global, body: &[u8]) -> Result<Vec<u8>, AllocError> {
     Ok(file)
 }
 
-/// A file whose snapshot has the first script's class, so many objects of it, and these counters. Its journal is empty.
-pub fn file_with(alloc: Global, objects: u64, next: Numbers) -> Result<Vec<u8>, AllocError> {
-    file_of(alloc, &snapshot(alloc, objects, next)?)
+/// A file whose snapshot has the first script's class, one object of it, and these counters. Its journal is empty.
+pub fn file_with(alloc: Global, next: Numbers) -> Result<Vec<u8>, AllocError> {
+    file_of(alloc, &snapshot(alloc, next)?)
+}
+
+/// A file whose snapshot has a class `P` with this text.
+pub fn class_file(alloc: Global, text: &str) -> Result<Vec<u8>, AllocError> {
+    let mut body = Vec::new(alloc);
+    put_counters(&mut body, next_numbers(1, 2))?;
+    put_head(&mut body, text)?;
+    put_text(&mut body, text)?;
+    file_of(alloc, &body)
+}
+
+// A class of two texts.
+const TEXTS: &str = "class P { text a; text b; }";
+
+// A version whose value is as long as one may be: of 3,968 bytes, with texts of 2,048 and 1,908 blanks.
+fn put_longest(to: &mut Vec<u8>, id: u64) -> Result<(), AllocError> {
+    put_key(to, 7, id, 1, 3968)?;
+    put_u32(to, 0)?;
+    put_u16(to, 2)?;
+    put_u8(to, 2)?;
+    put_u16(to, 2048)?;
+    to.extend_from_slice(&[b' '; 2048])?;
+    put_u8(to, 2)?;
+    put_u16(to, 1908)?;
+    to.extend_from_slice(&[b' '; 1908])
+}
+
+/// A file whose snapshot has a class of two texts, and so many of its longest objects, behind one transaction.
+pub fn filled(alloc: Global, objects: u64) -> Result<Vec<u8>, AllocError> {
+    let mut body = Vec::new(alloc);
+    put_counters(&mut body, next_numbers(objects.saturating_add(1), 2))?;
+    put_head(&mut body, TEXTS)?;
+    put_text(&mut body, TEXTS)?;
+    for id in 0..objects {
+        put_object(&mut body, id + 1)?;
+    }
+    for id in 0..objects {
+        put_longest(&mut body, id + 1)?;
+    }
+    file_of(alloc, &body)
 }
 
 /// A file whose snapshot has what the first script leaves.
 pub fn first_file(alloc: Global) -> Result<Vec<u8>, AllocError> {
-    file_with(alloc, 1, next_numbers(2, 4))
+    file_with(alloc, next_numbers(2, 4))
 }
 
 // What each change that puts a record begins with.
@@ -108,9 +149,9 @@ fn declaring(alloc: Global, next: Numbers) -> Result<Vec<u8>, AllocError> {
     let mut payload = b"\0\0\0\x03\x01".to_vec(alloc)?;
     put_counters(&mut payload, next)?;
     payload.push(PUT)?;
-    put_head(&mut payload)?;
+    put_head(&mut payload, CLASS)?;
     payload.push(PUT)?;
-    put_text(&mut payload)?;
+    put_text(&mut payload, CLASS)?;
     Ok(payload)
 }
 

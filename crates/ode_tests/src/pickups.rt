@@ -1,108 +1,118 @@
-//! A run that was cut is picked up by the next one.
-use crate::trial::{FIRST, FIRST_TEXT, Trial, call, init, new_file, run, source};
+//! A run that is cut is picked up by the next one.
+use crate::trial::{Trial, call, calls_of, init, new_file, run, smooth, source};
 use ode_host::{Plan, Status, Torn};
 use std::alloc::{AllocError, Global};
 use std::process::Abort;
 use std::test::Fail;
 
-const TEARS: [Torn; 5] = [
-    Torn::Nothing,
-    Torn::Whole,
-    Torn::Front(1),
-    Torn::Front(9),
-    Torn::Fill(0xA5),
+// Statements that settle one transaction, and what they print.
+type Step = (&'static str, &'static str);
+
+const TRANSACTIONS: &[Step] = &[
+    (
+        "class P { int n; void a() { n = n + 1; } constraint c: n < 2; soft constraint d: n != 1; };\n",
+        "class P\ntx 1 committed\n",
+    ),
+    ("pnew P();\n", "new #1\ntx 2 committed\n"),
+    ("#1.a();\n", "tx 3 aborted constraint d\n"),
+    (
+        "begin; pnew P(); newversion #1; abort;\n",
+        "new #2\nversion #1@2\ntx 4 aborted asked\n",
+    ),
+    ("begin; #1.a(); #1.a();\n", "tx 5 aborted constraint c\n"),
+    (
+        "begin; pnew P(); pdelete #1; show #3.n; commit;\n",
+        "new #3\nvalue 0\ntx 6 committed\n",
+    ),
+    ("newversion #3;\n", "version #3@2\ntx 7 committed\n"),
+    ("begin; pnew P();\n", "new #4\ntx 8 aborted end\n"),
 ];
 
-// What the first script comes to behind so many of its transactions.
-#[derive(Clone, Copy)]
-struct Stage {
-    // What it has printed.
-    printed: &'static str,
-    // The statements that are left, and what they print.
-    left: &'static str,
-    rest: &'static str,
-    // What the whole script prints when it is run again.
-    again: &'static str,
-}
-
-const STAGES: [Stage; 4] = [
-    Stage {
-        printed: "",
-        left: FIRST,
-        rest: FIRST_TEXT,
-        again: FIRST_TEXT,
-    },
-    Stage {
-        printed: "class P\ntx 1 committed\n",
-        left: "pnew P(n = 5); show #1.n;",
-        rest: "new #1\ntx 2 committed\nvalue 5\ntx 3 committed\n",
-        again: "refused 1 duplicate P\nnew #1\ntx 2 committed\nvalue 5\ntx 3 committed\n",
-    },
-    Stage {
-        printed: "class P\ntx 1 committed\nnew #1\ntx 2 committed\n",
-        left: "show #1.n;",
-        rest: "value 5\ntx 3 committed\n",
-        again: "refused 1 duplicate P\nnew #2\ntx 3 committed\nvalue 5\ntx 4 committed\n",
-    },
-    Stage {
-        printed: FIRST_TEXT,
-        left: "",
-        rest: "",
-        again: "refused 1 duplicate P\nnew #2\ntx 4 committed\nvalue 5\ntx 5 committed\n",
-    },
+const VERSIONS: &[Step] = &[
+    (
+        "class V { int n; ref V old; };\n",
+        "class V\ntx 1 committed\n",
+    ),
+    ("pnew V(n = 1);\n", "new #1\ntx 2 committed\n"),
+    ("newversion #1;\n", "version #1@2\ntx 3 committed\n"),
+    ("show version(#1);\n", "value #1@2\ntx 4 committed\n"),
+    ("show #1@1.n;\n", "value 1\ntx 5 committed\n"),
+    ("delversion #1@2;\n", "tx 6 committed\n"),
+    ("delversion #1;\n", "tx 7 aborted last version #1\n"),
+    ("newversion #1;\n", "version #1@3\ntx 8 committed\n"),
+    ("pdelete #1;\n", "tx 9 committed\n"),
+    ("pnew V();\n", "new #2\ntx 10 committed\n"),
+    ("show #2.old;\n", "value null\ntx 11 committed\n"),
 ];
 
-// Behind how many transactions it has printed this.
-fn printed(text: &[u8]) -> Option<usize> {
-    STAGES
-        .iter()
-        .position(|stage| stage.printed.as_bytes() == text)
+// The script of these steps.
+fn script_of(alloc: Global, steps: &[Step]) -> Result<String, AllocError> {
+    let mut script = String::new(alloc);
+    for (statements, _) in steps {
+        script.push_str(statements)?;
+    }
+    Ok(script)
 }
 
-// How many of its transactions a file holds.
-fn held(alloc: Global, image: &[u8]) -> Result<Option<usize>, AllocError> {
-    let ran = run(alloc, image, FIRST)?;
-    let text = ran.host.text();
-    Ok(
-        STAGES
-            .iter()
-            .position(|stage| stage.again.as_bytes() == text),
-    )
+// What they print.
+fn text_of(alloc: Global, steps: &[Step]) -> Result<String, AllocError> {
+    let mut text = String::new(alloc);
+    for (_, printed) in steps {
+        text.push_str(printed)?;
+    }
+    Ok(text)
 }
 
-// The statements that are left make a file what it is without a cut.
+// How many steps have printed this text.
+fn printed(steps: &[Step], text: &[u8]) -> Option<usize> {
+    let mut rest = str::from_utf8(text).ok()?;
+    let mut count = 0usize;
+    for (_, printed) in steps {
+        match rest.strip_prefix(*printed) {
+            Some(more) => {
+                rest = more;
+                count = count.saturating_add(1);
+            }
+            None => break,
+        }
+    }
+    if rest.is_empty() { Some(count) } else { None }
+}
+
+// Whether the steps behind so many make a file what it is without a cut.
 fn goes_on(
-    rt: &impl Abort,
     alloc: Global,
     image: &[u8],
-    stage: Stage,
+    steps: &[Step],
+    count: usize,
     whole: &[u8],
-) -> Result<(), AllocError> {
-    let ran = run(alloc, image, stage.left)?;
-    ran.is(rt, stage.rest, Status::Ok, "what is left");
-    assert_eq!(rt; ran.host.image(), whole, "behind what is left");
-    Ok(())
+) -> Result<bool, AllocError> {
+    let left = steps.get(count..).unwrap_or(&[]);
+    let ran = run(alloc, image, script_of(alloc, left)?.as_str())?;
+    let text = text_of(alloc, left)?;
+    Ok(ran.status == Status::Ok && ran.host.text() == text.as_bytes() && ran.host.image() == whole)
 }
 
-// A cut run printed a front. What it left holds what was printed and at most one transaction more, and goes on from there.
+// A cut run printed what some first steps print. Its file holds these, and at most one more, and goes on behind them.
 fn is_picked_up(
     rt: &impl Abort,
     alloc: Global,
     ran: Trial,
+    steps: &[Step],
     whole: &[u8],
     name: &str,
 ) -> Result<(), Fail> {
-    let printed = printed(ran.host.text());
-    let after = ran.host.after_stop()?;
-    let held = held(alloc, after.image())?;
-    let more = printed.map(|count| count.saturating_add(1));
-    assert!(rt;
-        held == printed || held == more,
-        "{name}: {held:?} and {printed:?}"
+    assert_eq!(rt;
+        ran.host.refused(),
+        0,
+        "the calls of {name} that found no memory"
     );
-    let count = held.expect(rt, "a file that the script runs on");
-    let stage = STAGES.get(count).copied().ok_or("a stage")?;
-    goes_on(rt, alloc, after.image(), stage, whole)?;
+    let count = printed(steps, ran.host.text()).ok_or("a text that is no front")?;
+    let after = ran.host.after_stop()?;
+    let image = after.image();
+    let kept = goes_on(alloc, image, steps, count, whole)?
+        || goes_on(alloc, image, steps, count.saturating_add(1), whole)?;
+    assert!(rt; kept, "{name} isn't picked up behind {count} transactions");
     Ok(())
 }
 
@@ -121,11 +131,8 @@ const LATE: u64 = 1000;
 impl Cut {
     // The call of this number is cut, and a stop, there or later, tears what is pending.
     fn plan(&self, alloc: Global, number: u64, torn: Torn) -> Result<Plan, AllocError> {
-        let mut plan = Plan {
-            disk_fails: Vec::new(alloc),
-            print_fails: Vec::new(alloc),
-            stop: Some((LATE, torn)),
-        };
+        let mut plan = smooth(alloc);
+        plan.stop = Some((LATE, torn));
         match self {
             Cut::Stop => plan.stop = Some((number, torn)),
             Cut::Disk => plan.disk_fails.push(number)?,
@@ -144,64 +151,112 @@ impl Cut {
         Ok(fails)
     }
 
-    // The first script on an image, in chunks of 7 bytes, and cut at this number.
+    // A script on an image, in chunks of 16 bytes, and cut at this number.
     fn run(
         &self,
         alloc: Global,
         image: &[u8],
+        script: &str,
         number: u64,
         torn: Torn,
     ) -> Result<Trial, AllocError> {
         let reads = self.reads(alloc, number)?;
-        let script = source(alloc, FIRST, &reads, 7)?;
+        let script = source(alloc, script, &reads, 16)?;
         let plan = self.plan(alloc, number, torn)?;
         call(alloc, &["run", "f"], script, image, plan)
     }
+
+    // The run may end so.
+    fn ends(&self, status: Status) -> bool {
+        match self {
+            Cut::Stop => matches!(status, Status::DiskFault | Status::WriteFault),
+            Cut::Disk => status == Status::DiskFault,
+            Cut::Print => status == Status::WriteFault,
+            Cut::Read => status == Status::ReadFault,
+        }
+    }
 }
 
-// However a run is cut at this number, it is picked up: how many were cut.
+// However a run of these steps is cut below this number, it is picked up: how many were cut.
 fn are_picked_up(
     rt: &impl Abort,
     alloc: Global,
-    file: &[u8],
-    whole: &[u8],
+    steps: &[Step],
     cut: Cut,
-    number: u64,
+    torn: Torn,
+    below: u64,
 ) -> Result<u64, Fail> {
+    let file = new_file(alloc)?;
+    let script = script_of(alloc, steps)?;
+    let whole = run(alloc, &file, script.as_str())?;
+    whole.is(
+        rt,
+        text_of(alloc, steps)?.as_str(),
+        Status::Ok,
+        "a whole run",
+    );
     let mut cuts = 0u64;
-    for torn in TEARS {
-        let ran = cut.run(alloc, file, number, torn)?;
+    for number in 0..below {
+        let ran = cut.run(alloc, &file, script.as_str(), number, torn)?;
+        let name = format!(in alloc; "{cut:?} at {number}, {torn:?}")?;
         if ran.status != Status::Ok {
+            assert!(rt; cut.ends(ran.status), "{name}: {:?}", ran.status);
             cuts = cuts.saturating_add(1);
         }
-        let name = format!(in alloc; "{cut:?} at {number}, {torn:?}")?;
-        is_picked_up(rt, alloc, ran, whole, name.as_str())?;
+        is_picked_up(rt, alloc, ran, steps, whole.host.image(), name.as_str())?;
     }
     Ok(cuts)
 }
 
-// How many numbers there are at least at which a run is cut in this way.
-const CUTS: [(Cut, u64); 4] = [
-    (Cut::Stop, 16),
-    (Cut::Disk, 13),
-    (Cut::Print, 3),
-    (Cut::Read, 8),
-];
+// The ways in which a stop tears what is pending.
+const TEARS: [Torn; 4] = [Torn::Nothing, Torn::Whole, Torn::Front(9), Torn::Fill(0xA5)];
+
+// How many calls a run of these steps makes: at least a sync at the opening, and five a step.
+fn calls(rt: &impl Abort, alloc: Global, steps: &[Step]) -> Result<u64, AllocError> {
+    let script = script_of(alloc, steps)?;
+    let calls = calls_of(alloc, &new_file(alloc)?, script.as_str())?;
+    assert!(rt; calls / 5 >= steps.len() as u64, "only {calls} calls");
+    Ok(calls)
+}
+
+// However a run of these steps is stopped, it is picked up.
+fn stops_are_picked_up(rt: &impl Abort, alloc: Global, steps: &[Step]) -> Result<(), Fail> {
+    let calls = calls(rt, alloc, steps)?;
+    for torn in TEARS {
+        let cuts = are_picked_up(rt, alloc, steps, Cut::Stop, torn, calls)?;
+        assert_eq!(rt; cuts, calls, "the stops, {torn:?}");
+    }
+    Ok(())
+}
 
 #[test]
-fn a_run_that_is_cut_anywhere_is_picked_up(rt: HostRuntime) -> Result<(), Fail> {
+fn transactions_that_are_stopped_anywhere_are_picked_up(rt: HostRuntime) -> Result<(), Fail> {
+    stops_are_picked_up(&rt, rt.alloc(), TRANSACTIONS)
+}
+
+#[test]
+fn versions_that_are_stopped_anywhere_are_picked_up(rt: HostRuntime) -> Result<(), Fail> {
+    stops_are_picked_up(&rt, rt.alloc(), VERSIONS)
+}
+
+#[test]
+fn a_run_whose_disk_or_output_fails_anywhere_is_picked_up(rt: HostRuntime) -> Result<(), Fail> {
     let alloc = rt.alloc();
-    let file = new_file(alloc)?;
-    let whole = run(alloc, &file, FIRST)?;
-    for (cut, least) in CUTS {
-        let mut cuts = 0u64;
-        for number in 0..64 {
-            let more = are_picked_up(&rt, alloc, &file, whole.host.image(), cut, number)?;
-            cuts = cuts.saturating_add(more);
-        }
-        assert!(rt; cuts >= 5 * least, "only {cuts} cuts of {cut:?}");
-        assert!(rt; cuts < 5 * 64, "more calls than were cut");
-    }
+    let steps = TRANSACTIONS;
+    let calls = calls(&rt, alloc, steps)?;
+    let prints = are_picked_up(&rt, alloc, steps, Cut::Print, Torn::Whole, calls)?;
+    assert_eq!(rt; prints, steps.len() as u64);
+    let disk = are_picked_up(&rt, alloc, steps, Cut::Disk, Torn::Nothing, calls)?;
+    assert_eq!(rt; disk.saturating_add(prints), calls);
+    Ok(())
+}
+
+#[test]
+fn a_run_whose_script_fails_anywhere_is_picked_up(rt: HostRuntime) -> Result<(), Fail> {
+    let alloc = rt.alloc();
+    let steps = TRANSACTIONS;
+    let reads = are_picked_up(&rt, alloc, steps, Cut::Read, Torn::Nothing, 40)?;
+    assert!(rt; reads >= 16 && reads < 40, "{reads} reads");
     Ok(())
 }
 

@@ -1,6 +1,6 @@
 //! What a stop leaves of a disk and an output.
-use crate::trial::{FIRST, FIRST_TEXT, call, new_file, run, source};
-use ode_host::{Failed, Host, MemHost, Plan, Status, Torn};
+use crate::trial::smooth;
+use ode_host::{Failed, Host, MemHost, Plan, Torn};
 use std::alloc::{AllocError, Global};
 use std::process::Abort;
 use std::test::Fail;
@@ -21,11 +21,9 @@ fn later_calls(host: &mut MemHost) -> Result<(), Failed> {
 }
 
 fn stopping(alloc: Global, at: u64, torn: Torn) -> Plan {
-    Plan {
-        disk_fails: Vec::new(alloc),
-        print_fails: Vec::new(alloc),
-        stop: Some((at, torn)),
-    }
+    let mut plan = smooth(alloc);
+    plan.stop = Some((at, torn));
+    plan
 }
 
 // The image behind a stop at this call of an empty disk, and what was printed before.
@@ -94,12 +92,7 @@ fn a_stop_tears_the_writes_behind_the_last_sync(rt: HostRuntime) -> Result<(), F
 #[test]
 fn all_stays_without_a_stop(rt: HostRuntime) -> Result<(), Fail> {
     let alloc = rt.alloc();
-    let plan = Plan {
-        disk_fails: Vec::new(alloc),
-        print_fails: Vec::new(alloc),
-        stop: None,
-    };
-    let mut host = MemHost::new(alloc, b"abcdef".to_vec(alloc)?, plan)?;
+    let mut host = MemHost::new(alloc, b"abcdef".to_vec(alloc)?, smooth(alloc))?;
     assert_eq!(rt; host.write_at(4, b"XYZ"), Ok(()));
     assert_eq!(rt; host.image(), b"abcdXYZ".as_slice());
     let after = host.after_stop()?;
@@ -111,12 +104,7 @@ fn all_stays_without_a_stop(rt: HostRuntime) -> Result<(), Fail> {
 #[test]
 fn reads_give_what_is_there(rt: HostRuntime) -> Result<(), Fail> {
     let alloc = rt.alloc();
-    let plan = Plan {
-        disk_fails: Vec::new(alloc),
-        print_fails: Vec::new(alloc),
-        stop: None,
-    };
-    let mut host = MemHost::new(alloc, b"abcdef".to_vec(alloc)?, plan)?;
+    let mut host = MemHost::new(alloc, b"abcdef".to_vec(alloc)?, smooth(alloc))?;
     assert_eq!(rt; host.size(), Ok(6));
     for (at, expected) in [
         (0, "abcd"),
@@ -129,47 +117,5 @@ fn reads_give_what_is_there(rt: HostRuntime) -> Result<(), Fail> {
         assert!(rt; host.read_at(at, &mut to).is_ok());
         assert_eq!(rt; to.as_slice(), expected.as_bytes(), "at {at}");
     }
-    Ok(())
-}
-
-// From the stop on each call fails, so the run ends there, and what it printed is a front.
-#[test]
-fn a_run_that_is_stopped_has_printed_a_front(rt: HostRuntime) -> Result<(), Fail> {
-    let alloc = rt.alloc();
-    let file = new_file(alloc)?;
-    let mut stopped = 0u64;
-    for number in 0..64 {
-        let script = source(alloc, FIRST, &[], 4096)?;
-        let ran = call(
-            alloc,
-            &["run", "f"],
-            script,
-            &file,
-            stopping(alloc, number, Torn::Whole),
-        )?;
-        if ran.status != Status::Ok {
-            assert!(rt; matches!(ran.status, Status::DiskFault | Status::WriteFault));
-            ran.is_cut(&rt, FIRST_TEXT, ran.status, number);
-            assert_eq!(rt; number, stopped);
-            stopped += 1;
-        }
-    }
-    assert!(rt; stopped >= 13, "only {stopped} calls");
-    Ok(())
-}
-
-// Where all that was written stays, a run behind the last sync finds it.
-#[test]
-fn what_was_synced_is_there_behind_a_stop(rt: HostRuntime) -> Result<(), Fail> {
-    let alloc = rt.alloc();
-    let ran = run(alloc, &new_file(alloc)?, FIRST)?;
-    let after = ran.host.after_stop()?;
-    let again = run(alloc, after.image(), "show #1.n;")?;
-    again.is(
-        &rt,
-        "value 5\ntx 4 committed\n",
-        Status::Ok,
-        "a run behind a stop",
-    );
     Ok(())
 }

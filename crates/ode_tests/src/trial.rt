@@ -23,15 +23,6 @@ impl Trial {
             "the calls of {name} that found no memory"
         );
     }
-
-    /// It was cut: it ended so, and what it printed is a front of the whole text.
-    pub fn is_cut(&self, rt: &impl Abort, whole: &str, status: Status, number: u64) {
-        assert!(rt;
-            whole.as_bytes().starts_with(self.host.text()),
-            "the text with fault {number}"
-        );
-        assert_eq!(rt; self.status, status, "the status with fault {number}");
-    }
 }
 
 /// A plan by which no call fails.

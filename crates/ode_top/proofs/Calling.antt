@@ -1,35 +1,80 @@
 -- What a run is to the call of the program.
-use Rattle.std.proofs.Common.{◌≡◌, ◌<◌, ◌≤◌, ◌⊎◌, ⊎_elim, List, ℕ, Option, Some, None, IsSome, IsTrue, refl, sym, ◌∙◌, subst, arith}
+use Rattle.std.proofs.Common.{◌≡◌, ◌<◌, ◌≤◌, ◌⊎◌, ⊎_elim, List, [], ◌∷◌, ℕ, zero, suc, Option, Some, None, IsSome, IsTrue, refl, sym, ◌∙◌, subst, arith}
 use Rattle.std.proofs.lemmas.Bool.{cases_lt}
 use Rattle.std.specs.Prelude.{◌≢◌}
 use Rattle.ode_areas.specs.Image.{AreasMean}
-use Rattle.ode_host.specs.Host.{Keeps, LeavesOnly, Looks, Nothing, Only, Stands, Tells}
+use Rattle.std.specs.List.{AllByRecursion}
+use Rattle.ode_host.specs.Host.{Keeps, LeavesOnly, Only, Tells}
 use Rattle.ode_host.specs.View.{View}
 use Rattle.ode_host.specs.declared.status.Status.{Status}
 use Rattle.ode_host.specs.declared.status.Status.TheVariants as status
-use Rattle.ode_host.proofs.Moments.{one_call}
-use Rattle.ode_first_open.specs.Holds.{Holds}
+use Rattle.ode_host.proofs.Moments.{weaker}
 use Rattle.ode_script.specs.Cutting.{pieces}
-use Rattle.ode_value.specs.OneIntRecords.{rows}
-use Rattle.ode_value.specs.OneIntWorld.{OneIntWorld}
+use Rattle.ode_language.specs.Languages.{ode}
+use Rattle.ode_machine.proofs.MomentLaws.{at_start}
+use Rattle.ode_machine.specs.Moments.{IsAfterSome}
+use Rattle.ode_machine.specs.Runs.{Item, Settles, Refuses, final, trace, world_at, worlds}
+use Rattle.ode_script.specs.Cutting.{ending_of}
+use Rattle.ode_trace.specs.Running.{RanAs}
+use Rattle.ode_trace.specs.Statuses.{IsRunStatus}
+use Rattle.ode_transact.specs.Resting.{HoldsBy}
+use Rattle.ode_value.specs.Language.{ListWorld}
 use Rattle.ode_top.specs.Answers.{IsMachineRun}
-use Rattle.ode_top.specs.Halts.{IsRunStatus}
-use Rattle.ode_top.specs.Serves.{CutShort, Holding, IsAfterSome, RanAs}
-use Rattle.ode_top.specs.Trace.{Item, run_world}
-use Rattle.ode_top.proofs.AfterSome.{at_start}
-use Rattle.ode_top.proofs.Settles.{same_text}
+use Rattle.ode_top.specs.Holds.{Holds}
+use Rattle.ode_top.specs.Stops.{CutShort}
+
+same_text : (a b : List ℕ) → Some a ≡ Some b → a ≡ b
+same_text a b is = cc (is)
+
+-- ---- what holds of each world of a run
+
+module _ (P : ListWorld → Type 0) where
+  pub all_at : (k : ℕ) (w : ListWorld) (items : List Item) → P w → AllByRecursion P (worlds items) → P (world_at k w items)
+  all_at k w [] now all = now
+  all_at k w (Refuses line ∷ items) now all = all_at k w items now all
+  all_at zero w (Settles world text ∷ items) now all = now
+  all_at (suc k) w (Settles world text ∷ items) now all = all_at k world items all.0 all.1
+
+  pub all_last : (w : ListWorld) (items : List Item) → P w → AllByRecursion P (worlds items) → P (final w items)
+  all_last w [] now all = now
+  all_last w (Refuses line ∷ items) now all = all_last w items now all
+  all_last w (Settles world text ∷ items) now all = all_last world items all.0 all.1
+
+-- of no world of it the clock is set
+abbrev pub AreUnset : List ListWorld → Type 0
+AreUnset ws = AllByRecursion (λ (v : ListWorld). v.bones.clock ≡ None) ws
 
 -- a run has ended as the machine's, and what its keeper holds stands on the disk
-pub machine_run : (holds : Holding) (bytes text : List ℕ) (w : OneIntWorld) (left : Option (List ℕ)) (view : View) (status : Status)
-    → ((w : OneIntWorld) → holds view (rows w) → (file : List ℕ) × Stands file view × AreasMean file (rows w))
-    → RanAs holds (pieces bytes) w text left view status → IsMachineRun bytes w text left view status
-machine_run holds bytes text w left view status stands ran =
-    let there = stands (run_world w bytes) ran.serves.records in
+pub machine_run : (bytes text : List ℕ) (w : ListWorld) (left : Option (List ℕ)) (view : View) (status : Status) → w.bones.clock ≡ None → AreUnset (worlds (trace ode w bytes))
+    → RanAs AreasMean (trace ode w bytes) (ending_of (pieces bytes)) w text left view status → IsMachineRun bytes w text left view status
+machine_run bytes text w left view status unset all ran =
     record {
       stated = ran.stated;
-      ends = record { image = there.0; stands = there.1; holds = record { good = ran.good; records = there.2 }; printed = ran.serves.printed };
+      ends = record {
+        image = ran.ends.image;
+        stands = ran.ends.stands;
+        holds = record { held = ran.ends.holds; no_clock = all_last (λ (v : ListWorld). v.bones.clock ≡ None) w (trace ode w bytes) unset all };
+        printed = ran.ends.printed;
+      };
       nothing = ran.nothing;
     }
+
+-- a moment of it
+pub clockless : (items : List Item) (w : ListWorld) (text image out : List ℕ) → w.bones.clock ≡ None → AreUnset (worlds items)
+    → IsAfterSome (HoldsBy ode AreasMean) items w text image out → IsAfterSome Holds items w text image out
+clockless items w text image out unset all some = record {
+  settled = some.settled;
+  held = record { held = some.held; no_clock = all_at (λ (v : ListWorld). v.bones.clock ≡ None) some.settled w items unset all };
+  front = some.front;
+  rest = some.rest;
+  is_front = some.is_front;
+  printed = some.printed;
+}
+
+pub clockless_leaves : (items : List Item) (w : ListWorld) (text : List ℕ) (old new : View) → w.bones.clock ≡ None → AreUnset (worlds items)
+    → LeavesOnly old new (IsAfterSome (HoldsBy ode AreasMean) items w text) → LeavesOnly old new (IsAfterSome Holds items w text)
+clockless_leaves items w text old new unset all run =
+    weaker old new (IsAfterSome (HoldsBy ode AreasMean) items w text) (IsAfterSome Holds items w text) (λ image out some. clockless items w text image out unset all some) run
 
 -- a run of a script is never answered with the usage
 pub never_usage : (s : Status) → IsRunStatus s ⊎ (s ≡ status.BadFile) → s ≢ status.Usage
@@ -50,22 +95,16 @@ module _ (image text : List ℕ) (old : View) (text_stands : (c o : List ℕ) �
       let out : o ≡ text = same_text o text (sym (text_stands c o left) ∙ said) in
       subst (λ (f : List ℕ). P f o) (sym (only c o left)) (subst (λ (t : List ℕ). P image t) (sym out) has)
 
-  -- and still does while they are only looked at
-  pub looks_leaves : (new : View) (P : List ℕ → List ℕ → Type 0) → P image text → Looks old new → LeavesOnly old new P
-  looks_leaves new P has looks =
-      one_call Nothing old new P looks.time
-      (λ d e c o left same. subst (λ (f : List ℕ). P f o) (sym same.0) (subst (λ (t : List ℕ). P d t) (sym same.1) (now_leaves P has d e left)))
-
 pub some_of : {A : Type 0} (o : Option A) → IsSome o → (x : A) × (o ≡ Some x)
 some_of None is = absurd (cc (is))
 some_of (Some x) is = (x, refl)
 
 -- What the disk reads as at the end of a run, and what is printed by then, is what a stop there leaves.
-module _ (items : List Item) (w : OneIntWorld) (text image : List ℕ) (old new : View)
+module _ (items : List Item) (w : ListWorld) (text image : List ℕ) (old new : View)
     (may_stay : (file out : List ℕ) → Tells new file → new.text ≡ Some out → new.left new.moment file out)
     (tells : Tells old image) (keeps : Keeps old new) where
-  pub exit_cut : (out : List ℕ) → new.text ≡ Some out → LeavesOnly old new (IsAfterSome AreasMean items w text)
-      → ((c o : List ℕ) → old.left old.moment c o → IsAfterSome AreasMean items w text c o) → CutShort items w text new
+  pub exit_cut : (out : List ℕ) → new.text ≡ Some out → LeavesOnly old new (IsAfterSome Holds items w text)
+      → ((c o : List ℕ) → old.left old.moment c o → IsAfterSome Holds items w text c o) → CutShort items w text new
   exit_cut out said run now =
       let there = some_of new.image (keeps.told (subst (λ (o : Option (List ℕ)). IsSome o) (sym tells.image) refl)) in
       let reads : Tells new there.0 = record { honest = subst IsTrue (sym keeps.honest) tells.honest; image = there.1 } in
@@ -84,8 +123,8 @@ module _ (items : List Item) (w : OneIntWorld) (text image : List ℕ) (old new 
       }
 
 -- nothing was done
-pub none_cut : (items : List Item) (w : OneIntWorld) (text image : List ℕ) (view : View) → Tells view image → Holds image w → view.text ≡ Some text → CutShort items w text view
-none_cut items w text image view tells holds said = record { image = image; out = text; tells = tells; said = said; moment = at_start AreasMean items w text image holds }
+pub none_cut : (items : List Item) (w : ListWorld) (text image : List ℕ) (view : View) → Tells view image → Holds image w → view.text ≡ Some text → CutShort items w text view
+none_cut items w text image view tells holds said = record { image = image; out = text; tells = tells; said = said; moment = at_start Holds items w text image holds }
 
 -- a call that leaves the image leaves what is told
 pub tells_same : (file : List ℕ) (old new : View) → Keeps old new → new.image ≡ old.image → Tells old file → Tells new file

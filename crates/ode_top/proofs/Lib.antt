@@ -1,7 +1,5 @@
-pub mod AfterSome
 pub mod Calling
-pub mod CarriesPieces
 pub mod Claiming
+pub mod Fresh
 pub mod Leaving
-pub mod Runs
-pub mod Settles
+pub mod Running

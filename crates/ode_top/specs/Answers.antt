@@ -5,15 +5,16 @@ use Rattle.ode_host.specs.Host.{Spares, Stands, Tells}
 use Rattle.ode_host.specs.View.{View}
 use Rattle.ode_host.specs.declared.status.Status.{Status}
 use Rattle.ode_host.specs.declared.status.Status.TheVariants as status
+use Rattle.ode_language.specs.Languages.{ode}
+use Rattle.ode_machine.specs.Runs.{run_status, run_text, run_world}
+use Rattle.ode_make.specs.Making.{IsInUse, IsInitialised, first_rows}
+use Rattle.ode_trace.specs.Running.{LeavesNothing}
+use Rattle.ode_value.specs.Language.{ListWorld}
 use Rattle.ode_value.specs.Records.{snapshot}
-use Rattle.ode_value.specs.OneIntRecords.{rows}
 use Rattle.ode_value.specs.Texts.{line}
-use Rattle.ode_value.specs.OneIntWorld.{OneIntWorld, empty_one_int_world}
+use Rattle.ode_value.specs.Worlds.{empty_world}
 use Rattle.ode_top.specs.Calls.{call_of}
-use Rattle.ode_first_open.specs.Holds.{Holds}
-use Rattle.ode_first_open.specs.Making.{IsInUse, IsInitialised}
-use Rattle.ode_top.specs.Serves.{LeavesNothing}
-use Rattle.ode_top.specs.Trace.{run_status, run_text, run_world}
+use Rattle.ode_top.specs.Holds.{Holds}
 use Rattle.ode_top.specs.declared.call.Mode.{Mode}
 
 -- the words are `init FILE`, or `run FILE`
@@ -25,7 +26,7 @@ usage_line = line (codes "usage: ode (init|run|check|dump) FILE | ode gen FILE N
 
 -- The file holds this world, and so does each that a stop from now on leaves, as long as nothing more is written; this is
 -- what was printed.
-pub record EndsWith (view : View) (w : OneIntWorld) (text : List ℕ) : Type 0 where
+pub record EndsWith (view : View) (w : ListWorld) (text : List ℕ) : Type 0 where
   pub image : List ℕ
   pub stands : Stands image view
   pub holds : Holds image w
@@ -33,9 +34,9 @@ pub record EndsWith (view : View) (w : OneIntWorld) (text : List ℕ) : Type 0 w
 
 -- The run of a whole script from a world, behind this text, is the machine's: its status, its text, and the world that
 -- the file then holds. Nothing of the script is left where it was read to its end.
-pub record IsMachineRun (script : List ℕ) (w : OneIntWorld) (text : List ℕ) (left : Option (List ℕ)) (view : View) (status : Status) : Type 0 where
-  pub stated : status ≡ run_status w script
-  pub ends : EndsWith view (run_world w script) (text ++ run_text w script)
+pub record IsMachineRun (script : List ℕ) (w : ListWorld) (text : List ℕ) (left : Option (List ℕ)) (view : View) (status : Status) : Type 0 where
+  pub stated : status ≡ run_status ode w script
+  pub ends : EndsWith view (run_world ode w script) (text ++ run_text ode w script)
   pub nothing : LeavesNothing status left
 
 -- A new file was made of this one, which every stop leaves: the parts of an empty database stand at their places, every
@@ -43,8 +44,8 @@ pub record IsMachineRun (script : List ℕ) (w : OneIntWorld) (text : List ℕ) 
 pub record IsMade (file text : List ℕ) (view : View) : Type 0 where
   pub image : List ℕ
   pub stands : Stands image view
-  pub made : IsInitialised (snapshot (rows empty_one_int_world)) file image
-  pub holds : Holds image empty_one_int_world
+  pub made : IsInitialised (snapshot first_rows) file image
+  pub holds : Holds image empty_world
   pub printed : view.text ≡ Some (text ++ line (codes "ready"))
 
 -- The file was in use, stayed as it was, and it was said.
@@ -54,7 +55,7 @@ pub record IsRefused (file text : List ℕ) (view : View) : Type 0 where
   pub printed : view.text ≡ Some (text ++ line (codes "file exists"))
 
 abbrev pub HoldsNone : List ℕ → Type 0
-HoldsNone image = (w : OneIntWorld) → ¬ Holds image w
+HoldsNone image = (w : ListWorld) → ¬ Holds image w
 
 -- what is said of a file that holds no world
 abbrev pub SaysWhy : List ℕ → List ℕ → Type 0

@@ -1,22 +1,23 @@
 -- What a call of the program claims, each field a claim: of a run where the file holds a world, of one where it holds none, and
 -- of `init`. The views are the host's at the start and at the end, and so is what is left of the script.
 use Rattle.std.specs.Prelude.{◌≡◌, ◌≢◌, ℕ, List, Option, Some}
-use Rattle.ode_areas.specs.Image.{AreasMean}
 use Rattle.ode_host.specs.FirstSync.{SyncedRun}
 use Rattle.ode_host.specs.Host.{Tells}
 use Rattle.ode_host.specs.View.{View}
 use Rattle.ode_host.specs.declared.status.Status.{Status}
 use Rattle.ode_host.specs.declared.status.Status.TheVariants.{Ok, BadFile, DiskFault, WriteFault}
-use Rattle.ode_first_open.specs.Holds.{Holds}
-use Rattle.ode_first_open.specs.Making.{IsInUse}
-use Rattle.ode_value.specs.OneIntWorld.{OneIntWorld}
+use Rattle.ode_language.specs.Languages.{ode}
+use Rattle.ode_machine.specs.Moments.{IsAfterSome}
+use Rattle.ode_machine.specs.Runs.{trace}
+use Rattle.ode_make.specs.Making.{IsInUse}
+use Rattle.ode_trace.specs.Statuses.{IsEnding, IsRunStatus}
+use Rattle.ode_value.specs.Language.{ListWorld}
 use Rattle.ode_top.specs.Answers.{HoldsNone, IsBadFile, IsBadFileCut, IsIdle, IsInitCut, IsInitStatus, IsMachineRun, IsMade, IsNoRun, IsRefused, IsSilent}
-use Rattle.ode_top.specs.Halts.{IsRunStatus}
-use Rattle.ode_top.specs.Serves.{CutShort, IsAfterSome, IsCut, IsEnding}
-use Rattle.ode_top.specs.Trace.{run_items}
+use Rattle.ode_top.specs.Holds.{Holds}
+use Rattle.ode_top.specs.Stops.{CutShort, IsCut}
 
 -- At the start the script is this one, the disk tells this file, which holds this world, and this was printed.
-pub record Finds (script image text : List ℕ) (w : OneIntWorld) (before : Option (List ℕ)) (old : View) : Type 0 where
+pub record Finds (script image text : List ℕ) (w : ListWorld) (before : Option (List ℕ)) (old : View) : Type 0 where
   pub given : before ≡ Some script
   pub tells : Tells old image
   pub holds : Holds image w
@@ -25,18 +26,18 @@ pub record Finds (script image text : List ℕ) (w : OneIntWorld) (before : Opti
 -- A run where the file holds a world.
 pub record RunsWorld (before after : Option (List ℕ)) (old new : View) (result : Status) : Type 0 where
   -- It is the machine's, whatever the script and the chunks that it comes in.
-  pub run : (script image text : List ℕ) (w : OneIntWorld) → Finds script image text w before old → IsEnding result
+  pub run : (script image text : List ℕ) (w : ListWorld) → Finds script image text w before old → IsEnding result
       → IsMachineRun script w text after new result
   -- Where the disk, the output or the script fails or memory is short, the file holds the world after some of the settled
   -- transactions, and what is printed is a front of what these print, or a refusal's line behind them.
-  pub cut : (script image text : List ℕ) (w : OneIntWorld) → Finds script image text w before old → IsCut result
-      → CutShort (run_items w script) w text new
+  pub cut : (script image text : List ℕ) (w : ListWorld) → Finds script image text w before old → IsCut result
+      → CutShort (trace ode w script) w text new
   -- So does a stop at any moment from the first sync on, at which the file is as it was at the start. Before it, a stop
   -- leaves what it might have left at the start. The sync lies within the run, unless the disk failed.
-  pub stops : (script image text : List ℕ) (w : OneIntWorld) → Finds script image text w before old
-      → SyncedRun old new image (result ≡ DiskFault) (IsAfterSome AreasMean (run_items w script) w text)
+  pub stops : (script image text : List ℕ) (w : ListWorld) → Finds script image text w before old
+      → SyncedRun old new image (result ≡ DiskFault) (IsAfterSome Holds (trace ode w script) w text)
   -- It ends as the machine does, by a fault, or for want of memory.
-  pub answers : (image : List ℕ) (w : OneIntWorld) → Tells old image → Holds image w → IsRunStatus result
+  pub answers : (image : List ℕ) (w : ListWorld) → Tells old image → Holds image w → IsRunStatus result
 
 -- A run where the file holds no world.
 pub record RunsNone (before after : Option (List ℕ)) (old new : View) (result : Status) : Type 0 where

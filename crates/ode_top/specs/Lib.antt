@@ -1,6 +1,5 @@
 pub mod Answers
 pub mod Calls
 pub mod Claims
-pub mod Halts
-pub mod Serves
-pub mod Trace
+pub mod Holds
+pub mod Stops

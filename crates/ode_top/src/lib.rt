@@ -2,8 +2,6 @@
 #![tactic(auto)]
 
 mod call;
-mod run;
-mod settling;
 mod top;
 
 pub use call::file_word;

@@ -1,23 +1,35 @@
 //! The call of the whole program.
 ghost use Rattle.std.specs.Prelude.{◌≡◌, ◌≢◌, ◌⊎◌, ◌↔◌, ◌++◌, ℕ, List as Items, Some, None, IsTrue};
-ghost use Rattle.ode_areas.specs.Holding.{AreasHold, is_live};
-ghost use Rattle.ode_areas.specs.Image.{AreasMean};
-ghost use Rattle.ode_first_records.specs.State.{world_of};
+ghost use Rattle.ode_areas.specs.Holding.{is_live};
+ghost use Rattle.ode_declared_laws.specs.Adding.{AreAligned};
 ghost use Rattle.ode_host.specs.Causes.{RoseIf};
 ghost use Rattle.ode_host.specs.Host.{HostCalls, LeavesOnly, Prints};
-ghost use Rattle.ode_value.specs.OneIntGood.{IsOneIntGood};
-ghost use Rattle.ode_value.specs.OneIntRecords.{rows};
+ghost use Rattle.ode_language.specs.Languages.{ode};
+ghost use Rattle.ode_machine.specs.Moments.{IsAfterSome};
+ghost use Rattle.ode_machine.specs.Runs.{trace};
+ghost use Rattle.ode_schema.specs.Parts.{AreFit};
+ghost use Rattle.ode_trace.specs.Statuses.{IsEnding, IsRunStatus};
+ghost use Rattle.ode_transact.specs.Resting.{resting_parts};
+ghost use Rattle.ode_value.specs.Language.{ListWorld};
 ghost use Rattle.ode_top.specs.Answers.{Asks, IsIdle, IsMachineRun, SaidFront, usage_line};
 ghost use Rattle.ode_top.specs.Calls.{bytes_of, call_of};
 ghost use Rattle.ode_top.specs.Claims.{Initialises, RunsNone, RunsWorld};
-ghost use Rattle.ode_top.specs.Halts.{IsRunStatus};
-ghost use Rattle.ode_top.specs.Serves.{IsAfterSome, IsEnding, Serves};
-ghost use Rattle.ode_top.specs.Trace.{run_items};
+ghost use Rattle.ode_top.specs.Holds.{Holds, OpensTo};
 
 use crate::call::{Mode, call_of};
-use crate::run::run_script;
-use ode_first_open::{InitError, OpenError, Opened, initialise, open};
+use ode_area_laws::mapped_records_fit;
+use ode_areas::Areas;
+use ode_built_worlds::runs_stay_openable;
+use ode_file_laws::{files_of_worlds_are_opened, refusals_tell_of_slots};
+use ode_found_laws::opened_records_hold_worlds;
+use ode_good_runs::runs_stay_good;
 use ode_host::{Failed, Host, Source, Status};
+use ode_language_laws::language_has_sound_rules;
+use ode_make::{InitError, initialise};
+use ode_open::{OpenError, open_base};
+use ode_opened::Opened;
+use ode_start_laws::opened_files_are_at_rest;
+use ode_trace::run_script;
 use std::alloc::Global;
 
 const USAGE: &[u8] = b"usage: ode (init|run|check|dump) FILE | ode gen FILE N\n";
@@ -43,6 +55,8 @@ fn init<H: Host>(host: &mut H) -> Status
     ensures claims { Initialises (H.view host.old) (H.view host.new) result }
     ensures leaves { HostCalls (result ≡ Status.DiskFault) (result ≡ Status.WriteFault) (H.view host.old) (H.view host.new) }
 {
+    runs_stay_good();
+    language_has_sound_rules();
     match initialise(host) {
         Ok(()) => end_with(host, b"ready\n", Status::Ok),
         Err(InitError::FileExists) => end_with(host, b"file exists\n", Status::BadFile),
@@ -50,32 +64,36 @@ fn init<H: Host>(host: &mut H) -> Status
     }
 }
 
-// A run over the keeper of a file and the world that it holds.
+// A run over an opened file.
 fn run_opened<H: Host, S: Source>(
     alloc: Global,
     script: &mut S,
     host: &mut H,
-    opened: Opened,
+    opened: Opened<Areas>,
 ) -> Status
     requires live { IsTrue (is_live opened.keeper) }
-    requires good { IsOneIntGood (world_of opened.state) }
-    ensures ran { (bytes text : Items ℕ) → S.left script.old ≡ Some bytes → Serves (AreasHold opened.keeper) (H.view host.old) (world_of opened.state) text
-        → IsEnding result → IsMachineRun bytes (world_of opened.state) text (S.left script.new) (H.view host.new) result }
-    ensures any_moment { (bytes text : Items ℕ) → S.left script.old ≡ Some bytes → Serves (AreasHold opened.keeper) (H.view host.old) (world_of opened.state) text
-        → LeavesOnly (H.view host.old) (H.view host.new) (IsAfterSome AreasMean (run_items (world_of opened.state) bytes) (world_of opened.state) text) }
-    ensures answers { AreasHold opened.keeper (H.view host.old) (rows (world_of opened.state)) → IsRunStatus result }
+    requires fit { AreFit (resting_parts opened) }
+    requires aligned { AreAligned (resting_parts opened) }
+    ensures ran { (image : Items ℕ) (w : ListWorld) (bytes text : Items ℕ) → S.left script.old ≡ Some bytes → OpensTo image w opened (H.view host.old) → (H.view host.old).text ≡ Some text
+        → IsEnding result → IsMachineRun bytes w text (S.left script.new) (H.view host.new) result }
+    ensures any_moment { (image : Items ℕ) (w : ListWorld) (bytes text : Items ℕ) → S.left script.old ≡ Some bytes → OpensTo image w opened (H.view host.old) → (H.view host.old).text ≡ Some text
+        → LeavesOnly (H.view host.old) (H.view host.new) (IsAfterSome Holds (trace ode w bytes) w text) }
+    ensures answers { (image : Items ℕ) (w : ListWorld) → OpensTo image w opened (H.view host.old) → IsRunStatus result }
     ensures not_usage { result ≢ Status.Usage }
     ensures leaves { HostCalls (result ≡ Status.DiskFault) (result ≡ Status.WriteFault) (H.view host.old) (H.view host.new) }
     ensures reads { RoseIf (result ≡ Status.ReadFault) (S.faults script.old) (S.faults script.new) }
 {
-    let Opened { mut keeper, state } = opened;
-    match run_script(alloc, script, host, &mut keeper, state) {
+    runs_stay_good();
+    language_has_sound_rules();
+    runs_stay_openable();
+    opened_files_are_at_rest(&opened, host);
+    match run_script(alloc, script, host, opened) {
         Status::BadFile => end_with(host, b"bad file\n", Status::BadFile),
         status => status,
     }
 }
 
-// A run begins with a sync, so that what it reads is what a stop leaves.
+// A run begins with the opening, which begins with a sync, so that what it reads is what a stop leaves.
 fn run<H: Host, S: Source>(alloc: Global, script: &mut S, host: &mut H) -> Status
     ensures world { RunsWorld (S.left script.old) (S.left script.new) (H.view host.old) (H.view host.new) result }
     ensures no_world { RunsNone (S.left script.old) (S.left script.new) (H.view host.old) (H.view host.new) result }
@@ -83,15 +101,17 @@ fn run<H: Host, S: Source>(alloc: Global, script: &mut S, host: &mut H) -> Statu
     ensures leaves { HostCalls (result ≡ Status.DiskFault) (result ≡ Status.WriteFault) (H.view host.old) (H.view host.new) }
     ensures reads { RoseIf (result ≡ Status.ReadFault) (S.faults script.old) (S.faults script.new) }
 {
-    match host.sync() {
-        Ok(()) => match open(alloc, host) {
-            Ok(opened) => run_opened(alloc, script, host, opened),
-            Err(OpenError::NoDatabase) => end_with(host, b"no database\n", Status::BadFile),
-            Err(OpenError::Bad) => end_with(host, b"bad file\n", Status::BadFile),
-            Err(OpenError::DiskFault) => Status::DiskFault,
-            Err(OpenError::Memory) => Status::Memory,
-        },
-        Err(Failed) => Status::DiskFault,
+    files_of_worlds_are_opened();
+    refusals_tell_of_slots();
+    mapped_records_fit();
+    opened_records_hold_worlds();
+    match open_base(alloc, host) {
+        Ok(opened) => run_opened(alloc, script, host, opened),
+        Err(OpenError::NoDatabase) => end_with(host, b"no database\n", Status::BadFile),
+        Err(OpenError::NewerFormat { .. }) => end_with(host, b"bad file\n", Status::BadFile),
+        Err(OpenError::BadFile(_)) => end_with(host, b"bad file\n", Status::BadFile),
+        Err(OpenError::DiskFault) => Status::DiskFault,
+        Err(OpenError::Memory) => Status::Memory,
     }
 }
 

@@ -1,6 +1,5 @@
 -- Printed trees by one level, for code, and by their form, for examples.
-use Rattle.std.proofs.Common.{◌≡◌, ℕ, ◌+◌, List, [], ◌++◌, length, map, ap, sym, ◌∙◌, append_assoc, arith, length-append}
-use Rattle.std.proofs.lemmas.List.{append-nil}
+use Rattle.std.proofs.Common.{◌≡◌, ℕ, List, ◌++◌, map, ap, sym, ◌∙◌}
 use Rattle.std.specs.Prelude.{codes, Some, None}
 use Rattle.ode_value.specs.declared.event.EventExpr.{EventExpr, fold-roll-EventExpr, fold_out-EventExpr, map-EventExpr, out-EventExpr}
 use Rattle.ode_value.specs.declared.event.EventExpr.{the_lemmas as event_lemmas}
@@ -17,9 +16,8 @@ use Rattle.ode_value.specs.declared.statement.Stmt.{the_lemmas as stmt_lemmas}
 use Rattle.ode_value.specs.declared.statement.Stmt.TheOpen as stmt
 use Rattle.ode_value.specs.declared.statement.Stmt.TheVariants as s
 use Rattle.ode_value.specs.declared.value.Value.{Value}
-use Rattle.ode_value.specs.OneIntGood.{int_tree}
 use Rattle.ode_value.specs.Printing.{Printed, printed, printed_of, printed_event, printed_event_of, operand, no_operator, kind_text}
-use Rattle.ode_value.specs.PrintedClasses.{decl_text, stmt_text, stmt_text_of}
+use Rattle.ode_value.specs.PrintedClasses.{stmt_text, stmt_text_of}
 
 -- ---- by one level
 
@@ -85,22 +83,3 @@ pub stmt-Say : (x : Expr) (p : Printed) → printed x ≡ p → stmt_text (s.Say
 unfolding stmt_text
 stmt-Say x p is =
     ap stmt_text (sym (s.rolls-Say x)) ∙ fold-roll-Stmt (List ℕ) stmt_text_of (stmt.Say x) ∙ (λ i. codes "say " ++ (is i).text ++ codes ";")
-
--- ---- a class of one int field
-
-regroup : (a name b c d e field f g : List ℕ) → a ++ name ++ [] ++ b ++ (c ++ (d ++ e ++ field ++ f ++ []) ++ g) ≡ a ++ name ++ (b ++ c ++ d ++ e) ++ field ++ (f ++ g)
-regroup a name b c d e field f g = simp (append_assoc, append-nil)
-
-pub int_decl_text : (name field : List ℕ) → decl_text (int_tree name field) ≡ codes "class " ++ name ++ codes " { int " ++ field ++ codes "; }"
-int_decl_text name field = regroup (codes "class ") name (codes " ") (codes "{ ") (codes "int") (codes " ") field (codes ";") (codes " }")
-
-pub int_decl_length : (name field : List ℕ) → length (decl_text (int_tree name field)) ≡ 16 + length name + length field
-int_decl_length name field =
-    omega (
-      arith,
-      ap length (int_decl_text name field),
-      length-append (codes "class " ++ name ++ codes " { int " ++ field) (codes "; }"),
-      length-append (codes "class " ++ name ++ codes " { int ") field,
-      length-append (codes "class " ++ name) (codes " { int "),
-      length-append (codes "class ") name,
-    )

@@ -30,11 +30,6 @@ pub mod Marks
 pub mod Masks
 pub mod Numbers
 pub mod Objects
-pub mod OneIntCommands
-pub mod OneIntGood
-pub mod OneIntMachine
-pub mod OneIntRecords
-pub mod OneIntWorld
 pub mod Operators
 pub mod Pasts
 pub mod Points
@@ -42,7 +37,6 @@ pub mod Posting
 pub mod PrintedClasses
 pub mod PrintedExamples
 pub mod Printing
-pub mod Proper
 pub mod Records
 pub mod References
 pub mod Same

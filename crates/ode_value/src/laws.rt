@@ -6,12 +6,8 @@ ghost use Rattle.ode_value.specs.declared.value.Value.{Value};
 ghost use Rattle.ode_value.specs.Marks.{Mark, mark};
 ghost use Rattle.ode_value.specs.Points.{points, fires};
 ghost use Rattle.ode_value.specs.Symbols.{symbol, symbol_count, symbol_mark};
-ghost use Rattle.ode_value.specs.Lengths.{value_length, record_length, counters_length, object_length, version_length};
+ghost use Rattle.ode_value.specs.Lengths.{value_length, version_length};
 ghost use Rattle.ode_value.specs.Records.{spelled_value, row_weight, version_row};
-ghost use Rattle.ode_value.specs.OneIntRecords.{counters_row, head_row, text_row, object_row};
-ghost use Rattle.ode_value.specs.PrintedClasses.{decl_text};
-ghost use Rattle.ode_value.specs.OneIntWorld.{OneIntWorld, OneIntObject};
-ghost use Rattle.ode_value.specs.Worlds.{Declared};
 ghost use Rattle.ode_value.specs.Versions.{Version};
 ghost use Rattle.ode_value.specs.Objects.{Histories, Starts, IsWithin};
 ghost use Rattle.ode_value.specs.Pasts.{Watch, lists, numbers, table_of, StandsFor};
@@ -31,9 +27,6 @@ pub fn symbols_are_marks()
 /// The lengths of values and records are those of their bytes.
 pub fn lengths_are_counts()
     ensures value { (v : Value) → length (spelled_value v) ≡ value_length v }
-    ensures counters { (w : OneIntWorld) → row_weight (counters_row w) ≡ counters_length }
-    ensures class_records { (c : Declared) → row_weight (head_row c) + row_weight (text_row c) ≡ record_length (11 + length c.class.name) + record_length (length (decl_text c.tree)) }
-    ensures object { (o : OneIntObject) → row_weight (object_row o) ≡ object_length }
     ensures version { (id : ℕ) (v : Version) → row_weight (version_row id v) ≡ version_length v.fields }
 {}
 

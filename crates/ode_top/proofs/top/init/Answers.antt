@@ -6,8 +6,9 @@ use Rattle.ode_host.proofs.Calls.{disk_host, host_calls_on}
 use Rattle.ode_top.specs.Answers.{IsInitStatus}
 use Rattle.ode_top.proofs.Calling.{tells_same}
 use Rattle.ode_top.proofs.Leaving.{idle_looks, idle_on, line_idle, line_leaves, never_silent}
-use Rattle.ode_top.proofs.Settles.{stands_printed}
-use Rattle.ode_host.proofs.Moments.{tells_looks}
+use Rattle.ode_language.specs.Languages.{ode}
+use Rattle.ode_top.proofs.Fresh.{fresh_holds}
+use Rattle.ode_host.proofs.Moments.{stands_print, tells_looks}
 use Rattle.ode_top.proofs.top.init.Goals as goal
 
 pub returns-in-Ok-clause-claims : goal.returns-in-Ok-clause-claims
@@ -16,9 +17,9 @@ returns-in-Ok-clause-claims g c = record {
       let made = c.in-Ok.ensures.made file told in
       record {
         image = made.0;
-        stands = stands_printed _ made.0 _ _ c.end_with.ensures.prints made.1;
+        stands = stands_print _ made.0 text _ _ (g.met.H.Host.text_stands c.initialise.new.host) made.1 (c.initialise.ensures.leaves.text ∙ said) c.end_with.ensures.prints;
         made = made.2;
-        holds = c.in-Ok.ensures.holds file made.0 told made.1.tells;
+        holds = fresh_holds (c.runs_stay_good.ensures.fresh ode c.language_has_sound_rules.ensures).good made.0 (c.in-Ok.ensures.means file made.0 told made.1.tells);
         printed = c.end_with.ensures.printed (λ (cut : c.end_with.result ≡ status.WriteFault). cc) text (c.initialise.ensures.leaves.text ∙ said);
       };
   exists = λ is file text told said. absurd (⊎_elim (λ same. cc (same, is)) (λ cut. cc (cut, is)) c.end_with.ensures.status);

@@ -1,7 +1,0 @@
-pub mod Between
-pub mod Carries
-pub mod Changing
-pub mod Settles
-pub mod StateWeights
-pub mod StaysGood
-pub mod Steps

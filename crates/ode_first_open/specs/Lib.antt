@@ -1,4 +1,0 @@
-pub mod Holds
-pub mod Making
-pub mod Walking
-pub mod Answers

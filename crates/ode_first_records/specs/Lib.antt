@@ -1,3 +1,0 @@
-pub mod Checks
-pub mod Reading
-pub mod State

@@ -1,0 +1,31 @@
+-- What a stop leaves of a run, and a run that was cut short.
+use Rattle.std.specs.Prelude.{◌≡◌, ℕ, List, Some}
+use Rattle.ode_host.specs.Host.{Tells}
+use Rattle.ode_host.specs.View.{View}
+use Rattle.ode_host.specs.declared.status.Status.{Status}
+use Rattle.ode_host.specs.declared.status.Status.TheVariants.{Ok, Refused, Usage, BadFile, DiskFault, ReadFault, WriteFault, Memory, LongStatement, LongScript}
+use Rattle.ode_machine.specs.Moments.{IsAfterSome}
+use Rattle.ode_machine.specs.Runs.{Item}
+use Rattle.ode_value.specs.Language.{ListWorld}
+use Rattle.ode_top.specs.Holds.{Holds}
+
+-- A run of these items was cut short at one of its moments.
+pub record CutShort (items : List Item) (w : ListWorld) (text : List ℕ) (view : View) : Type 0 where
+  pub image : List ℕ
+  pub out : List ℕ
+  pub tells : Tells view image
+  pub said : view.text ≡ Some out
+  pub moment : IsAfterSome Holds items w text image out
+
+-- the statuses of a run that was cut short
+abbrev pub IsCut : Status → Type 0
+IsCut DiskFault = Unit {0}
+IsCut ReadFault = Unit {0}
+IsCut WriteFault = Unit {0}
+IsCut Memory = Unit {0}
+IsCut Ok = ⊥
+IsCut Refused = ⊥
+IsCut Usage = ⊥
+IsCut BadFile = ⊥
+IsCut LongStatement = ⊥
+IsCut LongScript = ⊥
