@@ -1,7 +1,7 @@
 PROGRAM := crates/ode/out/ode
 FILE := out/example.db
 
-.PHONY: all example test documents clean
+.PHONY: all example bench test documents clean
 
 # Proves and builds the program.
 all:
@@ -12,6 +12,11 @@ all:
 # Makes a new file, and runs the first example on it: with the program, or where that isn't built by a try without proofs.
 example:
 	@checks/example.sh $(PROGRAM) $(FILE)
+
+# Transactions a second, of method calls on a real file, beside the bare protocol and SQLite. It wants the program that `make` builds.
+bench:
+	@test -x $(PROGRAM) || { echo 'Run make first: the program is not built.' >&2; exit 1; }
+	@checks/bench.py $(PROGRAM) out/bench
 
 # The whole gate: every proof, test and must-fail edit, and then the real program on real files.
 test:

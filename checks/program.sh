@@ -363,6 +363,54 @@ else
     skip 'a large file: there is no /dev/shm'
 fi
 
+# --- scripts that are high or long
+
+# piled COUNT BEFORE MIDDLE AFTER: so many times the first text, the middle, and so many times the last.
+piled() {
+    yes "$2" | head -n "$1" | tr -d '\n'
+    printf '%s' "$3"
+    yes "$4" | head -n "$1" | tr -d '\n'
+}
+
+fresh high.db
+{
+    printf 'show '
+    piled 30000 '(' 1 ')'
+    printf ';\nclass A { void m() { '
+    piled 3000 'if (true) { ' '' '} '
+    printf '} };\nshow '
+    piled 60000 '!' true ''
+    printf ';\nshow 1'
+    piled 16000 ' + 1' '' ''
+    printf ';\nsay "on";\n'
+} > high.ode
+run run high.db < high.ode
+said 'what is too high is refused, and the run goes on' 1 \
+    $'refused 1 too deep 68\nrefused 2 too deep 777\nrefused 3 too deep 68\nrefused 4 too deep 259\nsaid on\ntx 1 committed\n'
+
+# A piece of 64 MiB, and the most memory that the run on it has, in KiB.
+if command -v python3 > python.path; then
+    fresh piece.db
+    {
+        printf 'say "before";\n'
+        head -c 67108800 /dev/zero | tr '\0' x
+    } > piece.ode
+    python3 - > peak 2> errors << 'END'
+import resource, subprocess, sys
+ran = subprocess.run(["./ode", "run", "piece.db"], stdin=open("piece.ode"), stdout=open("text", "w"), stderr=open("errors", "w"))
+print(resource.getrusage(resource.RUSAGE_CHILDREN).ru_maxrss)
+sys.exit(ran.returncode)
+END
+    status=$?
+    said 'a piece of 64 MiB' 8 $'said before\ntx 1 committed\n'
+    is "a piece of 64 MiB takes no memory: $(cat peak) KiB" [ "$(cat peak)" -lt 32768 ]
+    rm -f piece.ode
+
+    is '200 random scripts, whole and in two halves' python3 "$here/checks/scripts.py" "$folder/ode" 200
+else
+    skip 'random scripts: there is no python3'
+fi
+
 # --- the calls that the system sees
 
 # traced FILE WORD..: a run on this file under strace, with these words for it; its calls are in the file `trace`.
@@ -405,7 +453,9 @@ if command -v strace > strace.path && strace -o trace true 2> errors; then
     watched=trace=pread64,pwrite64,write,fdatasync,fsync
     fresh traced.db
     run run traced.db < declare.ode
-    yes 'pnew P(n = 5);' | head -n 10 > ten.ode
+    printf 'class C { int n; void add(int k) { n = n + k; } };\npnew C();\n' > counter.ode
+    run run traced.db < counter.ode
+    yes '#1.add(1);' | head -n 10 > ten.ode
     traced traced.db -e "$watched" < ten.ode
     ended 'a run under strace' 0
     is 'two syncs a transaction, one at the opening, and the writes in their order' in_order 10

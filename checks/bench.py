@@ -1,0 +1,172 @@
+#!/usr/bin/env python3
+"""Counts transactions a second: checks/bench.py PROGRAM FOLDER
+
+2,000 method calls, each a transaction, on a real file in the folder; beside them the bare protocol, which does nothing but what each
+transaction has to: append a frame, sync, write one byte, sync; and SQLite, where Python has it, in WAL mode with full sync. They take
+turns, and the middle one of five rounds counts.
+
+Then what 100,000 objects cost: the opening of their file, beside SQLite's quick check of as many rows, its memory, and a method call on
+one of them beside one of 100. These files are in memory where they can be, so that syncs don't hide the rest.
+"""
+
+import os
+import shutil
+import statistics
+import subprocess
+import sys
+import tempfile
+import time
+
+CALLS = 2000
+ROUNDS = 5
+OBJECTS = 100_000
+CLASS = "class Counter { int n; void add(int k) { n = n + k; } };\npnew Counter();\n"
+SCRIPT = "#1.add(1);\n" * CALLS
+
+program, folder = os.path.abspath(sys.argv[1]), sys.argv[2]
+os.makedirs(folder, exist_ok=True)
+os.chdir(folder)
+
+
+def ode(*words, script=""):
+    ran = subprocess.run([program, *words], input=script.encode(), capture_output=True)
+    if ran.returncode != 0:
+        sys.exit(f"{words}: status {ran.returncode}")
+    return ran.stdout.decode()
+
+
+def new_file():
+    if os.path.exists("bench.db"):
+        os.remove("bench.db")
+    ode("init", "bench.db")
+    ode("run", "bench.db", script=CLASS)
+
+
+def calls():
+    """The program, with its start and the opening of the file."""
+    new_file()
+    began = time.perf_counter()
+    text = ode("run", "bench.db", script=SCRIPT)
+    taken = time.perf_counter() - began
+    if text.count("committed") != CALLS:
+        sys.exit("a call was not committed")
+    return taken
+
+
+def frame_length():
+    new_file()
+    before = os.path.getsize("bench.db")
+    ode("run", "bench.db", script=SCRIPT)
+    return (os.path.getsize("bench.db") - before) // CALLS
+
+
+def bare(length):
+    shutil.copyfile("bench.db", "bare.bin")
+    at = os.path.getsize("bare.bin")
+    frame = bytes(length)
+    file = os.open("bare.bin", os.O_RDWR)
+    began = time.perf_counter()
+    for _ in range(CALLS):
+        os.pwrite(file, frame, at)
+        os.fdatasync(file)
+        os.pwrite(file, b"\xA5", at - 1)
+        os.fdatasync(file)
+        at += length
+    taken = time.perf_counter() - began
+    os.close(file)
+    return taken
+
+
+def sqlite(module):
+    for name in ("bench.sqlite", "bench.sqlite-wal", "bench.sqlite-shm"):
+        if os.path.exists(name):
+            os.remove(name)
+    base = module.connect("bench.sqlite", isolation_level=None)
+    base.execute("pragma journal_mode = wal")
+    base.execute("pragma synchronous = full")
+    base.execute("create table counter (id integer primary key, n integer)")
+    base.execute("insert into counter values (1, 0)")
+    began = time.perf_counter()
+    for _ in range(CALLS):
+        base.execute("update counter set n = n + 1 where id = 1")
+    taken = time.perf_counter() - began
+    base.close()
+    return taken
+
+
+def timed(file, script):
+    """How long a run takes, and the most memory that it has, in KiB."""
+    with open("script.ode", "w") as to:
+        to.write(script)
+    began = time.perf_counter()
+    with open("script.ode") as source:
+        ran = subprocess.Popen([program, "run", file], stdin=source, stdout=subprocess.DEVNULL)
+        _, status, used = os.wait4(ran.pid, 0)
+    if status != 0:
+        sys.exit(f"run {file}: status {status}")
+    return time.perf_counter() - began, used.ru_maxrss
+
+
+def crowd(folder, count):
+    """Of a file with so many objects: how long it takes to open, the memory of that, and how long 2,000 calls on one take."""
+    file = f"{folder}/crowd{count}.db"
+    ode("init", file)
+    making = "".join("begin;" + "pnew Counter();" * min(500, count - at) + "commit;\n" for at in range(0, count, 500))
+    timed(file, "class Counter { int n; void add(int k) { n = n + k; } };\n" + making)
+    opened, memory = min(timed(file, "") for _ in range(ROUNDS))
+    called = statistics.median(timed(file, f"#{count // 2}.add(1);\n" * CALLS)[0] for _ in range(ROUNDS))
+    return opened, memory, max(called - opened, 0.000001)
+
+
+def quick_check(module, folder, count):
+    base = module.connect(f"{folder}/crowd.sqlite")
+    base.execute("create table counter (id integer primary key, n integer)")
+    base.executemany("insert into counter values (?, 0)", ((at,) for at in range(1, count + 1)))
+    base.commit()
+    base.close()
+    taken = []
+    for _ in range(ROUNDS):
+        began = time.perf_counter()
+        base = module.connect(f"{folder}/crowd.sqlite")
+        base.execute("pragma quick_check").fetchall()
+        base.close()
+        taken.append(time.perf_counter() - began)
+    return min(taken)
+
+
+def crowds(module):
+    with tempfile.TemporaryDirectory(dir="/dev/shm" if os.access("/dev/shm", os.W_OK) else None) as folder:
+        opened, memory, many = crowd(folder, OBJECTS)
+        _, _, few = crowd(folder, 100)
+        print(f"{OBJECTS:,} objects: opened in {opened:.3f} s, with at most {memory / 1024:.1f} MiB")
+        if module:
+            checked = quick_check(module, folder, OBJECTS)
+            print(f"  opening to SQLite's quick check: {opened / checked:.2f} (2 is the limit)")
+        print(f"  a call on one of them to one of 100: {many / few:.2f} (2 is the limit)")
+
+
+def main():
+    try:
+        import sqlite3
+    except ImportError:
+        sqlite3 = None
+    length = frame_length()
+    ways = {"ode": calls, "the bare protocol": lambda: bare(length)}
+    if sqlite3:
+        ways["SQLite"] = lambda: sqlite(sqlite3)
+    times = {name: [] for name in ways}
+    for _ in range(ROUNDS):
+        for name, way in ways.items():
+            times[name].append(way())
+    speed = {name: CALLS / statistics.median(all) for name, all in times.items()}
+    print(f"{CALLS} method calls, each a transaction of {length} bytes, in {os.getcwd()}:")
+    for name, rate in speed.items():
+        print(f"  {name}: {rate:,.0f} transactions a second")
+    print(f"  ode to the bare protocol: {speed['ode'] / speed['the bare protocol']:.2f} (0.95 is the aim)")
+    if sqlite3:
+        print(f"  ode to SQLite: {speed['ode'] / speed['SQLite']:.2f}")
+        print("SQLite syncs once a transaction and ode twice, so on a slow disk SQLite is ahead.")
+    crowds(sqlite3)
+
+
+main()
