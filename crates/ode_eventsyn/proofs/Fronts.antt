@@ -20,7 +20,7 @@ use Rattle.ode_terminals.specs.declared.seen.Place.{Place}
 use Rattle.ode_syntax.specs.declared.trees.Trees.{Trees}
 use Rattle.ode_syntax.specs.Kept.{spelled, Spelled}
 use Rattle.ode_syntax.specs.Trees.{trees, no_trees, Makes}
-use Rattle.ode_eventsyn.specs.Parsing.{seen, AreTree, IsLongest, IsWrongAt, IsHighAt, IsWrongWhole}
+use Rattle.ode_eventsyn.specs.Parsing.{seen, AreTree, IsLongest, IsHighAt, IsWrongWhole}
 
 -- ---- a text has trees
 
@@ -79,9 +79,6 @@ is_longest s place text tokens found made x e within read =
           (subst (λ ks. IsText s ks → IsTextWithin HEIGHT_LIMIT s ks) f within) read;
       behind = λ l. x.behind (subst (λ n. found.end < n) (sym (length_seen place text tokens)) l);
     }
-
-pub is_wrong : (s : Start) (ts : List Terminal) (found : Extent) → IsExtent s ts found → found.is_text ≡ false → IsWrongAt s ts found.end
-is_wrong s ts found x e = subst (IsExtent s ts) (same_extent found false e) x
 
 pub is_high : (s : Start) (ts : List Terminal) (found : Extent) (at : ℕ) → IsExtent s ts found → found.is_text ≡ true
     → IsTooDeepAt HEIGHT_LIMIT s (take found.end ts) at → IsHighAt s ts at

@@ -31,13 +31,6 @@ holds_one bytes g h first second slot =
     let same : header_bytes g ≡ header_bytes h = cc (both) in
     same_header g h (is_in_range g first.rules) (is_in_range h second.rules) same slot
 
--- the generation that a slot holds, in whatever slot the header is said to stand
-pub one_generation : (bytes : List ℕ) (g h : Header) → HoldsHeader bytes g → HoldsHeader bytes h → g.generation ≡ h.generation
-one_generation bytes g h first second =
-    let moved = moved_header g h.slot first.rules in
-    let there : HoldsHeader bytes (record g { slot = h.slot }) = record { spells = first.spells ∙ ap Some (sym moved.1); rules = moved.0 } in
-    ap (λ (x : Header). x.generation) (holds_one bytes (record g { slot = h.slot }) h there second refl)
-
 format_at : (gate : ℕ) (h : Header) → IsHeader h → number_at w32 (gate ∷ header_bytes h) FORMAT_AT ≡ FORMAT
 unfolding header_bytes
 format_at gate h rules = from_be_bytes-to_be_bytes_4 h.format (is_in_range h rules).format ∙ rules.format

@@ -2,7 +2,7 @@
 use Rattle.std.proofs.Common.{◌≡◌, ◌<◌, ◌≤◌, ◌⊎◌, ◌∙◌, ⊎_elim, inl, inr, min, ℕ, List, refl, sym, subst, arith}
 use Rattle.std.proofs.lemmas.Bool.{cases_lt}
 use Rattle.ode_host.specs.Causes.{RoseIf}
-use Rattle.ode_host.specs.Host.{Step, Elapses, Nothing, CutPrint, Keeps, Looks, Puts, Prints, DiskCalls, HostCalls, Spares}
+use Rattle.ode_host.specs.Host.{Step, Elapses, Nothing, CutPrint, Keeps, Looks, Prints, DiskCalls, HostCalls, Spares}
 use Rattle.ode_host.specs.View.{View}
 use Rattle.ode_host.proofs.Moments.{keeps_joined}
 
@@ -22,25 +22,6 @@ rose_as F G b n to back counts = record { later = counts.later; rose = λ g. cou
 
 pub looks_calls : (F : Type 0) (a b : View) → Looks a b → RoseIf F a.disk_faults b.disk_faults → DiskCalls F a b
 looks_calls F a b looks counts = record { keeps = looks.keeps; text = looks.text; print_faults = looks.print_faults; disk_faults = counts }
-
-pub puts_calls : (F : Type 0) (n : ℕ) (a b : View) → Puts n a b → RoseIf F a.disk_faults b.disk_faults → DiskCalls F a b
-puts_calls F n a b puts counts = record { keeps = puts.keeps; text = puts.text; print_faults = puts.print_faults; disk_faults = counts }
-
-pub disk_calls_on : (E F : Type 0) (a b c : View) → (E → ⊥) → DiskCalls E a b → DiskCalls F b c → DiskCalls F a c
-disk_calls_on E F a b c none first second = record {
-  keeps = keeps_joined a b c first.keeps second.keeps;
-  text = second.text ∙ first.text;
-  print_faults = second.print_faults ∙ first.print_faults;
-  disk_faults = rose_on E F a.disk_faults b.disk_faults c.disk_faults none first.disk_faults second.disk_faults;
-}
-
-pub disk_calls_as : (F G : Type 0) (a b : View) → (F → G) → (G → F) → DiskCalls F a b → DiskCalls G a b
-disk_calls_as F G a b to back calls = record {
-  keeps = calls.keeps;
-  text = calls.text;
-  print_faults = calls.print_faults;
-  disk_faults = rose_as F G a.disk_faults b.disk_faults to back calls.disk_faults;
-}
 
 -- calls of the disk are calls of the host
 pub disk_host : (F G P : Type 0) (a b : View) → (F → G) → (G → F) → (P → ⊥) → DiskCalls F a b → HostCalls G P a b

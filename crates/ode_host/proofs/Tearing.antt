@@ -56,12 +56,6 @@ torn_behind-torn_behind Whole m n = refl
 torn_behind-torn_behind (Front k) m n = ap Front (omega arith)
 torn_behind-torn_behind (Fill byte) m n = refl
 
-pub torn_behind-zero : (torn : Torn) → torn_behind torn 0 ≡ torn
-torn_behind-zero Nothing = refl
-torn_behind-zero Whole = refl
-torn_behind-zero (Front k) = ap Front (omega arith)
-torn_behind-zero (Fill byte) = refl
-
 -- one call more is torn
 abbrev pub IsTornBy : Torn → HostState → Torn → List ℕ → Type 0
 IsTornBy torn s rest held = (held ≡ torn_image torn s.disk.synced s.disk.pending) × (rest ≡ torn_behind torn (pending_bytes s.disk.pending))

@@ -10,7 +10,7 @@ pub enum Status {
     Refused = 1,
     /// The words of the call are no right list.
     Usage = 2,
-    /// The file holds no database.
+    /// The file breaks a rule of a database, or is in use where one is to be made.
     BadFile = 3,
     /// A disk call failed.
     DiskFault = 4,

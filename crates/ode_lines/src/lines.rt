@@ -67,8 +67,8 @@ pub fn said_line(alloc: Global, said: &Value) -> Result<List<u8>, AllocError>
     Ok(List::from_vec(text))
 }
 
-/// The line of a firing.
-pub fn fired_line(alloc: Global, trigger: &Name, object: u64) -> Result<List<u8>, AllocError>
+/// The line of a firing, by its trigger's name.
+pub fn fired_line(alloc: Global, trigger: &[u8], object: u64) -> Result<List<u8>, AllocError>
     ensures { IfOk result (λ text. text ≡ fired_line trigger.now object) }
 {
     let mut text = Vec::new(alloc);
@@ -77,7 +77,7 @@ pub fn fired_line(alloc: Global, trigger: &Name, object: u64) -> Result<List<u8>
 }
 
 /// The line of a firing for which there was no room.
-pub fn dropped_line(alloc: Global, trigger: &Name, object: u64) -> Result<List<u8>, AllocError>
+pub fn dropped_line(alloc: Global, trigger: &[u8], object: u64) -> Result<List<u8>, AllocError>
     ensures { IfOk result (λ text. text ≡ dropped_line trigger.now object) }
 {
     let mut text = Vec::new(alloc);

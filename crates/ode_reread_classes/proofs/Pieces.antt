@@ -102,9 +102,6 @@ between_blanks place m = record {
 pub begun : {place : Place} {y : List ℕ} {us : List Spelled} → Spells place y us → (rest : List ℕ) → ends rest ≡ true → no_blank (y ++ rest) ≡ true
 begun {y = y} s rest e = opens_blank (y ++ rest) (opens_append y rest s.begins)
 
-pub begun_mark : {place : Place} {y : List ℕ} {us : List Spelled} → Spells place y us → (rest : List ℕ) → ends rest ≡ true → ends_mark (y ++ rest) ≡ true
-begun_mark {y = y} s rest e = opens_marks (y ++ rest) (opens_append y rest s.begins)
-
 pub word_begun : (w : List ℕ) → is_word w ≡ true → (rest : List ℕ) → stops rest ≡ true → no_blank (w ++ rest) ≡ true
 word_begun w h rest e = opens_blank (w ++ rest) (opens_append w rest (word_opens w h))
 

@@ -42,9 +42,6 @@ use Rattle.ode_run_laws.proofs.Ticks.{ticks_alike}
 
 -- ---- settled transactions, one after the other
 
-abbrev world_bones : Settled Histories Starts → Bones
-world_bones s = s.0.bones
-
 -- each follows the one before, from these bones on
 abbrev pub Chains : Bones → Settlings → Type 0
 Chains b [] = Unit {0}

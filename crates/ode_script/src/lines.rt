@@ -59,17 +59,18 @@ pub fn put_said(text: &mut Vec<u8>, said: &OdeText) -> Result<(), AllocError>
     text.extend_from_slice(b"\n")
 }
 
-// A trigger, and the object that it is on.
+// A trigger's name, and the object that it is on.
 fn put_on(
     alloc: Global,
     text: &mut Vec<u8>,
     front: &[u8],
-    trigger: &Name,
+    trigger: &[u8],
     id: u64,
 ) -> Result<(), AllocError>
     ensures { OnOk result (text.new.items ≡ text.old.items ++ (front.now ++ (trigger.now ++ (codes " on #" ++ digits_of id)))) }
 {
-    put_name(text, front, trigger)?;
+    text.extend_from_slice(front)?;
+    text.extend_from_slice(trigger)?;
     put_number(alloc, text, b" on #", u128::from(id))
 }
 
@@ -77,7 +78,7 @@ fn put_on(
 pub fn put_fired(
     alloc: Global,
     text: &mut Vec<u8>,
-    trigger: &Name,
+    trigger: &[u8],
     id: u64,
 ) -> Result<(), AllocError>
     ensures { OnOk result (text.new.items ≡ text.old.items ++ fired_line trigger.now id) }
@@ -90,7 +91,7 @@ pub fn put_fired(
 pub fn put_dropped(
     alloc: Global,
     text: &mut Vec<u8>,
-    trigger: &Name,
+    trigger: &[u8],
     id: u64,
 ) -> Result<(), AllocError>
     ensures { OnOk result (text.new.items ≡ text.old.items ++ dropped_line trigger.now id) }

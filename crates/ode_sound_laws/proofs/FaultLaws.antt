@@ -248,10 +248,6 @@ unfolding sort_in evaluate
 via d level b at frame h s typed is =
     level b at frame h s (ap (λ f. f at) (sym (fold-roll-Expr Sorting sorting_of d)) ∙ typed) (ap (λ f. f b frame) (sym (fold-roll-Expr Evaluation evaluation_of d)) ∙ is)
 
--- a value that is a reference
-abbrev IsThat : Value → Ref → Type 0
-IsThat v r = v ≡ value.Reference r
-
 slot_bad : (b : Bones) (frame : Frame) (e : Expr) (place : ℕ) (sound : AreSound b.classes) (fit : AreFit b) (c : Class) → IsKnown b.classes c → (f : Field) → slice_get c.fields place ≡ Some f → (v : Value) → Fits b (Some (sort.Reference c.name)) v
     → evaluate e b frame ≡ Ok v → at_ref (field_of b place) v ≡ Err (NoObject 0) → FollowsNull b frame (checked.Slot e place)
 slot_bad b frame e place sound fit c known f at (value.Reference r) h is bad = slot e place r is (field_bad b sound fit c known r h place f at bad)

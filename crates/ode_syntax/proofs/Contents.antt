@@ -1,26 +1,16 @@
 -- Contents of texts, byte by byte.
-use Rattle.std.proofs.Common.{◌≡◌, ℕ, ◌+◌, true, List, [], ◌∷◌, ◌++◌, drop, Option, Some, None, refl, ◌∙◌, ap}
+use Rattle.std.proofs.Common.{◌≡◌, ℕ, ◌+◌, List, [], ◌∷◌, ◌++◌, drop, Option, Some, None, refl, ◌∙◌, ap}
 use Rattle.std.proofs.lemmas.List.{drop-drop}
-use Rattle.ode_lex.specs.Texts.{begins_with_quote, content, with_front}
-use Rattle.ode_syntax.specs.Kept.{found}
+use Rattle.ode_lex.specs.Texts.{content, with_front}
 
 -- what a content begins with, and its rest
 abbrev pub prefixed : List ℕ → Option (List ℕ × ℕ) → List ℕ
 prefixed front None = []
 prefixed front (Some rest) = front ++ rest.0
 
-pub prefixed_nothing : (rest : Option (List ℕ × ℕ)) → found rest ≡ prefixed [] rest
-prefixed_nothing None = refl
-prefixed_nothing (Some rest) = refl
-
 append_nil : (front : List ℕ) → front ++ [] ≡ front
 append_nil [] = refl
 append_nil (b ∷ front) = ap (λ bs. b ∷ bs) (append_nil front)
-
-pub prefixed_closed : (front bytes : List ℕ) → begins_with_quote bytes ≡ true → prefixed front (content bytes) ≡ front
-prefixed_closed front [] e = cc
-prefixed_closed front (b ∷ []) e = rw e (append_nil front)
-prefixed_closed front (b ∷ c ∷ rest) e = rw e (append_nil front)
 
 moved : (front : List ℕ) (b : ℕ) (rest : List ℕ) → front ++ b ∷ rest ≡ front ++ b ∷ [] ++ rest
 moved [] b rest = refl

@@ -1,6 +1,6 @@
 -- At which seconds a number divides the second.
 use Rattle.std.proofs.Common.{◌≡◌, ◌≤◌, ◌<◌, ℕ, zero, suc, ◌+◌, ◌-◌, ◌*◌, ◌/◌, ◌%◌, ◌^◌, ℤ, pos, Bool, true, false, cond, refl, ap, sym, ◌∙◌, arith}
-use Rattle.std.specs.Prelude.{◌+ℤ◌, ◌≤ℤ◌, ◌<ℤ◌, ◌==◌, ◌&&◌, int_lt, int_le}
+use Rattle.std.specs.Prelude.{◌+ℤ◌, ◌≤ℤ◌, ◌==◌, ◌&&◌, int_lt, int_le}
 use Rattle.std.specs.Int.{int_gap}
 use Rattle.std.specs.Ordering.{int_eq}
 use Rattle.std.proofs.lemmas.Int.{ints, int_rem_euclid_is}
@@ -104,14 +104,6 @@ never_other TCommit no_every no_at t = refl
 never_other TAbort no_every no_at t = refl
 never_other (TimeEvery n) no_every no_at t = absurd (no_every n refl)
 never_other (TimeAt s) no_every no_at t = absurd (no_at s refl)
-
--- a second that lies elsewhere
-pub idle_elsewhere : (s after last : ℤ) → after ≤ℤ last → (after <ℤ s → s ≤ℤ last → ⊥) → IsIdleKind after (int_gap after last + 1) (TimeAt s)
-idle_elsewhere s after last order out j above below = grind (arith, ints, out)
-
--- and one that lies ahead
-pub idle_ahead : (s after : ℤ) → IsIdleKind after (int_gap after s) (TimeAt s)
-idle_ahead s after j above below = grind (arith, ints)
 
 -- nothing is due at fewer seconds than the rest is from the number
 pub idle_within : (n : ℕ) → 0 < n → (after : ℤ) (m every k : ℕ) → every ≡ n → pos m ≡ after +ℤ pos (n * 2 ^ 63) → k ≤ every - m % every → IsIdleKind after k (TimeEvery n)

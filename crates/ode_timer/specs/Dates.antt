@@ -1,5 +1,5 @@
 -- Instants: texts such as `1970-01-01T00:01:30Z` with a real date, and the Unix second that each is.
-use Rattle.std.specs.Prelude.{◌≡◌, ◌≤◌, ◌<◌, ℕ, zero, suc, ◌+◌, ◌-◌, ◌*◌, ◌/◌, ◌%◌, ℤ, pos, ◌-ℤ◌, List, [], ◌∷◌, ◌++◌, take, sum, slice_index, codes, Bool, cond, not, ◌&&◌, ◌||◌, ◌==◌, nat_le, nat_lt, Option, Some, None}
+use Rattle.std.specs.Prelude.{◌≤◌, ◌<◌, ℕ, zero, suc, ◌+◌, ◌-◌, ◌*◌, ◌/◌, ◌%◌, ℤ, pos, ◌-ℤ◌, List, [], ◌∷◌, ◌++◌, take, sum, slice_index, codes, Bool, cond, not, ◌&&◌, ◌||◌, ◌==◌, nat_le, nat_lt, Option, Some, None}
 use Rattle.std.specs.Option.{option_map}
 use Rattle.std.specs.Str.{bytes_eq}
 use Rattle.ode_value.specs.Instants.{two_digits}
@@ -82,7 +82,3 @@ date_of text = cond (bytes_eq text (spelled (date_in text)) && is_real (date_in 
 -- an instant is a text that spells a real date, and its second is that date's
 unfoldable pub instant_of : List ℕ → Option ℤ
 instant_of text = option_map second_of (date_of text)
-
--- the text of a second is the one whose date gives it
-abbrev pub IsTextOf : ℤ → List ℕ → Type 0
-IsTextOf second text = instant_of text ≡ Some second

@@ -58,9 +58,6 @@ or_none : (b : Bool) → (b || false) ≡ true → b ≡ true
 or_none true h = refl
 or_none false h = cc
 
-pub covers-none : {K : Type 0} (code_of : K → List ℕ) → Covers [] [] code_of
-covers-none code_of = λ s h. cc
-
 pub covers-new : {K : Type 0} (code_of : K → List ℕ) (cmp : K → K → Ordering) → ((x y : K) → cmp x y ≡ slice_cmp nat_cmp (code_of x) (code_of y)) → (trees : List StateTree) (entries : List (K × ℕ)) (k : K) (n : ℕ) (new : StateTree)
     → code_of k ≡ code new → Covers trees entries code_of → Covers (trees ++ new ∷ []) (insert_entry cmp entries k n) code_of
 covers-new {K} code_of cmp order trees entries k n new is covers = λ s h. by_known s (list_any (same_tree s) trees) refl (sym (list_any-append (same_tree s) trees (new ∷ [])) ∙ h) where

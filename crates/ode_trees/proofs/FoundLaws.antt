@@ -14,11 +14,10 @@ use Rattle.ode_value.specs.Limits.{state_limit}
 use Rattle.ode_value.specs.declared.event.EventExpr.{EventExpr}
 use Rattle.ode_value.specs.declared.tree.StateTree.{StateTree}
 use Rattle.ode_value.specs.Marks.{Mark, spelled}
-use Rattle.ode_value.specs.TreeCount.{with_tree, count_over, counted}
+use Rattle.ode_value.specs.TreeCount.{with_tree, counted}
 use Rattle.ode_value.specs.TreeOrder.{same_tree}
 use Rattle.ode_value.specs.Trees.{first_tree, next_tree}
-use Rattle.ode_trees.specs.declared.growth.Reached.{Reached}
-use Rattle.ode_trees.specs.Found.{Leads, made_from, IsMade, steps_by, IsReached, IsAnswer}
+use Rattle.ode_trees.specs.Found.{Leads, made_from, IsMade, steps_by, IsAnswer}
 use Rattle.ode_trees.specs.ListMachines.{each_step, grown_listed, listed_count}
 use Rattle.ode_trees.proofs.CountLaws.{Begins, begins-more, begins-fold, begins-longer, grown-next, grown-first, longer, last-round, beyond, leb-within, each-marks, count-marks}
 use Rattle.ode_trees.proofs.EqualTrees.{same_tree-itself, same_tree-equal}
@@ -245,10 +244,6 @@ leads-last trees next steps n s h k =
     ∙ (λ i. h i ++ (k i ∷ []))
     ∙ sym (map-append Some steps (s ∷ []))
 
--- a tree that is there, and one that is added
-pub leads-known : (trees : List StateTree) (next : List ℕ) (n : ℕ) (s : StateTree) → slice_get trees n ≡ Some s → (steps : List StateTree) → Leads trees next steps → Leads trees (next ++ n ∷ []) (steps ++ s ∷ [])
-leads-known trees next n s k steps h = leads-last trees next steps n s h k
-
 pub leads-new : (trees : List StateTree) (next : List ℕ) (s : StateTree) (steps : List StateTree) → Leads trees next steps → Leads (trees ++ s ∷ []) (next ++ length trees ∷ []) (steps ++ s ∷ [])
 leads-new trees next s steps h = leads-last (trees ++ s ∷ []) next steps (length trees) s (leads-more trees (s ∷ []) next steps h) (get-last trees s)
 
@@ -262,9 +257,6 @@ get-knows (t ∷ trees) (suc n) s h = or_right (same_tree s t) (list_any (same_t
 -- the list with a tree that is there, and with one that isn't
 pub with-known : (trees : List StateTree) (n : ℕ) (s : StateTree) → slice_get trees n ≡ Some s → trees ≡ with_tree trees s
 with-known trees n s h = sym (ap (λ t. cond t trees (trees ++ s ∷ [])) (get-knows trees n s h))
-
-pub with-new : (trees : List StateTree) (s : StateTree) → list_any (same_tree s) trees ≡ false → trees ++ s ∷ [] ≡ with_tree trees s
-with-new trees s h = sym (ap (λ t. cond t trees (trees ++ s ∷ [])) h)
 
 -- a tree that is the same as one that is there
 pub get-same : (trees : List StateTree) (i : ℕ) (s t : StateTree) → i < length trees → t ≡ get_or trees i t → same_tree s t ≡ true → slice_get trees i ≡ Some s
@@ -333,6 +325,3 @@ found-few e lists trees next few h first leads ms p = record {
   first = first;
   next = leads few ∙ (λ i. map Some (flat_map (λ s. steps-of_lists e lists ms p s i) trees));
 }
-
-pub told-few : (e : EventExpr) (ms : List Mark) (r : Reached) → IsReached e ms r → Some (length r.trees) ≡ counted (count_over e ms)
-told-few e ms r h = sym (ap (λ t. cond t (Some (length r.trees)) None) (leb-within (length r.trees) state_limit h.few)) ∙ ap counted h.count

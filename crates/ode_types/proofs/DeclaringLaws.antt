@@ -12,18 +12,9 @@ use Rattle.ode_types.specs.Checks.{Check, ◌>>=◌, ◌>>◌, needs, through}
 use Rattle.ode_types.specs.Declaring.{declared, declares, is_small, knows_param, knows_params, next_param, same_params}
 use Rattle.ode_types.specs.declared.stop.CheckStop.{CheckStop}
 use Rattle.ode_types.specs.declared.stop.CheckStop.TheVariants as stop
-use Rattle.ode_types.proofs.TurnLaws.{drop_all, drop_at, through-end, through-step, through-stops}
+use Rattle.ode_types.proofs.TurnLaws.{through-end, through-stops}
 
 -- ---- parameter sorts of two methods
-
-pub same_params-next : (ps qs : List Param) (i : ℕ) (p q : Param) → i < length ps → i < length qs → p ≡ get_or ps i p → q ≡ get_or qs i q
-    → same_params (drop i ps) (drop i qs) ≡ (same_sort p.sort q.sort && same_params (drop (i + 1) ps) (drop (i + 1) qs))
-same_params-next ps qs i p q low below is also =
-    ap (λ (xs : List Param). same_params xs (drop i qs)) (drop_at ps i p low ∙ ap (λ (x : Param). x ∷ drop (i + 1) ps) (sym is))
-    ∙ ap (λ (ys : List Param). same_params (p ∷ drop (i + 1) ps) ys) (drop_at qs i q below ∙ ap (λ (y : Param). y ∷ drop (i + 1) qs) (sym also))
-
-pub same_params-end : (ps qs : List Param) (i : ℕ) → length ps ≤ i → length qs ≤ i → same_params (drop i ps) (drop i qs) ≡ true
-same_params-end ps qs i low below = ap (λ (xs : List Param). same_params xs (drop i qs)) (drop_all ps i low) ∙ ap (λ (ys : List Param). same_params [] ys) (drop_all qs i below)
 
 pub same_params-other : (ps qs : List Param) → (length ps ≡ length qs → ⊥) → same_params ps qs ≡ false
 same_params-other [] [] other = absurd (other refl)
@@ -42,14 +33,6 @@ take_one (y ∷ ys) zero d h = refl
 take_one (y ∷ ys) (suc i) d h = let next : suc i + 1 ≡ suc (i + 1) = omega arith in ap (λ n. take n (y ∷ ys)) next ∙ ap (λ zs. y ∷ zs) (take_one ys i d (omega arith))
 
 module _ (known : List Class) (d : ClassDecl) (params : List Param) (i : ℕ) where
-  pub params-step : (p : Param) (u : Unit {0}) → i < length params → p ≡ get_or params i p
-      → through (next_param known d) [] params ≡ through (next_param known d) (take i params) (drop i params) → knows_param known d (take i params) p ≡ Ok u
-      → through (next_param known d) [] params ≡ through (next_param known d) (take (i + 1) params) (drop (i + 1) params)
-  params-step p u low is so ok =
-      let more : take (i + 1) params ≡ take i params ++ p ∷ [] = take_one params i p low ∙ ap (λ (x : Param). take i params ++ x ∷ []) (sym is) in
-      through-step (next_param known d) (through (next_param known d) [] params) (take i params) (take i params ++ p ∷ []) params i p low is so (ap (λ m. m >>= (λ _. Ok (take i params ++ p ∷ []))) ok)
-      ∙ ap (λ (xs : List Param). through (next_param known d) xs (drop (i + 1) params)) (sym more)
-
   pub params-stop : (p : Param) (e : CheckStop) → i < length params → p ≡ get_or params i p
       → through (next_param known d) [] params ≡ through (next_param known d) (take i params) (drop i params) → Answers {T = Unit {0}} (knows_param known d (take i params) p) (Err e)
       → Answers {T = Unit {0}} (knows_params known d params) (Err e)

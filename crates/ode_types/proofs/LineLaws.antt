@@ -1,7 +1,7 @@
 -- Lines of ancestors among numbered classes.
 use Rattle.std.proofs.Common.{◌≡◌, ℕ, zero, suc, ◌+◌, List, [], ◌∷◌, ◌++◌, length, map, reverse, Bool, true, false, cond, Some, None, Option, refl, ap, sym, ◌∙◌, ◌<◌, ◌≤◌, arith, take}
 use Rattle.std.proofs.lemmas.Bool.Decides.{nat_tests}
-use Rattle.std.proofs.lemmas.List.{append-nil, reverse-append}
+use Rattle.std.proofs.lemmas.List.{reverse-append}
 use Rattle.std.proofs.lemmas.List.Folds.{find-append}
 use Rattle.std.specs.Prelude.{◌==◌}
 use Rattle.std.specs.List.{slice_get, range_with_len, find}
@@ -9,7 +9,7 @@ use Rattle.std.specs.Option.{option_map_or, option_or, unwrap_or}
 use Rattle.ode_value.specs.declared.class.Class.{Class}
 use Rattle.ode_types.specs.Families.{upward}
 use Rattle.ode_types.specs.Indexed.{AreNumbered}
-use Rattle.ode_types.specs.Lines.{alone, headed}
+use Rattle.ode_types.specs.Lines.{headed}
 
 -- one among some classes, and else the one behind them
 pub found_behind : (p : Class → Bool) (xs ys : List Class) → find p (xs ++ ys) ≡ option_or (find p xs) (find p ys)
@@ -97,12 +97,3 @@ module _ (cs : List Class) (numbered : AreNumbered cs) where
   upward-from (suc k) p g at low =
       by_test k p (λ _ is. at_place k p g at is)
       (λ _ other. more-past k (suc p) (λ h. other (omega arith)) ∙ upward-from k p g at (omega (arith, other)))
-
--- the line from the class behind the others, where it has the number, and else from one of the others
-pub upward-draft : (n : ℕ) (cs : List Class) (d : Option Class) → (g : Option Class) → g ≡ find (λ (c : Class). c.number == n) (alone d) → upward n (reverse (cs ++ alone d)) ≡ elim g as (λ _. List Class) [ None ↦ upward n (reverse cs) | Some c ↦ c ∷ upward (unwrap_or c.parent 0) (reverse cs) ]
-upward-draft n cs None None h = ap (λ ds. upward n (reverse ds)) (append-nil cs)
-upward-draft n cs None (Some c) h = absurd (cc)
-upward-draft n cs (Some d) g h = upward-last n cs d ∙ by (d.number == n) refl where
-  by : (b : Bool) → (d.number == n) ≡ b → cond b (d ∷ upward (unwrap_or d.parent 0) (reverse cs)) (upward n (reverse cs)) ≡ elim g as (λ _. List Class) [ None ↦ upward n (reverse cs) | Some c ↦ c ∷ upward (unwrap_or c.parent 0) (reverse cs) ]
-  by true b = let is : g ≡ Some d = h ∙ ap (λ t. cond t (Some d) None) b in rw is refl
-  by false b = let is : g ≡ None = h ∙ ap (λ t. cond t (Some d) None) b in rw is refl

@@ -90,10 +90,6 @@ module _ {R S T : Type 0} (check : T → R → Check (S × T)) where
 
 -- what is known so far, as a loop changes it
 module _ {R S : Type 0} (check : S → R → Check S) where
-  pub through-step : (all : Check S) (s t : S) (rs : List R) (i : ℕ) (r : R) → i < length rs → r ≡ get_or rs i r → all ≡ through check s (drop i rs) → check s r ≡ Ok t → all ≡ through check t (drop (i + 1) rs)
-  through-step all s t rs i r low is so ok =
-      so ∙ ap (through check s) (drop_at rs i r low ∙ ap (λ x. x ∷ drop (i + 1) rs) (sym is)) ∙ ap (λ m. m >>= (λ u. through check u (drop (i + 1) rs))) ok
-
   pub through-stops : {U : Type 0} (all : Check S) (next : S → Check U) (s t : S) (rs : List R) (i : ℕ) (r : R) (e : CheckStop) → i < length rs → r ≡ get_or rs i r → all ≡ through check s (drop i rs)
       → Leaves {S = S} (check s r) t (Err e) → Answers {T = U} (all >>= next) (Err e)
   through-stops all next s t rs i r stop.Memory low is so h = tt

@@ -1,5 +1,5 @@
 -- Records: the bytes of keys, values and records, and how they count.
-use Rattle.std.specs.Prelude.{ℕ, ◌+◌, List, [], ◌∷◌, ◌++◌, length, cond, Option, Some, None}
+use Rattle.std.specs.Prelude.{ℕ, ◌+◌, ◌%◌, ◌^◌, List, [], ◌∷◌, ◌++◌, length, cond, Option, Some, None}
 use Rattle.std.specs.Int.{w16, w32, w64, to_be_bytes, cast_unsigned}
 use Rattle.std.specs.List.{flat_map}
 use Rattle.std.specs.Option.{unwrap_or}
@@ -14,6 +14,10 @@ use Rattle.ode_value.specs.Worlds.{Position}
 -- one byte
 abbrev pub byte : ℕ → List ℕ
 byte n = n ∷ []
+
+-- how many arguments there are; no trigger has more than a byte counts
+abbrev pub counted : List Value → List ℕ
+counted args = byte (length args % 2 ^ 8)
 
 -- a value: its tag and its content
 abbrev pub spelled_value : Value → List ℕ

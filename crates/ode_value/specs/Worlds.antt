@@ -1,8 +1,7 @@
 -- A world: what is plain to see of it, its bones, and what is kept of the pasts of its objects.
-use Rattle.std.specs.Prelude.{ℕ, ℤ, List, [], ◌∷◌, Bool, cond, ◌==◌, Option, Some, None, position}
+use Rattle.std.specs.Prelude.{ℕ, ℤ, List, [], ◌∷◌, Bool, cond, ◌==◌, Option, Some, None}
 use Rattle.std.specs.Str.{bytes_eq}
 use Rattle.ode_value.specs.declared.class.Class.{Class}
-use Rattle.ode_value.specs.declared.class.Field.{Field}
 use Rattle.ode_value.specs.declared.statement.ClassDecl.{ClassDecl}
 use Rattle.ode_value.specs.declared.value.Value.{Value}
 use Rattle.ode_value.specs.Objects.{Activation}
@@ -70,10 +69,6 @@ class_named name (c ∷ cs) = cond (bytes_eq c.class.name name) (Some c.class) (
 abbrev pub class_numbered : ℕ → List Declared → Option Class
 class_numbered number [] = None
 class_numbered number (c ∷ cs) = cond (c.class.number == number) (Some c.class) (class_numbered number cs)
-
--- the place of the field of this name
-abbrev pub slot_of : List ℕ → List Field → Option ℕ
-slot_of name fields = position (λ (f : Field). bytes_eq f.name name) fields
 
 -- with this change of the object of a number
 abbrev pub with_object : ℕ → (Object → Object) → List Object → List Object

@@ -24,7 +24,7 @@ pub fn symbols_are_marks()
     ensures mark { (e : EventExpr) (params : Items Value) (p : Point) → symbol_mark e (symbol e params p) ≡ mark e params p }
 {}
 
-/// The lengths of values and records are those of their bytes.
+/// The lengths of values, and of versions' records, are those of their bytes.
 pub fn lengths_are_counts()
     ensures value { (v : Value) → length (spelled_value v) ≡ value_length v }
     ensures version { (id : ℕ) (v : Version) → row_weight (version_row id v) ≡ version_length v.fields }

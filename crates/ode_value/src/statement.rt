@@ -35,7 +35,7 @@ pub enum Expr {
     Local(u16),
     /// A field of the object, counted from 0.
     Own(u16),
-    /// The object itself.
+    /// The reference that the body was called by.
     This,
     /// A field of the object behind a reference, as it is written.
     Field(Boxed<Expr>, Name),

@@ -53,10 +53,6 @@ last_there v (w ∷ vs) = by_either (v.number == last_of w vs) (list_any (is_num
     by_either true c h = refl
     by_either false c h = h
 
-pub newest_there : (vs : List Version) (d : Version) → 0 < length vs → has_number (slice_index_or vs (length vs - 1) d).number vs ≡ true
-newest_there [] d some = absurd (omega (arith, some))
-newest_there (v ∷ vs) d some = ap (λ n. has_number n (v ∷ vs)) (last_place v vs d) ∙ last_there v vs
-
 -- the same among versions with their fields
 pub newest_of : (vs : List whole.Version) → newest_number (map listed vs) ≡ option_map number_of (whole.newest vs)
 newest_of [] = refl
