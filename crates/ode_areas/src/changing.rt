@@ -3,12 +3,12 @@ ghost use Rattle.std.specs.Prelude.{◌≡◌, ◌+◌, ◌≤◌, ◌<◌, ◌^
 ghost use Rattle.std.specs.BTreeMap.{insert_entry};
 ghost use Rattle.std.specs.Option.{IfSome, option_copied};
 ghost use Rattle.ode_keep.specs.ShortValues.{HasShortValues};
-ghost use Rattle.ode_keep.specs.Entries.{Entries, HasRisingKeys, applied, changed, record_bytes, value_under};
-ghost use Rattle.ode_value.specs.Keys.{key_cmp};
+ghost use Rattle.ode_keep.specs.Entries.{Entries, HasRisingKeys, applied, changed, count_of_kind, record_bytes, value_under};
+ghost use Rattle.ode_value.specs.Keys.{entry_kind, key_cmp};
 ghost use Rattle.ode_keep.specs.Growth.{bytes_of};
 ghost use Rattle.ode_areas.specs.Puts.{LeadBack, NeedNoRoom, puts, removals};
 
-use crate::map::Map;
+use crate::map::{Map, one_queued};
 use ode_keep::{Batch, KEY_LEN, MAX_CHANGES, MAX_GROWTH};
 use ode_value::{Key, List};
 use std::alloc::{AllocError, Global};
@@ -133,6 +133,21 @@ impl Map {
         (bytes - taken).saturating_add(put)
     }
 
+    /// How many records are entries of the queue after a batch.
+    fn queued_after(&self, batch: &Batch) -> u64
+        requires { record_bytes (applied batch.now self.now) < 2 ^ 64 }
+        ensures { result ≡ count_of_kind entry_kind (applied batch.now self.now) }
+    {
+        let queued = self.queued();
+        let mut put = 0;
+        let mut taken = 0;
+        for (key, value) in batch.iter() {
+            put += one_queued(*key, value.as_ref());
+            taken += one_queued(*key, self.get(*key));
+        }
+        (queued - taken).saturating_add(put)
+    }
+
     /// Makes the changes of a batch. Where there is no memory the map stays as it was. The total is how many bytes the
     /// records count then.
     pub(crate) fn apply(
@@ -145,6 +160,7 @@ impl Map {
         ensures ok { OnOk result (self.new ≡ applied batch.now self.old) }
         ensures err { OnErr result (self.new ≡ self.old) }
     {
+        let queued = self.queued_after(batch);
         let mut notes = Vec::new(alloc);
         if let Err(error) = put_all(alloc, &mut self.records, &mut notes, batch) {
             undo_all(&mut self.records, &mut notes);
@@ -152,6 +168,7 @@ impl Map {
         }
         remove_all(&mut self.records, batch);
         self.bytes = total;
+        self.queued = queued;
         Ok(())
     }
 }

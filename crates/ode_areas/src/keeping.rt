@@ -89,6 +89,24 @@ impl<H: Host> Keep<H> for Areas {
         Ok(self.map.least_from(key))
     }
 
+    fn record_from(
+        &mut self,
+        _host: &mut H,
+        key: Key,
+    ) -> Result<Option<(Key, List<u8>)>, KeepError> {
+        match self.map.record_from(key) {
+            None => Ok(None),
+            Some((found, value)) => {
+                let value = List::from_slice(self.alloc, value.as_slice())?;
+                Ok(Some((found, value)))
+            }
+        }
+    }
+
+    fn queued(&mut self, _host: &mut H) -> Result<u64, KeepError> {
+        Ok(self.map.queued())
+    }
+
     fn commit(&mut self, host: &mut H, batch: &Batch) -> Result<(), KeepError>
         requires live { IsTrue (is_live self.old) }
         requires few { length batch.now ≤ MAX_CHANGES }

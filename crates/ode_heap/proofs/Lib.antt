@@ -1,7 +1,6 @@
 mod Blocks
 mod Walks
 mod Fronts
-mod Counting
 mod OneKind
 mod Sections
 mod Reading

@@ -1,17 +1,18 @@
 -- What a heap gives of the next object and of the entries of a stored database.
-use Rattle.std.proofs.Common.{◌≡◌, ℕ, ◌+◌, ◌-◌, ◌<◌, ◌^◌, min, length, suc, List, [], ◌∷◌, map, Bool, true, false, cond, Option, Some, None, refl, sym, ap, subst, ◌∙◌, append_assoc, arith}
-use Rattle.std.specs.Prelude.{nat_le, ◌==◌}
+use Rattle.std.proofs.Common.{◌≡◌, ℕ, ◌-◌, ◌<◌, ◌^◌, min, length, List, [], ◌∷◌, map, Bool, true, false, cond, Option, Some, None, refl, sym, ap, subst, ◌∙◌, append_assoc, arith}
+use Rattle.std.specs.Prelude.{nat_le}
 use Rattle.std.specs.BTreeMap.{is_at}
 use Rattle.std.specs.List.{AllByRecursion, find}
 use Rattle.std.specs.Map.{keys_of}
 use Rattle.std.specs.Option.{option_map}
 use Rattle.std.proofs.lemmas.Bool.Decides.{nat_tests}
-use Rattle.ode_codec.specs.Rules.{HasRanges}
+use Rattle.std.proofs.lemmas.List.{length-map}
+use Rattle.std.proofs.lemmas.List.Sums.{length-filter}
 use Rattle.ode_codec.specs.Spelling.{key_of, value_of}
 use Rattle.ode_codec.specs.StoredRows.{Stored, entry_row, object_row, rows}
 use Rattle.ode_codec.specs.declared.record.Record.{Record}
 use Rattle.ode_codec.specs.declared.record.Record.TheVariants as of
-use Rattle.ode_keep.specs.Entries.{Entries, value_under}
+use Rattle.ode_keep.specs.Entries.{Entries, count_of_kind, value_under}
 use Rattle.ode_value.specs.Keys.{entry_key, entry_kind, key_cmp, object_key, object_kind}
 use Rattle.ode_value.specs.Records.{Row}
 use Rattle.ode_value.specs.Worlds.{Entry, Object}
@@ -20,10 +21,9 @@ use Rattle.ode_heap.specs.Answers.{Found, ◌>>=◌}
 use Rattle.ode_heap.specs.Answers.{There}
 use Rattle.ode_heap.specs.Answering.{IsReadable, IsReadableEntry, entry_of, next_entry, next_object}
 use Rattle.ode_heap.specs.Looking.{as_entry, decoded, entry_at, entry_from, entry_key_from, is_entry_from, is_object_from, object_from}
-use Rattle.ode_heap.specs.Queue.{count_from, is_queued_from, queued_in}
-use Rattle.ode_heap.proofs.Counting.{counted, one_more, with_one}
+use Rattle.ode_heap.specs.Queue.{queued_in}
 use Rattle.ode_heap.proofs.Numbered.{id_of}
-use Rattle.ode_heap.proofs.OneKind.{found_of_kind, rows_of, value_of_kind}
+use Rattle.ode_heap.proofs.OneKind.{found_of_kind, is_of_kind, value_of_kind}
 use Rattle.ode_heap.proofs.Reading.{Again, looked, reads}
 use Rattle.ode_heap.proofs.Sections.{entries_alone, objects_alone}
 
@@ -131,42 +131,11 @@ entry_follows again s n is = ap (entry_at (rows s)) (key_follows s n) ∙ by_ent
 
 -- ---- the count of the entries
 
-not_queued : (k : Key) → (k.kind == entry_kind) ≡ false → is_queued_from 0 k ≡ false
-not_queued k other = grind (arith, nat_tests)
-
-count_step : (e : Row) (es : List Row) → counted 0 (keys_of es) ≡ counted 0 (keys_of (rows_of entry_kind es))
-    → (b : Bool) → (e.0.kind == entry_kind) ≡ b → counted 0 (keys_of (e ∷ es)) ≡ counted 0 (keys_of (cond b (e ∷ rows_of entry_kind es) (rows_of entry_kind es)))
-count_step e es more true is =
-    one_more 0 e.0 (keys_of es) ∙ ap (with_one (is_queued_from 0 e.0)) more ∙ sym (one_more 0 e.0 (keys_of (rows_of entry_kind es)))
-count_step e es more false is = one_more 0 e.0 (keys_of es) ∙ ap (λ b. with_one b (counted 0 (keys_of es))) (not_queued e.0 is) ∙ more
-
-count_of_kind : (es : List Row) → counted 0 (keys_of es) ≡ counted 0 (keys_of (rows_of entry_kind es))
-count_of_kind [] = refl
-count_of_kind (e ∷ es) = count_step e es (count_of_kind es) (e.0.kind == entry_kind) refl
-
-low_entry : (q : Waiting) → IsReadableEntry q → q.0 < 2 ^ 64
-unfolding HasRanges
-low_entry q is = is.ranges.0
-
-is_queued : (m : ℕ) → m < 2 ^ 64 → is_queued_from 0 (entry_key m) ≡ true
-is_queued m low = grind (arith, nat_tests)
-
-all_queued : (qs : List Waiting) → AllByRecursion IsReadableEntry qs → counted 0 (keys_of (map entry_row qs)) ≡ length qs
-all_queued [] all = refl
-all_queued (q ∷ qs) all =
-    one_more 0 (key_at q) (keys_of (map entry_row qs))
-    ∙ ap (λ b. with_one b (counted 0 (keys_of (map entry_row qs)))) (is_queued q.0 (low_entry q all.0))
-    ∙ ap (λ (n : ℕ). 1 + n) (all_queued qs all.1)
-    ∙ one_longer (length qs)
-  where
-    one_longer : (n : ℕ) → 1 + n ≡ suc n
-    one_longer n = omega arith
-
 pub entries_counted : (s : Stored) → IsReadable s → queued_in (rows s) ≡ length s.world.bones.queue
 unfolding queued_in
 entries_counted s is =
-    let all : count_from 0 (rows s) ≡ length s.world.bones.queue =
-    count_of_kind (rows s) ∙ ap (λ (es : List Row). counted 0 (keys_of es)) (entries_alone s) ∙ all_queued s.world.bones.queue is.queue in
+    let all : count_of_kind entry_kind (rows s) ≡ length s.world.bones.queue =
+    sym (length-filter (is_of_kind entry_kind) (rows s)) ∙ ap (λ (es : List Row). length es) (entries_alone s) ∙ length-map s.world.bones.queue entry_row in
     ap (λ (n : ℕ). min n (2 ^ 32 - 1)) all ∙ few (length s.world.bones.queue) is.few
   where
     few : (n : ℕ) → n < 2 ^ 32 → min n (2 ^ 32 - 1) ≡ n

@@ -192,7 +192,7 @@ impl<K> Heap<K> {
         read_entry_from(alloc, &mut self.keeper, host, number)
     }
 
-    /// The number of entries. Their keys are read and no values.
+    /// The number of entries, as the keeper counts them. No record is read.
     pub fn queued<H: Host>(&mut self, host: &mut H) -> Result<u32, HeapError>
     where
         K: Keep<H>,

@@ -1,5 +1,5 @@
 //! The entries that wait.
-ghost use Rattle.std.specs.Prelude.{◌≡◌, ◌+◌, ◌≤◌, ◌-◌, ◌^◌, ◌==◌, cond, min, true, IfOk, IsErrOf, IsTrue};
+ghost use Rattle.std.specs.Prelude.{◌≡◌, ◌≤◌, ◌-◌, ◌^◌, min, true, IfOk, IsErrOf, IsTrue};
 ghost use Rattle.std.specs.Option.{IfSome};
 ghost use Rattle.ode_host.specs.Causes.{RoseIf};
 ghost use Rattle.ode_host.specs.Host.{Looks};
@@ -10,7 +10,7 @@ ghost use Rattle.ode_heap.specs.Queue.{queued_in};
 ghost use Rattle.ode_heap.specs.Staging.{OnTooLarge};
 ghost use Rattle.ode_value.specs.Keys.{entry_key, entry_kind};
 
-use crate::error::HeapError;
+use crate::error::{HeapError, at_key};
 use crate::looking::{least_key, look_up};
 use ode_codec::{Entry, Record};
 use ode_host::Host;
@@ -103,18 +103,19 @@ pub(crate) fn read_entry_from<H: Host, K: Keep<H>>(
     }
 }
 
-// One more, where the key is that of an entry, as far as 32 bits count.
-fn counted(count: u32, key: Key) -> u32
-    ensures { result ≡ min (count + cond (key.b == 0) 1 0) (2 ^ 32 - 1) }
+// As many, as far as 32 bits count.
+fn as_32_bits(count: u64) -> u32
+    ensures { result ≡ min count (2 ^ 32 - 1) }
 {
-    if key.b == 0 {
-        count.saturating_add(1)
+    if count < u32::MAX as u64 {
+        count as u32
     } else {
-        count
+        u32::MAX
     }
 }
 
-// The number of entries, by their keys alone.
+// The number of entries, as the keeper counts them.
+#[tactic(auto, unfolding(crate::specs::Queue::queued_in))]
 pub(crate) fn count_entries<H: Host, K: Keep<H>>(
     keeper: &mut K,
     host: &mut H,
@@ -129,16 +130,13 @@ pub(crate) fn count_entries<H: Host, K: Keep<H>>(
     ensures too_large { OnTooLarge result (λ _. ⊥) }
     ensures at { OnDamaged result (λ k. k.kind ≡ entry_kind) }
 {
-    let mut count: u32 = 0;
-    let mut from: u64 = 0;
-    'entries: loop {
-        let Some(key) = next_entry_key(keeper, host, from)? else {
-            return Ok(count);
-        };
-        count = counted(count, key);
-        let Some(next) = key.a.checked_add(1) else {
-            return Ok(count);
-        };
-        from = next;
+    let first = Key {
+        kind: Key::ENTRY,
+        a: 0,
+        b: 0,
+    };
+    match keeper.queued(host) {
+        Ok(count) => Ok(as_32_bits(count)),
+        Err(error) => Err(at_key(error, first)),
     }
 }

@@ -1,7 +1,7 @@
 -- Records by key, and what changes make of them.
-use Rattle.std.specs.Prelude.{ℕ, List, [], ◌∷◌, not, Option, Some, None}
+use Rattle.std.specs.Prelude.{◌<◌, ◌^◌, ◌==◌, ℕ, slice_index, List, [], ◌∷◌, not, Option, Some, None}
 use Rattle.std.specs.BTreeMap.{is_at, insert_entry}
-use Rattle.std.specs.List.{filter, find}
+use Rattle.std.specs.List.{AllByRecursion, count_by, filter, find}
 use Rattle.std.specs.List.Sorted.{IsStrictlySortedBy}
 use Rattle.std.specs.Map.{lookup, keys_of}
 use Rattle.std.specs.Ordering.{is_le}
@@ -20,9 +20,20 @@ Entries = List Row
 abbrev pub value_under : Entries → Key → Option (List ℕ)
 value_under entries k = lookup (is_at (key_cmp k)) entries
 
+-- values that are bytes
+abbrev pub HasBytes : Row → Type 0
+HasBytes e = (i : ℕ) → slice_index e.1 i < 2 ^ 8
+
+abbrev pub AreBytes : Entries → Type 0
+AreBytes entries = AllByRecursion HasBytes entries
+
 -- the least key at or above, of keys that rise
 abbrev pub least_from : Entries → Key → Option Key
 least_from entries k = find (λ q. is_le (key_cmp k q)) (keys_of entries)
+
+-- the record under it
+abbrev pub record_from : Entries → Key → Option Row
+record_from entries k = find (λ e. is_le (key_cmp k e.0)) entries
 
 -- changes: the value that stands under a key from then on, or that none does
 abbrev pub Changes : Type 0
@@ -40,3 +51,7 @@ applied (c ∷ cs) entries = applied cs (changed entries c.0 c.1)
 -- the bytes of all keys and values
 abbrev pub record_bytes : Entries → ℕ
 record_bytes entries = total_weight entries
+
+-- how many records have a key of this kind
+abbrev pub count_of_kind : ℕ → Entries → ℕ
+count_of_kind kind entries = count_by (λ e. e.0.kind == kind) entries

@@ -6,9 +6,9 @@ ghost use Rattle.ode_host.specs.Causes.{RoseIf};
 ghost use Rattle.ode_host.specs.Host.{DiskCalls, LeavesOnly, Looks, Stands};
 ghost use Rattle.ode_host.specs.View.{View};
 ghost use Rattle.ode_keep.specs.ShortValues.{HasShortValues};
-ghost use Rattle.ode_keep.specs.Entries.{Entries, HasRisingKeys, applied, least_from};
-ghost use Rattle.ode_value.specs.Keys.{key_cmp};
-ghost use Rattle.ode_keep.specs.Entries.{record_bytes, value_under};
+ghost use Rattle.ode_keep.specs.Entries.{Entries, HasRisingKeys, applied, least_from, record_from};
+ghost use Rattle.ode_value.specs.Keys.{entry_kind, key_cmp};
+ghost use Rattle.ode_keep.specs.Entries.{count_of_kind, record_bytes, value_under};
 ghost use Rattle.ode_keep.specs.Keeping.{LeavesOldOrNew, OnDamaged, OnRefusal, OnTooLarge};
 ghost use Rattle.ode_keep.specs.Keeping.{UnlessFault, is_usable};
 
@@ -52,6 +52,33 @@ pub trait Keep<H: Host> {
         ensures value { IfOk result (λ found. (entries : Entries) → holds self.old (H.view host.old) entries
             → found ≡ least_from entries key) }
         ensures above { IfOk result (λ found. IfSome found (λ q. is_le (key_cmp key q) ≡ true)) }
+        ensures holds { UnlessFault result ((entries : Entries) → holds self.old (H.view host.old) entries
+            → holds self.new (H.view host.new) entries) }
+        ensures looks { Looks (H.view host.old) (H.view host.new) }
+        ensures usable { live self.new ≡ is_usable result }
+        ensures cause { RoseIf (IsErrOf result KeepError.DiskFault) (H.view host.old).disk_faults (H.view host.new).disk_faults }
+        ensures damaged { OnDamaged result ((entries : Entries) → holds self.old (H.view host.old) entries → ⊥) }
+        ensures too_large { OnTooLarge result (λ _. ⊥) };
+
+    /// The record of the least key at or above a key.
+    fn record_from(&mut self, host: &mut H, key: Key) -> Result<Option<(Key, List<u8>)>, KeepError>
+        requires live { IsTrue (live self.old) }
+        ensures value { IfOk result (λ found. (entries : Entries) → holds self.old (H.view host.old) entries
+            → found ≡ record_from entries key) }
+        ensures above { IfOk result (λ found. IfSome found (λ r. is_le (key_cmp key r.0) ≡ true)) }
+        ensures holds { UnlessFault result ((entries : Entries) → holds self.old (H.view host.old) entries
+            → holds self.new (H.view host.new) entries) }
+        ensures looks { Looks (H.view host.old) (H.view host.new) }
+        ensures usable { live self.new ≡ is_usable result }
+        ensures cause { RoseIf (IsErrOf result KeepError.DiskFault) (H.view host.old).disk_faults (H.view host.new).disk_faults }
+        ensures damaged { OnDamaged result ((entries : Entries) → holds self.old (H.view host.old) entries → ⊥) }
+        ensures too_large { OnTooLarge result (λ _. ⊥) };
+
+    /// How many records are entries of the queue.
+    fn queued(&mut self, host: &mut H) -> Result<u64, KeepError>
+        requires live { IsTrue (live self.old) }
+        ensures value { IfOk result (λ count. (entries : Entries) → holds self.old (H.view host.old) entries
+            → count ≡ count_of_kind entry_kind entries) }
         ensures holds { UnlessFault result ((entries : Entries) → holds self.old (H.view host.old) entries
             → holds self.new (H.view host.new) entries) }
         ensures looks { Looks (H.view host.old) (H.view host.new) }

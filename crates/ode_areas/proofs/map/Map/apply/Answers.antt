@@ -1,5 +1,6 @@
 use Rattle.std.proofs.Common.{◌∙◌, ap, subst, sym}
-use Rattle.ode_keep.specs.Entries.{Entries, HasRisingKeys, record_bytes}
+use Rattle.ode_keep.specs.Entries.{Entries, HasRisingKeys, count_of_kind, record_bytes}
+use Rattle.ode_value.specs.Keys.{entry_kind}
 use Rattle.ode_keep.proofs.Applying.{applied_rising}
 use Rattle.ode_areas.proofs.Splitting.{made_all}
 use Rattle.ode_areas.proofs.map.Map.apply.Goals as goal
@@ -8,14 +9,15 @@ pub invariant_of-self-2 : goal.invariant_of-self-2
 invariant_of-self-2 c =
     let batch = c.args.batch.now in
     let before = c.self.inside.records.entries in
-    let made = made_all batch before c.put_all.new.records.entries c.remove_all.new.records.entries c.args.self.now c.remove_all.ensures.rising c.self.invariant.1
+    let made = made_all batch before c.put_all.new.records.entries c.remove_all.new.records.entries c.args.self.now c.remove_all.ensures.rising c.self.invariant.2
     c.self.view_is c.in_default.ensures.put c.remove_all.ensures.removed in (
       c.requires ∙ ap record_bytes (sym made),
+      c.queued_after-queued.ensures ∙ ap (λ (l : Entries). count_of_kind entry_kind l) (sym made),
       subst (λ (l : Entries). HasRisingKeys l) (sym made)
-          (applied_rising batch c.args.self.now (subst (λ (l : Entries). HasRisingKeys l) c.self.view_is c.self.invariant.1)),
+          (applied_rising batch c.args.self.now (subst (λ (l : Entries). HasRisingKeys l) c.self.view_is c.self.invariant.2)),
     )
 
 pub returns-clause-ok : goal.returns-clause-ok
 returns-clause-ok c =
     made_all c.args.batch.now c.self.inside.records.entries c.put_all.new.records.entries c.remove_all.new.records.entries c.args.self.now
-    c.remove_all.ensures.rising c.self.invariant.1 c.self.view_is c.in_default.ensures.put c.remove_all.ensures.removed
+    c.remove_all.ensures.rising c.self.invariant.2 c.self.view_is c.in_default.ensures.put c.remove_all.ensures.removed

@@ -1,8 +1,9 @@
-use Rattle.std.proofs.Common.{◌≡◌, Some, sym, ap, ◌∙◌, arith}
+use Rattle.std.proofs.Common.{◌≡◌, List, Option, ℕ, Some, sym, ap, ◌∙◌, arith}
 use Rattle.std.specs.BTreeMap.{is_at}
-use Rattle.ode_value.specs.Keys.{key_cmp}
-use Rattle.ode_keep.specs.Entries.{record_bytes, value_under}
-use Rattle.ode_keep.specs.Growth.{bytes_of}
+use Rattle.ode_value.specs.Keys.{entry_kind, key_cmp}
+use Rattle.ode_keep.specs.Entries.{Entries, count_of_kind, record_bytes, value_under}
+use Rattle.ode_keep.specs.Growth.{bytes_of, one_of_kind}
+use Rattle.ode_keep.proofs.Counts.{removed_counts}
 use Rattle.ode_keep.proofs.Growing.{removed_shrinks}
 use Rattle.ode_keep.proofs.Applying.{taken_out}
 use Rattle.ode_areas.proofs.map.Map.remove.Goals as goal
@@ -14,15 +15,31 @@ overflow_sub-self c =
     let found : value_under entries c.args.key ≡ Some c.in-Some.old = sym c.in-Some.ensures.value in
     omega (arith, shrinks, ap bytes_of found, c.self.invariant.0, c.len.ensures)
 
+pub overflow_sub-self-in-Some : goal.overflow_sub-self-in-Some
+overflow_sub-self-in-Some c =
+    let entries = c.self.inside.records.entries in
+    let found : value_under entries c.args.key ≡ Some c.in-Some.old = sym c.in-Some.ensures.value in
+    omega (arith, removed_counts entry_kind entries c.args.key, ap (λ (o : Option (List ℕ)). one_of_kind entry_kind c.args.key o) found, c.self.invariant.1, c.one_queued-taken.ensures)
+
 pub invariant_of-self : goal.invariant_of-self
 invariant_of-self c =
     let entries = c.self.inside.records.entries in
     let shrinks = removed_shrinks (is_at (key_cmp c.args.key)) entries in
-    let found : value_under entries c.args.key ≡ Some c.in-Some.old = sym c.in-Some.ensures.value in
-    (omega (arith, shrinks, ap bytes_of found, c.self.invariant.0, c.len.ensures, ap record_bytes c.remove.ensures.entries), c.remove.ensures.ordered)
+    let found : value_under entries c.args.key ≡ Some c.in-Some.old = sym c.in-Some.ensures.value in (
+      omega (arith, shrinks, ap bytes_of found, c.self.invariant.0, c.len.ensures, ap record_bytes c.remove.ensures.entries),
+      omega (
+        arith,
+        removed_counts entry_kind entries c.args.key,
+        ap (λ (o : Option (List ℕ)). one_of_kind entry_kind c.args.key o) found,
+        c.self.invariant.1,
+        c.one_queued-taken.ensures,
+        ap (λ (l : Entries). count_of_kind entry_kind l) c.remove.ensures.entries,
+      ),
+      c.remove.ensures.ordered,
+    )
 
 pub returns-in-Some : goal.returns-in-Some
-returns-in-Some c = rw (← c.self.view_is) (c.remove.ensures.entries ∙ sym (taken_out c.self.inside.records.entries c.args.key c.self.invariant.1))
+returns-in-Some c = rw (← c.self.view_is) (c.remove.ensures.entries ∙ sym (taken_out c.self.inside.records.entries c.args.key c.self.invariant.2))
 
 pub returns-in_default : goal.returns-in_default
-returns-in_default c = rw (← c.self.view_is) (c.remove.ensures.entries ∙ sym (taken_out c.self.inside.records.entries c.args.key c.self.invariant.1))
+returns-in_default c = rw (← c.self.view_is) (c.remove.ensures.entries ∙ sym (taken_out c.self.inside.records.entries c.args.key c.self.invariant.2))
