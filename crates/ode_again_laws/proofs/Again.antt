@@ -57,11 +57,12 @@ use Rattle.ode_reread_classes.proofs.Pieces.{closing_mark, join, of_spells, to_s
 use Rattle.ode_reread_classes.proofs.Puts.{with_class}
 use Rattle.ode_reread_classes.proofs.Readings.{cut_whole, plain_own}
 use Rattle.ode_again_laws.proofs.Counts.{class_count, count, script_count, seven, total}
-use Rattle.ode_again_laws.proofs.Derived.{all_cool, all_plain, AreCool, BeginNothing}
+use Rattle.ode_again_laws.proofs.Derived.{heats}
 use Rattle.ode_again_laws.proofs.First.{first_of, opened, IsFirst, Third, WithParent, Without}
 use Rattle.ode_again_laws.proofs.Lexed.{colon_kind, mark_bytes, text_reads, AllRead}
 use Rattle.ode_again_laws.proofs.Reading.{statement_is}
-use Rattle.ode_again_laws.proofs.Words.{begin_nothing, class_bytes, colon_mark, name_word, no_unbuilt_word}
+use Rattle.ode_again_laws.proofs.Rows.{heat}
+use Rattle.ode_again_laws.proofs.Words.{class_bytes, cold_tokens, colon_mark, name_word, no_unbuilt_word}
 
 -- ---- how it was read
 
@@ -173,12 +174,15 @@ not_marked text (t ∷ u ∷ v ∷ ts) a b c more r e h =
     by_test true false z f = refl
     by_test false y z f = refl
 
-last_zero : (r s b p m c x t : ℕ) → seven r s b p m c (x + t) ≡ 0 → x ≡ 0
-last_zero r s b p m c x t e = omega (arith, e)
+last_zero : (k l e p m c x t : ℕ) → seven k l e p m c (x + t) ≡ 0 → x ≡ 0
+last_zero k l e p m c x t f = omega (arith, f)
 
-class_zero : (r s b p m c : ℕ) (scripts : List Statement) (d : ClassDecl) → script_tree scripts ≡ statement.Class d → seven r s b p m c (total script_count scripts) ≡ 0 → class_count d ≡ 0
-class_zero r s b p m c [] d e z = absurd (cc)
-class_zero r s b p m c (x ∷ xs) d e z = sym (ap script_count e) ∙ last_zero r s b p m c (script_count x) (total script_count xs) z
+class_zero : (k l e p m c : ℕ) (scripts : List Statement) (d : ClassDecl) → script_tree scripts ≡ statement.Class d → seven k l e p m c (total script_count scripts) ≡ 0 → class_count d ≡ 0
+class_zero k l e p m c [] d f z = absurd (cc)
+class_zero k l e p m c (x ∷ xs) d f z = sym (ap script_count f) ∙ last_zero k l e p m c (script_count x) (total script_count xs) z
+
+last_cold : (a b c more : ℕ) → a + (b + (c + more)) ≡ 0 → more ≡ 0
+last_cold a b c more e = omega (arith, e)
 
 -- ---- a class that is read
 
@@ -221,10 +225,10 @@ good_read text d c =
     let f = first_of (map (spelled Class text) c.tokens) out d x.derives c.same in
     let o = opened f.more out f.rest in
     let reads = text_reads text c.tokens c.lexed_as in
-    let marks = either_false (has_unbuilt_word false (map (slice_of text) c.tokens)) (has_parent text c.tokens) c.is_built in
+    let marks = either_false (has_unbuilt_word text c.tokens) (has_parent text c.tokens) c.is_built in
     let all : map (spelled Class text) c.tokens ≡ f.first ∷ o.name ∷ o.third ∷ o.more = f.is ∙ ap (λ us. f.first ∷ us) o.is in
-    let begins = subst BeginNothing all (begin_nothing Class text false c.tokens marks.0) in
-    let zero = by_third out f.first o.name o.third o.more f.class o.named reads all marks.1 begins.1.1.1 o.opens in
+    let cold : heats (f.first ∷ o.name ∷ o.third ∷ o.more) ≡ 0 = ap heats (sym all) ∙ cold_tokens Class text c.tokens marks.0 in
+    let zero = by_third out f.first o.name o.third o.more f.class o.named reads all marks.1 (last_cold (heat f.first.terminal) (heat o.name.terminal) (heat o.third.terminal) (heats o.more) cold) o.opens in
     let sounds = subst (Sounds Class) f.is (text_sounds Class text c.tokens c.lexed_as) in
     let made = declared Class (item.Token terminal.Semi ∷ item.Build action.Declare ∷ []) at_start out (does Class f.rest sounds.1) in
     let a = made.class in
@@ -240,10 +244,10 @@ good_read text d c =
     }
   where
     by_third : (out : Both) (first name third : Spelled) (more : List Spelled) → first.terminal ≡ terminal.Class → name.terminal ≡ terminal.Name → AllRead text c.tokens
-        → map (spelled Class text) c.tokens ≡ first ∷ name ∷ third ∷ more → has_parent text c.tokens ≡ false → BeginNothing more → Third third more out → count out.trees ≡ 0
-    by_third out first name third more k n reads all plain begins (WithParent colon some) =
+        → map (spelled Class text) c.tokens ≡ first ∷ name ∷ third ∷ more → has_parent text c.tokens ≡ false → heats more ≡ 0 → Third third more out → count out.trees ≡ 0
+    by_third out first name third more k n reads all plain cold (WithParent colon some) =
         absurd (false≢true (sym plain ∙ with_parent_marked text c.tokens first name third more reads all k n colon))
-    by_third out first name third more k n reads all plain begins (Without brace v zero rest) = all_plain (its_trees rest) refl begins ∙ zero
+    by_third out first name third more k n reads all plain cold (Without brace same) = same ∙ cold
 
 -- ---- its printed text
 
@@ -284,22 +288,25 @@ module _ (d : ClassDecl) (g : IsGoodRead d) where
     reads : AllRead text tokens
     reads = text_reads text tokens is
 
-    by_third : (first name third : Spelled) (more : List Spelled) → map (spelled Class text) tokens ≡ first ∷ name ∷ third ∷ more → Third third more out → has_parent text tokens ≡ false
-    by_third first name third more all (WithParent colon some) = absurd (omega (arith, some, zero))
-    by_third first name third more all (Without brace v bare rest) = not_marked text tokens first name third more reads all brace
+    by_third : (first name third : Spelled) (more : List Spelled) → map (spelled Class text) tokens ≡ first ∷ name ∷ third ∷ more → first.terminal ≡ terminal.Class → name.terminal ≡ terminal.Name
+        → Third third more out → (has_parent text tokens ≡ false) × (heats (map (spelled Class text) tokens) ≡ 0)
+    by_third first name third more all k n (WithParent colon some) = absurd (omega (arith, some, zero))
+    by_third first name third more all k n (Without brace counted) = (
+      not_marked text tokens first name third more reads all brace,
+      ap heats all ∙ cold (heat first.terminal) (heat name.terminal) (heat third.terminal) (heats more) (ap heat k) (ap heat n) (ap heat brace) (sym counted ∙ zero),
+    )
+      where
+        cold : (a b c more : ℕ) → a ≡ 0 → b ≡ 0 → c ≡ 0 → more ≡ 0 → a + (b + (c + more)) ≡ 0
+        cold a b c more e f g h = omega (arith, e, f, g, h)
 
-    no_parent : has_parent text tokens ≡ false
-    no_parent =
+    bare : (has_parent text tokens ≡ false) × (heats (map (spelled Class text) tokens) ≡ 0)
+    bare =
         let f = first_of ts out d derives (declares_class d p.low) in
         let o = opened f.more out f.rest in
-        by_third f.first o.name o.third o.more (same ∙ (f.is ∙ ap (λ us. f.first ∷ us) o.is)) o.opens
-
-    cool : AreCool ts
-    cool = all_cool (its_trees derives) zero refl
+        by_third f.first o.name o.third o.more (same ∙ (f.is ∙ ap (λ us. f.first ∷ us) o.is)) f.class o.named o.opens
 
     built_again : is_unbuilt text tokens ≡ false
-    built_again =
-        ap (λ b. b || has_parent text tokens) (no_unbuilt_word Class text tokens reads (subst AreCool (sym same) cool)) ∙ no_parent
+    built_again = ap (λ b. b || has_parent text tokens) (no_unbuilt_word Class text tokens reads bare.1) ∙ bare.0
 
     tree_again : AreTree start.Statement Class text tokens out.trees
     unfolding items_of

@@ -6,16 +6,14 @@ use Rattle.ode_grammar.specs.declared.item.Action.TheVariants as action
 use Rattle.ode_grammar.specs.declared.terminal.Terminal.{Terminal}
 use Rattle.ode_grammar.specs.declared.terminal.Terminal.TheVariants as terminal
 use Rattle.ode_grammar.specs.Stacks.{rest, top}
-use Rattle.ode_value.specs.declared.binding.Var.TheVariants as var
+use Rattle.ode_value.specs.declared.event.EventExpr.{EventExpr}
+use Rattle.ode_value.specs.declared.event.EventExpr.TheVariants as event
+use Rattle.ode_value.specs.declared.event.Kind.TheVariants as kind
 use Rattle.ode_value.specs.declared.statement.ClassDecl.{ClassDecl}
-use Rattle.ode_value.specs.declared.statement.Expr.TheVariants as expr
-use Rattle.ode_value.specs.declared.statement.Rhs.TheVariants as rhs
-use Rattle.ode_value.specs.declared.statement.Stmt.{Stmt}
-use Rattle.ode_value.specs.declared.statement.Stmt.TheVariants as stmt
 use Rattle.ode_syntax.specs.declared.trees.Trees.{Trees}
-use Rattle.ode_syntax.specs.Built.{built, built_class, built_event, built_kind, built_member, built_right_side, built_script, built_statement, declared, name, right, stmt_tree, tree}
+use Rattle.ode_syntax.specs.Built.{built, built_class, built_event, built_kind, built_member, built_right_side, built_script, built_statement, count_of, declared, event_tree, kind_on, tree}
 use Rattle.ode_syntax.specs.Kept.{kept_as}
-use Rattle.ode_again_laws.proofs.Counts.{body_count, class_count, cost, count, count-Deactivate, count-Delete, count-Do, count-DropVersion, count-If, count-Let, count-Return, count-Say, count-Set, count-Show, count-TAbort, member_count, members_count, parent_count, right_count, script_count, seven, stmt_count, total}
+use Rattle.ode_again_laws.proofs.Counts.{class_count, cost, count, count-And, count-Any, count-Choose, count-Every, count-Fa, count-First, count-Leaf, count-Not, count-Or, count-Prior, count-Relative, count-Sequence, event_count, kind_count, kinds_count, member_count, members_count, parent_count, script_count, seven, total}
 
 -- ---- stacks
 
@@ -32,61 +30,64 @@ plus_none n = omega arith
 
 -- ---- from one stack to another: how the seven numbers change
 
-grow_right : (r s b p m c t x n : ℕ) → x ≡ n → seven (x + r) s b p m c t ≡ seven r s b p m c t + n
-grow_right r s b p m c t x n e = omega (arith, e)
+grow_kind : (k l e p m c t n : ℕ) → seven (n + k) l e p m c t ≡ seven k l e p m c t + n
+grow_kind k l e p m c t n = omega arith
 
-grow_stmt : (r s b p m c t x n : ℕ) → x ≡ n → seven r (x + s) b p m c t ≡ seven r s b p m c t + n
-grow_stmt r s b p m c t x n e = omega (arith, e)
+append_kind : (k k0 ks l l0 ls e p m c t x : ℕ) → k ≡ k0 + ks → l ≡ l0 + ls → x ≡ l0 + k0 → seven ks (x + ls) e p m c t ≡ seven k l e p m c t + 0
+append_kind k k0 ks l l0 ls e p m c t x f g h = omega (arith, f, g, h)
 
-right_to_stmt : (r r0 rs s b p m c t x : ℕ) → r ≡ r0 + rs → x ≡ r0 → seven rs (x + s) b p m c t ≡ seven r s b p m c t + 0
-right_to_stmt r r0 rs s b p m c t x e f = omega (arith, e, f)
+kind_to_event : (k k0 ks l e p m c t x : ℕ) → k ≡ k0 + ks → x ≡ k0 → seven ks l (x + e) p m c t ≡ seven k l e p m c t + 0
+kind_to_event k k0 ks l e p m c t x f g = omega (arith, f, g)
 
-append_stmt : (r s s0 ss b b0 bs p m c t x : ℕ) → s ≡ s0 + ss → b ≡ b0 + bs → x ≡ b0 + s0 → seven r ss (x + bs) p m c t ≡ seven r s b p m c t + 0
-append_stmt r s s0 ss b b0 bs p m c t x e f g = omega (arith, e, f, g)
+grow_event : (k l e p m c t x : ℕ) → x ≡ 0 → seven k l (x + e) p m c t ≡ seven k l e p m c t + 0
+grow_event k l e p m c t x f = omega (arith, f)
 
-two_bodies : (r s b b0 bs b1 bss p m c t x : ℕ) → b ≡ b0 + bs → bs ≡ b1 + bss → x ≡ b1 + b0 → seven r (x + s) bss p m c t ≡ seven r s b p m c t + 0
-two_bodies r s b b0 bs b1 bss p m c t x e f g = omega (arith, e, f, g)
+one_event : (k l e e0 es p m c t x : ℕ) → e ≡ e0 + es → x ≡ e0 → seven k l (x + es) p m c t ≡ seven k l e p m c t + 0
+one_event k l e e0 es p m c t x f g = omega (arith, f, g)
 
-grow_member : (r s b p m m0 ms c t x y n : ℕ) → m ≡ m0 + ms → x ≡ m0 + y → y ≡ n → seven r s b p (x + ms) c t ≡ seven r s b p m c t + n
-grow_member r s b p m m0 ms c t x y n e f g = omega (arith, e, f, g)
+two_events : (k l e e0 es e1 et p m c t x : ℕ) → e ≡ e0 + es → es ≡ e1 + et → x ≡ e0 + e1 → seven k l (x + et) p m c t ≡ seven k l e p m c t + 0
+two_events k l e e0 es e1 et p m c t x f g h = omega (arith, f, g, h)
 
-body_to_member : (r s b b0 bs p m m0 ms c t x n : ℕ) → b ≡ b0 + bs → m ≡ m0 + ms → x ≡ m0 + (n + b0) → seven r s bs p (x + ms) c t ≡ seven r s b p m c t + n
-body_to_member r s b b0 bs p m m0 ms c t x n e f g = omega (arith, e, f, g)
+three_events : (k l e e0 es e1 et e2 eu p m c t x : ℕ) → e ≡ e0 + es → es ≡ e1 + et → et ≡ e2 + eu → x ≡ e0 + (e1 + e2) → seven k l (x + eu) p m c t ≡ seven k l e p m c t + 0
+three_events k l e e0 es e1 et e2 eu p m c t x f g h i = omega (arith, f, g, h, i)
 
-body_to_method : (r s b b0 bs p m m0 ms c t x : ℕ) → b ≡ b0 + bs → m ≡ m0 + ms → x ≡ m0 + b0 → seven r s bs p (x + ms) c t ≡ seven r s b p m c t + 0
-body_to_method r s b b0 bs p m m0 ms c t x e f g = omega (arith, e, f, g)
+grow_list : (k l e p m c t : ℕ) → seven k (0 + l) e p m c t ≡ seven k l e p m c t + 0
+grow_list k l e p m c t = omega arith
 
-grow_body : (r s b p m c t : ℕ) → seven r s (0 + b) p m c t ≡ seven r s b p m c t + 0
-grow_body r s b p m c t = omega arith
+list_to_member : (k l l0 ls e p m m0 ms c t x : ℕ) → l ≡ l0 + ls → m ≡ m0 + ms → x ≡ m0 + l0 → seven k ls e p (x + ms) c t ≡ seven k l e p m c t + 0
+list_to_member k l l0 ls e p m m0 ms c t x f g h = omega (arith, f, g, h)
 
-grow_members : (r s b p m c t : ℕ) → seven r s b p (0 + m) c t ≡ seven r s b p m c t + 0
-grow_members r s b p m c t = omega arith
+event_to_member : (k l e e0 es p m m0 ms c t x : ℕ) → e ≡ e0 + es → m ≡ m0 + ms → x ≡ m0 + e0 → seven k l es p (x + ms) c t ≡ seven k l e p m c t + 0
+event_to_member k l e e0 es p m m0 ms c t x f g h = omega (arith, f, g, h)
 
-grow_parent : (r s b p m c t n : ℕ) → seven r s b (n + p) m c t ≡ seven r s b p m c t + n
-grow_parent r s b p m c t n = omega arith
+grow_member : (k l e p m m0 ms c t x : ℕ) → m ≡ m0 + ms → x ≡ m0 + 0 → seven k l e p (x + ms) c t ≡ seven k l e p m c t + 0
+grow_member k l e p m m0 ms c t x f g = omega (arith, f, g)
 
-to_class : (r s b p p0 ps m m0 ms c t : ℕ) → p ≡ p0 + ps → m ≡ m0 + ms → seven r s b ps ms ((p0 + m0) + c) t ≡ seven r s b p m c t + 0
-to_class r s b p p0 ps m m0 ms c t e f = omega (arith, e, f)
+grow_members : (k l e p m c t : ℕ) → seven k l e p (0 + m) c t ≡ seven k l e p m c t + 0
+grow_members k l e p m c t = omega arith
 
-class_to_script : (r s b p m c c0 cs t : ℕ) → c ≡ c0 + cs → seven r s b p m cs (c0 + t) ≡ seven r s b p m c t + 0
-class_to_script r s b p m c c0 cs t e = omega (arith, e)
+grow_parent : (k l e p m c t n : ℕ) → seven k l e (n + p) m c t ≡ seven k l e p m c t + n
+grow_parent k l e p m c t n = omega arith
 
-stmt_to_script : (r s s0 ss b p m c t : ℕ) → s ≡ s0 + ss → seven r ss b p m c (s0 + t) ≡ seven r s b p m c t + 0
-stmt_to_script r s s0 ss b p m c t e = omega (arith, e)
+to_class : (k l e p p0 ps m m0 ms c t : ℕ) → p ≡ p0 + ps → m ≡ m0 + ms → seven k l e ps ms ((p0 + m0) + c) t ≡ seven k l e p m c t + 0
+to_class k l e p p0 ps m m0 ms c t f g = omega (arith, f, g)
 
-grow_script : (r s b p m c t n : ℕ) → seven r s b p m c (n + t) ≡ seven r s b p m c t + n
-grow_script r s b p m c t n = omega arith
+class_to_script : (k l e p m c c0 cs t : ℕ) → c ≡ c0 + cs → seven k l e p m cs (c0 + t) ≡ seven k l e p m c t + 0
+class_to_script k l e p m c c0 cs t f = omega (arith, f)
+
+grow_script : (k l e p m c t : ℕ) → seven k l e p m c (0 + t) ≡ seven k l e p m c t + 0
+grow_script k l e p m c t = omega arith
 
 -- ---- each stack's top
 
-top_right : (v : Trees) → total right_count v.right_sides ≡ right_count (right v.right_sides) + total right_count (rest v.right_sides)
-top_right v = popped right_count (rhs.Plain expr.This) refl v.right_sides
+top_kind : (v : Trees) → total kind_count v.kinds ≡ kind_count (kind_on v.kinds) + total kind_count (rest v.kinds)
+top_kind v = popped kind_count kind.Create refl v.kinds
 
-top_stmt : (v : Trees) → total stmt_count v.statements ≡ stmt_count (stmt_tree v.statements) + total stmt_count (rest v.statements)
-top_stmt v = popped stmt_count stmt.TAbort count-TAbort v.statements
+top_list : (v : Trees) → total kinds_count v.kind_lists ≡ kinds_count (top [] v.kind_lists) + total kinds_count (rest v.kind_lists)
+top_list v = popped kinds_count [] refl v.kind_lists
 
-top_body : (bs : List (List Stmt)) → total body_count bs ≡ body_count (top [] bs) + total body_count (rest bs)
-top_body bs = popped body_count [] refl bs
+top_event : (es : List EventExpr) → total event_count es ≡ event_count (event_tree es) + total event_count (rest es)
+top_event es = popped event_count event.Any count-Any es
 
 top_members : (v : Trees) → total members_count v.members ≡ members_count (top [] v.members) + total members_count (rest v.members)
 top_members v = popped members_count [] refl v.members
@@ -102,44 +103,50 @@ top_class (c ∷ cs) = refl
 
 pub counted : (a : Action) (v : Trees) → count (built a v) ≡ count v + cost a
 unfolding built built_right_side built_statement built_event built_kind built_class built_member built_script
-counted action.Call v = grow_right _ _ _ _ _ _ _ _ 0 refl
-counted action.OwnCall v = grow_right _ _ _ _ _ _ _ _ 0 refl
-counted action.New v = grow_right _ _ _ _ _ _ _ _ 0 refl
-counted action.NewVersion v = grow_right _ _ _ _ _ _ _ _ 0 refl
-counted action.Activate v = grow_right _ _ _ _ _ _ _ _ 1 refl
-counted action.Plain v = grow_right _ _ _ _ _ _ _ _ 0 refl
-counted action.Show v = right_to_stmt _ _ _ _ _ _ _ _ _ _ (top_right v) (count-Show (right v.right_sides))
-counted action.Do v = right_to_stmt _ _ _ _ _ _ _ _ _ _ (top_right v) (count-Do (right v.right_sides))
-counted action.Let v = right_to_stmt _ _ _ _ _ _ _ _ _ _ (top_right v) (count-Let (var.Name (name v.names)) (right v.right_sides))
-counted action.Set v = right_to_stmt _ _ _ _ _ _ _ _ _ _ (top_right v) (count-Set (var.Name (name v.names)) (right v.right_sides))
-counted action.Say v = grow_stmt _ _ _ _ _ _ _ _ 0 (count-Say (tree v.exprs))
-counted action.Delete v = grow_stmt _ _ _ _ _ _ _ _ 0 (count-Delete (tree v.exprs))
-counted action.DropVersion v = grow_stmt _ _ _ _ _ _ _ _ 0 (count-DropVersion (tree v.exprs))
-counted action.Deactivate v = grow_stmt _ _ _ _ _ _ _ _ 1 (count-Deactivate (tree (rest v.exprs)) (tree v.exprs))
-counted action.Return v = grow_stmt _ _ _ _ _ _ _ _ 0 (count-Return (Some (tree v.exprs)))
-counted action.ReturnNothing v = grow_stmt _ _ _ _ _ _ _ _ 0 (count-Return None)
-counted action.TAbort v = grow_stmt _ _ _ _ _ _ _ _ 0 count-TAbort
-counted action.Append v = append_stmt _ _ _ _ _ _ _ _ _ _ _ _ (top_stmt v) (top_body v.bodies) (appended stmt_count (top [] v.bodies) (stmt_tree v.statements))
-counted action.If v = two_bodies _ _ _ _ _ _ _ _ _ _ _ _ (top_body v.bodies) (top_body (rest v.bodies)) (count-If (tree v.exprs) (top [] (rest v.bodies)) (top [] v.bodies))
-counted action.FieldMember v = grow_member _ _ _ _ _ _ _ _ _ _ _ 0 (top_members v) (appended member_count (top [] v.members) _) refl
-counted action.Constraint v = grow_member _ _ _ _ _ _ _ _ _ _ _ 0 (top_members v) (appended member_count (top [] v.members) _) refl
-counted action.SoftConstraint v = grow_member _ _ _ _ _ _ _ _ _ _ _ 0 (top_members v) (appended member_count (top [] v.members) _) refl
-counted action.Events v = grow_member _ _ _ _ _ _ _ _ _ _ _ 1 (top_members v) (appended member_count (top [] v.members) _) refl
-counted action.Method v = body_to_method _ _ _ _ _ _ _ _ _ _ _ _ (top_body v.bodies) (top_members v) (appended member_count (top [] v.members) _)
-counted action.Trigger v = body_to_member _ _ _ _ _ _ _ _ _ _ _ _ 1 (top_body v.bodies) (top_members v) (appended member_count (top [] v.members) _)
+counted action.AfterCreate v = grow_kind _ _ _ _ _ _ _ 0
+counted action.AfterMethod v = grow_kind _ _ _ _ _ _ _ 0
+counted action.AfterTBegin v = grow_kind _ _ _ _ _ _ _ 0
+counted action.AfterTCommit v = grow_kind _ _ _ _ _ _ _ 0
+counted action.AfterTAbort v = grow_kind _ _ _ _ _ _ _ 0
+counted action.BeforeDelete v = grow_kind _ _ _ _ _ _ _ 0
+counted action.BeforeMethod v = grow_kind _ _ _ _ _ _ _ 0
+counted action.BeforeTComplete v = grow_kind _ _ _ _ _ _ _ 0
+counted action.TimeAt v = grow_kind _ _ _ _ _ _ _ 1
+counted action.TimeEvery v = grow_kind _ _ _ _ _ _ _ 1
+counted action.Kinds v = grow_list _ _ _ _ _ _ _
+counted action.Listed v = append_kind _ _ _ _ _ _ _ _ _ _ _ _ (top_kind v) (top_list v) (appended kind_count (top [] v.kind_lists) (kind_on v.kinds))
+counted action.Unmasked v = kind_to_event _ _ _ _ _ _ _ _ _ _ (top_kind v) (count-Leaf (kind_on v.kinds) None)
+counted action.Masked v = kind_to_event _ _ _ _ _ _ _ _ _ _ (top_kind v) (count-Leaf (kind_on v.kinds) (Some (tree v.exprs)))
+counted action.Any v = grow_event _ _ _ _ _ _ _ _ count-Any
+counted action.First v = grow_event _ _ _ _ _ _ _ _ count-First
+counted action.NotEvent v = one_event _ _ _ _ _ _ _ _ _ _ (top_event v.events) (count-Not (event_tree v.events))
+counted action.Choose v = one_event _ _ _ _ _ _ _ _ _ _ (top_event v.events) (count-Choose (count_of (tree v.leaves)) (event_tree v.events))
+counted action.Every v = one_event _ _ _ _ _ _ _ _ _ _ (top_event v.events) (count-Every (count_of (tree v.leaves)) (event_tree v.events))
+counted action.AndEvents v = two_events _ _ _ _ _ _ _ _ _ _ _ _ (top_event v.events) (top_event (rest v.events)) (count-And (event_tree (rest v.events)) (event_tree v.events))
+counted action.OrEvents v = two_events _ _ _ _ _ _ _ _ _ _ _ _ (top_event v.events) (top_event (rest v.events)) (count-Or (event_tree (rest v.events)) (event_tree v.events))
+counted action.Relative v = two_events _ _ _ _ _ _ _ _ _ _ _ _ (top_event v.events) (top_event (rest v.events)) (count-Relative (event_tree (rest v.events)) (event_tree v.events))
+counted action.Prior v = two_events _ _ _ _ _ _ _ _ _ _ _ _ (top_event v.events) (top_event (rest v.events)) (count-Prior (event_tree (rest v.events)) (event_tree v.events))
+counted action.Sequence v = two_events _ _ _ _ _ _ _ _ _ _ _ _ (top_event v.events) (top_event (rest v.events)) (count-Sequence (event_tree (rest v.events)) (event_tree v.events))
+counted action.Fa v =
+    three_events _ _ _ _ _ _ _ _ _ _ _ _ _ _ (top_event v.events) (top_event (rest v.events)) (top_event (rest (rest v.events)))
+    (count-Fa (event_tree (rest (rest v.events))) (event_tree (rest v.events)) (event_tree v.events))
+counted action.FieldMember v = grow_member _ _ _ _ _ _ _ _ _ _ (top_members v) (appended member_count (top [] v.members) _)
+counted action.Method v = grow_member _ _ _ _ _ _ _ _ _ _ (top_members v) (appended member_count (top [] v.members) _)
+counted action.Constraint v = grow_member _ _ _ _ _ _ _ _ _ _ (top_members v) (appended member_count (top [] v.members) _)
+counted action.SoftConstraint v = grow_member _ _ _ _ _ _ _ _ _ _ (top_members v) (appended member_count (top [] v.members) _)
+counted action.Events v = list_to_member _ _ _ _ _ _ _ _ _ _ _ _ (top_list v) (top_members v) (appended member_count (top [] v.members) _)
+counted action.Trigger v = event_to_member _ _ _ _ _ _ _ _ _ _ _ _ (top_event v.events) (top_members v) (appended member_count (top [] v.members) _)
+counted action.Members v = grow_members _ _ _ _ _ _ _
 counted action.Parent v = grow_parent _ _ _ _ _ _ _ 1
 counted action.NoParent v = grow_parent _ _ _ _ _ _ _ 0
-counted action.Members v = grow_members _ _ _ _ _ _ _
-counted action.Body v = grow_body _ _ _ _ _ _ _
-counted action.Absent v = grow_body _ _ _ _ _ _ _
-counted action.Begin v = grow_script _ _ _ _ _ _ _ 0
-counted action.Commit v = grow_script _ _ _ _ _ _ _ 0
-counted action.Abort v = grow_script _ _ _ _ _ _ _ 0
-counted action.Empty v = grow_script _ _ _ _ _ _ _ 0
 counted action.Class v = to_class _ _ _ _ _ _ _ _ _ _ _ (top_parent v) (top_members v)
 counted action.Declare v = class_to_script _ _ _ _ _ _ _ _ _ (top_class v.classes)
-counted action.Simple v = stmt_to_script _ _ _ _ _ _ _ _ _ (top_stmt v)
-counted action.Clock v = grow_script _ _ _ _ _ _ _ 1
+counted action.Begin v = grow_script _ _ _ _ _ _ _
+counted action.Commit v = grow_script _ _ _ _ _ _ _
+counted action.Abort v = grow_script _ _ _ _ _ _ _
+counted action.Clock v = grow_script _ _ _ _ _ _ _
+counted action.Empty v = grow_script _ _ _ _ _ _ _
+counted action.Simple v = grow_script _ _ _ _ _ _ _
 counted other v = plus_none (count v)
 
 -- ---- tokens

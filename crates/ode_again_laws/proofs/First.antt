@@ -25,27 +25,26 @@ use Rattle.ode_reread.proofs.Readings.{at_start}
 use Rattle.ode_reread_classes.proofs.Derivations.{view, with_items, Left, Ruled, View}
 use Rattle.ode_again_laws.proofs.Counting.{counted, kept_count}
 use Rattle.ode_again_laws.proofs.Counts.{count}
-use Rattle.ode_again_laws.proofs.Derived.{never_less}
-use Rattle.ode_again_laws.proofs.Rows.{costs}
+use Rattle.ode_again_laws.proofs.Derived.{balanced, heats}
 use Rattle.ode_again_laws.proofs.Words.{is_class}
 
 -- ---- the last action
 
 -- the action at the end of items, behind an action or none
-abbrev last_after : Option Action → List Item → Option Action
+abbrev pub last_after : Option Action → List Item → Option Action
 last_after o [] = o
 last_after o (item.Token k ∷ items) = last_after None items
 last_after o (item.Part p ∷ items) = last_after None items
 last_after o (item.Build a ∷ items) = last_after (Some a) items
 
-record MadeBy (a : Action) (out : Trees) : Type 0 where
-  before : Trees
-  is : out ≡ built a before
+pub record MadeBy (a : Action) (out : Trees) : Type 0 where
+  pub before : Trees
+  pub is : out ≡ built a before
 
-abbrev Was : Option Action → Trees → Type 0
+abbrev pub Was : Option Action → Trees → Type 0
 Was o v = (a : Action) → o ≡ Some a → MadeBy a v
 
-no_action : (v : Trees) → Was None v
+pub no_action : (v : Trees) → Was None v
 no_action v a e = absurd (none-some a e)
 
 last_any : (o : Option Action) (items : List Item) (a : Action) → last_after None items ≡ Some a → last_after o items ≡ Some a
@@ -60,7 +59,7 @@ last_append o (item.Token k ∷ row) items a e = last_append None row items a e
 last_append o (item.Part p ∷ row) items a e = last_append None row items a e
 last_append o (item.Build b ∷ row) items a e = last_append (Some b) row items a e
 
-ended : {items : List Item} {v : Trees} {ts : List Spelled} {out : Trees} → Derives trees items v ts out → (o : Option Action) → Was o v → (a : Action) → last_after o items ≡ Some a → MadeBy a out
+pub ended : {items : List Item} {v : Trees} {ts : List Spelled} {out : Trees} → Derives trees items v ts out → (o : Option Action) → Was o v → (a : Action) → last_after o items ≡ Some a → MadeBy a out
 ended Done o was a e = was a e
 ended (Next k x d) o was a e = ended d None (no_action _) a e
 ended {v = v} (Make b d) o was a e = ended d (Some b) (λ c f. record { before = v; is = ap (λ x. built x v) (same_Some b c f) }) a e
@@ -168,8 +167,8 @@ inside_class =
 pub data Third (third : Spelled) (more : List Spelled) (out : Both) : Type 0 where
   -- a class with a parent, which is counted
   WithParent : third.terminal ≡ terminal.Colon → 1 ≤ count out.trees → Third third more out
-  -- one without
-  Without : third.terminal ≡ terminal.OpenBrace → (v : Both) → count v.trees ≡ 0 → Ds inside_class v more out → Third third more out
+  -- one without, in which the words of the clock behind the brace are counted
+  Without : third.terminal ≡ terminal.OpenBrace → count out.trees ≡ heats more → Third third more out
 
 pub record IsOpened (ts : List Spelled) (out : Both) : Type 0 where
   pub name : Spelled
@@ -194,8 +193,11 @@ parent_skip : (a : Action) → skipped part.Parent ≡ Some a → action.NoParen
 unfolding skipped
 parent_skip a e = same_Some action.NoParent a e
 
-some_cost : (v c out : ℕ) → c ≡ 1 → v + c ≤ out → 1 ≤ out
-some_cost v c out e l = omega (arith, e, l)
+some_cost : (v h out : ℕ) → out ≡ v + (1 + h) → 1 ≤ out
+some_cost v h out e = omega (arith, e)
+
+heat_alone : (v h out : ℕ) → out ≡ v + (0 + h) → v ≡ 0 → out ≡ h
+heat_alone v h out e f = omega (arith, e, f)
 
 -- nothing is counted behind the name
 named_count : (t : Spelled) → count (make action.NoParent (keep t at_start)).trees ≡ 0
@@ -204,14 +206,14 @@ named_count t = counted action.NoParent (keep t at_start).trees ∙ ap (λ n. n 
 third_view : {ts : List Spelled} (name : Spelled) (out : Both) → name.terminal ≡ terminal.Name → View part.Parent (item.Token terminal.OpenBrace ∷ inside_class) (keep name at_start) out ts → IsOpened (name ∷ ts) out
 third_view name out named (Ruled {ts = ts} t row e d) =
     let x = parent_token t.terminal row e in
-    let less = never_less (its_trees (with_items (ap (λ r. r ++ item.Token terminal.OpenBrace ∷ inside_class) x.1) d)) in
+    let even = balanced (its_trees (with_items (ap (λ r. r ++ item.Token terminal.OpenBrace ∷ inside_class) x.1) d)) refl in
     record {
       name = name;
       third = t;
       more = ts;
       is = refl;
       named = named;
-      opens = WithParent x.0 (some_cost (count (keep t (keep name at_start)).trees) (costs (item.Token terminal.Name ∷ item.Build action.Parent ∷ item.Token terminal.OpenBrace ∷ inside_class)) (count out.trees) refl less);
+      opens = WithParent x.0 (some_cost (count (keep t (keep name at_start)).trees) (heats ts) (count out.trees) even);
     }
 third_view name out named (Left a e d) = brace_view name a out named (parent_skip a e) (next_view d) where
   brace_view : {ts : List Spelled} (name : Spelled) (a : Action) (out : Both) → name.terminal ≡ terminal.Name → action.NoParent ≡ a
@@ -219,7 +221,7 @@ third_view name out named (Left a e d) = brace_view name a out named (parent_ski
   brace_view name a out named same (Got {ts = ts} t e d) =
       let v : Both = keep t (make a (keep name at_start)) in
       let none : count v.trees ≡ 0 = kept_count t.terminal t.kind t.bytes (make a (keep name at_start)).trees ∙ subst (λ b. count (make b (keep name at_start)).trees ≡ 0) same (named_count name) in
-      record { name = name; third = t; more = ts; is = refl; named = named; opens = Without e v none d }
+      record { name = name; third = t; more = ts; is = refl; named = named; opens = Without e (heat_alone (count v.trees) (heats ts) (count out.trees) (balanced (its_trees d) refl) none) }
 
 opened_view : {ts : List Spelled} (out : Both) → NextView terminal.Name (item.Part part.Parent ∷ item.Token terminal.OpenBrace ∷ inside_class) at_start out ts → IsOpened ts out
 opened_view out (Got t e d) = third_view t out e (view d)

@@ -8,3 +8,4 @@ pub mod Words
 pub mod First
 pub mod Again
 pub mod Numbered
+pub mod Parameters

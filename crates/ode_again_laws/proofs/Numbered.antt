@@ -10,7 +10,6 @@ use Rattle.ode_terminals.specs.Seen.{place_of}
 use Rattle.ode_value.specs.declared.statement.ClassDecl.{ClassDecl}
 use Rattle.ode_value.specs.declared.statement.Member.{Member}
 use Rattle.ode_value.specs.declared.statement.Member.TheVariants as member
-use Rattle.ode_value.specs.declared.statement.Statement.{Statement}
 use Rattle.ode_value.specs.declared.statement.Statement.TheVariants as statement
 use Rattle.ode_syntax.specs.declared.trees.Trees.{Trees}
 use Rattle.ode_syntax.specs.Built.{class_tree, script_tree}
@@ -41,9 +40,6 @@ members_numbers place n (m ∷ ms) g = (member_numbers place n m g.0, members_nu
 class_numbers : (place : Place) (n : ℕ) (d : ClassDecl) → GoodClass place n d → HaveNumbers d
 class_numbers place n d good = members_numbers place n d.members good.members
 
-script_numbers : (place : Place) (n : ℕ) (s : Statement) (d : ClassDecl) → GoodScript place n s → s ≡ statement.Class d → HaveNumbers d
-script_numbers place n s d good is = class_numbers place n d (subst (GoodScript place n) is good)
-
 -- where the class is a text's
 pub text_numbers : (text : List ℕ) (d : ClassDecl) → IsClassOf text d → HaveNumbers d
 unfolding items_of
@@ -56,10 +52,10 @@ text_numbers text d p =
     let same : d ≡ a.x = p.2 ∙ (ap (λ (v : Trees). class_tree v.classes) (sym x.trees) ∙ ap (λ (b : Both). class_tree b.trees.classes) is) in
     subst HaveNumbers (sym same) (class_numbers Class a.n a.x a.good)
 
--- where it is a piece's
-pub piece_numbers : (piece : List ℕ) (d : ClassDecl) → statement_of piece ≡ Ok (statement.Class d) → HaveNumbers d
+-- a class that is read is one that its text is read as again
+pub piece_good : (piece : List ℕ) (d : ClassDecl) → statement_of piece ≡ Ok (statement.Class d) → (place : Place) × (n : ℕ) × GoodClass place n d
 unfolding items_of
-piece_numbers piece d e =
+piece_good piece d e =
     let s = statement_is piece (statement.Class d) e in
     let place = place_of piece s.tokens in
     let read : IsRead HEIGHT_LIMIT start.Statement place piece s.made = record { tokens = s.tokens; lexed_as = s.lexed_as; makes = s.is_tree.makes; within = s.is_tree.within } in
@@ -68,4 +64,8 @@ piece_numbers piece d e =
     let a = l.1.1 in
     let is : x.out ≡ with_script a.x a.n at_start = sym l.2 ∙ a.is in
     let same : a.x ≡ statement.Class d = sym (ap (λ (b : Both). script_tree b.trees.scripts) is) ∙ (ap (λ (v : Trees). script_tree v.scripts) x.trees ∙ s.same) in
-    script_numbers place a.n a.x d a.good same
+    (place, a.n, subst (GoodScript place a.n) same a.good)
+
+-- where it is a piece's
+pub piece_numbers : (piece : List ℕ) (d : ClassDecl) → statement_of piece ≡ Ok (statement.Class d) → HaveNumbers d
+piece_numbers piece d e = let good = piece_good piece d e in class_numbers good.0 good.1 d good.2

@@ -1,5 +1,5 @@
 -- Words, and what the grammar sees of them.
-use Rattle.std.proofs.Common.{◌≡◌, ℕ, ℤ, pos, negsuc, ◌^◌, Bool, true, false, not, ◌&&◌, ◌||◌, ◌==◌, cond, nat_le, codes, List, [], ◌∷◌, map, Option, Some, None, refl, sym, ◌∙◌, ap, subst}
+use Rattle.std.proofs.Common.{◌≡◌, ℕ, ℤ, pos, negsuc, ◌^◌, ◌+◌, Bool, true, false, not, ◌&&◌, ◌||◌, ◌==◌, cond, nat_le, arith, codes, List, [], ◌∷◌, map, Option, Some, None, refl, sym, ◌∙◌, ap, subst}
 use Rattle.std.specs.List.{list_all, list_any}
 use Rattle.std.specs.Str.{bytes_eq}
 use Rattle.std.proofs.lemmas.Bool.{and_parts, false≢true}
@@ -19,11 +19,12 @@ use Rattle.ode_terminals.specs.Words.{looked_up, rows, word_terminal}
 use Rattle.ode_timer.specs.Dates.{instant_of}
 use Rattle.ode_value.specs.Limits.{choose_limit}
 use Rattle.ode_syntax.specs.Kept.{spelled}
+use Rattle.ode_relex.proofs.WordTokens.{either_false}
 use Rattle.ode_reread.proofs.Sounds.{either}
 use Rattle.ode_language.specs.Marks.{has_unbuilt_word, is_unbuilt_word, unbuilt_words}
-use Rattle.ode_again_laws.proofs.Derived.{AreCool, BeginNothing}
+use Rattle.ode_again_laws.proofs.Derived.{heats}
 use Rattle.ode_again_laws.proofs.Lexed.{AllRead, Reads, word_kind}
-use Rattle.ode_again_laws.proofs.Rows.{begins_unbuilt, is_hot}
+use Rattle.ode_again_laws.proofs.Rows.{heat, is_hot}
 
 -- ---- the table of words
 
@@ -90,44 +91,44 @@ module _ (p : Terminal → Bool) (is : IsSpecial p) where
   shown place bytes (kind.Reference r) e = absurd (false≢true (sym (reference_none place) ∙ e))
   shown place bytes (kind.Mark m) e = AMark m e
 
--- ---- what begins something that isn't built
+-- ---- the words of the clock
 
-unbuilt_special : IsSpecial begins_unbuilt
+unbuilt_special : IsSpecial is_hot
 unbuilt_special = record { leaf = refl; stray = refl; number = refl; count = refl; seconds = refl; text = refl; instant = refl }
 
-unbuilt_table : list_all (λ (r : List ℕ × Terminal). not (begins_unbuilt r.1) || is_unbuilt_word r.0) rows ≡ true
+unbuilt_table : list_all (λ (r : List ℕ × Terminal). not (is_hot r.1) || is_unbuilt_word r.0) rows ≡ true
 unfolding unbuilt_words
 unbuilt_table = refl
 
-no_unbuilt_mark : (m : Mark) → begins_unbuilt (mark_terminal m) ≡ false
+no_unbuilt_mark : (m : Mark) → is_hot (mark_terminal m) ≡ false
 no_unbuilt_mark mark.Semi = refl
 no_unbuilt_mark other = refl
 
-unbuilt_shown : (bytes : List ℕ) {k : TokenKind} → Shown begins_unbuilt bytes k → is_unbuilt_word bytes ≡ true
+unbuilt_shown : (bytes : List ℕ) {k : TokenKind} → Shown is_hot bytes k → is_unbuilt_word bytes ≡ true
 unfolding word_terminal
-unbuilt_shown bytes (AWord e) = looked_test begins_unbuilt is_unbuilt_word rows bytes unbuilt_table refl e
+unbuilt_shown bytes (AWord e) = looked_test is_hot is_unbuilt_word rows bytes unbuilt_table refl e
 unbuilt_shown bytes (AMark n e) = absurd (false≢true (sym (no_unbuilt_mark n) ∙ e))
 
-begins_none : (place : Place) (bytes : List ℕ) (k : TokenKind) → is_unbuilt_word bytes ≡ false → begins_unbuilt (seen place bytes k) ≡ false
-begins_none place bytes k none = by_test (begins_unbuilt (seen place bytes k)) refl where
-  by_test : (b : Bool) → begins_unbuilt (seen place bytes k) ≡ b → b ≡ false
-  by_test true e = absurd (false≢true (sym none ∙ unbuilt_shown bytes (shown begins_unbuilt unbuilt_special place bytes k e)))
+begins_none : (place : Place) (bytes : List ℕ) (k : TokenKind) → is_unbuilt_word bytes ≡ false → is_hot (seen place bytes k) ≡ false
+begins_none place bytes k none = by_test (is_hot (seen place bytes k)) refl where
+  by_test : (b : Bool) → is_hot (seen place bytes k) ≡ b → b ≡ false
+  by_test true e = absurd (false≢true (sym none ∙ unbuilt_shown bytes (shown is_hot unbuilt_special place bytes k e)))
   by_test false e = refl
 
-none_of_three : (a b c : Bool) → (a || b || c) ≡ false → (a ≡ false) × (c ≡ false)
-none_of_three true b c e = absurd (false≢true (sym e))
-none_of_three false true c e = absurd (false≢true (sym e))
-none_of_three false false c e = (refl, e)
+no_heat : (place : Place) (bytes : List ℕ) (k : TokenKind) → is_unbuilt_word bytes ≡ false → heat (seen place bytes k) ≡ 0
+no_heat place bytes k none = ap (λ b. cond b 1 0) (begins_none place bytes k none)
 
-pub begin_nothing : (place : Place) (text : List ℕ) (behind_after : Bool) (tokens : List Token) → has_unbuilt_word behind_after (map (slice_of text) tokens) ≡ false
-    → BeginNothing (map (spelled place text) tokens)
-begin_nothing place text behind_after [] e = tt
-begin_nothing place text behind_after (t ∷ ts) e =
-    let w = slice_of text t in
-    let x = none_of_three (is_unbuilt_word w) (behind_after && bytes_eq w (codes "tabort")) (has_unbuilt_word (bytes_eq w (codes "after")) (map (slice_of text) ts)) e in
-    (begins_none place w t.kind x.0, begin_nothing place text (bytes_eq w (codes "after")) ts x.1)
+no_more : (h more : ℕ) → h ≡ 0 → more ≡ 0 → h + more ≡ 0
+no_more h more e f = omega (arith, e, f)
 
--- ---- words that stand in what isn't built alone
+-- where no word is unbuilt, no token is the clock's
+pub cold_tokens : (place : Place) (text : List ℕ) (tokens : List Token) → has_unbuilt_word text tokens ≡ false → heats (map (spelled place text) tokens) ≡ 0
+cold_tokens place text [] e = refl
+cold_tokens place text (t ∷ ts) e =
+    let x = either_false (is_unbuilt_word (slice_of text t)) (has_unbuilt_word text ts) e in
+    no_more (heat (seen place (slice_of text t) t.kind)) (heats (map (spelled place text) ts)) (no_heat place (slice_of text t) t.kind x.0) (cold_tokens place text ts x.1)
+
+-- ---- and back
 
 abbrev is_letter : List ℕ → Bool
 is_letter [] = false
@@ -140,10 +141,6 @@ burns place w = is_letter w && is_hot (seen place w kind.Word)
 all_burn : (place : Place) → list_all (burns place) unbuilt_words ≡ true
 unfolding unbuilt_words word_terminal
 all_burn place = refl
-
-after_burns : (place : Place) → burns place (codes "after") ≡ true
-unfolding word_terminal
-after_burns place = refl
 
 among : (test : List ℕ → Bool) (ws : List (List ℕ)) (w : List ℕ) → list_all test ws ≡ true → list_any (λ one. bytes_eq one w) ws ≡ true → test w ≡ true
 among test [] w all e = absurd (false≢true e)
@@ -166,15 +163,16 @@ cold : (place : Place) (text : List ℕ) (t : Token) → Reads text t → is_hot
 cold place text t r none true f = absurd (false≢true (sym none ∙ burnt place text t r (f refl)))
 cold place text t r none false f = refl
 
-pub no_unbuilt_word : (place : Place) (text : List ℕ) (tokens : List Token) → AllRead text tokens → AreCool (map (spelled place text) tokens)
-    → has_unbuilt_word false (map (slice_of text) tokens) ≡ false
-no_unbuilt_word place text [] reads cool = refl
-no_unbuilt_word place text (t ∷ ts) reads cool =
-    let w = slice_of text t in
-    let none = cold place text t reads.0 cool.0 (is_unbuilt_word w) (λ e. among (burns place) unbuilt_words w (all_burn place) e) in
-    let none_after = cold place text t reads.0 cool.0 (bytes_eq w (codes "after")) (λ e. subst (λ u. burns place u ≡ true) (sym ((bytes_eq-Decides w (codes "after")).0 e)) (after_burns place)) in
-    ap (λ b. b || false && bytes_eq w (codes "tabort") || has_unbuilt_word (bytes_eq w (codes "after")) (map (slice_of text) ts)) none
-    ∙ (ap (λ b. has_unbuilt_word b (map (slice_of text) ts)) none_after ∙ no_unbuilt_word place text ts reads.1 cool.1)
+is_cold : (b : Bool) (more : ℕ) → cond b 1 0 + more ≡ 0 → (b ≡ false) × (more ≡ 0)
+is_cold true more e = absurd (omega (arith, e))
+is_cold false more e = (refl, omega (arith, e))
+
+pub no_unbuilt_word : (place : Place) (text : List ℕ) (tokens : List Token) → AllRead text tokens → heats (map (spelled place text) tokens) ≡ 0 → has_unbuilt_word text tokens ≡ false
+no_unbuilt_word place text [] reads e = refl
+no_unbuilt_word place text (t ∷ ts) reads e =
+    let x = is_cold (is_hot (seen place (slice_of text t) t.kind)) (heats (map (spelled place text) ts)) e in
+    let none = cold place text t reads.0 x.0 (is_unbuilt_word (slice_of text t)) (λ f. among (burns place) unbuilt_words (slice_of text t) (all_burn place) f) in
+    ap (λ b. b || has_unbuilt_word text ts) none ∙ no_unbuilt_word place text ts reads.1 x.1
 
 -- ---- `class` and `:`
 

@@ -1,9 +1,6 @@
-//! Worlds of the forms that are built so far stay so, and nothing fires in them. Each law is carried by the contract of a function that
-//! does nothing.
+//! No statement that is read is the clock's: a law, carried by the contract of a function that does nothing.
 #![tactic(auto)]
 
-mod sessions;
-mod worlds;
+mod laws;
 
-pub use sessions::{runs_stay_built, sessions_stay_built};
-pub use worlds::{transactions_stay_quiet, worlds_stay_built};
+pub use laws::read_statements_are_built;

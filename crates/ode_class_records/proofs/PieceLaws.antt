@@ -13,17 +13,6 @@ use Rattle.ode_table.specs.Whole.{IsWhole}
 use Rattle.ode_compile.specs.Compiling.{size_of_table}
 use Rattle.ode_class_records.specs.ClassRows.{IsSized}
 
--- a piece begins before the end
-pub begins_inside : (v n place : ℕ) → 0 < v → place < (n + (v - 1)) / v → place * v < n
-begins_inside v n place some below =
-    let whole : (place + 1) * v ≤ n + (v - 1) = (le-div_iff_mul-le some).0 (omega (arith, below)) in
-    let split : (place + 1) * v ≡ place * v + v = grind arith in
-    omega (arith, whole, split)
-
-pub piece_begins : (n place : ℕ) → place < piece_count n → place * value_limit < n
-unfolding value_limit
-piece_begins n place below = begins_inside value_limit n place (omega arith) below
-
 -- what few bytes there are where there are few pieces
 pub few_bytes : (v n most : ℕ) → 0 < v → (n + (v - 1)) / v ≤ most → n ≤ most * v
 few_bytes v n most some few =

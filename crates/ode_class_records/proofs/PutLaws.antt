@@ -1,5 +1,5 @@
 -- Rows that are put one behind the other.
-use Rattle.std.proofs.Common.{◌≡◌, ℕ, ◌+◌, List, [], ◌∷◌, ◌++◌, map, Some, refl, ap, sym, ◌∙◌, subst, append_assoc}
+use Rattle.std.proofs.Common.{◌≡◌, ℕ, ◌+◌, List, [], ◌∷◌, ◌++◌, Some, refl, ap, sym, ◌∙◌, subst, append_assoc}
 use Rattle.std.proofs.lemmas.List.{append-nil}
 use Rattle.std.specs.BTreeMap.{insert_entry}
 use Rattle.std.specs.List.{enumerate_from, flat_map}
@@ -9,7 +9,7 @@ use Rattle.ode_keep.proofs.Keys.{key_total}
 use Rattle.ode_value.specs.Keys.{key_cmp}
 use Rattle.ode_value.specs.Records.{Row}
 use Rattle.ode_value.specs.Tables.{Table}
-use Rattle.ode_class_records.specs.ClassRows.{head_at, pieces_at}
+use Rattle.ode_class_records.specs.ClassRows.{pieces_at}
 use Rattle.ode_class_records.specs.Puts.{put_of, puts, with_rows}
 
 pub rows_behind : (rs ss : List Row) (cs : Changes) → with_rows (rs ++ ss) cs ≡ with_rows ss (with_rows rs cs)
@@ -19,13 +19,6 @@ rows_behind (r ∷ rs) ss cs = rows_behind rs ss (insert_entry key_cmp cs r.0 (S
 -- one row more
 pub row_more : (rs : List Row) (r : Row) (old cs new : Changes) → cs ≡ with_rows rs old → new ≡ with_rows (r ∷ []) cs → new ≡ with_rows (rs ++ r ∷ []) old
 row_more rs r old cs new so more = more ∙ ap (with_rows (r ∷ [])) so ∙ sym (rows_behind rs (r ∷ []) old)
-
--- the tables that are left
-pub heads_next : (class i : ℕ) (t : Table) (left rest : List Table) (cs new : Changes) → left ≡ t ∷ rest → new ≡ with_rows (head_at class (i, t) ∷ []) cs
-    → with_rows (map (head_at class) (enumerate_from (i + 1) rest)) new ≡ with_rows (map (head_at class) (enumerate_from i left)) cs
-heads_next class i t left rest cs new split more =
-    ap (with_rows (map (head_at class) (enumerate_from (i + 1) rest))) more
-    ∙ ap (λ (ts : List Table). with_rows (map (head_at class) (enumerate_from i ts)) cs) (sym split)
 
 pub tables_next : (class i : ℕ) (t : Table) (left rest : List Table) (cs new : Changes) → left ≡ t ∷ rest → new ≡ with_rows (pieces_at class (i, t)) cs
     → with_rows (flat_map (pieces_at class) (enumerate_from (i + 1) rest)) new ≡ with_rows (flat_map (pieces_at class) (enumerate_from i left)) cs

@@ -18,7 +18,7 @@ use ode_table::Table;
 use ode_value::Class;
 use std::alloc::{AllocError, Global};
 
-#[tactic(auto, using(crate::proofs::HeadLaws::head_spelled), unfolding(ode_codec::specs::Rules::IsKept))]
+#[tactic(auto, using(crate::proofs::HeadLaws::head_spelled), unfolding(ode_codec::specs::Rules::IsCounted))]
 fn put_head(
     alloc: Global,
     batch: &mut Batch,

@@ -2,7 +2,7 @@
 ghost use Rattle.std.specs.Prelude.{◌≡◌, ◌*◌, ◌<◌, ◌^◌, OnOk, drop, length, map, take};
 ghost use Rattle.ode_value.specs.Lengths.{piece_count};
 ghost use Rattle.ode_value.specs.Limits.{value_limit};
-ghost use Rattle.ode_codec.specs.Rules.{IsKept, IsPiece};
+ghost use Rattle.ode_codec.specs.Rules.{IsCounted, IsPiece};
 ghost use Rattle.ode_codec.specs.Spelling.{spelled};
 ghost use Rattle.ode_codec.specs.StoredRows.{pieces_of};
 ghost use Rattle.ode_class_records.specs.ClassRows.{piece_row};
@@ -24,11 +24,11 @@ pub(crate) enum Parted {
 }
 
 // A piece with its number.
-#[tactic(auto, unfolding(ode_codec::specs::Spelling::key_of, ode_codec::specs::Spelling::value_of, ode_codec::specs::Rules::IsKept))]
+#[tactic(auto, unfolding(ode_codec::specs::Spelling::key_of, ode_codec::specs::Spelling::value_of, ode_codec::specs::Rules::IsCounted))]
 fn piece_record(class: u32, of: Parted, place: u16, bytes: List<u8>) -> Record
     requires { IsPiece bytes }
     ensures spelled { spelled result ≡ piece_row class of (place, bytes) }
-    ensures kept { IsKept result }
+    ensures kept { IsCounted result }
 {
     match of {
         Parted::Text => Record::ClassPiece {

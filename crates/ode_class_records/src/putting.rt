@@ -1,6 +1,6 @@
 //! A record among changes.
 ghost use Rattle.std.specs.Prelude.{◌≡◌, [], ◌∷◌, OnOk};
-ghost use Rattle.ode_codec.specs.Rules.{IsKept};
+ghost use Rattle.ode_codec.specs.Rules.{IsCounted};
 ghost use Rattle.ode_codec.specs.Spelling.{spelled};
 ghost use Rattle.ode_class_records.specs.Puts.{with_rows};
 
@@ -10,7 +10,7 @@ use std::alloc::{AllocError, Global};
 
 /// Puts what a record is spelled as.
 pub(crate) fn put(alloc: Global, batch: &mut Batch, one: &Record) -> Result<(), AllocError>
-    requires { IsKept one.now }
+    requires { IsCounted one.now }
     ensures { OnOk result (batch.new ≡ with_rows (spelled one.now ∷ []) batch.old) }
 {
     let (key, value) = encode(alloc, one)?;

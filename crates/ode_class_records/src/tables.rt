@@ -45,7 +45,7 @@ fn table_bytes(alloc: Global, table: &Table) -> Result<List<u8>, AllocError>
     Ok(List::from_vec(out))
 }
 
-#[tactic(auto, unfolding(ode_codec::specs::Spelling::key_of, ode_codec::specs::Spelling::value_of, ode_codec::specs::Rules::IsKept))]
+#[tactic(auto, unfolding(ode_codec::specs::Spelling::key_of, ode_codec::specs::Spelling::value_of, ode_codec::specs::Rules::IsCounted))]
 fn put_table_head(
     alloc: Global,
     batch: &mut Batch,

@@ -5,7 +5,7 @@ use Rattle.std.specs.List.{flat_map}
 use Rattle.ode_value.specs.declared.value.Value.{Value}
 use Rattle.ode_value.specs.Lengths.{value_length, values_length, activation_length, entry_length}
 use Rattle.ode_value.specs.Objects.{Activation}
-use Rattle.ode_value.specs.Records.{byte, row_weight, spelled_value}
+use Rattle.ode_value.specs.Records.{byte, counted, row_weight, spelled_value}
 use Rattle.ode_value.specs.Worlds.{Entry}
 use Rattle.ode_codec.specs.StoredRows.{activation_row, entry_row, u16, u32, u64}
 
@@ -16,8 +16,8 @@ module _ (same : (v : Value) → length (spelled_value v) ≡ value_length v) wh
 
   pub length-activation : (id state : ℕ) (a : Activation) → row_weight (activation_row id state a) ≡ activation_length a.args
   length-activation id state a =
-      omega (arith, length-append (u32 a.class ++ u16 a.trigger ++ u16 state ++ byte (length a.args)) (flat_map spelled_value a.args), length-args a.args)
+      omega (arith, length-append (u32 a.class ++ u16 a.trigger ++ u16 state ++ counted a.args) (flat_map spelled_value a.args), length-args a.args)
 
   pub length-entry : (number : ℕ) (e : Entry) → row_weight (entry_row (number, e)) ≡ entry_length e.args
   length-entry number e =
-      omega (arith, length-append (u64 e.object ++ u32 e.class ++ u16 e.trigger ++ byte e.generation ++ byte (length e.args)) (flat_map spelled_value e.args), length-args e.args)
+      omega (arith, length-append (u64 e.object ++ u32 e.class ++ u16 e.trigger ++ byte e.generation ++ counted e.args) (flat_map spelled_value e.args), length-args e.args)

@@ -1,5 +1,5 @@
 -- Values are read as they are spelled.
-use Rattle.std.proofs.Common.{◌≡◌, ℕ, ℤ, zero, suc, ◌^◌, ◌<◌, ◌≤◌, Bool, true, false, cond, List, [], ◌∷◌, ◌++◌, length, take, drop, Option, Some, None, refl, sym, ap, subst, ◌∙◌, append_assoc, arith}
+use Rattle.std.proofs.Common.{◌≡◌, ℕ, ℤ, zero, suc, ◌%◌, ◌^◌, ◌<◌, ◌≤◌, Bool, true, false, cond, List, [], ◌∷◌, ◌++◌, length, take, drop, Option, Some, None, refl, sym, ap, subst, ◌∙◌, append_assoc, arith}
 use Rattle.std.specs.Prelude.{FitsSigned, IfSome, nat_lt, nat_le, ◌==◌, ◌&&◌, position}
 use Rattle.std.specs.Int.{w16, w32, w64, to_be_bytes, cast_unsigned}
 use Rattle.std.specs.List.{AllByRecursion}
@@ -288,8 +288,23 @@ module _ (spell : ℕ → List ℕ) (count : List ℕ → Option (ℕ × List �
 abbrev pub spell_fields : List Value → List ℕ
 spell_fields vs = to_be_bytes w16 (length vs) ++ values vs
 
+-- a count of arguments
+abbrev pub spell_count : ℕ → List ℕ
+spell_count n = spell_byte (n % 2 ^ 8)
+
+count_same : (n : ℕ) → n < 2 ^ 8 → spell_count n ≡ spell_byte n
+count_same n low = let same : n % 2 ^ 8 ≡ n = omega (arith, low) in ap spell_byte same
+
+format_count : IsFormat ℕ spell_count byte_in (λ n. n < 2 ^ 8)
+format_count = record {
+  takes = λ bytes x are is.
+      let took = format8.takes bytes x are is in
+      (subst (λ (s : List ℕ). Takes bytes s x.1) (sym (count_same x.0 took.1)) took.0, took.1);
+  again = λ n rest low. ap (λ (s : List ℕ). byte_in (s ++ rest)) (count_same n low) ∙ format8.again n rest low;
+}
+
 abbrev pub spell_args : List Value → List ℕ
-spell_args vs = spell_byte (length vs) ++ values vs
+spell_args vs = spell_count (length vs) ++ values vs
 
 abbrev pub FitFields : List Value → Type 0
 FitFields vs = (length vs < 2 ^ 16) × FitValues vs
@@ -303,7 +318,7 @@ fields_format = counted_format (to_be_bytes w16) (number_in w16) (2 ^ 16) format
 
 pub args_format : IsFormat (List Value) spell_args args_in FitArgs
 unfolding args_in
-args_format = counted_format spell_byte byte_in (2 ^ 8) format8
+args_format = counted_format spell_count byte_in (2 ^ 8) format_count
 
 -- both halves of what values keep
 pub in_range : (vs : List Value) → FitValues vs → AreInRange vs

@@ -43,7 +43,12 @@ pub record IsKeptCounters (c : Counters) : Type 0 where
 abbrev pub IsPiece : List ℕ → Type 0
 IsPiece bytes = (1 ≤ length bytes) × (length bytes ≤ value_limit)
 
--- the condition of a spelling: numbers, lengths, zeros and references
+-- the condition of a spelling: its count has room for the fields
+unfoldable pub IsCounted : Record → Type 0
+IsCounted (of.Version object number parent fields) = length fields < 2 ^ 16
+IsCounted _ = Unit {0}
+
+-- the condition of reading it again: numbers, lengths, zeros and references
 unfoldable pub IsKept : Record → Type 0
 IsKept (of.Counters c) = IsKeptCounters c
 IsKept (of.ClassHead class name parent text_length triggers) = Unit {0}

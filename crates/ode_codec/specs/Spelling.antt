@@ -3,7 +3,7 @@ use Rattle.std.specs.Prelude.{ℕ, ◌+◌, ◌*◌, List, ◌++◌, length, con
 use Rattle.std.specs.Int.{w16, w32, w64, to_be_bytes, cast_unsigned}
 use Rattle.std.specs.List.{flat_map}
 use Rattle.ode_value.specs.Keys.{key, counters_kind, class_head_kind, class_piece_kind, table_head_kind, table_piece_kind, object_kind, version_kind, activation_kind, entry_kind}
-use Rattle.ode_value.specs.Records.{byte, spelled_value}
+use Rattle.ode_value.specs.Records.{byte, counted, spelled_value}
 use Rattle.ode_value.specs.declared.key.Key.{Key}
 use Rattle.ode_value.specs.declared.value.Value.{Value}
 use Rattle.ode_codec.specs.declared.record.Activation.{Activation}
@@ -36,10 +36,10 @@ abbrev pub counters_value : Counters → List ℕ
 counters_value c = u64 c.next_number ++ (u64 c.next_transaction ++ (u64 c.next_entry ++ clock_value c))
 
 abbrev pub activation_value : Activation → List ℕ
-activation_value a = u32 a.class ++ (u16 a.trigger ++ (u16 a.state ++ (byte (length a.args) ++ values a.args)))
+activation_value a = u32 a.class ++ (u16 a.trigger ++ (u16 a.state ++ (counted a.args ++ values a.args)))
 
 abbrev pub entry_value : Entry → List ℕ
-entry_value e = u64 e.object ++ (u32 e.class ++ (u16 e.trigger ++ (byte e.generation ++ (byte (length e.args) ++ values e.args))))
+entry_value e = u64 e.object ++ (u32 e.class ++ (u16 e.trigger ++ (byte e.generation ++ (counted e.args ++ values e.args))))
 
 -- the value of a record
 unfoldable pub value_of : Record → List ℕ

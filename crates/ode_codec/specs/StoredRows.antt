@@ -8,7 +8,7 @@ use Rattle.ode_value.specs.Lengths.{piece_count}
 use Rattle.ode_value.specs.Objects.{Activation}
 use Rattle.ode_value.specs.Pasts.{Kept}
 use Rattle.ode_value.specs.PrintedClasses.{decl_text}
-use Rattle.ode_value.specs.Records.{Row, byte, spelled_value, clock_bytes, version_row}
+use Rattle.ode_value.specs.Records.{Row, byte, clock_bytes, counted, spelled_value, version_row}
 use Rattle.ode_value.specs.Keys.{key, counters_key, class_head_key, class_piece_key, table_head_kind, table_piece_kind, object_key, activation_key, entry_key}
 use Rattle.ode_value.specs.Tables.{Table}
 use Rattle.ode_value.specs.Worlds.{Declared, Entry, Object, Bones, World, kept_at}
@@ -36,7 +36,7 @@ u64 n = to_be_bytes w64 n
 
 -- arguments, behind their count
 abbrev pub args_bytes : List Value → List ℕ
-args_bytes args = byte (length args) ++ flat_map spelled_value args
+args_bytes args = counted args ++ flat_map spelled_value args
 
 -- a truth
 abbrev pub bit : Bool → ℕ

@@ -3,9 +3,9 @@ ghost use Rattle.std.specs.Prelude.{◌≡◌, ◌++◌, ◌<◌, ◌^◌, Some,
 ghost use Rattle.std.specs.Int.{w16, w64, cast_unsigned, to_be_bytes};
 ghost use Rattle.std.specs.Option.{unwrap_or};
 ghost use Rattle.ode_value.specs.Keys.{key};
-ghost use Rattle.ode_value.specs.Records.{byte, spelled_value};
+ghost use Rattle.ode_value.specs.Records.{byte, counted, spelled_value};
 ghost use Rattle.ode_codec.specs.Reading.{record_under};
-ghost use Rattle.ode_codec.specs.Rules.{IsKept, IsRecord};
+ghost use Rattle.ode_codec.specs.Rules.{IsCounted, IsRecord};
 ghost use Rattle.ode_codec.specs.Spelling.{activation_value, clock_value, counters_value, entry_value, key_of, spelled, truth, u16, u32, u64, value_of, values};
 
 use crate::record::{Activation, Counters, Entry, Record, TABLE_PLACES};
@@ -66,11 +66,13 @@ fn put_values(out: &mut Vec<u8>, all: &[Value]) -> Result<(), AllocError>
     Ok(())
 }
 
+// How many counts of arguments a byte has.
+const ARG_COUNTS: usize = 256;
+
 fn put_args(out: &mut Vec<u8>, args: &[Value]) -> Result<(), AllocError>
-    requires { length args.now < 2 ^ 8 }
-    ensures { OnOk result (out.new.items ≡ out.old.items ++ (byte (length args.now) ++ values args.now)) }
+    ensures { OnOk result (out.new.items ≡ out.old.items ++ (counted args.now ++ values args.now)) }
 {
-    put_u8(out, args.len() as u8)?;
+    put_u8(out, (args.len() % ARG_COUNTS) as u8)?;
     put_values(out, args)
 }
 
@@ -146,7 +148,6 @@ fn put_version(out: &mut Vec<u8>, parent: u32, fields: &[Value]) -> Result<(), A
 }
 
 fn put_activation(out: &mut Vec<u8>, activation: &Activation) -> Result<(), AllocError>
-    requires { length activation.now.args < 2 ^ 8 }
     ensures { OnOk result (out.new.items ≡ out.old.items ++ activation_value activation.now) }
 {
     put_u32(out, activation.class)?;
@@ -156,7 +157,6 @@ fn put_activation(out: &mut Vec<u8>, activation: &Activation) -> Result<(), Allo
 }
 
 fn put_entry(out: &mut Vec<u8>, entry: &Entry) -> Result<(), AllocError>
-    requires { length entry.now.args < 2 ^ 8 }
     ensures { OnOk result (out.new.items ≡ out.old.items ++ entry_value entry.now) }
 {
     put_u64(out, entry.object)?;
@@ -166,9 +166,8 @@ fn put_entry(out: &mut Vec<u8>, entry: &Entry) -> Result<(), AllocError>
 }
 
 fn put_firing(out: &mut Vec<u8>, entry: &Entry) -> Result<(), AllocError>
-    requires { length entry.now.args < 2 ^ 8 }
     ensures { OnOk result (out.new.items ≡ out.old.items
-        ++ (byte entry.now.generation ++ (byte (length entry.now.args) ++ values entry.now.args))) }
+        ++ (byte entry.now.generation ++ (counted entry.now.args ++ values entry.now.args))) }
 {
     put_u8(out, entry.generation)?;
     put_args(out, entry.args.as_slice())
@@ -208,9 +207,9 @@ fn key_of(one: &Record) -> Key
     )
 }
 
-#[tactic(auto, unfolding(crate::specs::Spelling::value_of, crate::specs::Rules::IsKept))]
+#[tactic(auto, unfolding(crate::specs::Spelling::value_of, crate::specs::Rules::IsCounted))]
 fn put_record(out: &mut Vec<u8>, one: &Record) -> Result<(), AllocError>
-    requires { IsKept one.now }
+    requires { IsCounted one.now }
     ensures { OnOk result (out.new.items ≡ out.old.items ++ value_of one.now) }
 {
     by_variant!(one;
@@ -229,7 +228,7 @@ fn put_record(out: &mut Vec<u8>, one: &Record) -> Result<(), AllocError>
 }
 
 fn encoded(alloc: Global, one: &Record) -> Result<(Key, List<u8>), AllocError>
-    requires { IsKept one.now }
+    requires { IsCounted one.now }
     ensures { IfOk result (λ row. row ≡ spelled one.now) }
 {
     let mut out = Vec::new(alloc);
@@ -237,10 +236,10 @@ fn encoded(alloc: Global, one: &Record) -> Result<(Key, List<u8>), AllocError>
     Ok((key_of(one), List::from_vec(out)))
 }
 
-/// The spelling of a record that keeps the numbers, lengths and zeros of its kind, and in which no reference has version 0 or
-/// is null with a version. From it the record is decoded again.
+/// The spelling of a record. Where the record keeps the numbers, lengths and zeros of its kind, and no reference in it has version 0 or is
+/// null with a version, it is decoded again from its spelling.
 pub fn encode(alloc: Global, one: &Record) -> Result<(Key, List<u8>), AllocError>
-    requires { IsKept one.now }
+    requires { IsCounted one.now }
     ensures spelled { IfOk result (λ row. row ≡ spelled one.now) }
     ensures again { IsRecord one.now → IfOk result (λ row. record_under row.0 row.1 ≡ Some one.now) }
 {

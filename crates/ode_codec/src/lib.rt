@@ -13,5 +13,5 @@ mod values;
 pub use decoding::decode;
 pub use encoding::encode;
 pub use laws::one_spelling;
-pub use record::{Activation, Counters, Entry, Record};
+pub use record::{Activation, Counters, Entry, Record, TABLE_PLACES};
 pub use stored::{fresh_databases_are_counters, held_worlds_are_good, stored_lengths_are_counts};

@@ -33,8 +33,5 @@ states_pass t states is h = within state_limit (tree_count t.event) (refusal.Too
 pub states_stop : (t : TriggerDecl) (name : List ℕ) → name ≡ t.name → state_limit < tree_count t.event → few_states t ≡ Err (refusal.TooManyStates name)
 states_stop t name named h = above state_limit (tree_count t.event) (refusal.TooManyStates t.name) h ∙ ap (λ n. Err (refusal.TooManyStates n)) (sym named)
 
-pub records_pass : (count : ℕ) → count ≤ class_limit → few_records count ≡ Ok tt
-records_pass count h = within class_limit count (refusal.ClassTooLarge count) h
-
 pub records_stop : (count : ℕ) → class_limit < count → few_records count ≡ Err (refusal.ClassTooLarge count)
 records_stop count h = above class_limit count (refusal.ClassTooLarge count) h

@@ -6,9 +6,9 @@ ghost use Rattle.ode_compile.specs.Compiling.{size_of_table};
 use ode_table::Table;
 use ode_value::limits::VALUE_LIMIT;
 
-// How many pieces so many bytes have.
+/// How many pieces so many bytes have.
 #[tactic(auto, unfolding(ode_value::specs::Limits::value_limit))]
-fn piece_count(length: u32) -> u32
+pub fn piece_count(length: u32) -> u32
     ensures count { result ≡ piece_count length }
     ensures small { result < 2 ^ 21 }
 {
@@ -16,7 +16,8 @@ fn piece_count(length: u32) -> u32
     ((u64::from(length) + (limit - 1)) / limit) as u32
 }
 
-fn table_length(states: u16, symbols: u8) -> u32
+/// How many bytes a table of so many states and symbols has.
+pub fn table_length(states: u16, symbols: u8) -> u32
     ensures { result ≡ table_length states symbols }
 {
     let states = u32::from(states);

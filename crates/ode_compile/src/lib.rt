@@ -7,4 +7,5 @@ mod stop;
 mod triggers;
 
 pub use compiling::{Compiled, compile};
+pub use counting::{piece_count, table_length};
 pub use stop::CompileStop;

@@ -1,25 +1,13 @@
 //! What isn't carried out yet, told by the tokens of a piece.
-ghost use Rattle.std.specs.Prelude.{◌≡◌, false, map};
+ghost use Rattle.std.specs.Prelude.{◌≡◌};
 ghost use Rattle.std.specs.List.{list_any};
 ghost use Rattle.std.specs.Str.{bytes_eq};
-ghost use Rattle.ode_terminals.specs.Seen as seen;
 ghost use Rattle.ode_language.specs.Marks.{has_parent, has_unbuilt_word, is_unbuilt, is_unbuilt_word, is_word};
 
 use ode_lex::{Token, TokenKind, slice_of};
 
-// The words of events, triggers and the clock.
-const UNBUILT_WORDS: [&[u8]; 10] = [
-    b"event",
-    b"trigger",
-    b"activate",
-    b"deactivate",
-    b"deferred",
-    b"dependent",
-    b"independent",
-    b"tcommit",
-    b"clock",
-    b"time",
-];
+// The words of the clock.
+const UNBUILT_WORDS: [&[u8]; 2] = [b"clock", b"time"];
 
 fn is_among(words: &[&[u8]], word: &[u8]) -> bool
     ensures { result ≡ list_any (λ one. bytes_eq one.now word.now) words.now }
@@ -35,19 +23,11 @@ fn is_unbuilt_word(word: &[u8]) -> bool
 }
 
 fn has_unbuilt_word(text: &[u8], tokens: &[Token]) -> bool
-    ensures { result ≡ has_unbuilt_word false (map (seen.slice_of text.now) tokens.now) }
+    ensures { result ≡ has_unbuilt_word text.now tokens.now }
 {
-    let mut left = tokens;
-    let mut behind_after = false;
-    while let [token, rest @ ..] = left {
-        let word = slice_of(text, *token);
-        if is_unbuilt_word(word) || behind_after && word == b"tabort".as_slice() {
-            return true;
-        }
-        behind_after = word == b"after".as_slice();
-        left = rest;
-    }
-    false
+    tokens
+        .iter()
+        .any(|token| is_unbuilt_word(slice_of(text, *token)))
 }
 
 fn is_word(kind: TokenKind) -> bool

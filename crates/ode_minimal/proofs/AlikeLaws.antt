@@ -2,8 +2,8 @@
 use Rattle.std.proofs.Common.{◌≡◌, ◌≢◌, ℕ, ◌<◌, ◌≤◌, Bool, true, false, List, [], ◌∷◌, ◌++◌, length, get_or, refl, sym, ◌∙◌, subst, arith, inl, inr, ◌⊎◌}
 use Rattle.std.proofs.lemmas.Bool.{cases_lt, false≢true}
 use Rattle.std.proofs.lemmas.List.{get_or_append_left, get_or_push, length_push}
-use Rattle.std.proofs.lemmas.List.Elements.{All-nil, All-cons}
-use Rattle.ode_value.specs.Tables.{Table, next_state, says_yes}
+use Rattle.std.proofs.lemmas.List.Elements.{All-cons}
+use Rattle.ode_value.specs.Tables.{Table, next_state}
 use Rattle.ode_minimal.specs.Minimal.{IsAlike, IsApart}
 
 pub alike-trans : (t : Table) (p q r : ℕ) → IsAlike t p q → IsAlike t q r → IsAlike t p r
@@ -14,12 +14,6 @@ alike-sym t p q h = λ word is. sym (h word is)
 
 pub alike-next : (t : Table) (p q s : ℕ) → s < t.symbols → IsAlike t p q → IsAlike t (next_state t p s) (next_state t q s)
 alike-next t p q s below h = λ word is. h (s ∷ word) (All-cons (λ x. x < t.symbols) s word below is)
-
-pub apart-not : (t : Table) (p q : ℕ) → IsApart t p q → IsAlike t p q → ⊥
-apart-not t p q apart alike = apart.differs (alike apart.word apart.symbols)
-
-pub apart-here : (t : Table) (p q : ℕ) → says_yes t p ≢ says_yes t q → IsApart t p q
-apart-here t p q differs = record { word = []; symbols = All-nil (λ s. s < t.symbols); differs = differs }
 
 pub apart-back : (t : Table) (p q s : ℕ) → s < t.symbols → IsApart t (next_state t p s) (next_state t q s) → IsApart t p q
 apart-back t p q s below apart = record {

@@ -173,25 +173,6 @@ module _ (t : Table) (c : Collapse) (head s q : ℕ) (h : IsCollapse t c head s)
 
 -- ---- from row to row
 
-pub collapse_next : (t : Table) (c : Collapse) (head s : ℕ) → head < length c.states → s ≡ t.symbols → IsCollapse t c head s → IsCollapse t c (head + 1) 0
-collapse_next t c head s inside all h = record {
-  few = h.few;
-  some = h.some;
-  start = h.start;
-  below = h.below;
-  first = h.first;
-  rows = h.rows;
-  numbered = h.numbered;
-  numbers = h.numbers;
-  once = h.once;
-  within = omega arith;
-  places =
-      let product : (head + 1) * t.symbols ≡ head * t.symbols + t.symbols = omega arith in
-      omega (arith, h.places, product, all);
-  steps = h.steps;
-  stepped = h.stepped;
-}
-
 pub few_kept : (t : Table) (c : Collapse) (head s : ℕ) → IsCollapse t c head s → length c.states ≤ t.states
 few_kept t c head s h = omega (arith, count_by-le-length (λ (o : Option ℕ). is_some o) c.numbers, h.once, h.rows)
 

@@ -1,5 +1,5 @@
 -- Lists of sources, filled state by state and symbol by symbol.
-use Rattle.std.proofs.Common.{◌≡◌, ◌≢◌, ℕ, ◌+◌, ◌*◌, ◌<◌, ◌≤◌, List, [], ◌∷◌, ◌++◌, length, get_or, set, sym, ap, ◌∙◌, subst, arith, inl, inr, ◌⊎◌, below_more}
+use Rattle.std.proofs.Common.{◌≡◌, ◌≢◌, ℕ, ◌+◌, ◌*◌, ◌<◌, List, [], ◌∷◌, ◌++◌, length, get_or, set, sym, ap, ◌∙◌, subst, arith, inl, inr, ◌⊎◌, below_more}
 use Rattle.std.specs.Prelude.{Contains}
 use Rattle.std.proofs.lemmas.List.{get_or-set_same, get_or-set_other, length-set}
 use Rattle.std.proofs.lemmas.List.Elements.{Contains-append_left, Contains-push}
@@ -7,24 +7,11 @@ use Rattle.std.proofs.Math.Nat.{mul_comm}
 use Rattle.std.proofs.lemmas.Nat.{mul-add-lt, same_from_place}
 use Rattle.std.proofs.lemmas.Bool.{cases_eq}
 use Rattle.ode_value.specs.Tables.{Table, next_state}
-use Rattle.ode_minimal.specs.Sources.{sources, IsFilled, IsSources}
+use Rattle.ode_minimal.specs.Sources.{sources, IsFilled}
 use Rattle.ode_minimal.proofs.AlikeLaws.{push_each}
 
 pub row_fits : (t : Table) (rows r s : ℕ) → rows ≡ t.states * t.symbols → r < t.states → s < t.symbols → r * t.symbols + s < rows
 row_fits t rows r s is_rows below_r below_s = subst (λ n. r * t.symbols + s < n) (mul_comm t.symbols t.states ∙ sym is_rows) (mul-add-lt r t.symbols s t.states below_r below_s)
-
-pub filled_none : (t : Table) (lists : List (List ℕ)) → length lists ≡ t.states * t.symbols → ((k : ℕ) → get_or lists k [] ≡ []) → IsFilled t lists 0 0
-filled_none t lists rows empty = record {
-  rows = rows;
-  states = λ r s j below within. absurd (none r s j within);
-  lead = λ r s j below within. absurd (none r s j within);
-  to = λ q s low below. absurd (omega arith);
-  each = λ q s low below. absurd (omega arith);
-  to_here = λ s none. absurd (omega arith);
-  here = λ s none. absurd (omega arith);
-} where
-  none : (r s j : ℕ) → j < length (sources t lists r s) → ⊥
-  none r s j within = omega (arith, within, ap length (empty (r * t.symbols + s)))
 
 pub filled_next : (t : Table) (lists : List (List ℕ)) (head upto : ℕ) → upto ≡ t.symbols → IsFilled t lists head upto → IsFilled t lists (head + 1) 0
 filled_next t lists head upto all h = record {
@@ -36,15 +23,6 @@ filled_next t lists head upto all h = record {
       below_more (λ q. (s : ℕ) → s < t.symbols → Contains (sources t lists (next_state t q s) s) q) head (λ q low s below. h.each q s low below) (λ s below. h.here s (omega arith)) q low s below;
   to_here = λ s none. absurd (omega arith);
   here = λ s none. absurd (omega arith);
-}
-
-pub filled_all : (t : Table) (lists : List (List ℕ)) (head : ℕ) → t.states ≤ head → IsFilled t lists head 0 → IsSources t lists
-filled_all t lists head all h = record {
-  rows = h.rows;
-  states = h.states;
-  lead = h.lead;
-  to = λ q s low below. h.to q s (omega arith) below;
-  each = λ q s low below. h.each q s (omega arith) below;
 }
 
 module _ (t : Table) (lists : List (List ℕ)) (head upto : ℕ) (is_state : head < t.states) (is_symbol : upto < t.symbols) (to_state : next_state t head upto < t.states) (h : IsFilled t lists head upto) where

@@ -1,2 +1,3 @@
 pub mod BuiltLaws
 pub mod RunLaws
+pub mod Steps

@@ -108,6 +108,29 @@ impl Table {
         self.next.as_slice()[usize::from(q) * usize::from(self.symbols) + usize::from(s)]
     }
 
+    /// The same, and the start where there is no such state or symbol.
+    #[tactic(auto, using(crate::proofs::Steps::next_at, crate::proofs::Steps::next_past))]
+    pub fn step(&self, q: u16, s: u8) -> u16
+        ensures { result ≡ next_state self.now q s }
+    {
+        let at = usize::from(q) * usize::from(self.symbols) + usize::from(s);
+        match self.next.as_slice().get(at) {
+            Some(state) => *state,
+            None => 0,
+        }
+    }
+
+    /// The answer of a state, and no where there is no such state.
+    #[tactic(auto, using(crate::proofs::Steps::yes_at, crate::proofs::Steps::yes_past))]
+    pub fn says(&self, q: u16) -> bool
+        ensures { result ≡ says_yes self.now q }
+    {
+        match self.yes.as_slice().get(usize::from(q)) {
+            Some(answer) => *answer,
+            None => false,
+        }
+    }
+
     /// The answer of a state.
     pub fn yes(&self, q: u16) -> bool
         requires { q < self.now.states }

@@ -1,3 +1,5 @@
 pub mod VisitLaws
 pub mod SearchLaws
 pub mod RelationLaws
+pub mod ReachingLaws
+pub mod FrontLaws

@@ -221,11 +221,6 @@ search_step stored built visits seen head upto pair v visits' seen' within h fro
       let after = search_new stored built visits seen head upto v within h from symbol step below_p below_q answers (ap (λ n. get_or seen n false) (sym is_pair) ∙ is) in
       subst (λ l. IsSearch stored built l seen' head (upto + 1)) (sym more.0) (subst (λ l. IsSearch stored built (visits ++ v ∷ []) l head (upto + 1)) (sym is_seen) after)
 
-pub in_seen : (stored built : Table) (visits : List Visit) (seen : List Bool) (head upto p q pair : ℕ) → IsSearch stored built visits seen head upto → p < stored.states → q < built.states
-    → pair ≡ pair_of built p q → pair < length seen
-in_seen stored built visits seen head upto p q pair h below_p below_q is_pair =
-    subst (λ n. n < length seen) (sym is_pair) (subst (λ n. pair_of built p q < n) (mul_comm built.states stored.states ∙ sym h.pairs) (mul-add-lt p built.states q stored.states below_p below_q))
-
 -- ---- from head to head
 
 pub search_next : (stored built : Table) (visits : List Visit) (seen : List Bool) (head upto : ℕ) → head < length visits → upto ≡ stored.symbols

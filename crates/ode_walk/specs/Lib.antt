@@ -1,2 +1,3 @@
 pub mod Relation
 pub mod Search
+pub mod Reaching

@@ -1,11 +1,14 @@
-//! Two tables compared: they agree on every word that isn't empty, or a shortest word tells them apart.
+//! Two tables compared: they agree on every word that isn't empty, or a shortest word tells them apart. And the states of a table that
+//! words lead to.
 #![tactic(auto)]
 
 mod error;
 mod numbering;
+mod reaching;
 mod relation;
 mod search;
 mod visit;
 
 pub use error::RelateError;
+pub use reaching::{reached, words_lead_to_reached_states};
 pub use relation::relate;
