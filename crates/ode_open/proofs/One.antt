@@ -14,10 +14,17 @@ use Rattle.ode_keep.specs.declared.limits.TheConstants.{MAX_RECORD_BYTES}
 use Rattle.ode_language.specs.Languages.{ode}
 use Rattle.ode_passes.specs.declared.cause.Cause.TheVariants as cause
 use Rattle.ode_open.specs.Opening.{Found, HasRecords, IsBroken, IsHeaderless, IsHeavy, IsOfPages, IsOpenedTo, found_of, gate_error}
-use Rattle.ode_opening_records.specs.Reading.{opened_in}
+use Rattle.ode_opening_records.specs.Reading.{AreOpened}
+use Rattle.ode_opening_records.specs.declared.base.Base.{Base}
+use Rattle.ode_passes.specs.Rules.{Ruled}
+use Rattle.ode_value.specs.Language.{Language}
 use Rattle.ode_open.specs.declared.error.OpenError.TheVariants.{BadFile}
 
-module _ (image : List ℕ) where
+-- records are opened to one thing
+abbrev pub OpenedOnce : Type 0
+OpenedOnce = (l : Language) (entries : Entries) (opened other : Ruled Base) → AreOpened l entries opened → AreOpened l entries other → opened ≡ other
+
+module _ (once : OpenedOnce) (image : List ℕ) where
   no_header : (e : GateError) (h : Header) → Says image (Err e) → Counts image h → ⊥
   no_header e h says counts = let same : Result.Err e ≡ Ok h = says_one image (Err e) (Ok h) says (says_counts image h counts) in cc (same)
 
@@ -85,7 +92,8 @@ module _ (image : List ℕ) where
   records_one a b x (inr (inr (inr (inl y)))) =
       absurd (no_size y.entries x.entries (one_entries y.header x.header y.entries x.entries y.counts x.counts y.has x.has) y.heavy x.within)
   records_one a b x (inr (inr (inr (inr y)))) =
-      x.is ∙ ap (λ (es : Entries). found_of (opened_in ode es)) (one_entries x.header y.header x.entries y.entries x.counts y.counts x.has y.has) ∙ sym y.is
+      let there = subst (λ (es : Entries). AreOpened ode es x.opened) (one_entries x.header y.header x.entries y.entries x.counts y.counts x.has y.has) x.are in
+      x.is ∙ ap found_of (once ode y.entries x.opened y.opened there y.are) ∙ sym y.is
 
   pub one_opening : (a b : Found) → IsOpenedTo image a → IsOpenedTo image b → a ≡ b
   one_opening a b (inl x) y = headerless_one a b x y

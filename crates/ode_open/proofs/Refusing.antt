@@ -1,5 +1,5 @@
 -- Why a file isn't opened, part by part.
-use Rattle.std.proofs.Common.{◌≡◌, ◌⊎◌, inl, inr, ⊎_elim, ℕ, ◌<◌, ◌≤◌, List, Result, Ok, Err, refl, sym, ap, subst, arith}
+use Rattle.std.proofs.Common.{◌≡◌, ◌⊎◌, inl, inr, ⊎_elim, ℕ, ◌<◌, ◌≤◌, List, Result, Ok, Err, refl, ap, subst, arith}
 use Rattle.std.specs.Prelude.{IfOk, IsErrOf}
 use Rattle.ode_areas.specs.Image.{HasMap, IsBadAt}
 use Rattle.ode_areas.specs.declared.error.StartError.{StartError}
@@ -15,13 +15,14 @@ use Rattle.ode_gate.specs.declared.places.TheConstants.{PAGES, TWO_AREAS}
 use Rattle.ode_keep.specs.Entries.{Entries, record_bytes}
 use Rattle.ode_keep.specs.declared.limits.TheConstants.{MAX_RECORD_BYTES}
 use Rattle.ode_language.specs.Languages.{ode}
-use Rattle.ode_passes.specs.Answers.{Answers, OnBroken}
+use Rattle.ode_passes.specs.Rules.{Ruled}
 use Rattle.ode_passes.specs.declared.cause.Cause.TheVariants as cause
 use Rattle.ode_passes.specs.declared.error.OpenError.{OpenError as ReadError}
 use Rattle.ode_passes.specs.declared.error.OpenError.TheVariants as read
-use Rattle.ode_value.specs.declared.class.Class.{Class}
-use Rattle.ode_open.specs.Opening.{Found, IsFromOutside, IsOpenedTo, found_of, gate_error, read_error, start_error}
-use Rattle.ode_opening_records.specs.Reading.{opened_in}
+use Rattle.ode_open.specs.Opening.{IsFromOutside, IsOpenedTo, found_of, gate_error, read_error, start_error}
+use Rattle.ode_opening_records.specs.Answers.{Opens}
+use Rattle.ode_opening_records.specs.Reading.{AreOpened}
+use Rattle.ode_opening_records.specs.declared.base.Base.{Base}
 use Rattle.ode_open.specs.declared.error.OpenError.{OpenError}
 use Rattle.ode_open.specs.declared.error.OpenError.TheVariants.{BadFile}
 
@@ -76,22 +77,16 @@ module _ (image : List ℕ) (h : Header) (counts : Counts image h) (areas : IsOf
     -- ---- the records
 
     module _ (within : record_bytes entries ≤ MAX_RECORD_BYTES) where
-      opened : (found : Found) → found ≡ found_of (opened_in ode entries) → IsOpenedTo image found
-      opened found is = inr (inr (inr (inr (record { header = h; counts = counts; areas = areas; entries = entries; has = has; within = within; is = is }))))
+      opened : (to : Ruled Base) → AreOpened ode entries to → IsOpenedTo image (found_of to)
+      opened to are = inr (inr (inr (inr (record { header = h; counts = counts; areas = areas; entries = entries; has = has; within = within; opened = to; are = are; is = refl }))))
 
-      pub why_records : (e : ReadError) → Answers {X = List Class × ℕ} (opened_in ode entries) (Err e) → IsWhy image (read_error e)
+      pub why_records : (e : ReadError) → Opens ode entries (Err e) → IsWhy image (read_error e)
       why_records read.Memory answers = inl tt
       why_records read.DiskFault answers = inl tt
-      why_records (read.BadFile why) answers = inr (opened (Err (BadFile why)) (sym (ap found_of answers)))
+      why_records (read.BadFile why) answers = inr (opened (Err why) answers)
 
-      pub is_opened : (classes : List Class) (bytes : ℕ) → opened_in ode entries ≡ Ok (classes, bytes) → IsOpenedTo image (Ok (classes, bytes))
-      is_opened classes bytes answers = opened (Ok (classes, bytes)) (sym (ap found_of answers))
-
--- an error of a call that breaks no rule
-pub why_outside : (image : List ℕ) (e : ReadError) (P : Type 0) → (P → ⊥) → OnBroken {X = Unit {0}} (Err e) P → IsWhy image (read_error e)
-why_outside image read.Memory P never broken = inl tt
-why_outside image read.DiskFault P never broken = inl tt
-why_outside image (read.BadFile why) P never broken = absurd (never broken)
+      pub is_opened : (base : Base) → AreOpened ode entries (Ok base) → IsOpenedTo image (Ok base)
+      is_opened base answers = opened (Ok base) answers
 
 -- what holds at an answer, by what held there
 pub at_ok : {X E : Type 0} {P Q : X → Type 0} (r : Result X E) → ((x : X) → P x → Q x) → IfOk r P → IfOk r Q

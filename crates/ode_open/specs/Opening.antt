@@ -17,8 +17,8 @@ use Rattle.ode_passes.specs.Rules.{Ruled}
 use Rattle.ode_passes.specs.declared.cause.Cause.TheVariants as cause
 use Rattle.ode_passes.specs.declared.error.OpenError.{OpenError as ReadError}
 use Rattle.ode_passes.specs.declared.error.OpenError.TheVariants as read
-use Rattle.ode_value.specs.declared.class.Class.{Class}
-use Rattle.ode_opening_records.specs.Reading.{opened_in}
+use Rattle.ode_opening_records.specs.Reading.{AreOpened}
+use Rattle.ode_opening_records.specs.declared.base.Base.{Base}
 use Rattle.ode_open.specs.declared.error.OpenError.{OpenError}
 use Rattle.ode_open.specs.declared.error.OpenError.TheVariants.{Memory, DiskFault, NoDatabase, NewerFormat, BadFile}
 use Rattle.ode_opened.specs.declared.opened.Opened.{Opened}
@@ -48,11 +48,11 @@ read_error (read.BadFile why) = BadFile why
 
 -- ---- what a file is opened to
 
--- the classes and the bytes of all records but for the queue's entries, or why there are none
+-- what its records are opened to, or why it isn't opened
 abbrev pub Found : Type 0
-Found = Result (List Class × ℕ) OpenError
+Found = Result Base OpenError
 
-abbrev pub found_of : Ruled (List Class × ℕ) → Found
+abbrev pub found_of : Ruled Base → Found
 found_of (Ok base) = Ok base
 found_of (Err why) = Err (BadFile why)
 
@@ -96,7 +96,9 @@ pub record HasRecords (image : List ℕ) (found : Found) : Type 0 where
   pub entries : Entries
   pub has : HasMap header image entries
   pub within : record_bytes entries ≤ MAX_RECORD_BYTES
-  pub is : found ≡ found_of (opened_in ode entries)
+  pub opened : Ruled Base
+  pub are : AreOpened ode entries opened
+  pub is : found ≡ found_of opened
 
 abbrev pub IsOpenedTo : List ℕ → Found → Type 0
 IsOpenedTo image found =
@@ -104,8 +106,12 @@ IsOpenedTo image found =
 
 -- ---- what is answered
 
+-- an opened file but for its keeper
+abbrev pub base_in : {K : Type 0} → Opened K → Base
+base_in o = record { classes = o.classes; tables = o.tables; alphabets = o.alphabets; maps = o.maps; bytes = o.bytes }
+
 abbrev pub seen : {K : Type 0} → Result (Opened K) OpenError → Found
-seen (Ok o) = Ok (o.classes, o.bytes)
+seen (Ok o) = Ok (base_in o)
 seen (Err e) = Err e
 
 -- there was no memory, or the disk failed

@@ -1,7 +1,6 @@
 //! A file is opened to what a run needs.
 #![tactic(auto)]
 
-mod bytes;
 mod error;
 mod opening;
 

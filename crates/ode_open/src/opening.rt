@@ -1,5 +1,5 @@
 //! A file is opened to what a run needs.
-ghost use Rattle.std.specs.Prelude.{◌≡◌, ◌⊎◌, ◌≤◌, [], List as Items, ℕ, length, replicate, IfOk, IsErrOf, IsTrue, Ok, Err, Some};
+ghost use Rattle.std.specs.Prelude.{◌≡◌, ◌⊎◌, List as Items, ℕ, length, IfOk, IsErrOf, IsTrue, Ok, Some};
 ghost use Rattle.ode_areas.specs.Holding.{AreasHold, is_live};
 ghost use Rattle.ode_areas.specs.Image.{AreasMean, HasMap};
 ghost use Rattle.ode_gate.specs.Headers.{IsHeader, IsOfAreas};
@@ -7,27 +7,21 @@ ghost use Rattle.ode_gate.specs.Slots.{Counts};
 ghost use Rattle.ode_host.specs.Causes.{RoseIf};
 ghost use Rattle.ode_host.specs.FirstSync.{SyncedRun};
 ghost use Rattle.ode_host.specs.Host.{Looks, Only, Stands, Tells};
-ghost use Rattle.ode_keep.specs.Entries.{Entries};
+ghost use Rattle.ode_keep.specs.Entries.{AreBytes, Entries};
 ghost use Rattle.ode_language.specs.Languages.{ode};
-ghost use Rattle.ode_open.specs.Opening.{Found, HasOutsideFailed, IsOpenedTo, IsRefused, Stays, program_of, seen};
-ghost use Rattle.ode_opening_laws.specs.Holding.{AreBytes};
-ghost use Rattle.ode_opening_records.specs.Reading.{opened_in};
+ghost use Rattle.ode_open.specs.Opening.{Found, HasOutsideFailed, IsOpenedTo, IsRefused, Stays, base_in, program_of, seen};
+ghost use Rattle.ode_opening_records.specs.Reading.{AreOpened};
 ghost use Rattle.ode_schema.specs.Parts.{AreFit};
 
-use crate::bytes::read_bytes;
 use crate::error::OpenError;
 use ode_areas::Areas;
 use ode_gate::{Header, SLOT_LEN, SLOT_STEP, TWO_AREAS, read_header};
 use ode_host::Host;
 use ode_keep::MAX_RECORD_BYTES;
 use ode_opened::Opened;
-use ode_opening_records::{are_built, open_records};
+use ode_opening_records::{Base, open_records, records_are_opened_to_one_thing};
 use ode_passes::Cause;
-use ode_symbols::Alphabet;
-use ode_table::Table;
-use ode_types::Classes;
-use ode_value::List;
-use std::alloc::{AllocError, Global};
+use std::alloc::Global;
 
 // The keeper of the two areas under a header.
 fn start_keeper<H: Host>(alloc: Global, host: &mut H, header: &Header) -> Result<Areas, OpenError>
@@ -54,49 +48,42 @@ fn start_keeper<H: Host>(alloc: Global, host: &mut H, header: &Header) -> Result
     Ok(keeper)
 }
 
-// No class has a table: the place of each one's first is 0.
-fn maps_of(alloc: Global, classes: &Classes) -> Result<List<u32>, AllocError>
-    ensures { IfOk result (λ maps. maps ≡ replicate (length classes.now) 0) }
-{
-    let maps = vec![in alloc; 0u32; classes.as_slice().len()]?;
-    Ok(List::from_vec(maps))
-}
-
 // Opens a file that was synced.
 fn open_file<H: Host>(alloc: Global, host: &mut H) -> Result<Opened<Areas>, OpenError>
     ensures answer { (image : Items ℕ) → Stands image (H.view host.old)
         → HasOutsideFailed result ⊎ IsOpenedTo image (seen result) }
     ensures keeper { IfOk result (λ o. (image : Items ℕ) → Stands image (H.view host.old)
-        → (entries : Entries) × AreasMean image entries × AreasHold o.keeper (H.view host.new) entries × (opened_in ode entries ≡ Ok (o.classes, o.bytes))) }
+        → (entries : Entries) × AreasMean image entries × AreasHold o.keeper (H.view host.new) entries × AreOpened ode entries (Ok (base_in o))) }
     ensures bytes { IfOk result (λ o. (image : Items ℕ) → Stands image (H.view host.old)
         → (entries : Entries) → AreasHold o.keeper (H.view host.new) entries → AreBytes entries) }
     ensures live { IfOk result (λ o. IsTrue (is_live o.keeper)) }
-    ensures tables { IfOk result (λ o. (o.tables ≡ []) × (o.alphabets ≡ [])) }
-    ensures maps { IfOk result (λ o. o.maps ≡ replicate (length o.classes) 0) }
     ensures fit { IfOk result (λ o. AreFit (program_of o)) }
+    ensures aligned { IfOk result (λ o. (length o.maps ≡ length o.classes) × (length o.alphabets ≡ length o.tables)) }
     ensures looks { Looks (H.view host.old) (H.view host.new) }
     ensures cause { RoseIf (IsErrOf result OpenError.DiskFault) (H.view host.old).disk_faults (H.view host.new).disk_faults }
 {
     let header = read_header(host, &mut [0; SLOT_LEN])?;
     let mut keeper = start_keeper(alloc, host, &header)?;
     let base = open_records(alloc, &mut keeper, host)?;
-    read_bytes(alloc, &mut keeper, host)?;
-    let (classes, bytes) = base;
-    // Where the keeper holds its records, this is known by now. Where it doesn't, nothing is known of the classes.
-    are_built(&classes)?;
-    let maps = maps_of(alloc, &classes)?;
+    let Base {
+        classes,
+        tables,
+        alphabets,
+        maps,
+        bytes,
+    } = base;
     Ok(Opened {
         keeper,
         classes,
-        tables: List::new(alloc),
-        alphabets: List::new(alloc),
+        tables,
+        alphabets,
         maps,
         bytes,
     })
 }
 
-/// Opens a file. It begins with a sync, and nothing is written. A file is opened to its classes and bytes, or refused by the first rule
-/// that it breaks; want of memory or a fault of the disk may come instead.
+/// Opens a file. It begins with a sync, and nothing is written. A file is opened to its classes, their tables as they are stored and the
+/// bytes of its records, or refused by the first rule that it breaks; want of memory or a fault of the disk may come instead.
 pub fn open_base<H: Host>(alloc: Global, host: &mut H) -> Result<Opened<Areas>, OpenError>
     ensures answer { (image : Items ℕ) → Tells (H.view host.old) image
         → HasOutsideFailed result ⊎ IsOpenedTo image (seen result) }
@@ -105,13 +92,12 @@ pub fn open_base<H: Host>(alloc: Global, host: &mut H) -> Result<Opened<Areas>, 
 
     // At `Ok` what was written before stands on the disk, and the keeper holds the file's records, which were opened.
     ensures keeper { IfOk result (λ o. (image : Items ℕ) → Tells (H.view host.old) image
-        → (entries : Entries) × AreasMean image entries × AreasHold o.keeper (H.view host.new) entries × (opened_in ode entries ≡ Ok (o.classes, o.bytes))) }
+        → (entries : Entries) × AreasMean image entries × AreasHold o.keeper (H.view host.new) entries × AreOpened ode entries (Ok (base_in o))) }
     ensures bytes { IfOk result (λ o. (image : Items ℕ) → Tells (H.view host.old) image
         → (entries : Entries) → AreasHold o.keeper (H.view host.new) entries → AreBytes entries) }
     ensures live { IfOk result (λ o. IsTrue (is_live o.keeper)) }
-    ensures tables { IfOk result (λ o. (o.tables ≡ []) × (o.alphabets ≡ [])) }
-    ensures maps { IfOk result (λ o. o.maps ≡ replicate (length o.classes) 0) }
     ensures fit { IfOk result (λ o. AreFit (program_of o)) }
+    ensures aligned { IfOk result (λ o. (length o.maps ≡ length o.classes) × (length o.alphabets ≡ length o.tables)) }
 
     // Unless the disk failed, its sync was done: from then on a stop leaves the file and the text as they are. Before it, a stop leaves
     // what it might have left at the start.
@@ -122,6 +108,7 @@ pub fn open_base<H: Host>(alloc: Global, host: &mut H) -> Result<Opened<Areas>, 
     ensures looks { Looks (H.view host.old) (H.view host.new) }
     ensures cause { RoseIf (IsErrOf result OpenError.DiskFault) (H.view host.old).disk_faults (H.view host.new).disk_faults }
 {
+    records_are_opened_to_one_thing();
     host.sync()?;
     open_file(alloc, host)
 }

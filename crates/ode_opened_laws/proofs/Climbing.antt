@@ -3,25 +3,22 @@ use Rattle.std.proofs.Common.{◌≡◌, ℕ, zero, suc, ◌+◌, ◌≤◌, ◌
 use Rattle.std.specs.Prelude.{◌==◌, ◌||◌}
 use Rattle.std.specs.List.{AllByRecursion, list_any}
 use Rattle.std.specs.Option.{option_map_or, unwrap_or}
-use Rattle.std.specs.Str.{bytes_eq}
+use Rattle.std.proofs.lemmas.Bool.{eqb-true}
 use Rattle.std.proofs.lemmas.Bool.Decides.{nat_tests}
 use Rattle.std.proofs.lemmas.List.{length-map, length-reverse, map-append, reverse-append}
-use Rattle.ode_opening_objects.specs.Fitting.{climbs, inherits}
+use Rattle.ode_opening_objects.specs.Fitting.{climbs_to, descends, inherits, is_named, is_numbered}
 use Rattle.ode_types.specs.Families.{class_numbered}
-use Rattle.ode_value.specs.Classes.{is_a, upward}
+use Rattle.ode_value.specs.Classes.{is_a, line_of, upward}
 use Rattle.ode_value.specs.GoodWorlds.{AreClasses}
 use Rattle.ode_value.specs.Language.{Language}
 use Rattle.ode_value.specs.Worlds.{Declared}
 use Rattle.ode_value.specs.declared.class.Class.{Class}
 use Rattle.ode_opening_laws.specs.Holding.{class_of}
-use Rattle.ode_opened_laws.proofs.ByKinds.{all_append}
+use Rattle.ode_opening_laws.proofs.Each.{all_append}
 
-module _ (classes : List Class) (name : List ℕ) where
+module _ (classes : List Class) (test : Class → Bool) where
   abbrev Climbs : ℕ → ℕ → Type 0
-  Climbs steps number = climbs steps classes number name ≡ true
-
-  abbrev has_name : Class → Bool
-  has_name c = bytes_eq c.name name
+  Climbs steps number = climbs_to test steps classes number ≡ true
 
   or_right : (a b : Bool) → b ≡ true → a || b ≡ true
   or_right true b is = refl
@@ -33,10 +30,10 @@ module _ (classes : List Class) (name : List ℕ) where
 
   -- a step more does no harm
   step_more : (steps : ℕ) → ((number : ℕ) → Climbs steps number → Climbs (suc steps) number) → (o : Option Class)
-      → option_map_or (λ (c : Class). has_name c || climbs steps classes (unwrap_or c.parent 0) name) o false ≡ true
-      → option_map_or (λ (c : Class). has_name c || climbs (suc steps) classes (unwrap_or c.parent 0) name) o false ≡ true
+      → option_map_or (λ (c : Class). test c || climbs_to test steps classes (unwrap_or c.parent 0)) o false ≡ true
+      → option_map_or (λ (c : Class). test c || climbs_to test (suc steps) classes (unwrap_or c.parent 0)) o false ≡ true
   step_more steps more None none = absurd (cc)
-  step_more steps more (Some c) ran = or_more (has_name c) _ _ (more (unwrap_or c.parent 0)) ran
+  step_more steps more (Some c) ran = or_more (test c) _ _ (more (unwrap_or c.parent 0)) ran
 
   more_steps : (steps number : ℕ) → Climbs steps number → Climbs (suc steps) number
   more_steps zero number is = absurd (cc)
@@ -46,20 +43,20 @@ module _ (classes : List Class) (name : List ℕ) where
   abbrev IsNumbered : Declared → Type 0
   IsNumbered d = class_numbered classes d.class.number ≡ Some d.class
 
-  along : (ds : List Declared) (number : ℕ) → AllByRecursion IsNumbered ds → list_any has_name (upward number ds) ≡ true → Climbs (length ds) number
+  along : (ds : List Declared) (number : ℕ) → AllByRecursion IsNumbered ds → list_any test (upward number ds) ≡ true → Climbs (length ds) number
   along [] number all is = absurd (cc)
   along (d ∷ ds) number all is = by (λ n found. along ds n all.1 found) (d.class.number == number) refl is
     where
       here : (d.class.number == number) ≡ true → class_numbered classes number ≡ Some d.class
-      here test =
-          let same : d.class.number ≡ number = grind (arith, nat_tests) in
+      here found =
+          let same : d.class.number ≡ number = eqb-true d.class.number number found in
           subst (λ (n : ℕ). class_numbered classes n ≡ Some d.class) same all.0
 
-      by : ((n : ℕ) → list_any has_name (upward n ds) ≡ true → Climbs (length ds) n) → (b : Bool) → (d.class.number == number) ≡ b → list_any has_name (cond b (d.class ∷ upward (unwrap_or d.class.parent 0) ds) (upward number ds)) ≡ true → Climbs (suc (length ds)) number
-      by rest true test found =
-          ap (λ (o : Option Class). option_map_or (λ (c : Class). has_name c || climbs (length ds) classes (unwrap_or c.parent 0) name) o false) (here test)
-          ∙ or_more (has_name d.class) _ _ (rest (unwrap_or d.class.parent 0)) found
-      by rest false test found = more_steps (length ds) number (rest number found)
+      by : ((n : ℕ) → list_any test (upward n ds) ≡ true → Climbs (length ds) n) → (b : Bool) → (d.class.number == number) ≡ b → list_any test (cond b (d.class ∷ upward (unwrap_or d.class.parent 0) ds) (upward number ds)) ≡ true → Climbs (suc (length ds)) number
+      by rest true is_it found =
+          ap (λ (o : Option Class). option_map_or (λ (c : Class). test c || climbs_to test (length ds) classes (unwrap_or c.parent 0)) o false) (here is_it)
+          ∙ or_more (test d.class) _ _ (rest (unwrap_or d.class.parent 0)) found
+      by rest false is_it found = more_steps (length ds) number (rest number found)
 
 -- ---- the classes of a world are numbered
 
@@ -106,10 +103,20 @@ all_reverse P [] all = tt
 all_reverse P (x ∷ xs) all =
     subst (AllByRecursion P) (sym (reverse-append (x ∷ []) xs)) (all_append P (reverse xs) (x ∷ []) (all_reverse P xs all.1) (all.0, tt))
 
--- a class that has a name or inherits it does so to an opening
-pub is_inherited : (l : Language) (ds : List Declared) (number : ℕ) (name : List ℕ) → AreClasses l [] ds → is_a ds number name ≡ true → inherits (map class_of ds) number name ≡ true
-is_inherited l ds number name are is =
+-- a class from one up that a test passes is met by an opening
+climbs_along : (l : Language) (ds : List Declared) (test : Class → Bool) (number : ℕ) → AreClasses l [] ds → list_any test (line_of ds number) ≡ true
+    → climbs_to test (length (map class_of ds)) (map class_of ds) number ≡ true
+climbs_along l ds test number are is =
     let classes = map class_of ds in
     let each = numbered_behind l [] ds classes tt are refl in
-    let ran : climbs (length (reverse ds)) classes number name ≡ true = along classes name (reverse ds) number (all_reverse (λ (d : Declared). class_numbered classes d.class.number ≡ Some d.class) ds each) is in
-    ap (λ (n : ℕ). climbs n classes number name) (length-map ds class_of ∙ sym (length-reverse ds)) ∙ ran
+    let ran : climbs_to test (length (reverse ds)) classes number ≡ true =
+    along classes test (reverse ds) number (all_reverse (λ (d : Declared). class_numbered classes d.class.number ≡ Some d.class) ds each) is in
+    ap (λ (n : ℕ). climbs_to test n classes number) (length-map ds class_of ∙ sym (length-reverse ds)) ∙ ran
+
+-- a class that has a name or inherits it does so to an opening
+pub is_inherited : (l : Language) (ds : List Declared) (number : ℕ) (name : List ℕ) → AreClasses l [] ds → is_a ds number name ≡ true → inherits (map class_of ds) number name ≡ true
+is_inherited l ds number name are is = climbs_along l ds (is_named name) number are is
+
+-- and one that is a class or inherits from it
+pub is_descended : (l : Language) (ds : List Declared) (number from : ℕ) → AreClasses l [] ds → list_any (is_numbered from) (line_of ds number) ≡ true → descends (map class_of ds) number from ≡ true
+is_descended l ds number from are is = climbs_along l ds (is_numbered from) number are is

@@ -11,6 +11,7 @@ use Rattle.ode_heap.specs.Answering.{IsReadableObject, IsReadableVersion}
 use Rattle.ode_keep.specs.Entries.{Entries}
 use Rattle.ode_opening_laws.specs.Holding.{class_of}
 use Rattle.ode_opening_laws.proofs.Decoding.{Again}
+use Rattle.ode_opening_laws.proofs.Each.{all_then}
 use Rattle.ode_opening_objects.specs.Fitting.{fit_references, fits_object, fits_reference, fits_sort, has_sort, have_sorts, inherits, is_drawn}
 use Rattle.ode_opening_objects.specs.Heads.{has_version, head_in, of_object}
 use Rattle.ode_opening_objects.specs.Objects.{fields_fit, fits_head, object_fits, object_keeps, references_fit, references_in, references_keep, version_fits, version_keeps}
@@ -43,39 +44,35 @@ each_step : {X : Type 0} (rule : X → Ruled (Unit {0})) (xs ys : List X) → (e
 each_step rule xs ys more (Ok u) ran = more ran
 each_step rule xs ys more (Err e) ran = absurd (cc)
 
-each_append : {X : Type 0} (rule : X → Ruled (Unit {0})) (xs ys : List X) → each rule xs ≡ Ok tt → each rule ys ≡ Ok tt → each rule (xs ++ ys) ≡ Ok tt
+pub each_append : {X : Type 0} (rule : X → Ruled (Unit {0})) (xs ys : List X) → each rule xs ≡ Ok tt → each rule ys ≡ Ok tt → each rule (xs ++ ys) ≡ Ok tt
 each_append rule [] ys one other = other
 each_append rule (x ∷ xs) ys one other = each_step rule xs ys (λ ran. each_append rule xs ys ran other) (rule x) one
 
-each_map : {X Y : Type 0} (rule : Y → Ruled (Unit {0})) (f : X → Y) (xs : List X) → AllByRecursion (λ x. rule (f x) ≡ Ok tt) xs → each rule (map f xs) ≡ Ok tt
+pub each_map : {X Y : Type 0} (rule : Y → Ruled (Unit {0})) (f : X → Y) (xs : List X) → AllByRecursion (λ x. rule (f x) ≡ Ok tt) xs → each rule (map f xs) ≡ Ok tt
 each_map rule f [] all = refl
 each_map rule f (x ∷ xs) all = ap (λ (m : Ruled (Unit {0})). m >>= λ _. each rule (map f xs)) all.0 ∙ each_map rule f xs all.1
 
-each_flat : {X Y : Type 0} (rule : Y → Ruled (Unit {0})) (f : X → List Y) (xs : List X) → AllByRecursion (λ x. each rule (f x) ≡ Ok tt) xs → each rule (flat_map f xs) ≡ Ok tt
+pub each_flat : {X Y : Type 0} (rule : Y → Ruled (Unit {0})) (f : X → List Y) (xs : List X) → AllByRecursion (λ x. each rule (f x) ≡ Ok tt) xs → each rule (flat_map f xs) ≡ Ok tt
 each_flat rule f [] all = refl
 each_flat rule f (x ∷ xs) all = each_append rule (f x) (flat_map f xs) all.0 (each_flat rule f xs all.1)
 
-all_then : {X : Type 0} (P Q : X → Type 0) → ((x : X) → P x → Q x) → (xs : List X) → AllByRecursion P xs → AllByRecursion Q xs
-all_then P Q next [] all = tt
-all_then P Q next (x ∷ xs) all = (next x all.0, all_then P Q next xs all.1)
-
 -- ---- tests
 
-less : (m n : ℕ) → m < n → nat_lt m n ≡ true
+pub less : (m n : ℕ) → m < n → nat_lt m n ≡ true
 less m n is = grind (arith, nat_tests)
 
-upto : (m n : ℕ) → m ≤ n → nat_le m n ≡ true
+pub upto : (m n : ℕ) → m ≤ n → nat_le m n ≡ true
 upto m n is = grind (arith, nat_tests)
 
-both : (a b : Bool) → a ≡ true → b ≡ true → a && b ≡ true
+pub both : (a b : Bool) → a ≡ true → b ≡ true → a && b ≡ true
 both true b one other = other
 both false b one other = absurd (cc)
 
-or_right : (a b : Bool) → b ≡ true → a || b ≡ true
+pub or_right : (a b : Bool) → b ≡ true → a || b ≡ true
 or_right true b is = refl
 or_right false b is = is
 
-same_numbered : (ds : List Declared) (n : ℕ) → families.class_numbered (map class_of ds) n ≡ class_numbered n ds
+pub same_numbered : (ds : List Declared) (n : ℕ) → families.class_numbered (map class_of ds) n ≡ class_numbered n ds
 same_numbered [] n = refl
 same_numbered (d ∷ ds) n = ap (λ (o : Option Class). cond (d.class.number == n) (Some d.class) o) (same_numbered ds n)
 
@@ -83,7 +80,7 @@ parent_below : (parent : Option ℕ) (n : ℕ) → IfSome parent (λ p. (0 < p) 
 parent_below None n is = refl
 parent_below (Some p) n is = or_right (p == 0) (nat_lt p n) (less p n is.1)
 
-numbered_all : (P : Object → Type 0) (os : List Object) (id : ℕ) (o : Object) → AllByRecursion P os → object_numbered id os ≡ Some o → P o
+pub numbered_all : (P : Object → Type 0) (os : List Object) (id : ℕ) (o : Object) → AllByRecursion P os → object_numbered id os ≡ Some o → P o
 numbered_all P [] id o all is = absurd (cc)
 numbered_all P (p ∷ ps) id o all is = by (λ there. numbered_all P ps id o all.1 there) (p.id == id) is
   where
@@ -93,7 +90,7 @@ numbered_all P (p ∷ ps) id o all is = by (λ there. numbered_all P ps id o all
 
 -- ---- values
 
-sort_of : (b : Bones) (s : Sort) (v : Value) → FitsSort b s v → has_sort s v ≡ true
+pub sort_of : (b : Bones) (s : Sort) (v : Value) → FitsSort b s v → has_sort s v ≡ true
 sort_of b sort.Int (value.Int n) fits = refl
 sort_of b sort.Bool (value.Bool t) fits = refl
 sort_of b sort.Text (value.Text t) fits = refl
@@ -137,7 +134,7 @@ module _ (l : Language) (w : World (Unit {0}) ℕ) (b : Bones) (are : AreBones l
   heads = head_in objects
 
   module _ (reads : AllByRecursion (IsReadableObject w) b.objects) (ones : AreFromOne b) where
-    tells : (id : ℕ) → heads id ≡ option_map head_of (object_numbered id b.objects)
+    pub tells : (id : ℕ) → heads id ≡ option_map head_of (object_numbered id b.objects)
     tells id = heads_tell again b.objects 0 id are.rising (all_then (IsReadableObject w) (λ o. IsRecord (object_record o)) (λ o is. is.spells) b.objects reads)
 
     -- ---- references
@@ -158,7 +155,7 @@ module _ (l : Language) (w : World (Unit {0}) ℕ) (b : Bones) (are : AreBones l
         let live : o.live ≡ true = numbered_all (λ (p : Object). p.live ≡ true) b.objects r.object o (all_then (IsObject b) (λ (p : Object). p.live ≡ true) (λ p is. is.live) b.objects are.objects) there in
         fitting class r.version o r refl (subst (λ t. IfSome (cond t (Some o) None) (FitsObject b class r)) live fits)
 
-    reference_fits : (class : List ℕ) (r : Ref) → FitsRef b class r → fits_reference b.next classes heads class r ≡ true
+    pub reference_fits : (class : List ℕ) (r : Ref) → FitsRef b class r → fits_reference b.next classes heads class r ≡ true
     reference_fits class r fits = by (r.object == 0) fits.object
       where
         found_fits : IfSome (object_at b r.object) (FitsObject b class r) → option_map_or (fits_object classes class r.version) (heads r.object) true ≡ true
@@ -172,7 +169,7 @@ module _ (l : Language) (w : World (Unit {0}) ℕ) (b : Bones) (are : AreBones l
         by false object =
             both (nat_lt r.object b.next) (option_map_or (fits_object classes class r.version) (heads r.object) true) (less r.object b.next fits.drawn) (found_fits object)
 
-    value_fits : (s : Sort) (v : Value) → FitsSort b s v → fits_sort b.next classes heads s v ≡ true
+    pub value_fits : (s : Sort) (v : Value) → FitsSort b s v → fits_sort b.next classes heads s v ≡ true
     value_fits (sort.Reference class) (value.Reference r) fits = reference_fits class r fits
     value_fits (sort.Reference class) (value.Int n) fits = refl
     value_fits (sort.Reference class) (value.Bool t) fits = refl
@@ -191,12 +188,12 @@ module _ (l : Language) (w : World (Unit {0}) ℕ) (b : Bones) (are : AreBones l
     -- ---- an object
 
     -- all that is known of an object
-    record IsTold (o : Object) : Type 0 where
-      is : IsObject b o
-      reads_it : IsReadableObject w o
-      own : object_numbered o.id b.objects ≡ Some o
-      has : has_version versions o.id ≡ true
-      some : AllByRecursion (λ (v : Version). 0 < v.number) o.versions
+    pub record IsTold (o : Object) : Type 0 where
+      pub is : IsObject b o
+      pub reads_it : IsReadableObject w o
+      pub own : object_numbered o.id b.objects ≡ Some o
+      pub has : has_version versions o.id ≡ true
+      pub some : AllByRecursion (λ (v : Version). 0 < v.number) o.versions
 
     all_told : (os : List Object) → AllByRecursion (IsObject b) os → AllByRecursion (IsReadableObject w) os → AllByRecursion (λ (o : Object). object_numbered o.id b.objects ≡ Some o) os
         → AllByRecursion (λ (o : Object). has_version versions o.id ≡ true) os → AllByRecursion (λ (o : Object). AllByRecursion (λ (v : Version). 0 < v.number) o.versions) os
@@ -205,15 +202,15 @@ module _ (l : Language) (w : World (Unit {0}) ℕ) (b : Bones) (are : AreBones l
     all_told (o ∷ os) one two three four five =
         (record { is = one.0; reads_it = two.0; own = three.0; has = four.0; some = five.0 }, all_told os one.1 two.1 three.1 four.1 five.1)
 
-    told : AllByRecursion IsTold b.objects
+    pub told : AllByRecursion IsTold b.objects
     told =
         all_told b.objects are.objects reads (own_numbers b.objects 0 are.rising)
         (have_versions b.objects (all_then (IsObject b) (λ (o : Object). 0 < length o.versions) (λ o is. is.some) b.objects are.objects)) ones
 
-    head_told : (o : Object) → IsTold o → heads o.id ≡ Some (head_of o)
+    pub head_told : (o : Object) → IsTold o → heads o.id ≡ Some (head_of o)
     head_told o it = tells o.id ∙ ap (option_map head_of) it.own
 
-    known : (o : Object) → IsTold o → is_some (families.class_numbered classes o.class) ≡ true
+    pub known : (o : Object) → IsTold o → is_some (families.class_numbered classes o.class) ≡ true
     known o it = ap is_some (same_numbered b.classes o.class) ∙ by (class_numbered o.class b.classes) it.is.class
       where
         by : (g : Option Class) → IsSome g → is_some g ≡ true

@@ -1,9 +1,14 @@
 pub mod ByKinds
-pub mod Weighing
 pub mod Tallying
+pub mod Weighing
 pub mod Climbing
-pub mod Plain
 pub mod Telling
 pub mod Keeping
+pub mod Placed
+pub mod Apart
+pub mod Triggered
+pub mod Activated
+pub mod Queued
 pub mod Parts
+pub mod Reached
 pub mod Opened

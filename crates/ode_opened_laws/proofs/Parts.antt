@@ -1,91 +1,50 @@
--- The records of a world of the built forms, kind by kind.
-use Rattle.std.proofs.Common.{◌≡◌, ℕ, zero, suc, ◌+◌, ◌<◌, ◌≤◌, ◌^◌, List, [], ◌∷◌, ◌++◌, map, length, Option, Some, None, refl, sym, ap, ◌∙◌, append_assoc, arith}
+-- The records of a world, kind by kind.
+use Rattle.std.proofs.Common.{◌≡◌, ℕ, ◌<◌, ◌≤◌, ◌^◌, List, [], ◌∷◌, ◌++◌, map, true, false, Option, Some, None, refl, append_assoc, arith}
 use Rattle.std.specs.List.{AllByRecursion, flat_map}
-use Rattle.std.specs.Prelude.{not, pos}
+use Rattle.std.specs.Prelude.{◌==◌, pos}
 use Rattle.std.specs.Int.{cast_unsigned, w64}
 use Rattle.std.specs.Option.{is_some, option_map_or}
-use Rattle.std.proofs.lemmas.List.{append-nil}
+use Rattle.std.proofs.lemmas.Bool.Decides.{nat_tests}
+use Rattle.ode_codec.specs.Reading.{record_under}
 use Rattle.ode_codec.specs.Rules.{HasRanges, IsRecord}
 use Rattle.ode_codec.specs.Spelling.{key_of, truth, u32, u64, value_of}
-use Rattle.ode_codec.specs.StoredRows.{Stored, activation_row, activation_rows, counters_row, entry_row, head_row, object_row, rows, state_of, table_rows, text_rows, version_rows}
-use Rattle.ode_codec.specs.declared.record.Counters.{Counters}
+use Rattle.ode_codec.specs.StoredRows.{activation_row, activation_rows, counters_row, entry_row, object_row, places_of, state_of, version_rows}
+use Rattle.ode_codec.specs.declared.record.Record.{Record}
 use Rattle.ode_codec.specs.declared.record.Record.TheVariants as of
-use Rattle.ode_heap.specs.Answering.{IsReadableObject, IsReadableVersion, counters_of}
+use Rattle.ode_heap.specs.Answering.{IsReadableActivation, IsReadableEntry, IsReadableObject, IsReadableVersion, counters_of}
 use Rattle.ode_keep.specs.Entries.{Entries}
-use Rattle.ode_opening_laws.specs.Holding.{class_rows, head_of}
+use Rattle.ode_opening_laws.specs.Holding.{class_rows}
 use Rattle.ode_opening_laws.proofs.Decoding.{Again, Decode, decodes_one}
-use Rattle.ode_opening_laws.proofs.Founds.{IsSmall, heads_decode, heads_found}
-use Rattle.ode_opening_laws.proofs.Pieces.{bytes_of, found_pieces, pieces_decode, stored_pieces}
-use Rattle.ode_opening_laws.proofs.Plain.{IsPlain}
-use Rattle.ode_opening_laws.proofs.Sections.{no_heads, no_rows}
-use Rattle.ode_passes.specs.Tally.{counters_or}
-use Rattle.ode_value.specs.Keys.{counters_key}
-use Rattle.ode_value.specs.Lengths.{piece_count}
+use Rattle.ode_opening_laws.proofs.Each.{Any, all_any, all_append, all_flat, all_map, all_then}
+use Rattle.ode_opening_laws.proofs.Founds.{found_of, head_at, head_found, heads_found, pieces_at, pieces_found, pieces_of_class, rows_decode, table_heads_found, table_heads_of, tables_found, tables_of}
+use Rattle.ode_opening_laws.proofs.Sections.{Passes, rows_pass}
+use Rattle.ode_opening_laws.proofs.Storable.{IsStorable}
+use Rattle.ode_passes.specs.Records.{Found}
+use Rattle.ode_passes.specs.Walking.{is_from}
+use Rattle.ode_value.specs.Keys.{class_head_kind, counters_key, entry_kind, key, table_piece_kind}
 use Rattle.ode_value.specs.Objects.{Activation}
-use Rattle.ode_value.specs.PrintedClasses.{decl_text}
 use Rattle.ode_value.specs.Records.{Row, clock_bytes, version_row}
+use Rattle.ode_value.specs.Tables.{Table}
 use Rattle.ode_value.specs.Versions.{Version}
 use Rattle.ode_value.specs.Worlds.{Bones, Declared, Entry, Object, Position, World}
-use Rattle.ode_opened_laws.proofs.ByKinds.{AreOf, IsOf, all_append, all_flat, all_map}
-use Rattle.ode_opened_laws.proofs.Tallying.{IsCounted, IsPart}
-use Rattle.ode_opened_laws.proofs.Telling.{object_reads, object_record, version_reads, version_record}
-
--- ---- all rows
-
-abbrev pub object_rows : Bones → Entries
-object_rows b = map object_row b.objects
-
-abbrev pub all_versions : Bones → Entries
-all_versions b = flat_map version_rows b.objects
-
-no_acts : (w : World (Unit {0}) ℕ) (os : List Object) → AllByRecursion (λ (o : Object). o.activations ≡ []) os → flat_map (activation_rows w) os ≡ []
-no_acts w [] none = refl
-no_acts w (o ∷ os) none =
-    ap (λ (acts : List Activation). map (λ (a : Activation). activation_row o.id (state_of w o.id a.number) a) acts ++ flat_map (activation_rows w) os) none.0 ∙ no_acts w os none.1
-
-in_parts : (c : Row) (heads texts objects versions : Entries) → (c ∷ heads ++ texts ++ [] ++ [] ++ objects ++ versions ++ [] ++ []) ≡ c ∷ ((heads ++ texts) ++ (objects ++ versions))
-in_parts c heads texts objects versions =
-    let classes : Entries = heads ++ texts in
-    ap (λ (es : Entries). c ∷ es ++ [] ++ objects ++ versions ++ [] ++ []) (append-nil classes)
-    ∙ ap (λ (es : Entries). c ∷ es ++ objects ++ versions ++ [] ++ []) (append-nil classes)
-    ∙ ap (λ (es : Entries). c ∷ es) (append-nil (classes ++ objects ++ versions ++ []) ∙ append-nil (classes ++ objects ++ versions) ∙ append_assoc classes objects versions)
-
-pub rows_are : (s : Stored) → AllByRecursion IsPlain s.world.bones.classes → AllByRecursion (λ (o : Object). o.activations ≡ []) s.world.bones.objects → s.world.bones.queue ≡ []
-    → rows s ≡ counters_row s.world.bones ∷ (class_rows s.world.bones.classes ++ (object_rows s.world.bones ++ all_versions s.world.bones))
-rows_are s plain inactive none =
-    let b = s.world.bones in
-    let heads : Entries = map head_row b.classes in
-    let texts : Entries = flat_map text_rows b.classes in
-    let tables_ : Entries = flat_map (table_rows s.tables) b.classes in
-    let acts : Entries = flat_map (activation_rows s.world) b.objects in
-    let queue : Entries = map entry_row b.queue in
-    ap (λ (es : Entries). counters_row b ∷ heads ++ texts ++ es ++ tables_ ++ object_rows b ++ all_versions b ++ acts ++ queue) (no_heads s.tables b.classes plain)
-    ∙ ap (λ (es : Entries). counters_row b ∷ heads ++ texts ++ [] ++ es ++ object_rows b ++ all_versions b ++ acts ++ queue) (no_rows s.tables b.classes plain)
-    ∙ ap (λ (es : Entries). counters_row b ∷ heads ++ texts ++ [] ++ [] ++ object_rows b ++ all_versions b ++ es ++ queue) (no_acts s.world b.objects inactive)
-    ∙ ap (λ (q : List (ℕ × Entry)). counters_row b ∷ heads ++ texts ++ [] ++ [] ++ object_rows b ++ all_versions b ++ [] ++ map entry_row q) none
-    ∙ in_parts (counters_row b) heads texts (object_rows b) (all_versions b)
+use Rattle.ode_value.specs.declared.key.Key.{Key}
+use Rattle.ode_opened_laws.proofs.ByKinds.{AreOf, IsOf}
+use Rattle.ode_opened_laws.proofs.Tallying.{IsCounted, IsPart, IsUncounted}
+use Rattle.ode_opened_laws.proofs.Telling.{activation_reads, activation_record, entry_reads, entry_record, object_reads, object_record, version_reads, version_record}
 
 -- ---- their kinds
 
 pub counters_of_kind : (b : Bones) → IsOf 1 1 (counters_row b)
 counters_of_kind b = record { least = omega arith; most = omega arith; a = omega arith; b = omega arith }
 
-head_of_kind : (d : Declared) → IsSmall d → IsOf 2 3 (head_row d)
-head_of_kind d small = let low = small.number in record { least = omega arith; most = omega arith; a = omega arith; b = omega arith }
+of_passing : (e : Row) → Passes e → IsOf 2 5 e
+of_passing e is = by e.0 is
+  where
+    by : (k : Key) → is_from (key class_head_kind 0 0) table_piece_kind k ≡ true → IsOf 2 5 (k, e.1)
+    by k test = record { least = grind (arith, nat_tests); most = grind (arith, nat_tests); a = grind (arith, nat_tests); b = grind (arith, nat_tests) }
 
-pieces_of_kind : (class : ℕ) (text : List ℕ) (i count : ℕ) → class < 2 ^ 32 → i + count ≤ 2 ^ 32 → AreOf 2 3 (stored_pieces class text i count)
-pieces_of_kind class text i zero low few = tt
-pieces_of_kind class text i (suc n) low few =
-    (record { least = omega arith; most = omega arith; a = omega arith; b = omega arith }, pieces_of_kind class text (i + 1) n low (omega arith))
-
-text_of_kind : (d : Declared) → IsSmall d → AreOf 2 3 (text_rows d)
-text_of_kind d small =
-    let few : 0 + piece_count (length (decl_text d.tree)) ≤ 2 ^ 32 = let pieces = small.pieces in omega arith in
-    pieces_of_kind d.class.number (decl_text d.tree) 0 (piece_count (length (decl_text d.tree))) small.number few
-
-pub classes_of_kind : (ds : List Declared) → AllByRecursion IsSmall ds → AreOf 2 3 (class_rows ds)
-classes_of_kind ds small =
-    all_append (IsOf 2 3) (map head_row ds) (flat_map text_rows ds) (all_map (IsOf 2 3) IsSmall head_row head_of_kind ds small) (all_flat (IsOf 2 3) IsSmall text_rows text_of_kind ds small)
+pub classes_of_kind : (tables : ℕ → ℕ → Table) (ds : List Declared) → AllByRecursion (IsStorable tables) ds → AreOf 2 5 (class_rows tables ds)
+classes_of_kind tables ds all = all_then Passes (IsOf 2 5) of_passing (class_rows tables ds) (rows_pass tables ds all)
 
 module _ (w : World (Unit {0}) ℕ) where
   object_of_kind : (o : Object) → IsReadableObject w o → IsOf 6 6 (object_row o)
@@ -106,36 +65,100 @@ module _ (w : World (Unit {0}) ℕ) where
   versions_of_kind os reads =
       all_flat (IsOf 7 7) (IsReadableObject w) version_rows (λ (o : Object) is. all_map (IsOf 7 7) (IsReadableVersion o.id) (version_row o.id) (version_of_kind o.id) o.versions is.versions) os reads
 
+  activation_of_kind : (id : ℕ) (a : Activation) → IsReadableActivation w id a → IsOf 8 8 (activation_row id (state_of w id a.number) a)
+  unfolding HasRanges
+  activation_of_kind id a is =
+      let low : id < 2 ^ 64 = is.spells.ranges.key.0 in
+      let number : a.number < 2 ^ 64 = is.spells.ranges.key.1 in
+      record { least = omega arith; most = omega arith; a = omega arith; b = omega arith }
+
+  pub activations_of_kind : (os : List Object) → AllByRecursion (IsReadableObject w) os → AreOf 8 8 (flat_map (activation_rows w) os)
+  activations_of_kind os reads =
+      all_flat (IsOf 8 8) (IsReadableObject w) (activation_rows w)
+      (λ (o : Object) is. all_map (IsOf 8 8) (IsReadableActivation w o.id) (λ (a : Activation). activation_row o.id (state_of w o.id a.number) a) (activation_of_kind o.id) o.activations is.activations) os reads
+
+entry_of_kind : (q : ℕ × Entry) → IsReadableEntry q → IsOf 9 9 (entry_row q)
+unfolding HasRanges
+entry_of_kind q is = let low : q.0 < 2 ^ 64 = is.ranges.0 in record { least = omega arith; most = omega arith; a = omega arith; b = omega arith }
+
+pub entries_of_kind : (qs : List (ℕ × Entry)) → AllByRecursion IsReadableEntry qs → AreOf 9 9 (map entry_row qs)
+entries_of_kind qs reads = all_map (IsOf 9 9) IsReadableEntry entry_row entry_of_kind qs reads
+
+-- the limit on all records counts those of all kinds but the last
+is_no_entry : (n : ℕ) → n ≤ 8 → (n == entry_kind) ≡ false
+is_no_entry n low = grind (arith, nat_tests)
+
+is_entry : (n : ℕ) → 9 ≤ n → n ≤ 9 → (n == entry_kind) ≡ true
+is_entry n low high = grind (arith, nat_tests)
+
+pub all_counted : (low high : ℕ) (es : Entries) → high ≤ 8 → AreOf low high es → AllByRecursion IsCounted es
+all_counted low high es most all = all_then (IsOf low high) IsCounted (λ (e : Row) is. let upto = is.most in is_no_entry e.0.kind (omega (arith, most, upto))) es all
+
+pub none_counted : (es : Entries) → AreOf 9 9 es → AllByRecursion IsUncounted es
+none_counted es all = all_then (IsOf 9 9) IsUncounted (λ (e : Row) is. is_entry e.0.kind is.least is.most) es all
+
 -- ---- they decode, and aren't the counters
 
-heads_are_parts : (ds : List Declared) → Decode (map head_row ds) (heads_found ds) → AllByRecursion IsPart (map head_row ds)
-heads_are_parts [] reads = tt
-heads_are_parts (d ∷ ds) reads =
-    (record { counts = record { r = head_of d; reads = reads.1; built = refl; no_entry = refl }; other = λ before. refl }, heads_are_parts ds reads.2)
+-- a record that isn't the counters
+abbrev IsOther : Record → Type 0
+IsOther (of.Counters c) = ⊥
+IsOther _ = Unit {0}
 
-pieces_are_parts : (class : ℕ) (text : List ℕ) (i count : ℕ) → Decode (stored_pieces class text i count) (found_pieces class text i count) → AllByRecursion IsPart (stored_pieces class text i count)
-pieces_are_parts class text i zero reads = tt
-pieces_are_parts class text i (suc n) reads =
-    (record { counts = record { r = of.ClassPiece class i (bytes_of class text i); reads = reads.1; built = refl; no_entry = refl }; other = λ before. refl }, pieces_are_parts class text (i + 1) n reads.2)
+part_of : (e : Row) (r : Record) → record_under e.0 e.1 ≡ Some r → IsOther r → IsPart e
+part_of e (of.Counters c) reads other = absurd other
+part_of e (of.ClassHead class name parent text_length triggers) reads other = record { r = of.ClassHead class name parent text_length triggers; reads = reads; other = λ before. refl }
+part_of e (of.ClassPiece class piece bytes) reads other = record { r = of.ClassPiece class piece bytes; reads = reads; other = λ before. refl }
+part_of e (of.TableHead class trigger states symbols) reads other = record { r = of.TableHead class trigger states symbols; reads = reads; other = λ before. refl }
+part_of e (of.TablePiece class trigger piece bytes) reads other = record { r = of.TablePiece class trigger piece bytes; reads = reads; other = λ before. refl }
+part_of e (of.Object object class last) reads other = record { r = of.Object object class last; reads = reads; other = λ before. refl }
+part_of e (of.Version object number parent fields) reads other = record { r = of.Version object number parent fields; reads = reads; other = λ before. refl }
+part_of e (of.Activation a) reads other = record { r = of.Activation a; reads = reads; other = λ before. refl }
+part_of e (of.Entry number q) reads other = record { r = of.Entry number q; reads = reads; other = λ before. refl }
 
-pub classes_are_parts : Again → (ds : List Declared) → AllByRecursion IsPlain ds → AllByRecursion IsSmall ds → AllByRecursion IsPart (class_rows ds)
-classes_are_parts again ds plain small =
-    all_append IsPart (map head_row ds) (flat_map text_rows ds) (heads_are_parts ds (heads_decode again ds plain))
-    (all_flat IsPart IsSmall text_rows (λ (d : Declared) is.
-    pieces_are_parts d.class.number (decl_text d.tree) 0 (piece_count (length (decl_text d.tree)))
-    (pieces_decode d.class.number (decl_text d.tree) again is.number is.pieces 0 (piece_count (length (decl_text d.tree))) (omega arith))) ds small)
+abbrev IsOtherFound : Key × Record → Type 0
+IsOtherFound f = IsOther f.1
+
+are_parts : (es : Entries) (fs : Found) → Decode es fs → AllByRecursion IsOtherFound fs → AllByRecursion IsPart es
+are_parts [] fs reads others = tt
+are_parts (e ∷ es) [] reads others = absurd reads
+are_parts (e ∷ es) (f ∷ fs) reads others = (part_of e f.1 reads.1 others.0, are_parts es fs reads.2 others.1)
+
+module _ (tables : ℕ → ℕ → Table) where
+  found_others : (ds : List Declared) → AllByRecursion IsOtherFound (found_of tables ds)
+  found_others ds =
+      let O = IsOtherFound in
+      let heads = all_map O Any head_found (λ d any. tt) ds (all_any ds) in
+      let pieces = all_flat O Any pieces_of_class (λ d any. all_map O Any _ (λ i any. tt) _ (all_any _)) ds (all_any ds) in
+      let table_heads = all_flat O Any (table_heads_of tables) (λ (d : Declared) any. all_map O Any (head_at tables d.class.number) (λ place any. tt) (places_of d) (all_any (places_of d))) ds (all_any ds) in
+      let table_pieces = all_flat O Any (tables_of tables)
+      (λ (d : Declared) any. all_flat O Any (pieces_at tables d.class.number) (λ place any. all_map O Any _ (λ i any. tt) _ (all_any _)) (places_of d) (all_any (places_of d))) ds (all_any ds) in
+      all_append O (heads_found ds ++ pieces_found ds ++ table_heads_found tables ds) (tables_found tables ds)
+      (all_append O (heads_found ds ++ pieces_found ds) (table_heads_found tables ds) (all_append O (heads_found ds) (pieces_found ds) heads pieces) table_heads) table_pieces
+
+  pub classes_are_parts : Again → (ds : List Declared) → AllByRecursion (IsStorable tables) ds → AllByRecursion IsPart (class_rows tables ds)
+  classes_are_parts again ds all = are_parts (class_rows tables ds) (found_of tables ds) (rows_decode tables again ds all) (found_others ds)
 
 module _ (again : Again) (w : World (Unit {0}) ℕ) where
   object_is_part : (o : Object) → IsReadableObject w o → IsPart (object_row o)
-  object_is_part o is = record { counts = record { r = object_record o; reads = object_reads again o is.spells; built = refl; no_entry = refl }; other = λ before. refl }
+  object_is_part o is = part_of (object_row o) (object_record o) (object_reads again o is.spells) tt
 
   version_is_part : (id : ℕ) (v : Version) → IsReadableVersion id v → IsPart (version_row id v)
-  version_is_part id v is = record { counts = record { r = version_record id v; reads = version_reads again id v is.spells; built = refl; no_entry = refl }; other = λ before. refl }
+  version_is_part id v is = part_of (version_row id v) (version_record id v) (version_reads again id v is.spells) tt
 
-  pub objects_are_parts : (os : List Object) → AllByRecursion (IsReadableObject w) os → AllByRecursion IsPart (map object_row os ++ flat_map version_rows os)
+  activation_is_part : (id : ℕ) (a : Activation) → IsReadableActivation w id a → IsPart (activation_row id (state_of w id a.number) a)
+  activation_is_part id a is = part_of (activation_row id (state_of w id a.number) a) (activation_record w id a) (activation_reads again w id a is.spells) tt
+
+  pub objects_are_parts : (os : List Object) → AllByRecursion (IsReadableObject w) os → AllByRecursion IsPart (map object_row os ++ flat_map version_rows os ++ flat_map (activation_rows w) os)
   objects_are_parts os reads =
-      all_append IsPart (map object_row os) (flat_map version_rows os) (all_map IsPart (IsReadableObject w) object_row object_is_part os reads)
-      (all_flat IsPart (IsReadableObject w) version_rows (λ (o : Object) is. all_map IsPart (IsReadableVersion o.id) (version_row o.id) (version_is_part o.id) o.versions is.versions) os reads)
+      let R = IsReadableObject w in
+      let versions = all_flat IsPart R version_rows (λ (o : Object) is. all_map IsPart (IsReadableVersion o.id) (version_row o.id) (version_is_part o.id) o.versions is.versions) os reads in
+      let activations = all_flat IsPart R (activation_rows w)
+      (λ (o : Object) is. all_map IsPart (IsReadableActivation w o.id) (λ (a : Activation). activation_row o.id (state_of w o.id a.number) a) (activation_is_part o.id) o.activations is.activations) os reads in
+      all_append IsPart (map object_row os ++ flat_map version_rows os) (flat_map (activation_rows w) os)
+      (all_append IsPart (map object_row os) (flat_map version_rows os) (all_map IsPart R object_row object_is_part os reads) versions) activations
+
+pub entries_are_parts : Again → (qs : List (ℕ × Entry)) → AllByRecursion IsReadableEntry qs → AllByRecursion IsPart (map entry_row qs)
+entries_are_parts again qs reads = all_map IsPart IsReadableEntry entry_row (λ q is. part_of (entry_row q) (entry_record q) (entry_reads again q is) tt) qs reads
 
 -- ---- the counters
 
@@ -153,22 +176,13 @@ spelled_by b clock =
     ++ (truth (is_some clock) ++ (u64 (cast_unsigned w64 (option_map_or (λ (p : Position). p.instant) clock (pos 0)))
     ++ (u64 (option_map_or (λ (p : Position). p.object) clock 0) ++ u32 (option_map_or (λ (p : Position). p.place) clock 0))))))
 
-unset : (b : Bones) → stored_by b None ≡ spelled_by b None
-unset b = simp append_assoc
+spelled_as : (b : Bones) (clock : Option Position) → stored_by b clock ≡ spelled_by b clock
+spelled_as b None = simp append_assoc
+spelled_as b (Some p) = simp append_assoc
 
-counters_spelled : (b : Bones) → b.clock ≡ None → (counters_row b).1 ≡ value_of (of.Counters (counters_of b))
+counters_spelled : (b : Bones) → (counters_row b).1 ≡ value_of (of.Counters (counters_of b))
 unfolding value_of
-counters_spelled b none = ap (stored_by b) none ∙ unset b ∙ sym (ap (spelled_by b) none)
+counters_spelled b = spelled_as b b.clock
 
-pub counters_count : Again → (b : Bones) → IsRecord (of.Counters (counters_of b)) → b.clock ≡ None → IsCounted (counters_row b)
-counters_count again b is none = record {
-  r = of.Counters (counters_of b);
-  reads = decodes_one again (of.Counters (counters_of b)) counters_key (counters_row b).1 is (counters_keyed b) (counters_spelled b none);
-  built = ap (λ (c : Option Position). not (is_some c)) none;
-  no_entry = refl;
-}
-
-pub counters_told : (again : Again) (b : Bones) (is : IsRecord (of.Counters (counters_of b))) (none : b.clock ≡ None) (before : Option Counters)
-    → counters_or before (counters_count again b is none).r ≡ Some (counters_of b)
-unfolding counters_count
-counters_told again b is none before = refl
+pub counters_read : Again → (b : Bones) → IsRecord (of.Counters (counters_of b)) → record_under (counters_row b).0 (counters_row b).1 ≡ Some (of.Counters (counters_of b))
+counters_read again b is = decodes_one again (of.Counters (counters_of b)) counters_key (counters_row b).1 is (counters_keyed b) (counters_spelled b)

@@ -7,19 +7,21 @@ use Rattle.std.proofs.lemmas.Bool.Decides.{nat_tests}
 use Rattle.ode_codec.specs.Reading.{record_under}
 use Rattle.ode_codec.specs.Rules.{IsRecord}
 use Rattle.ode_codec.specs.Spelling.{key_of, value_of}
-use Rattle.ode_codec.specs.StoredRows.{object_row, version_rows}
+use Rattle.ode_codec.specs.StoredRows.{activation_row, entry_row, object_row, state_of, version_rows}
 use Rattle.ode_codec.specs.declared.record.Record.{Record}
 use Rattle.ode_codec.specs.declared.record.Record.TheVariants as of
+use Rattle.ode_heap.specs.Answering.{IsReadableEntry, entry_of, with_state}
 use Rattle.ode_keep.specs.Entries.{Entries}
 use Rattle.ode_opening_laws.proofs.Decoding.{Again, decodes_one}
 use Rattle.ode_opening_objects.specs.Heads.{has_version, head_in, head_under, of_object}
 use Rattle.ode_opening_objects.specs.declared.head.Head.{Head}
 use Rattle.ode_value.specs.Denoting.{object_numbered}
 use Rattle.ode_value.specs.GoodWorlds.{RiseFrom}
-use Rattle.ode_value.specs.Keys.{object_key, version_key}
+use Rattle.ode_value.specs.Keys.{activation_key, entry_key, object_key, version_key}
+use Rattle.ode_value.specs.Objects.{Activation}
 use Rattle.ode_value.specs.Records.{Row, version_row}
 use Rattle.ode_value.specs.Versions.{Version}
-use Rattle.ode_value.specs.Worlds.{Object}
+use Rattle.ode_value.specs.Worlds.{Entry, Object, World}
 
 abbrev pub object_record : Object → Record
 object_record o = of.Object o.id o.class o.last
@@ -53,6 +55,38 @@ version_spelled id v = simp append_assoc
 
 pub version_reads : Again → (id : ℕ) (v : Version) → IsRecord (version_record id v) → record_under (version_row id v).0 (version_row id v).1 ≡ Some (version_record id v)
 version_reads again id v is = decodes_one again (version_record id v) (version_row id v).0 (version_row id v).1 is (version_keyed id v) (version_spelled id v)
+
+-- an activation with its state number, and an entry
+abbrev pub activation_record : World (Unit {0}) ℕ → ℕ → Activation → Record
+activation_record w id a = of.Activation (with_state w id a)
+
+abbrev pub entry_record : ℕ × Entry → Record
+entry_record q = of.Entry q.0 (entry_of q.1)
+
+activation_keyed : (w : World (Unit {0}) ℕ) (id : ℕ) (a : Activation) → activation_key id a.number ≡ key_of (activation_record w id a)
+unfolding key_of
+activation_keyed w id a = refl
+
+activation_spelled : (w : World (Unit {0}) ℕ) (id : ℕ) (a : Activation) → (activation_row id (state_of w id a.number) a).1 ≡ value_of (activation_record w id a)
+unfolding value_of
+activation_spelled w id a = simp append_assoc
+
+pub activation_reads : Again → (w : World (Unit {0}) ℕ) (id : ℕ) (a : Activation) → IsRecord (activation_record w id a)
+    → record_under (activation_row id (state_of w id a.number) a).0 (activation_row id (state_of w id a.number) a).1 ≡ Some (activation_record w id a)
+activation_reads again w id a is =
+    let row = activation_row id (state_of w id a.number) a in
+    decodes_one again (activation_record w id a) row.0 row.1 is (activation_keyed w id a) (activation_spelled w id a)
+
+entry_keyed : (q : ℕ × Entry) → entry_key q.0 ≡ key_of (entry_record q)
+unfolding key_of
+entry_keyed q = refl
+
+entry_spelled : (q : ℕ × Entry) → (entry_row q).1 ≡ value_of (entry_record q)
+unfolding value_of
+entry_spelled q = simp append_assoc
+
+pub entry_reads : Again → (q : ℕ × Entry) → IsReadableEntry q → record_under (entry_row q).0 (entry_row q).1 ≡ Some (entry_record q)
+entry_reads again q is = decodes_one again (entry_record q) (entry_row q).0 (entry_row q).1 is (entry_keyed q) (entry_spelled q)
 
 -- ---- numbers
 

@@ -1,31 +1,43 @@
 -- Classes that are declared one behind the other.
-use Rattle.std.proofs.Common.{◌≡◌, ℕ, List, [], ◌∷◌, ◌++◌, drop, Option, Some, Ok, Err, sym, ap, ◌∙◌}
+use Rattle.std.proofs.Common.{◌≡◌, ℕ, List, [], ◌∷◌, ◌++◌, drop, Bool, true, false, Option, Some, None, Ok, Err, refl, sym, ap, ◌∙◌}
+use Rattle.std.specs.Str.{bytes_eq}
+use Rattle.ode_compile.specs.Compiling.{compiled}
 use Rattle.ode_codec.specs.declared.record.Record.{Record}
 use Rattle.ode_language.specs.Languages.{ode}
 use Rattle.ode_value.specs.declared.statement.ClassDecl.{ClassDecl}
 use Rattle.ode_value.specs.declared.class.Class.{Class}
-use Rattle.ode_passes.specs.Answers.{Answers, Leaves}
+use Rattle.ode_passes.specs.Answers.{Leaves}
 use Rattle.ode_passes.specs.Records.{Found}
-use Rattle.ode_passes.specs.Rules.{Ruled, ◌>>=◌, through}
+use Rattle.ode_passes.specs.Rules.{Ruled, ◌>>=◌, found, needs, through}
+use Rattle.ode_passes.specs.declared.cause.Cause.TheVariants as cause
+use Rattle.ode_value.specs.PrintedClasses.{decl_text}
 use Rattle.ode_passes.specs.declared.error.OpenError.{OpenError}
 use Rattle.ode_passes.specs.declared.error.OpenError.TheVariants as error
+use Rattle.ode_opening.specs.Accepting.{Accepts, Compiles}
 use Rattle.ode_opening.specs.Cutting.{Cuts, Declares}
-use Rattle.ode_opening.specs.Declaring.{adds, declares_as, declares_by, read_in, text_in}
+use Rattle.ode_opening.specs.Declaring.{accepted_in, adds, agrees, declares_as, declares_by, read_in, text_in}
 
 -- ---- one class
 
 -- what stops the reading of a class stops its addition
 pub adds_stop : (read : Option ClassDecl) (known last : List Class) (number : ℕ) (head : Record) (text : List ℕ) (e : OpenError)
-    → read ≡ read_in ode text → Answers {X = Class} (declares_as read known number head text) (Err e) → Leaves (adds ode known number head text) last (Err e)
+    → read ≡ read_in ode text → Compiles (declares_as read known number head text) (Err e) → Leaves (adds ode known number head text) last (Err e)
 adds_stop read known last number head text (error.BadFile cause) is h =
     ap (λ (d : Option ClassDecl). declares_as d known number head text >>= λ c. Ok (known ++ c ∷ [])) (sym is) ∙ ap (λ m. m >>= λ c. Ok (known ++ c ∷ [])) h
 adds_stop read known last number head text error.DiskFault is h = tt
 adds_stop read known last number head text error.Memory is h = tt
 
-pub adds_one : (read : Option ClassDecl) (known : List Class) (number : ℕ) (head : Record) (text : List ℕ) (c : Class)
-    → read ≡ read_in ode text → declares_as read known number head text ≡ Ok c → adds ode known number head text ≡ Ok (known ++ c ∷ [])
-adds_one read known number head text c is h =
-    ap (λ (d : Option ClassDecl). declares_as d known number head text >>= λ c. Ok (known ++ c ∷ [])) (sym is) ∙ ap (λ m. m >>= λ c. Ok (known ++ c ∷ [])) h
+-- a class that isn't accepted is refused, whatever its text prints to
+pub refused_so : (d : ClassDecl) (known : List Class) (number : ℕ) (head : Record) (text : List ℕ) → accepted_in (compiled known d) ≡ None
+    → declares_as (Some d) known number head text ≡ Err (cause.Class number)
+refused_so d known number head text none = by (bytes_eq (decl_text d) text)
+  where
+    behind : Class → Ruled Class
+    behind c = needs (cause.Class number) (agrees head c) >>= λ _. Ok c
+
+    by : (b : Bool) → (needs (cause.Class number) b >>= λ _. found (cause.Class number) (accepted_in (compiled known d)) >>= behind) ≡ Err (cause.Class number)
+    by true = ap (λ (o : Option Class). found (cause.Class number) o >>= behind) none
+    by false = refl
 
 module _ (number length : ℕ) (head : Record) (known : List Class) (fs : Found) where
   -- the class behind its text
@@ -58,7 +70,7 @@ module _ {X : Type 0} (step : List Class × Found → X → Ruled (List Class ×
   declares_on s classes at x xs all h so_far = sym (ap (λ m. m >>= λ t. through step t xs) h) ∙ so_far
 
   pub declares_no_more : (s : List Class × Found) (classes : List Class) (x : X) (xs : List X) (all : Ruled (List Class × Found)) (e : OpenError)
-      → Declares (step s x) classes records (Err e) → through step s (x ∷ xs) ≡ all → Answers {X = List Class} (all >>= λ t. Ok t.0) (Err e)
+      → Declares (step s x) classes records (Err e) → through step s (x ∷ xs) ≡ all → Accepts (all >>= λ t. Ok t.0) (Err e)
   declares_no_more s classes x xs all (error.BadFile cause) h so_far =
       ap (λ m. m >>= λ t. Ok t.0) (sym so_far ∙ ap (λ m. m >>= λ t. through step t xs) h)
   declares_no_more s classes x xs all error.DiskFault h so_far = tt

@@ -4,15 +4,16 @@ use Rattle.std.specs.Option.{unwrap_or}
 use Rattle.std.specs.Str.{bytes_eq}
 use Rattle.ode_codec.specs.declared.record.Record.{Record}
 use Rattle.ode_codec.specs.declared.record.Record.TheVariants as of
-use Rattle.ode_types.specs.Static.{check_class}
+use Rattle.ode_compile.specs.Compiling.{compiled}
+use Rattle.ode_value.specs.Answers.{Answer}
 use Rattle.ode_value.specs.Language.{Language}
 use Rattle.ode_value.specs.Lengths.{piece_count}
 use Rattle.ode_value.specs.Limits.{class_limit, value_limit}
 use Rattle.ode_value.specs.PrintedClasses.{decl_text}
 use Rattle.ode_value.specs.declared.class.Class.{Class}
 use Rattle.ode_value.specs.declared.key.Key.{Key}
-use Rattle.ode_value.specs.declared.reason.CheckError.{CheckError}
 use Rattle.ode_value.specs.declared.reason.Refusal.{Refusal}
+use Rattle.ode_value.specs.Worlds.{Declared}
 use Rattle.ode_value.specs.declared.statement.ClassDecl.{ClassDecl}
 use Rattle.ode_value.specs.declared.statement.Statement.{Statement}
 use Rattle.ode_value.specs.declared.statement.Statement.TheVariants as statement
@@ -48,9 +49,10 @@ abbrev pub class_among : Option Statement → Option ClassDecl
 class_among (Some s) = class_in (Ok s)
 class_among None = None
 
-abbrev pub accepted_in : Result Class CheckError → Option Class
-accepted_in (Ok c) = Some c
-accepted_in (Err e) = None
+-- a class is accepted where no static rule and no limit refuses its declaration
+abbrev pub accepted_in : Answer Declared → Option Class
+accepted_in (Ok d) = Some d.class
+accepted_in (Err why) = None
 
 -- its records are within their limit
 abbrev pub is_short : List ℕ → Bool
@@ -67,7 +69,7 @@ abbrev pub declares_as : Option ClassDecl → List Class → ℕ → Record → 
 declares_as read known number head text = do
   d ← found (cause.Class number) read
   _ ← needs (cause.Class number) (bytes_eq (decl_text d) text)
-  c ← found (cause.Class number) (accepted_in (check_class known d))
+  c ← found (cause.Class number) (accepted_in (compiled known d))
   _ ← needs (cause.Class number) (agrees head c)
   Ok c
 

@@ -1,3 +1,5 @@
 pub mod Declaring
 pub mod Cutting
 pub mod Classes
+pub mod Building
+pub mod Accepting

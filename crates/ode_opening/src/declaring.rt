@@ -1,19 +1,27 @@
 //! The classes that records declare.
-ghost use Rattle.std.specs.Prelude.{◌≡◌, ◌<◌, ◌≤◌, ◌^◌, ◌+◌, drop, length, slice_get, true, Ok, Some, IfOk, IfSome, IsErrOf};
-ghost use Rattle.std.specs.Option.{option_and_then, option_copied};
+ghost use Rattle.std.specs.Prelude.{◌≡◌, ◌<◌, ◌≤◌, ◌^◌, ◌+◌, ◌++◌, ◌∷◌, [], drop, length, slice_get, true, Ok, Some, IfErr, IfOk, IfSome, IsErrOf, OnOk};
+ghost use Rattle.std.specs.Option.{option_and_then, option_copied, option_map};
+ghost use Rattle.ode_compile.specs.Compiling.{HaveNumbers, compiled};
+ghost use Rattle.ode_compile.specs.declared.compiling.Compiled.{Compiled as Made};
 ghost use Rattle.ode_types.specs.Checked.{IsChecked};
-ghost use Rattle.ode_types.specs.Static.{check_class};
+ghost use Rattle.ode_value.specs.PrintedClasses.{decl_text};
 ghost use Rattle.ode_language.specs.Languages.{ode, statement_of};
-ghost use Rattle.ode_passes.specs.Answers.{Answers, Leaves, is_usable};
+ghost use Rattle.ode_passes.specs.Answers.{Leaves, is_usable};
+ghost use Rattle.ode_opening.specs.Accepting.{Accepts, Compiles};
+ghost use Rattle.ode_opening.specs.Building.{AreBuilt, IsBuilt};
 ghost use Rattle.ode_opening.specs.Declaring.{accepted_in, adds, agrees, class_among, class_in, declared_in, declares_as, declares_by, is_short, piece_in, read_in, text_in};
 ghost use Rattle.ode_passes.specs.Complete.{of_head};
 ghost use Rattle.ode_opening.specs.Cutting.{Cuts, Declares};
 
+use crate::accepted::Accepted;
+use ode_again_laws::numbers_of_classes_are_in_range;
 use ode_codec::Record;
+use ode_compile::{CompileStop, Compiled, compile};
 use ode_language::{ReadStop, read_statement};
 use ode_passes::{Cause, OpenError, class_count, of_head};
-use ode_print::print_class;
-use ode_types::{CheckStop, Classes, check_class};
+use ode_symbols::Alphabet;
+use ode_table::Table;
+use ode_types::Classes;
 use ode_value::limits::{CLASS_LIMIT, VALUE_LIMIT};
 use ode_value::{Class, ClassDecl, Key, List, Statement};
 use std::alloc::{AllocError, Global};
@@ -97,8 +105,10 @@ fn is_short(text: &[u8]) -> bool
 // The statement that this text is read as, where it is read as one.
 fn parsed(alloc: Global, text: &[u8]) -> Result<Option<Statement>, AllocError>
     requires { length text.now < 2 ^ 32 }
-    ensures { IfOk result (λ read. class_among read ≡ class_in (statement_of text.now)) }
+    ensures class { IfOk result (λ read. class_among read ≡ class_in (statement_of text.now)) }
+    ensures numbers { IfOk result (λ read. IfSome (class_among read) HaveNumbers) }
 {
+    numbers_of_classes_are_in_range();
     match read_statement(alloc, text) {
         Ok(statement) => Ok(Some(statement)),
         Err(ReadStop::Memory) => Err(AllocError),
@@ -108,7 +118,8 @@ fn parsed(alloc: Global, text: &[u8]) -> Result<Option<Statement>, AllocError>
 
 // How a class's text is read, which is a statement's but for its semicolon.
 fn read_in(alloc: Global, text: &[u8]) -> Result<Option<Statement>, AllocError>
-    ensures { IfOk result (λ read. class_among read ≡ read_in ode text.now) }
+    ensures class { IfOk result (λ read. class_among read ≡ read_in ode text.now) }
+    ensures numbers { IfOk result (λ read. IfSome (class_among read) HaveNumbers) }
 {
     if !is_short(text) {
         return Ok(None);
@@ -118,14 +129,22 @@ fn read_in(alloc: Global, text: &[u8]) -> Result<Option<Statement>, AllocError>
     parsed(alloc, statement.as_slice())
 }
 
-// The class, where it is accepted after these.
-fn accepted(alloc: Global, known: &Classes, decl: &ClassDecl) -> Result<Option<Class>, AllocError>
-    ensures { IfOk result (λ class. class ≡ accepted_in (check_class known.now decl.now)) }
+// The class, compiled, where it is accepted after these.
+fn accepted(
+    alloc: Global,
+    known: &Classes,
+    decl: &ClassDecl,
+) -> Result<Option<Compiled>, AllocError>
+    requires { HaveNumbers decl.now }
+    ensures class { IfOk result (λ found. option_map (λ (made : Made). made.class) found ≡ accepted_in (compiled known.now decl.now)) }
+    ensures checked { IfOk result (λ found. IfSome found (λ made. IsChecked known.now made.class)) }
+    ensures text { IfOk result (λ found. IfSome found (λ made. made.text ≡ decl_text decl.now)) }
+    ensures built { IfOk result (λ found. IfSome found IsBuilt) }
 {
-    match check_class(alloc, known, decl) {
-        Ok(class) => Ok(Some(class)),
-        Err(CheckStop::Memory) => Err(AllocError),
-        Err(CheckStop::Broken(_)) => Ok(None),
+    match compile(alloc, known, decl) {
+        Ok(made) => Ok(Some(made)),
+        Err(CompileStop::Memory) => Err(AllocError),
+        Err(CompileStop::Refused(_)) => Ok(None),
     }
 }
 
@@ -156,6 +175,7 @@ fn broken<T>(number: u32) -> Result<T, OpenError>
 }
 
 // The class that a text declares which is read so.
+#[tactic(auto, using(crate::proofs::Declared::refused_so))]
 fn declare_as(
     alloc: Global,
     known: &Classes,
@@ -163,93 +183,155 @@ fn declare_as(
     head: &Record,
     text: &[u8],
     read: Option<&ClassDecl>,
-) -> Result<Class, OpenError>
-    ensures meant { Answers (declares_as (option_copied read.entry) known.now number head.now text.now) result }
-    ensures checked { IfOk result (λ class. IsChecked known.now class) }
+) -> Result<Compiled, OpenError>
+    requires { IfSome (option_copied read) HaveNumbers }
+    ensures meant { Compiles (declares_as (option_copied read.entry) known.now number head.now text.now) result }
+    ensures checked { IfOk result (λ made. IsChecked known.now made.class) }
+    ensures built { IfOk result IsBuilt }
     ensures calm { IsErrOf result OpenError.DiskFault → ⊥ }
 {
     let Some(decl) = read else {
         return broken(number);
     };
-    let printed = print_class(alloc, decl)?;
-    if printed.as_slice() != text {
-        return broken(number);
-    }
-    let Some(class) = accepted(alloc, known, decl)? else {
+    let Some(made) = accepted(alloc, known, decl)? else {
         return broken(number);
     };
-    if !agrees(head, &class) {
+    if made.text.as_slice() != text {
         return broken(number);
     }
-    Ok(class)
+    if !agrees(head, &made.class) {
+        return broken(number);
+    }
+    Ok(made)
+}
+
+// Tables behind others.
+fn put_tables(tables: &mut List<Table>, own: List<Table>) -> Result<(), AllocError>
+    ensures { OnOk result (tables.new ≡ tables.old ++ own) }
+{
+    'tables: for table in own.into_vec() {
+        tables.push(table)?;
+    }
+    Ok(())
+}
+
+// Their alphabets behind the others'.
+fn put_alphabets(alphabets: &mut List<Alphabet>, own: List<Alphabet>) -> Result<(), AllocError>
+    ensures { OnOk result (alphabets.new ≡ alphabets.old ++ own) }
+{
+    'alphabets: for alphabet in own.into_vec() {
+        alphabets.push(alphabet)?;
+    }
+    Ok(())
+}
+
+// A class behind the others, with what was built of it.
+fn put_class(accepted: &mut Accepted, made: Compiled) -> Result<(), OpenError>
+    requires checked { IsChecked accepted.old.classes made.class }
+    requires built { IsBuilt made }
+    ensures classes { OnOk result (accepted.new.classes ≡ accepted.old.classes ++ made.class ∷ []) }
+    ensures built { OnOk result (AreBuilt accepted.old → AreBuilt accepted.new) }
+    ensures memory { IfErr result (λ error. error ≡ OpenError.Memory) }
+{
+    let Compiled {
+        class,
+        tables,
+        alphabets,
+        ..
+    } = made;
+    accepted.classes.add(class)?;
+    put_tables(&mut accepted.tables, tables)?;
+    put_alphabets(&mut accepted.alphabets, alphabets)?;
+    Ok(())
 }
 
 // One more class, which this text declares.
 #[tactic(auto, using(crate::proofs::Declared::adds_stop))]
 fn add(
     alloc: Global,
-    classes: &mut Classes,
+    accepted: &mut Accepted,
     number: u32,
     head: &Record,
     text: &[u8],
 ) -> Result<(), OpenError>
-    ensures meant { Leaves (adds ode classes.old number head.now text.now) classes.new result }
+    ensures meant { Leaves (adds ode accepted.old.classes number head.now text.now) accepted.new.classes result }
+    ensures built { OnOk result (AreBuilt accepted.old → AreBuilt accepted.new) }
     ensures calm { IsErrOf result OpenError.DiskFault → ⊥ }
 {
     let read = read_in(alloc, text)?;
-    let class = declare_as(alloc, classes, number, head, text, class_among(&read))?;
-    classes.add(class)?;
-    Ok(())
+    let made = declare_as(
+        alloc,
+        &accepted.classes,
+        number,
+        head,
+        text,
+        class_among(&read),
+    )?;
+    put_class(accepted, made)
 }
 
 // One more class, and the place behind the pieces of its text.
 #[tactic(auto, using(crate::proofs::Declared::cut_stops_it, crate::proofs::Declared::add_stops_it, crate::proofs::Declared::declared_one))]
 fn declare(
     alloc: Global,
-    classes: &mut Classes,
+    accepted: &mut Accepted,
     records: &[(Key, Record)],
     at: usize,
     head: &Record,
     number: u32,
     length: u32,
 ) -> Result<usize, OpenError>
-    ensures meant { Declares (declares_by ode (Some (number, length)) head.now (classes.old, drop at records.now)) classes.new records.now result }
+    ensures meant { Declares (declares_by ode (Some (number, length)) head.now (accepted.old.classes, drop at records.now)) accepted.new.classes records.now result }
+    ensures built { OnOk result (AreBuilt accepted.old → AreBuilt accepted.new) }
     ensures calm { IsErrOf result OpenError.DiskFault → ⊥ }
 {
     let cut = text_in(alloc, records, at, number, length)?;
     let (text, next) = cut;
-    add(alloc, classes, number, head, text.as_slice())?;
+    add(alloc, accepted, number, head, text.as_slice())?;
     Ok(next)
 }
 
 // The same where a record is a head.
 fn declare_next(
     alloc: Global,
-    classes: &mut Classes,
+    accepted: &mut Accepted,
     records: &[(Key, Record)],
     at: usize,
     row: &Record,
 ) -> Result<usize, OpenError>
-    ensures meant { Declares (declares_by ode (of_head row.now) row.now (classes.old, drop at records.now)) classes.new records.now result }
+    ensures meant { Declares (declares_by ode (of_head row.now) row.now (accepted.old.classes, drop at records.now)) accepted.new.classes records.now result }
+    ensures built { OnOk result (AreBuilt accepted.old → AreBuilt accepted.new) }
     ensures calm { IsErrOf result OpenError.DiskFault → ⊥ }
 {
     match of_head(row) {
-        Some((number, length)) => declare(alloc, classes, records, at, row, number, length),
+        Some((number, length)) => declare(alloc, accepted, records, at, row, number, length),
         None => Ok(at),
     }
 }
 
-/// The classes that the records of classes declare. Each was checked against those before it.
+fn none_accepted(alloc: Global) -> Accepted
+    ensures none { result.classes ≡ [] }
+    ensures built { AreBuilt result }
+{
+    Accepted {
+        classes: Classes::new(alloc),
+        tables: List::new(alloc),
+        alphabets: List::new(alloc),
+    }
+}
+
+/// The classes that the records of classes declare, with what is built of them. Each was compiled behind those before it.
 #[tactic(auto, unfolding(crate::specs::Declaring::declared_in))]
-pub fn declare_all(alloc: Global, records: &[(Key, Record)]) -> Result<Classes, OpenError>
-    ensures meant { Answers (declared_in ode records.now) result }
+pub(crate) fn declare_all(alloc: Global, records: &[(Key, Record)]) -> Result<Accepted, OpenError>
+    ensures meant { Accepts (declared_in ode records.now) result }
+    ensures built { IfOk result AreBuilt }
     ensures calm { IsErrOf result OpenError.DiskFault → ⊥ }
     ensures usable { is_usable result ≡ true }
 {
-    let mut classes = Classes::new(alloc);
+    let mut accepted = none_accepted(alloc);
     let mut at = class_count(records);
     for found in records {
-        at = declare_next(alloc, &mut classes, records, at, &found.1)?;
+        at = declare_next(alloc, &mut accepted, records, at, &found.1)?;
     }
-    Ok(classes)
+    Ok(accepted)
 }

@@ -1,61 +1,55 @@
 -- A class whose text is read and accepted is declared.
-use Rattle.std.proofs.Common.{◌≡◌, ℕ, ◌+◌, ◌<◌, ◌^◌, List, [], ◌∷◌, ◌++◌, map, length, codes, Bool, true, false, cond, Option, Some, None, Result, Ok, Err, refl, ap, ◌∙◌, arith}
-use Rattle.std.specs.Prelude.{nat_le, nat_lt, ◌==◌, ◌&&◌}
-use Rattle.std.specs.List.{AllByRecursion, sum_by}
+use Rattle.std.proofs.Common.{◌≡◌, ℕ, ◌+◌, ◌<◌, ◌^◌, List, [], ◌∷◌, ◌++◌, map, length, codes, Bool, true, false, cond, Option, Some, None, Ok, Err, refl, ap, ◌∙◌, arith}
+use Rattle.std.specs.Prelude.{nat_le, ◌==◌, ◌&&◌}
+use Rattle.std.specs.List.{AllByRecursion}
 use Rattle.std.specs.Option.{unwrap_or}
 use Rattle.std.specs.Str.{bytes_eq}
 use Rattle.std.proofs.lemmas.Bool.Decides.{nat_tests}
 use Rattle.std.proofs.lemmas.Slice.Eq.{bytes_eq-Decides}
+use Rattle.ode_codec.specs.Rules.{IsRecord}
+use Rattle.ode_codec.specs.Standing.{HasTables}
+use Rattle.ode_compile.specs.Compiling.{compiled}
 use Rattle.ode_language.specs.Languages.{ode}
-use Rattle.ode_opening.specs.Declaring.{accepted_in, adds, agrees, class_in, declares_as, is_short, read_in}
+use Rattle.ode_opening.specs.Declaring.{accepted_in, adds, agrees, class_in, declares_as, read_in}
 use Rattle.ode_passes.specs.Rules.{Ruled, ◌>>=◌, found, needs}
 use Rattle.ode_passes.specs.declared.cause.Cause.TheVariants as cause
-use Rattle.ode_types.specs.Static.{check_class}
-use Rattle.ode_value.specs.Answers.{Answer, ◌>>◌, refuses}
-use Rattle.ode_value.specs.ClassLimits.{limits_class, limits_triggers}
+use Rattle.ode_value.specs.Answers.{Answer}
 use Rattle.ode_value.specs.GoodWorlds.{AreClasses, IsClass}
-use Rattle.ode_value.specs.Lengths.{piece_count, table_records}
+use Rattle.ode_value.specs.Lengths.{piece_count}
 use Rattle.ode_value.specs.Limits.{class_limit}
 use Rattle.ode_value.specs.PrintedClasses.{decl_text}
-use Rattle.ode_value.specs.Weights.{record_count, table_size}
+use Rattle.ode_value.specs.Tables.{Table}
 use Rattle.ode_value.specs.Worlds.{Declared}
 use Rattle.ode_value.specs.declared.class.Class.{Class}
-use Rattle.ode_value.specs.declared.reason.Refusal.{Refusal}
-use Rattle.ode_value.specs.declared.reason.Refusal.TheVariants as refusal
 use Rattle.ode_value.specs.declared.statement.ClassDecl.{ClassDecl}
 use Rattle.ode_opening_laws.specs.Holding.{class_of, head_of}
-use Rattle.ode_opening_laws.proofs.Founds.{IsSmall}
+use Rattle.ode_opening_laws.proofs.Heads.{heads_spelled}
+use Rattle.ode_opening_laws.proofs.Limits.{compiles, short_of}
+use Rattle.ode_opening_laws.proofs.Sized.{HasSizes, have_sizes}
+use Rattle.ode_opening_laws.proofs.Storable.{IsSmall, IsStorable}
 
 -- ---- few records
-
-not_refused : (b : Bool) (r : Refusal) (d : Declared) → (refuses b r >> Ok d) ≡ Ok d → b ≡ false
-not_refused true r d is = absurd (cc)
-not_refused false r d is = refl
-
-behind : (m : Answer (Unit {0})) (b : Bool) (r : Refusal) (d : Declared) → (m >> (refuses b r >> Ok d)) ≡ Ok d → b ≡ false
-behind (Ok u) b r d is = not_refused b r d is
-behind (Err e) b r d is = absurd (cc)
-
-few_of : (d : Declared) → limits_class d ≡ Ok d → nat_lt class_limit (record_count d) ≡ false
-few_of d limits = behind (limits_triggers d.class.triggers) (nat_lt class_limit (record_count d)) (refusal.ClassTooLarge (record_count d)) d limits
-
-fewer : (n m : ℕ) → nat_lt class_limit (1 + n + m) ≡ false → nat_le (1 + n) class_limit ≡ true
-fewer n m few = grind (arith, nat_tests)
-
-pub short_of : (d : Declared) → limits_class d ≡ Ok d → is_short (decl_text d.tree) ≡ true
-unfolding record_count
-short_of d limits = fewer (piece_count (length (decl_text d.tree))) (sum_by table_records (map table_size d.class.triggers)) (few_of d limits)
 
 small_of : (n : ℕ) → nat_le (1 + n) class_limit ≡ true → n < 2 ^ 32
 unfolding class_limit
 small_of n short = grind (arith, nat_tests)
 
-pub is_small : (earlier : List Declared) (d : Declared) → IsClass ode earlier d → IsSmall d
+is_small : (earlier : List Declared) (d : Declared) → IsClass ode earlier d → IsSmall d
 is_small earlier d is = record { number = is.low; pieces = small_of (piece_count (length (decl_text d.tree))) (short_of d is.limits) }
 
 pub are_small : (earlier ds : List Declared) → AreClasses ode earlier ds → AllByRecursion IsSmall ds
 are_small earlier [] classes = tt
 are_small earlier (d ∷ ds) classes = (is_small earlier d classes.0, are_small (earlier ++ d ∷ []) ds classes.1)
+
+-- ---- all that their records need
+
+module _ (tables : ℕ → ℕ → Table) where
+  each_storable : (ds : List Declared) → AllByRecursion IsSmall ds → AllByRecursion (λ d. IsRecord (head_of d)) ds → AllByRecursion (HasSizes tables) ds → AllByRecursion (IsStorable tables) ds
+  each_storable [] small spelled sized = tt
+  each_storable (d ∷ ds) small spelled sized = (record { small = small.0; spelled = spelled.0; sized = sized.0 }, each_storable ds small.1 spelled.1 sized.1)
+
+  pub are_storable : (ds : List Declared) → AreClasses ode [] ds → AllByRecursion (HasTables tables) ds → AllByRecursion (IsStorable tables) ds
+  are_storable ds classes mean = each_storable ds (are_small [] ds classes) (heads_spelled ds classes) (have_sizes tables [] ds classes mean)
 
 -- ---- its head agrees
 
@@ -101,7 +95,7 @@ module _ (earlier : List Declared) (d : Declared) (is : IsClass ode earlier d) w
   checked o = found (cause.Class d.class.number) o >>= λ c. agreed (agrees (head_of d) c) c
 
   abbrev printed : Bool → Ruled Class
-  printed b = needs (cause.Class d.class.number) b >>= λ _. checked (accepted_in (check_class known d.tree))
+  printed b = needs (cause.Class d.class.number) b >>= λ _. checked (accepted_in (compiled known d.tree))
 
   abbrev read_as : Option ClassDecl → Ruled (List Class)
   read_as o = declares_as o known d.class.number (head_of d) text >>= λ c. Ok (known ++ c ∷ [])
@@ -109,7 +103,7 @@ module _ (earlier : List Declared) (d : Declared) (is : IsClass ode earlier d) w
   class_is : declares_as (Some d.tree) known d.class.number (head_of d) text ≡ Ok d.class
   class_is =
       ap printed (same_bytes text)
-      ∙ ap (λ (r : Result Class _). checked (accepted_in r)) is.checked
+      ∙ ap (λ (r : Answer Declared). checked (accepted_in r)) (compiles earlier d is)
       ∙ ap (λ b. agreed b d.class) (head_agrees d)
 
   pub is_added : adds ode known d.class.number (head_of d) text ≡ Ok (known ++ d.class ∷ [])

@@ -24,9 +24,8 @@ use Rattle.ode_value.specs.declared.reason.CheckError.TheVariants.{Duplicate, Un
 use Rattle.ode_value.specs.declared.statement.ClassDecl.{ClassDecl}
 use Rattle.ode_value.specs.declared.statement.Member.{Member}
 use Rattle.ode_value.specs.declared.statement.Member.TheVariants as member
-use Rattle.ode_opening_laws.specs.Holding.{HasNoTriggers, class_of, head_of}
-use Rattle.ode_opening_laws.proofs.Plain.{IsPlain}
-use Rattle.ode_opening_laws.proofs.Accepting.{short_of}
+use Rattle.ode_opening_laws.specs.Holding.{class_of, head_of}
+use Rattle.ode_opening_laws.proofs.Limits.{few_triggers_of, short_of}
 use Rattle.ode_opening_laws.proofs.Named.{class_is_named}
 
 -- members change neither name nor parent
@@ -115,29 +114,27 @@ text_low : (n : ℕ) → 1 + piece_count n ≤ class_limit → n < 2 ^ 32
 unfolding class_limit value_limit
 text_low n few = omega arith
 
-head_kept : (earlier : List Declared) (d : Declared) → AllByRecursion IsLow (map class_of earlier) → IsClass ode earlier d → HasNoTriggers d.class → IsRecord (head_of d)
+head_kept : (earlier : List Declared) (d : Declared) → AllByRecursion IsLow (map class_of earlier) → IsClass ode earlier d → IsRecord (head_of d)
 unfolding IsKept HasRanges
-head_kept earlier d low is none =
+head_kept earlier d low is =
     let head = has_head (map class_of earlier) d.tree d.class is.checked in
     let free = class_is_named _ d.tree is.text in
     let name : IsName d.class.name = subst IsName (sym head.name) (free_name d.tree.name free) in
     let parent : unwrap_or d.class.parent 0 < 2 ^ 32 =
     subst (λ (o : Option ℕ). unwrap_or o 0 < 2 ^ 32) (sym head.parent) (parent_low (map class_of earlier) d.tree.parent head.above low head.there) in
     let short : length (decl_text d.tree) < 2 ^ 32 = text_low (length (decl_text d.tree)) (leb-true _ _ (short_of d is.limits)) in
-    let few : length d.class.triggers < 2 ^ 16 = subst (λ (n : ℕ). n < 2 ^ 16) (sym (ap length none)) (omega arith) in
-    record { kept = tt; ranges = (is.low, name, parent, short, few) }
+    record { kept = tt; ranges = (is.low, name, parent, short, few_triggers_of earlier d is) }
 
 append_low : (xs : List Class) (c : Class) → AllByRecursion IsLow xs → IsLow c → AllByRecursion IsLow (xs ++ c ∷ [])
 append_low [] c all low = (low, tt)
 append_low (x ∷ xs) c all low = (all.0, append_low xs c all.1 low)
 
-plain_behind : (earlier ds : List Declared) → AreClasses ode earlier ds → AllByRecursion IsLow (map class_of earlier) → AllByRecursion HasNoTriggers (map class_of ds) → AllByRecursion IsPlain ds
-plain_behind earlier [] classes low none = tt
-plain_behind earlier (d ∷ ds) classes low none = (
-  record { spelled = head_kept earlier d low classes.0 none.0; no_triggers = none.0 },
-  plain_behind (earlier ++ d ∷ []) ds classes.1
-      (subst (AllByRecursion IsLow) (sym (map-append class_of earlier (d ∷ []))) (append_low (map class_of earlier) d.class low classes.0.low)) none.1,
+spelled_behind : (earlier ds : List Declared) → AreClasses ode earlier ds → AllByRecursion IsLow (map class_of earlier) → AllByRecursion (λ d. IsRecord (head_of d)) ds
+spelled_behind earlier [] classes low = tt
+spelled_behind earlier (d ∷ ds) classes low = (
+  head_kept earlier d low classes.0,
+  spelled_behind (earlier ++ d ∷ []) ds classes.1 (subst (AllByRecursion IsLow) (sym (map-append class_of earlier (d ∷ []))) (append_low (map class_of earlier) d.class low classes.0.low)),
 )
 
-pub are_plain : (ds : List Declared) → AreClasses ode [] ds → AllByRecursion HasNoTriggers (map class_of ds) → AllByRecursion IsPlain ds
-are_plain ds classes none = plain_behind [] ds classes tt none
+pub heads_spelled : (ds : List Declared) → AreClasses ode [] ds → AllByRecursion (λ d. IsRecord (head_of d)) ds
+heads_spelled ds classes = spelled_behind [] ds classes tt

@@ -21,14 +21,14 @@ use Rattle.ode_opening_laws.proofs.Decoding.{Again, Decode, decodes_one}
 
 -- ---- numbers
 
-inside : (i n : ℕ) → i < piece_count n → i * value_limit < n
+pub inside : (i n : ℕ) → i < piece_count n → i * value_limit < n
 unfolding value_limit
 inside i n less = omega arith
 
-at_most : (n b : ℕ) → b ≡ min value_limit n → b ≤ value_limit
+pub at_most : (n b : ℕ) → b ≡ min value_limit n → b ≤ value_limit
 at_most n b is = omega arith
 
-at_least : (n b : ℕ) → 0 < n → b ≡ min value_limit n → 1 ≤ b
+pub at_least : (n b : ℕ) → 0 < n → b ≡ min value_limit n → 1 ≤ b
 unfolding value_limit
 at_least n b some is = omega arith
 

@@ -2,7 +2,8 @@
 use Rattle.std.proofs.Common.{◌≡◌, ℕ, zero, suc, ◌+◌, List, [], ◌∷◌, ◌++◌, map, length, drop, Ok, refl, sym, ap, ◌∙◌, append_assoc}
 use Rattle.std.proofs.Math.Seq.{drop-append_seam}
 use Rattle.std.proofs.lemmas.List.{append-nil, length-map, map-append}
-use Rattle.std.specs.List.{AllByRecursion}
+use Rattle.std.specs.List.{AllByRecursion, flat_map}
+use Rattle.ode_codec.specs.StoredRows.{places_of, table_bytes}
 use Rattle.ode_keep.specs.Entries.{Entries}
 use Rattle.ode_language.specs.Languages.{ode}
 use Rattle.ode_opening.specs.Classes.{classes_in}
@@ -14,16 +15,17 @@ use Rattle.ode_passes.proofs.Through.{through-append}
 use Rattle.ode_value.specs.GoodWorlds.{AreClasses, IsClass}
 use Rattle.ode_value.specs.Lengths.{piece_count}
 use Rattle.ode_value.specs.PrintedClasses.{decl_text}
+use Rattle.ode_value.specs.Tables.{Table}
 use Rattle.ode_value.specs.Worlds.{Declared}
 use Rattle.ode_value.specs.declared.class.Class.{Class}
 use Rattle.ode_opening_laws.specs.Holding.{HoldClasses, class_of, class_rows, head_of}
-use Rattle.ode_opening_laws.proofs.Plain.{IsPlain}
-use Rattle.ode_opening_laws.proofs.Heads.{are_plain}
-use Rattle.ode_opening_laws.proofs.Accepting.{are_small, is_added}
+use Rattle.ode_opening_laws.proofs.Accepting.{are_storable, is_added}
 use Rattle.ode_opening_laws.proofs.Decoding.{Again}
 use Rattle.ode_opening_laws.proofs.Expecting.{complete_is, count_is}
-use Rattle.ode_opening_laws.proofs.Founds.{classes_decode, found_of, head_found, heads_found, pieces_found, pieces_of_class}
+use Rattle.ode_opening_laws.proofs.Founds.{classes_decode, found_of, head_at, head_found, heads_found, pieces_at, pieces_found, pieces_of_class, table_heads_found, table_heads_of, tables_found, tables_of}
 use Rattle.ode_opening_laws.proofs.Pieces.{all_pieces_cut, found_pieces}
+use Rattle.ode_opening_laws.proofs.Storable.{IsStorable}
+use Rattle.ode_opening_laws.proofs.TablePieces as table
 
 abbrev Turn : Type 0
 Turn = List Class × Found
@@ -61,27 +63,67 @@ pieces_silent s (d ∷ ds) =
     ∙ ap (λ (m : Ruled Turn). m >>= λ t. through (declares_next ode) t (pieces_found ds)) (text_silent s d.class.number (decl_text d.tree) 0 (piece_count (length (decl_text d.tree))))
     ∙ pieces_silent s ds
 
-declared_is : (ds : List Declared) → AreClasses ode [] ds → declared_in ode (found_of ds) ≡ Ok (map class_of ds)
-unfolding declared_in
-declared_is ds classes =
-    let start : drop (class_count (found_of ds)) (found_of ds) ≡ pieces_found ds =
-    ap (λ n. drop n (found_of ds)) (count_is ds ∙ sym (length-map ds head_found)) ∙ drop-append_seam (heads_found ds) (pieces_found ds) in
-    let read : through (declares_next ode) ([], pieces_found ds) (heads_found ds) ≡ Ok (map class_of ds, []) =
-    ap (λ (fs : Found). through (declares_next ode) ([], fs) (heads_found ds)) (sym (append-nil (pieces_found ds))) ∙ heads_read [] ds classes [] in
-    let all : through (declares_next ode) ([], pieces_found ds) (found_of ds) ≡ Ok (map class_of ds, []) =
-    through-append (declares_next ode) ([], pieces_found ds) (heads_found ds) (pieces_found ds)
-    ∙ ap (λ (m : Ruled Turn). m >>= λ t. through (declares_next ode) t (pieces_found ds)) read
-    ∙ pieces_silent (map class_of ds, []) ds in
-    ap (λ (fs : Found). through (declares_next ode) ([], fs) (found_of ds) >>= λ s. Ok s.0) start
-    ∙ ap (λ (m : Ruled Turn). m >>= λ s. Ok s.0) all
+-- nor do the records of tables
+none_silent : {X : Type 0} (s : Turn) (f : X → Found) → ((x : X) → through (declares_next ode) s (f x) ≡ Ok s) → (xs : List X) → through (declares_next ode) s (flat_map f xs) ≡ Ok s
+none_silent s f none [] = refl
+none_silent s f none (x ∷ xs) =
+    through-append (declares_next ode) s (f x) (flat_map f xs)
+    ∙ ap (λ (m : Ruled Turn). m >>= λ t. through (declares_next ode) t (flat_map f xs)) (none x) ∙ none_silent s f none xs
 
-pub classes_are_read : Again → (entries : Entries) (ds : List Declared) → HoldClasses entries ds → classes_in ode entries ≡ Ok (map class_of ds)
+module _ (tables : ℕ → ℕ → Table) (s : Turn) where
+  heads_silent : (class : ℕ) (places : List ℕ) → through (declares_next ode) s (map (head_at tables class) places) ≡ Ok s
+  heads_silent class [] = refl
+  heads_silent class (place ∷ places) = heads_silent class places
+
+  table_silent : (class place : ℕ) (t : Table) (i count : ℕ) → through (declares_next ode) s (table.found_pieces class place t i count) ≡ Ok s
+  table_silent class place t i zero = refl
+  table_silent class place t i (suc n) = table_silent class place t (i + 1) n
+
+  tables_silent : (ds : List Declared) → through (declares_next ode) s (table_heads_found tables ds ++ tables_found tables ds) ≡ Ok s
+  tables_silent ds =
+      through-append (declares_next ode) s (table_heads_found tables ds) (tables_found tables ds)
+      ∙ ap (λ (m : Ruled Turn). m >>= λ t. through (declares_next ode) t (tables_found tables ds))
+      (none_silent s (table_heads_of tables) (λ (d : Declared). heads_silent d.class.number (places_of d)) ds)
+      ∙ none_silent s (tables_of tables)
+      (λ (d : Declared). none_silent s (pieces_at tables d.class.number)
+      (λ place. table_silent d.class.number place (tables d.class.number place) 0 (piece_count (length (table_bytes (tables d.class.number place))))) (places_of d)) ds
+
+module _ (tables : ℕ → ℕ → Table) (ds : List Declared) (classes : AreClasses ode [] ds) where
+  abbrev rest : Found
+  rest = table_heads_found tables ds ++ tables_found tables ds
+
+  in_parts : found_of tables ds ≡ heads_found ds ++ (pieces_found ds ++ rest)
+  in_parts = simp append_assoc
+
+  start : drop (class_count (found_of tables ds)) (found_of tables ds) ≡ pieces_found ds ++ rest
+  start =
+      ap (λ n. drop n (found_of tables ds)) (count_is tables ds ∙ sym (length-map ds head_found))
+      ∙ ap (drop (length (heads_found ds))) in_parts ∙ drop-append_seam (heads_found ds) (pieces_found ds ++ rest)
+
+  all_read : through (declares_next ode) ([], pieces_found ds ++ rest) (found_of tables ds) ≡ Ok (map class_of ds, rest)
+  all_read =
+      let step = declares_next ode in
+      let turn : Turn = (map class_of ds, rest) in
+      ap (through step ([], pieces_found ds ++ rest)) in_parts
+      ∙ through-append step ([], pieces_found ds ++ rest) (heads_found ds) (pieces_found ds ++ rest)
+      ∙ ap (λ (m : Ruled Turn). m >>= λ t. through step t (pieces_found ds ++ rest)) (heads_read [] ds classes rest)
+      ∙ through-append step turn (pieces_found ds) rest
+      ∙ ap (λ (m : Ruled Turn). m >>= λ t. through step t rest) (pieces_silent turn ds)
+      ∙ tables_silent tables turn ds
+
+  declared_is : declared_in ode (found_of tables ds) ≡ Ok (map class_of ds)
+  unfolding declared_in
+  declared_is =
+      ap (λ (fs : Found). through (declares_next ode) ([], fs) (found_of tables ds) >>= λ s. Ok s.0) start
+      ∙ ap (λ (m : Ruled Turn). m >>= λ s. Ok s.0) all_read
+
+pub classes_are_read : Again → (entries : Entries) (tables : ℕ → ℕ → Table) (ds : List Declared) → HoldClasses entries tables ds → classes_in ode entries ≡ Ok (map class_of ds)
 unfolding classes_in
-classes_are_read again entries ds held =
-    let plain : AllByRecursion IsPlain ds = are_plain ds held.classes held.no_triggers in
-    let found : decoded (class_rows ds) ≡ Ok (found_of ds) = classes_decode again ds plain (are_small [] ds held.classes) in
+classes_are_read again entries tables ds held =
+    let all : AllByRecursion (IsStorable tables) ds = are_storable tables ds held.classes held.mean in
+    let found : decoded (class_rows tables ds) ≡ Ok (found_of tables ds) = classes_decode tables again ds all in
     let behind : Ruled Found → Ruled (List Class) = λ m. m >>= λ records. complete records >>= λ _. declared_in ode records in
     ap (λ (es : Entries). behind (decoded es)) held.rows
     ∙ ap behind found
-    ∙ ap (λ (m : Ruled (Unit {0})). m >>= λ _. declared_in ode (found_of ds)) (complete_is ds held.classes plain)
-    ∙ declared_is ds held.classes
+    ∙ ap (λ (m : Ruled (Unit {0})). m >>= λ _. declared_in ode (found_of tables ds)) (complete_is tables ds held.classes all)
+    ∙ declared_is tables ds held.classes

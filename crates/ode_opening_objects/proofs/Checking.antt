@@ -1,129 +1,240 @@
--- Passes that only ask something of each record, one behind the other.
-use Rattle.std.proofs.Common.{◌≡◌, ℕ, List, [], ◌∷◌, false, Option, Some, None, Ok, Err, refl, sym, ap, subst, ◌∙◌}
-use Rattle.ode_codec.specs.Reading.{record_under}
+-- Passes that ask something of each record, one behind the other, and carry along the first reference that doesn't fit.
+use Rattle.std.proofs.Common.{◌≡◌, ℕ, zero, suc, ◌-◌, List, [], ◌∷◌, Bool, true, Option, Result, Ok, Err, refl, sym, ap, subst, ◌∙◌, arith}
+use Rattle.std.specs.Prelude.{nat_lt, take, drop}
+use Rattle.std.proofs.lemmas.Bool.{lt-ltb}
+use Rattle.ode_codec.specs.declared.record.Counters.{Counters}
 use Rattle.ode_codec.specs.declared.record.Record.{Record}
-use Rattle.ode_keep.specs.Entries.{Entries}
+use Rattle.ode_keep.specs.Entries.{Entries, HasRisingKeys}
 use Rattle.ode_passes.specs.Answers.{Answers, Leaves}
-use Rattle.ode_passes.specs.Rules.{Ruled, ◌>>=◌, each, found, needs, through}
+use Rattle.ode_passes.specs.Records.{record_in}
+use Rattle.ode_passes.specs.Rules.{Ruled, ◌>>=◌, each, needs, through}
 use Rattle.ode_passes.specs.Walking.{within}
 use Rattle.ode_passes.specs.declared.cause.Cause.TheVariants as cause
 use Rattle.ode_passes.specs.declared.error.OpenError.{OpenError}
 use Rattle.ode_passes.specs.declared.error.OpenError.TheVariants as error
 use Rattle.ode_value.specs.Keys.{activation_kind, entry_kind, object_kind, version_kind}
+use Rattle.ode_value.specs.Limits.{queue_limit}
 use Rattle.ode_value.specs.Records.{Row}
 use Rattle.ode_value.specs.declared.class.Class.{Class}
-use Rattle.ode_opening_objects.specs.Heads.{has_version, head_in}
-use Rattle.ode_opening_objects.specs.Objects.{is_not_built, object_keeps, classes_kept, objects_keep, references_keep, version_keeps}
-use Rattle.ode_opening_objects.specs.Scenes.{checked, keeps, passed, scene_in}
+use Rattle.ode_value.specs.declared.key.Key.{Key}
+use Rattle.ode_opening_objects.specs.Known.{Known}
+use Rattle.ode_opening_objects.specs.Objects.{object_keeps, objects_keep, references_keep, version_keeps}
+use Rattle.ode_opening_objects.specs.Scenes.{checked, each_refers, fits, heads_of, is_twice, keeps, objects_kept, passed, queued, referred, refers, scene_in, scene_kept, turn, versions_of, with_object}
+use Rattle.ode_opening_objects.specs.States.{is_seen}
+use Rattle.ode_opening_objects.specs.Triggers.{activation_keeps, at_most, entry_fits, entry_keeps, is_shared, none_over}
 use Rattle.ode_opening_objects.specs.declared.head.Head.{Head}
 use Rattle.ode_opening_objects.specs.declared.scene.Check.{Check}
+use Rattle.ode_opening_objects.specs.declared.scene.Course.{Course}
+use Rattle.ode_opening_objects.specs.declared.scene.Queue.{Queue}
 use Rattle.ode_opening_objects.specs.declared.scene.Rule.TheVariants as rule
-use Rattle.ode_opening_objects.specs.declared.scene.Scene.{Scene}
-use Rattle.ode_opening_objects.proofs.Gathering.{heads_are, scene_of, scene_read}
+use Rattle.ode_opening_objects.specs.declared.states.States.{States}
+use Rattle.ode_opening_objects.proofs.Gathering.{numbers_are}
+use Rattle.ode_opening_objects.proofs.Parts.{by_kinds}
 
--- ---- one pass
+-- ---- one rule behind another
 
-step : (m : Ruled (Unit {0})) (c : Check) (es : Entries) → (through checked c es >>= λ d. Ok d.scene) ≡ (each (keeps c.rule c.scene) es >>= λ _. Ok c.scene)
-    → ((m >>= λ _. Ok c) >>= (λ d. through checked d es) >>= λ d. Ok d.scene) ≡ ((m >>= λ _. each (keeps c.rule c.scene) es) >>= λ _. Ok c.scene)
-step (Ok u) c es more = more
-step (Err e) c es more = refl
+together : (a b c : Ruled (Unit {0})) → ((a >>= λ _. b) >>= λ _. c) ≡ (a >>= λ _. (b >>= λ _. c))
+together (Ok u) b c = refl
+together (Err e) b c = refl
 
-pub checked_scene : (es : Entries) (c : Check) → (through checked c es >>= λ d. Ok d.scene) ≡ (each (keeps c.rule c.scene) es >>= λ _. Ok c.scene)
-checked_scene [] c = refl
-checked_scene (e ∷ es) c = step (keeps c.rule c.scene e) c es (checked_scene es c)
+ended : (a : Ruled (Unit {0})) → (a >>= λ _. Ok tt) ≡ a
+ended (Ok u) = refl
+ended (Err e) = refl
 
-pub check_goes : (es : Entries) (c d : Check) → through checked c es ≡ Ok d → passed c.rule c.scene es ≡ Ok d.scene
-check_goes es c d ran = sym (checked_scene es c) ∙ ap (λ m. m >>= λ t. Ok t.scene) ran
+-- a rule's scene goes on as it is
+carried : {X : Type 0} (a : Ruled (Unit {0})) (s : Known) (next : Known → Ruled X) → ((a >>= λ _. Ok s) >>= next) ≡ (a >>= λ _. next s)
+carried (Ok u) s next = refl
+carried (Err e) s next = refl
 
-pub check_stops : (es : Entries) (c d : Check) (e : OpenError) → Leaves (through checked c es) d (Err e) → Answers (passed c.rule c.scene es) (Err e)
-check_stops es c d (error.BadFile why) ran = sym (checked_scene es c) ∙ ap (λ m. m >>= λ t. Ok t.scene) ran
-check_stops es c d error.DiskFault ran = tt
-check_stops es c d error.Memory ran = tt
+-- ---- objects
 
--- ---- what isn't there yet
+object_step : (m : Ruled (Unit {0})) (entries : Entries) (s : Known) (es : Entries) → through (with_object entries) s es ≡ (each (object_keeps s.counters.next_number s.classes (versions_of entries)) es >>= λ _. Ok s)
+    → ((m >>= λ _. Ok s) >>= λ t. through (with_object entries) t es) ≡ ((m >>= λ _. each (object_keeps s.counters.next_number s.classes (versions_of entries)) es) >>= λ _. Ok s)
+object_step (Ok u) entries s es more = more
+object_step (Err e) entries s es more = refl
 
-none_by : (e : Row) (o : Option Record) → (found (cause.Record e.0) o >>= λ r. needs (cause.Record e.0) false) ≡ is_not_built e
-none_by e None = refl
-none_by e (Some r) = refl
+pub objects_through : (entries : Entries) (s : Known) (es : Entries) → through (with_object entries) s es ≡ (each (object_keeps s.counters.next_number s.classes (versions_of entries)) es >>= λ _. Ok s)
+objects_through entries s [] = refl
+objects_through entries s (e ∷ es) = object_step (object_keeps s.counters.next_number s.classes (versions_of entries) e) entries s es (objects_through entries s es)
 
-none_built : (s : Scene) → keeps rule.NotBuilt s ≡ is_not_built
-none_built s = λ i e. none_by e (record_under e.0 e.1) i
+pub objects_stop : (entries : Entries) (s t : Known) (e : OpenError) → Leaves (through (with_object entries) s (within object_kind object_kind entries)) t (Err e) → Answers (objects_kept entries s) (Err e)
+objects_stop entries s t (error.BadFile why) ran = sym (objects_through entries s (within object_kind object_kind entries)) ∙ ran
+objects_stop entries s t error.DiskFault ran = tt
+objects_stop entries s t error.Memory ran = tt
+
+module _ (heads : ℕ → Option Head) where
+  -- ---- one pass
+
+  abbrev on : Check → Key → Record → Check
+  on c k r = record c { course = referred heads c.course k r }
+
+  abbrev Passes : Entries → Check → Type 0
+  Passes es c = (through (checked heads) c es >>= λ d. Ok d.course) ≡ passed heads c.rule es c.course
+
+  fits_step : (m : Ruled (Unit {0})) (c : Check) (k : Key) (r : Record) (es : Entries) → Passes es (on c k r)
+      → (((m >>= λ _. Ok (on c k r)) >>= λ d. through (checked heads) d es) >>= λ d. Ok d.course)
+      ≡ ((m >>= λ _. each (keeps heads c.rule c.course.scene) es)
+      >>= λ _. Ok (record c.course { references = c.course.references >>= λ _. (refers heads c.course.scene k r >>= λ _. each_refers heads c.course.scene es) }))
+  fits_step (Ok u) c k r es more =
+      more
+      ∙ ap (λ (m : Ruled (Unit {0})). each (keeps heads c.rule c.course.scene) es >>= λ _. Ok (record c.course { references = m }))
+      (together c.course.references (refers heads c.course.scene k r) (each_refers heads c.course.scene es))
+  fits_step (Err e) c k r es more = refl
+
+  record_step : (m : Ruled Record) (c : Check) (k : Key) (es : Entries) → ((r : Record) → Passes es (on c k r))
+      → (((m >>= λ r. fits heads c.rule c.course.scene k r >>= λ _. Ok (on c k r)) >>= λ d. through (checked heads) d es) >>= λ d. Ok d.course)
+      ≡ (((m >>= λ r. fits heads c.rule c.course.scene k r) >>= λ _. each (keeps heads c.rule c.course.scene) es)
+      >>= λ _. Ok (record c.course { references = c.course.references >>= λ _. ((m >>= λ r. refers heads c.course.scene k r) >>= λ _. each_refers heads c.course.scene es) }))
+  record_step (Ok r) c k es more = fits_step (fits heads c.rule c.course.scene k r) c k r es (more r)
+  record_step (Err e) c k es more = refl
+
+  pub checked_course : (es : Entries) (c : Check) → Passes es c
+  checked_course [] c = ap (λ (m : Ruled (Unit {0})). Ok (record c.course { references = m })) (sym (ended c.course.references))
+  checked_course (e ∷ es) c = record_step (record_in e) c e.0 es (λ r. checked_course es (on c e.0 r))
+
+  pub check_goes : (es : Entries) (c d : Check) → through (checked heads) c es ≡ Ok d → passed heads c.rule es c.course ≡ Ok d.course
+  check_goes es c d ran = sym (checked_course es c) ∙ ap (λ m. m >>= λ t. Ok t.course) ran
+
+  pub check_stops : (es : Entries) (c d : Check) (e : OpenError) → Leaves (through (checked heads) c es) d (Err e) → Answers (passed heads c.rule es c.course) (Err e)
+  check_stops es c d (error.BadFile why) ran = sym (checked_course es c) ∙ ap (λ m. m >>= λ t. Ok t.course) ran
+  check_stops es c d error.DiskFault ran = tt
+  check_stops es c d error.Memory ran = tt
+
+  -- ---- the queue
+
+  abbrev Waits : Entries → ℕ → Course → Type 0
+  Waits es n c =
+      (through (queued heads) (record { course = c; left = n }) es >>= λ p. Ok p.course)
+      ≡ (at_most n (turn heads c.scene) es >>= λ _. Ok (record c { references = c.references >>= λ _. each_refers heads c.scene es }))
+
+  abbrev turned : Course → Key → ℕ → Record → Ruled Queue
+  turned c k n r = needs (cause.Record k) (entry_fits c.scene.counters c.scene.classes heads r) >>= λ _. Ok (record { course = referred heads c k r; left = n })
+
+  turn_step : (m : Ruled (Unit {0})) (c : Course) (k : Key) (r : Record) (n : ℕ) (es : Entries) → Waits es n (referred heads c k r)
+      → (((m >>= λ _. Ok (record { course = referred heads c k r; left = n })) >>= λ p. through (queued heads) p es) >>= λ p. Ok p.course)
+      ≡ (((m >>= λ _. each (turn heads c.scene) (take n es)) >>= λ _. none_over (drop n es))
+      >>= λ _. Ok (record c { references = c.references >>= λ _. (refers heads c.scene k r >>= λ _. each_refers heads c.scene es) }))
+  turn_step (Ok u) c k r n es more =
+      more
+      ∙ ap (λ (m : Ruled (Unit {0})). at_most n (turn heads c.scene) es >>= λ _. Ok (record c { references = m }))
+      (together c.references (refers heads c.scene k r) (each_refers heads c.scene es))
+  turn_step (Err e) c k r n es more = refl
+
+  turn_record : (m : Ruled Record) (c : Course) (k : Key) (n : ℕ) (es : Entries) → ((r : Record) → Waits es n (referred heads c k r))
+      → (((m >>= turned c k n) >>= λ p. through (queued heads) p es) >>= λ p. Ok p.course)
+      ≡ ((((m >>= λ r. needs (cause.Record k) (entry_fits c.scene.counters c.scene.classes heads r)) >>= λ _. each (turn heads c.scene) (take n es)) >>= λ _. none_over (drop n es))
+      >>= λ _. Ok (record c { references = c.references >>= λ _. ((m >>= λ r. refers heads c.scene k r) >>= λ _. each_refers heads c.scene es) }))
+  turn_record (Ok r) c k n es more = turn_step (needs (cause.Record k) (entry_fits c.scene.counters c.scene.classes heads r)) c k r n es (more r)
+  turn_record (Err e) c k n es more = refl
+
+  queue_turn : (n : ℕ) (c : Course) (e : Row) → queued heads (record { course = c; left = suc n }) e ≡ (record_in e >>= turned c e.0 n)
+  queue_turn n c e =
+      let some : nat_lt 0 (suc n) ≡ true = lt-ltb 0 (suc n) (omega arith) in
+      let one : suc n - 1 ≡ n = omega arith in
+      ap (λ (b : Bool). needs (cause.Record e.0) b >>= λ _. (record_in e >>= turned c e.0 (suc n - 1))) some
+      ∙ ap (λ (left : ℕ). record_in e >>= turned c e.0 left) one
+
+  pub queue_course : (es : Entries) (left : ℕ) (c : Course) → Waits es left c
+  queue_course [] zero c = ap (λ (m : Ruled (Unit {0})). Ok (record c { references = m })) (sym (ended c.references))
+  queue_course [] (suc n) c = ap (λ (m : Ruled (Unit {0})). Ok (record c { references = m })) (sym (ended c.references))
+  queue_course (e ∷ es) zero c = refl
+  queue_course (e ∷ es) (suc n) c =
+      ap (λ (m : Ruled Queue). (m >>= λ p. through (queued heads) p es) >>= λ p. Ok p.course) (queue_turn n c e)
+      ∙ turn_record (record_in e) c e.0 n es (λ r. queue_course es n (referred heads c e.0 r))
+
+  abbrev queue_left : Entries → ℕ → Course → Ruled Course
+  queue_left es left c = at_most left (turn heads c.scene) es >>= λ _. Ok (record c { references = c.references >>= λ _. each_refers heads c.scene es })
+
+  pub queue_goes : (es : Entries) (left : ℕ) (c : Course) (q : Queue) → through (queued heads) (record { course = c; left = left }) es ≡ Ok q → queue_left es left c ≡ Ok q.course
+  queue_goes es left c q ran = sym (queue_course es left c) ∙ ap (λ m. m >>= λ p. Ok p.course) ran
+
+  pub queue_stops : (es : Entries) (left : ℕ) (c : Course) (q : Queue) (e : OpenError) → Leaves (through (queued heads) (record { course = c; left = left }) es) q (Err e)
+      → Answers (queue_left es left c) (Err e)
+  queue_stops es left c q (error.BadFile why) ran = sym (queue_course es left c) ∙ ap (λ m. m >>= λ p. Ok p.course) ran
+  queue_stops es left c q error.DiskFault ran = tt
+  queue_stops es left c q error.Memory ran = tt
 
 -- ---- all passes
 
--- what is asked of a scene, which goes on as it is
-carried : (a : Ruled (Unit {0})) (s : Scene) (ask : Scene → Ruled (Unit {0})) → ((a >>= λ _. Ok s) >>= (λ t. ask t >>= λ _. Ok t)) ≡ ((a >>= λ _. ask s) >>= λ _. Ok s)
-carried (Ok u) s ask = refl
-carried (Err e) s ask = refl
+-- rules of three passes, and what these carry along
+module _ (s : Known) (second third : Known → Ruled (Unit {0})) (first_refers : Ruled (Unit {0})) (second_refers third_refers : Known → Ruled (Unit {0})) where
+  abbrev last : Course → Ruled (Unit {0})
+  last d = (third d.scene >>= λ _. Ok (record d { references = d.references >>= λ _. third_refers d.scene })) >>= λ f. f.references
 
-grouped : (a b : Ruled (Unit {0})) (next : Unit {0} → Ruled (Unit {0})) → ((a >>= λ _. b) >>= next) ≡ (a >>= λ _. (b >>= next))
-grouped (Ok u) b next = refl
-grouped (Err e) b next = refl
+  abbrev later : Course → Ruled (Unit {0})
+  later c = (second c.scene >>= λ _. Ok (record c { references = c.references >>= λ _. second_refers c.scene })) >>= last
 
-classes_of : (a : Ruled (Unit {0})) (s : Scene) → ((a >>= λ _. Ok s) >>= λ t. Ok t.classes) ≡ (a >>= λ _. Ok s.classes)
-classes_of (Ok u) s = refl
-classes_of (Err e) s = refl
+  by_third : (m : Ruled (Unit {0})) (references : Ruled (Unit {0})) → ((m >>= λ _. Ok (record { scene = s; references = references >>= λ _. third_refers s })) >>= λ (f : Course). f.references)
+      ≡ (m >>= λ _. (references >>= λ _. third_refers s))
+  by_third (Ok u) references = refl
+  by_third (Err e) references = refl
 
-module _ (next : ℕ) (classes : List Class) (entries : Entries) where
-  abbrev objects : Entries
-  objects = within object_kind object_kind entries
+  by_second : (m : Ruled (Unit {0})) → ((m >>= λ _. Ok (record { scene = s; references = first_refers >>= λ _. second_refers s })) >>= last)
+      ≡ (m >>= λ _. (third s >>= λ _. (first_refers >>= λ _. (second_refers s >>= λ _. third_refers s))))
+  by_second (Ok u) =
+      by_third (third s) (first_refers >>= λ _. second_refers s)
+      ∙ ap (λ (m : Ruled (Unit {0})). third s >>= λ _. m) (together first_refers (second_refers s) (third_refers s))
+  by_second (Err e) = refl
+
+  by_first : (m : Ruled (Unit {0})) → ((m >>= λ _. Ok (record { scene = s; references = first_refers })) >>= later)
+      ≡ (m >>= λ _. (second s >>= λ _. (third s >>= λ _. (first_refers >>= λ _. (second_refers s >>= λ _. third_refers s)))))
+  by_first (Ok u) = by_second (second s)
+  by_first (Err e) = refl
+
+module _ (entries : Entries) (s : Known) where
+  abbrev heads : ℕ → Option Head
+  heads = heads_of entries
 
   abbrev versions : Entries
   versions = within version_kind version_kind entries
 
-  abbrev unbuilt : Entries
-  unbuilt = within activation_kind entry_kind entries
+  abbrev activations : Entries
+  activations = within activation_kind activation_kind entries
 
-  -- the passes as the program makes them
-  abbrev pub behind_unbuilt : Ruled Scene → Ruled (List Class)
-  behind_unbuilt m = (m >>= λ t. passed rule.References t versions) >>= λ s. Ok s.classes
+  abbrev queue : Entries
+  queue = within entry_kind entry_kind entries
 
-  abbrev pub behind_versions : Ruled Scene → Ruled (List Class)
-  behind_versions m = behind_unbuilt (m >>= λ t. passed rule.NotBuilt t unbuilt)
+  -- the passes as the program makes them come to their rules, one behind the other
+  kept_in_rules : scene_kept entries s
+      ≡ (each (keeps heads rule.Versions s) versions >>= λ _. (each (keeps heads rule.Activations s) activations >>= λ _. (at_most queue_limit (turn heads s) queue
+      >>= λ _. (each_refers heads s versions >>= λ _. (each_refers heads s activations >>= λ _. each_refers heads s queue)))))
+  kept_in_rules =
+      by_first s (λ t. each (keeps heads rule.Activations t) activations) (λ t. at_most queue_limit (turn heads t) queue) (each_refers heads s versions) (λ t. each_refers heads t activations)
+      (λ t. each_refers heads t queue) (each (keeps heads rule.Versions s) versions)
 
-  abbrev pub behind_objects : Ruled Scene → Ruled (List Class)
-  behind_objects m = behind_versions (m >>= λ t. passed rule.Versions t versions)
+module _ (counters : Counters) (reached : ℕ → ℕ → ℕ → Bool) (classes : List Class) (states : States) (same : (class place state : ℕ) → is_seen states class place state ≡ reached class place state)
+    (entries : Entries) (rising : HasRisingKeys entries) where
+  abbrev next : ℕ
+  next = counters.next_number
 
-  abbrev s : Scene
-  s = scene_of next classes entries
+  abbrev known : Known
+  known = scene_in counters classes states entries
 
   abbrev A : Ruled (Unit {0})
-  A = each (object_keeps next classes (has_version versions)) objects
+  A = each (object_keeps next classes (versions_of entries)) (within object_kind object_kind entries)
 
-  abbrev B : Ruled (Unit {0})
-  B = each (keeps rule.Versions s) versions
+  -- by what the records of activations tell, by the tables, and by the references
+  abbrev ruled : (ℕ → Bool) → (ℕ → ℕ → ℕ → Bool) → Ruled (Unit {0}) → Ruled (Unit {0})
+  ruled shared seen references =
+      A >>= λ _. (each (version_keeps classes (heads_of entries)) (within version_kind version_kind entries)
+      >>= λ _. (each (activation_keeps next classes (heads_of entries) shared seen) (within activation_kind activation_kind entries)
+      >>= λ _. (at_most queue_limit (entry_keeps counters classes (heads_of entries)) (within entry_kind entry_kind entries)
+      >>= λ _. references)))
 
-  abbrev C : Ruled (Unit {0})
-  C = each (keeps rule.NotBuilt s) unbuilt
+  abbrev all_refer : Ruled (Unit {0})
+  all_refer = each (references_keep next classes (heads_of entries)) (within version_kind entry_kind entries)
 
-  abbrev D : Ruled (Unit {0})
-  D = each (keeps rule.References s) versions
-
-  in_rules : behind_objects (A >>= λ _. Ok s) ≡ ((A >>= λ _. (B >>= λ _. (C >>= λ _. D))) >>= λ _. Ok classes)
-  in_rules =
-      ap behind_versions (carried A s (λ t. each (keeps rule.Versions t) versions))
-      ∙ ap behind_unbuilt (carried (A >>= λ _. B) s (λ t. each (keeps rule.NotBuilt t) unbuilt))
-      ∙ ap (λ (m : Ruled Scene). m >>= λ t. Ok t.classes) (carried ((A >>= λ _. B) >>= λ _. C) s (λ t. each (keeps rule.References t) versions))
-      ∙ classes_of (((A >>= λ _. B) >>= λ _. C) >>= λ _. D) s
-      ∙ ap (λ (m : Ruled (Unit {0})). m >>= λ _. Ok classes) (grouped (A >>= λ _. B) C (λ _. D) ∙ grouped A B (λ _. (C >>= λ _. D)))
-
-  -- by what the records of objects tell
-  abbrev ruled : (ℕ → Option Head) → (Row → Ruled (Unit {0})) → Ruled (List Class)
-  ruled heads none =
-      (A >>= λ _. (each (version_keeps classes heads) versions >>= λ _. (each none unbuilt >>= λ _. each (references_keep next classes heads) versions))) >>= λ _. Ok classes
-
-  told : ((A >>= λ _. (B >>= λ _. (C >>= λ _. D))) >>= λ _. Ok classes) ≡ ruled (head_in objects) is_not_built
-  told = ap (λ (heads : ℕ → Option Head). ruled heads (keeps rule.NotBuilt s)) (heads_are objects) ∙ ap (ruled (head_in objects)) (none_built s)
-
-  pub in_passes : behind_objects (scene_in next classes entries) ≡ classes_kept next classes entries
+  pub in_passes : (objects_kept entries known >>= λ s. scene_kept entries s) ≡ objects_keep counters reached classes entries
   unfolding objects_keep
-  in_passes = ap behind_objects (scene_read next classes entries) ∙ in_rules ∙ told
+  in_passes =
+      carried A known (λ s. scene_kept entries s)
+      ∙ ap (λ (m : Ruled (Unit {0})). A >>= λ _. m) (kept_in_rules entries known)
+      ∙ ap (ruled (is_twice known.numbers) (is_seen states)) (sym (by_kinds (references_keep next classes (heads_of entries)) entries rising))
+      ∙ ap (λ (shared : ℕ → Bool). ruled shared (is_seen states) all_refer) (numbers_are (within activation_kind activation_kind entries))
+      ∙ ap (λ (seen : ℕ → ℕ → ℕ → Bool). ruled (is_shared (within activation_kind activation_kind entries)) seen all_refer) (λ i class place state. same class place state i)
 
 -- ---- one pass behind another
 
 module _ {X Y : Type 0} (m : Ruled X) (x : X) (next : X → Ruled Y) (is : m ≡ Ok x) where
-  pub next_stops : (e : OpenError) → Answers {X = Y} (next x) (Err e) → Answers {X = Y} (m >>= next) (Err e)
-  next_stops e stops = subst (λ (n : Ruled X). Answers {X = Y} (n >>= next) (Err e)) (sym is) stops
-
-  pub next_goes : (y : Y) → next x ≡ Ok y → (m >>= next) ≡ Ok y
-  next_goes y goes = ap (λ (n : Ruled X). n >>= next) is ∙ goes
+  pub next_is : (r : Result Y OpenError) → Answers {X = Y} (next x) r → Answers {X = Y} (m >>= next) r
+  next_is r answers = subst (λ (n : Ruled X). Answers {X = Y} (n >>= next) r) (sym is) answers

@@ -1,8 +1,9 @@
--- Which values fit the fields of a class, by what is known of the objects that they refer to.
+-- Which values fit the fields of a class or the parameters of a trigger, by what is known of the objects that they refer to.
 use Rattle.std.specs.Prelude.{ℕ, zero, suc, List, [], ◌∷◌, length, Bool, true, false, nat_le, nat_lt, ◌==◌, ◌&&◌, ◌||◌, Option, Some, None}
 use Rattle.std.specs.Option.{option_map_or, unwrap_or}
 use Rattle.std.specs.Str.{bytes_eq}
 use Rattle.ode_types.specs.Families.{class_numbered}
+use Rattle.ode_value.specs.declared.binding.Param.{Param}
 use Rattle.ode_value.specs.declared.class.Class.{Class}
 use Rattle.ode_value.specs.declared.class.Field.{Field}
 use Rattle.ode_value.specs.declared.statement.Sort.{Sort}
@@ -14,6 +15,12 @@ use Rattle.ode_opening_objects.specs.declared.head.Head.{Head}
 
 -- ---- sorts
 
+abbrev pub of_field : Field → Sort
+of_field f = f.sort
+
+abbrev pub of_param : Param → Sort
+of_param p = p.sort
+
 -- a value has a sort
 abbrev pub has_sort : Sort → Value → Bool
 has_sort sort.Int (value.Int n) = true
@@ -22,23 +29,41 @@ has_sort sort.Text (value.Text t) = true
 has_sort (sort.Reference class) (value.Reference r) = true
 has_sort _ _ = false
 
--- a value for each field, of its sort
+-- a value for each member, of its sort
+abbrev pub match_sorts : {M : Type 0} → (M → Sort) → List M → List Value → Bool
+match_sorts of [] [] = true
+match_sorts of (m ∷ ms) (v ∷ vs) = has_sort (of m) v && match_sorts of ms vs
+match_sorts of _ _ = false
+
 abbrev pub have_sorts : List Field → List Value → Bool
-have_sorts [] [] = true
-have_sorts (f ∷ fs) (v ∷ vs) = has_sort f.sort v && have_sorts fs vs
-have_sorts _ _ = false
+have_sorts fields values = match_sorts of_field fields values
 
--- ---- references
+-- ---- classes from one up
 
--- in so many steps from the class of a number up there is one of this name; no class has number 0
+-- in so many steps from the class of a number up there is one that a test passes; no class has number 0
+abbrev pub climbs_to : (Class → Bool) → ℕ → List Class → ℕ → Bool
+climbs_to test zero classes number = false
+climbs_to test (suc steps) classes number =
+    option_map_or (λ (c : Class). test c || climbs_to test steps classes (unwrap_or c.parent 0)) (class_numbered classes number) false
+
+abbrev pub is_named : List ℕ → Class → Bool
+is_named name c = bytes_eq c.name name
+
+abbrev pub is_numbered : ℕ → Class → Bool
+is_numbered number c = c.number == number
+
 abbrev pub climbs : ℕ → List Class → ℕ → List ℕ → Bool
-climbs zero classes number name = false
-climbs (suc steps) classes number name =
-    option_map_or (λ (c : Class). bytes_eq c.name name || climbs steps classes (unwrap_or c.parent 0) name) (class_numbered classes number) false
+climbs steps classes number name = climbs_to (is_named name) steps classes number
 
 -- the class of a number has this name, or inherits from the class that has it
 abbrev pub inherits : List Class → ℕ → List ℕ → Bool
 inherits classes number name = climbs (length classes) classes number name
+
+-- the class of a number is this one, or inherits from it
+abbrev pub descends : List Class → ℕ → ℕ → Bool
+descends classes number from = climbs_to (is_numbered from) (length classes) classes number
+
+-- ---- references
 
 -- a version that a reference names was there
 abbrev pub is_drawn : ℕ → Option ℕ → Bool
@@ -58,7 +83,10 @@ module _ (next : ℕ) (classes : List Class) (heads : ℕ → Option Head) where
   fits_sort (sort.Reference class) (value.Reference r) = fits_reference class r
   fits_sort _ _ = true
 
-  -- the references among the values of fields fit
+  -- the references among the values of members fit
+  abbrev pub refer : {M : Type 0} → (M → Sort) → List M → List Value → Bool
+  refer of (m ∷ ms) (v ∷ vs) = fits_sort (of m) v && refer of ms vs
+  refer of _ _ = true
+
   abbrev pub fit_references : List Field → List Value → Bool
-  fit_references (f ∷ fs) (v ∷ vs) = fits_sort f.sort v && fit_references fs vs
-  fit_references _ _ = true
+  fit_references fields values = refer of_field fields values

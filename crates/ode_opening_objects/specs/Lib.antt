@@ -1,4 +1,8 @@
 pub mod Heads
 pub mod Fitting
+pub mod Triggers
+pub mod States
 pub mod Objects
+pub mod Naming
+pub mod Known
 pub mod Scenes

@@ -1,6 +1,8 @@
--- The rules of objects, of their versions and of the references in these, one behind the other.
-use Rattle.std.specs.Prelude.{ℕ, List, Bool, true, false, nat_le, nat_lt, ◌==◌, ◌&&◌, ◌||◌, Option, Ok, Err}
+-- The rules of objects, of their versions and activations, of the queue's entries and of the references in all these, one behind the
+-- other.
+use Rattle.std.specs.Prelude.{ℕ, List, Bool, true, false, nat_le, nat_lt, ◌==◌, ◌&&◌, ◌||◌, Option, Ok}
 use Rattle.std.specs.Option.{is_some, option_map_or}
+use Rattle.ode_codec.specs.declared.record.Counters.{Counters}
 use Rattle.ode_codec.specs.declared.record.Record.{Record}
 use Rattle.ode_codec.specs.declared.record.Record.TheVariants as of
 use Rattle.ode_keep.specs.Entries.{Entries}
@@ -10,11 +12,14 @@ use Rattle.ode_passes.specs.Walking.{within}
 use Rattle.ode_passes.specs.declared.cause.Cause.TheVariants as cause
 use Rattle.ode_types.specs.Families.{class_numbered}
 use Rattle.ode_value.specs.Keys.{activation_kind, entry_kind, object_kind, version_kind}
+use Rattle.ode_value.specs.Limits.{queue_limit}
 use Rattle.ode_value.specs.Records.{Row}
 use Rattle.ode_value.specs.declared.class.Class.{Class}
+use Rattle.ode_value.specs.declared.member.TriggerDecl.{TriggerDecl}
 use Rattle.ode_value.specs.declared.value.Value.{Value}
-use Rattle.ode_opening_objects.specs.Fitting.{fit_references, have_sorts}
+use Rattle.ode_opening_objects.specs.Fitting.{fit_references, have_sorts, of_param, refer}
 use Rattle.ode_opening_objects.specs.Heads.{has_version, head_in, of_object}
+use Rattle.ode_opening_objects.specs.Triggers.{activation_keeps, at_most, entry_keeps, is_shared, trigger_under}
 use Rattle.ode_opening_objects.specs.declared.head.Head.{Head}
 
 -- ---- objects
@@ -53,12 +58,6 @@ version_fits classes heads _ = false
 abbrev pub version_keeps : List Class → (ℕ → Option Head) → Row → Ruled (Unit {0})
 version_keeps classes heads e = record_in e >>= λ r. needs (cause.Record e.0) (version_fits classes heads r)
 
--- ---- what isn't there yet
-
--- no class has a trigger, so there are neither activations nor entries
-abbrev pub is_not_built : Row → Ruled (Unit {0})
-is_not_built e = Err (cause.Record e.0)
-
 -- ---- references
 
 module _ (next : ℕ) (classes : List Class) (heads : ℕ → Option Head) where
@@ -66,9 +65,15 @@ module _ (next : ℕ) (classes : List Class) (heads : ℕ → Option Head) where
   abbrev pub references_in : ℕ → List Value → Bool
   references_in number values = option_map_or (λ (c : Class). fit_references next classes heads c.fields values) (class_numbered classes number) true
 
-  -- the references of a version fit
+  -- the references in arguments for a trigger fit
+  abbrev pub args_refer : ℕ → ℕ → List Value → Bool
+  args_refer class place args = option_map_or (λ (t : TriggerDecl). refer next classes heads of_param t.params args) (trigger_under classes class place) true
+
+  -- the references of a version, of an activation or of an entry fit
   abbrev pub references_fit : Record → Bool
   references_fit (of.Version object number parent fields) = option_map_or (λ (h : Head). references_in h.class fields) (heads object) true
+  references_fit (of.Activation a) = args_refer a.class a.trigger a.args
+  references_fit (of.Entry number q) = args_refer q.class q.trigger q.args
   references_fit _ = true
 
   abbrev pub references_keep : Row → Ruled (Unit {0})
@@ -76,17 +81,17 @@ module _ (next : ℕ) (classes : List Class) (heads : ℕ → Option Head) where
 
 -- ---- all rules
 
--- all objects, then all versions, then what isn't there yet, then all references
-unfoldable pub objects_keep : ℕ → List Class → Entries → Ruled (Unit {0})
-objects_keep next classes entries =
+-- all objects, then all versions, all activations, the queue, and all references; by whether some word leads to a state of a trigger's
+-- table
+unfoldable pub objects_keep : Counters → (ℕ → ℕ → ℕ → Bool) → List Class → Entries → Ruled (Unit {0})
+objects_keep counters reached classes entries =
+    let next : ℕ = counters.next_number in
     let objects : Entries = within object_kind object_kind entries in
     let versions : Entries = within version_kind version_kind entries in
+    let activations : Entries = within activation_kind activation_kind entries in
     let heads : ℕ → Option Head = head_in objects in do
       _ ← each (object_keeps next classes (has_version versions)) objects
       _ ← each (version_keeps classes heads) versions
-      _ ← each is_not_built (within activation_kind entry_kind entries)
-      each (references_keep next classes heads) versions
-
--- and the classes again
-abbrev pub classes_kept : ℕ → List Class → Entries → Ruled (List Class)
-classes_kept next classes entries = objects_keep next classes entries >>= λ _. Ok classes
+      _ ← each (activation_keeps next classes heads (is_shared activations) reached) activations
+      _ ← at_most queue_limit (entry_keeps counters classes heads) (within entry_kind entry_kind entries)
+      each (references_keep next classes heads) (within version_kind entry_kind entries)

@@ -1,12 +1,20 @@
-//! The objects of a database: whether their records, those of their versions and the references in these keep the rules.
+//! The objects, the activations and the queue of a database: whether their records, those of versions and the references in these keep the
+//! rules.
 #![tactic(auto)]
 
+mod asking;
+mod climbing;
 mod fitting;
 mod head;
+mod lengths;
+mod looking;
+mod naming;
 mod numbers;
 mod objects;
 mod rules;
 mod scene;
+mod states;
+mod triggers;
 
 pub use head::Head;
 pub use objects::check_objects;

@@ -1,31 +1,31 @@
-//! What is known by numbers of objects.
+//! What is known by numbers of objects and activations.
 ghost use Rattle.std.specs.Prelude.{◌≡◌, [], OnErr, OnOk};
 ghost use Rattle.std.specs.BTreeMap.{insert_entry};
 ghost use Rattle.std.specs.Ordering.{nat_cmp};
-ghost use Rattle.ode_opening_objects.specs.Scenes.{at, is_among};
+ghost use Rattle.ode_opening_objects.specs.Scenes.{is_twice, known_at, noted};
 
 use crate::head::Head;
 use std::alloc::{AllocError, Global};
 use std::collections::BTreeMap;
 use std::marker::Model;
 
-/// Objects by their numbers.
+/// What is known of objects, by their numbers: some of them, or that there is none of a number.
 #[derive(Drop)]
 pub(crate) struct Heads {
-    map: BTreeMap<u64, Head>,
+    map: BTreeMap<u64, Option<Head>>,
 }
 
 impl Model for Heads {
-    ghost use Rattle.std.specs.Prelude.{ℕ, List as Items};
+    ghost use Rattle.std.specs.Prelude.{ℕ, List as Items, Option as Perhaps};
     ghost use Rattle.ode_opening_objects.specs.declared.head.Head.{Head as Known};
 
-    ghost Value = { Items (ℕ × Known) };
+    ghost Value = { Items (ℕ × Perhaps Known) };
 
     ghost view = { λ h. h.map.entries };
 }
 
 impl Heads {
-    /// No objects.
+    /// Nothing is known.
     pub(crate) fn new(alloc: Global) -> Heads
         ensures { result ≡ [] }
     {
@@ -35,7 +35,7 @@ impl Heads {
     }
 
     /// This is known of an object from now on. Nothing changes where there is no memory.
-    pub(crate) fn put(&mut self, id: u64, head: Head) -> Result<(), AllocError>
+    pub(crate) fn put(&mut self, id: u64, head: Option<Head>) -> Result<(), AllocError>
         ensures ok { OnOk result (self.new ≡ insert_entry nat_cmp self.old id head) }
         ensures err { OnErr result (self.new ≡ self.old) }
     {
@@ -45,49 +45,56 @@ impl Heads {
 
     /// What is known of an object.
     pub(crate) fn at(&self, id: u64) -> Option<Head>
-        ensures { result ≡ at self.now id }
+        ensures { result ≡ known_at self.now id }
     {
-        self.map.get(&id).copied()
+        match self.map.get(&id) {
+            Some(head) => *head,
+            None => None,
+        }
     }
 }
 
-/// The number of a version of each object that has one.
+/// The numbers of activations, each with whether more than one has it.
 #[derive(Drop)]
-pub(crate) struct Versions {
-    map: BTreeMap<u64, u64>,
+pub(crate) struct Numbers {
+    map: BTreeMap<u64, bool>,
 }
 
-impl Model for Versions {
-    ghost use Rattle.std.specs.Prelude.{ℕ, List as Items};
+impl Model for Numbers {
+    ghost use Rattle.std.specs.Prelude.{ℕ, Bool, List as Items};
 
-    ghost Value = { Items (ℕ × ℕ) };
+    ghost Value = { Items (ℕ × Bool) };
 
-    ghost view = { λ v. v.map.entries };
+    ghost view = { λ n. n.map.entries };
 }
 
-impl Versions {
-    /// No versions.
-    pub(crate) fn new(alloc: Global) -> Versions
+impl Numbers {
+    /// No numbers.
+    pub(crate) fn new(alloc: Global) -> Numbers
         ensures { result ≡ [] }
     {
-        Versions {
+        Numbers {
             map: BTreeMap::new(alloc),
         }
     }
 
-    /// An object has this version. Nothing changes where there is no memory.
-    pub(crate) fn put(&mut self, id: u64, number: u64) -> Result<(), AllocError>
-        ensures ok { OnOk result (self.new ≡ insert_entry nat_cmp self.old id number) }
+    /// One more activation has this number. Nothing changes where there is no memory.
+    pub(crate) fn put(&mut self, number: u64) -> Result<(), AllocError>
+        ensures ok { OnOk result (self.new ≡ noted self.old number) }
         ensures err { OnErr result (self.new ≡ self.old) }
     {
-        self.map.insert(id, number)?;
+        let twice = self.map.contains_key(&number);
+        self.map.insert(number, twice)?;
         Ok(())
     }
 
-    /// Whether an object has a version.
-    pub(crate) fn has(&self, id: u64) -> bool
-        ensures { result ≡ is_among self.now id }
+    /// Whether more than one activation has a number.
+    pub(crate) fn is_twice(&self, number: u64) -> bool
+        ensures { result ≡ is_twice self.now number }
     {
-        self.map.contains_key(&id)
+        match self.map.get(&number) {
+            Some(twice) => *twice,
+            None => false,
+        }
     }
 }

@@ -1,6 +1,10 @@
 //! What the records of a keeper are opened to: all rules of an opening, one behind the other.
 #![tactic(auto)]
 
+mod base;
+mod laws;
 mod reading;
 
-pub use reading::{are_built, open_records};
+pub use base::Base;
+pub use laws::records_are_opened_to_one_thing;
+pub use reading::open_records;

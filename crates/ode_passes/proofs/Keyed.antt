@@ -1,16 +1,13 @@
--- Of records whose keys rise, those at or above a key begin with the one of the least such key.
-use Rattle.std.proofs.Common.{◌≡◌, ℕ, ◌<◌, List, [], ◌∷◌, Bool, true, false, cond, Some, None, refl, sym, ap, subst, ◌∙◌, arith}
+-- Of records whose keys rise, those at or above a key begin with the first such record.
+use Rattle.std.proofs.Common.{◌≡◌, ℕ, ◌<◌, [], ◌∷◌, Bool, true, false, cond, Some, None, refl, sym, ap, subst, ◌∙◌, arith}
 use Rattle.std.specs.Prelude.{◌&&◌, nat_le}
-use Rattle.std.specs.BTreeMap.{is_at}
 use Rattle.std.specs.List.{AllByRecursion}
 use Rattle.std.specs.List.Sorted.{IsStrictlySortedBy}
 use Rattle.std.specs.Map.{keys_of}
-use Rattle.std.specs.Ordering.{is_eq, is_le, is_lt}
+use Rattle.std.specs.Ordering.{is_le, is_lt}
 use Rattle.std.specs.declared.cmp.Ordering.TheVariants.{Less}
 use Rattle.std.proofs.lemmas.Bool.Decides.{nat_tests}
-use Rattle.std.proofs.lemmas.Cmp.{tied_itself}
-use Rattle.ode_keep.specs.Entries.{Entries, HasRisingKeys, least_from, value_under}
-use Rattle.ode_keep.proofs.Keys.{key_total}
+use Rattle.ode_keep.specs.Entries.{Entries, HasRisingKeys, record_from}
 use Rattle.ode_value.specs.Keys.{key_cmp}
 use Rattle.ode_value.specs.Records.{Row}
 use Rattle.ode_value.specs.declared.key.Key.{Key}
@@ -33,14 +30,8 @@ still_from from q k le less = grind (arith, nat_tests)
 not_before : (from q k : Key) → is_le (key_cmp from q) ≡ true → is_le (key_cmp from k) ≡ false → follows q k ≡ false
 not_before from q k le below = grind (arith, nat_tests)
 
-apart : (from q k : Key) → is_le (key_cmp from q) ≡ true → is_le (key_cmp from k) ≡ false → is_at (key_cmp q) k ≡ false
-apart from q k le below = grind (arith, nat_tests)
-
 not_itself : (q : Key) → follows q q ≡ false
 not_itself q = grind (arith, nat_tests)
-
-itself : (q : Key) → is_at (key_cmp q) q ≡ true
-itself q = ap is_eq (tied_itself key_total q)
 
 -- ---- one record more in front
 
@@ -50,12 +41,12 @@ put b e es = cond b (e ∷ es) es
 -- ---- nothing is left
 
 module _ (from : Key) (last : ℕ) where
-  none_step : (e : Row) (es : Entries) → (least_from es from ≡ None → records_from from last es ≡ []) → (b : Bool) → is_le (key_cmp from e.0) ≡ b
-      → cond b (Some e.0) (least_from es from) ≡ None → put (b && (nat_le e.0.kind last && has_range e.0)) e (records_from from last es) ≡ []
+  none_step : (e : Row) (es : Entries) → (record_from es from ≡ None → records_from from last es ≡ []) → (b : Bool) → is_le (key_cmp from e.0) ≡ b
+      → cond b (Some e) (record_from es from) ≡ None → put (b && (nat_le e.0.kind last && has_range e.0)) e (records_from from last es) ≡ []
   none_step e es more true is none = absurd (cc)
   none_step e es more false is none = more none
 
-  pub none_from : (es : Entries) → least_from es from ≡ None → records_from from last es ≡ []
+  pub none_from : (es : Entries) → record_from es from ≡ None → records_from from last es ≡ []
   none_from [] none = refl
   none_from (e ∷ es) none =
       ap (λ b. put (b && (nat_le e.0.kind last && has_range e.0)) e (records_from from last es)) refl
@@ -66,78 +57,65 @@ module _ (from : Key) (last : ℕ) where
   all_past q (e ∷ es) past above =
       ap (λ b. put b e (records_from from last es)) (past_kind from last q e.0 past above.0) ∙ all_past q es past above.1
 
-  past_step : (q : Key) (e : Row) (es : Entries) → last < q.kind → AllAbove e.0 es → (least_from es from ≡ Some q → records_from from last es ≡ [])
-      → (b : Bool) → is_le (key_cmp from e.0) ≡ b → cond b (Some e.0) (least_from es from) ≡ Some q
+  past_step : (r e : Row) (es : Entries) → last < r.0.kind → AllAbove e.0 es → (record_from es from ≡ Some r → records_from from last es ≡ [])
+      → (b : Bool) → is_le (key_cmp from e.0) ≡ b → cond b (Some e) (record_from es from) ≡ Some r
       → put (b && (nat_le e.0.kind last && has_range e.0)) e (records_from from last es) ≡ []
-  past_step q e es past above more true is found =
-      let same : e.0 ≡ q = cc in
-      let kind : last < e.0.kind = subst (λ (k : Key). last < k.kind) (sym same) past in
+  past_step r e es past above more true is found =
+      let same : e ≡ r = cc in
+      let kind : last < e.0.kind = subst (λ (row : Row). last < row.0.kind) (sym same) past in
       let out : is_from from last e.0 ≡ false = past_itself from last e.0 kind in
       ap (λ b. put (b && (nat_le e.0.kind last && has_range e.0)) e (records_from from last es)) (sym is)
       ∙ ap (λ b. put b e (records_from from last es)) out
       ∙ all_past e.0 es kind above
-  past_step q e es past above more false is found = more found
+  past_step r e es past above more false is found = more found
 
-  -- the least is past the last kind
-  pub past_from : (es : Entries) (q : Key) → HasRisingKeys es → least_from es from ≡ Some q → last < q.kind → records_from from last es ≡ []
+  -- the first one is past the last kind
+  pub past_from : (es : Entries) (r : Row) → HasRisingKeys es → record_from es from ≡ Some r → last < r.0.kind → records_from from last es ≡ []
   unfolding IsStrictlySortedBy
-  past_from [] q rising found past = refl
-  past_from (e ∷ es) q rising found past = past_step q e es past rising.0 (λ more. past_from es q rising.1 more past) (is_le (key_cmp from e.0)) refl found
+  past_from [] r rising found past = refl
+  past_from (e ∷ es) r rising found past = past_step r e es past rising.0 (λ more. past_from es r rising.1 more past) (is_le (key_cmp from e.0)) refl found
 
   -- ---- the next one
 
-  module _ (q : Key) (v : List ℕ) (le : is_le (key_cmp from q) ≡ true) (kind : nat_le q.kind last ≡ true) (range : has_range q ≡ true) where
-    same_test : (k : Key) → key_cmp q k ≡ Less → is_from from last k ≡ is_above q last k
+  module _ (r : Row) (le : is_le (key_cmp from r.0) ≡ true) (kind : nat_le r.0.kind last ≡ true) (range : has_range r.0 ≡ true) where
+    same_test : (k : Key) → key_cmp r.0 k ≡ Less → is_from from last k ≡ is_above r.0 last k
     same_test k less =
-        ap (λ b. b && (nat_le k.kind last && has_range k)) (still_from from q k le less)
+        ap (λ b. b && (nat_le k.kind last && has_range k)) (still_from from r.0 k le less)
         ∙ sym (ap (λ b. b && (nat_le k.kind last && has_range k)) (ap is_lt less))
 
-    all_above : (es : Entries) → AllAbove q es → records_from from last es ≡ records_above q last es
+    all_above : (es : Entries) → AllAbove r.0 es → records_from from last es ≡ records_above r.0 last es
     all_above [] above = refl
     all_above (e ∷ es) above =
-        ap (λ b. put b e (records_from from last es)) (same_test e.0 above.0) ∙ ap (λ (more : Entries). put (is_above q last e.0) e more) (all_above es above.1)
+        ap (λ b. put b e (records_from from last es)) (same_test e.0 above.0) ∙ ap (λ (more : Entries). put (is_above r.0 last e.0) e more) (all_above es above.1)
 
     abbrev Goal : Entries → Type 0
-    Goal es = records_from from last es ≡ (q, v) ∷ records_above q last es
+    Goal es = records_from from last es ≡ r ∷ records_above r.0 last es
 
-    here : (e : Row) (es : Entries) → e.0 ≡ q → e.1 ≡ v → AllAbove q es → Goal (e ∷ es)
-    here e es same value above =
-        let test : is_from from last e.0 ≡ true =
-        ap (is_from from last) same ∙ ap (λ b. b && (nat_le q.kind last && has_range q)) le ∙ ap (λ b. b && has_range q) kind ∙ range in
-        let not_above : is_above q last e.0 ≡ false = ap (is_above q last) same ∙ ap (λ b. b && (nat_le q.kind last && has_range q)) (not_itself q) in
-        ap (λ b. put b e (records_from from last es)) test
-        ∙ ap (λ (more : Entries). e ∷ more) (all_above es above ∙ sym (ap (λ b. put b e (records_above q last es)) not_above))
-        ∙ ap (λ (row : Row). row ∷ records_above q last (e ∷ es)) (λ i. (same i, value i))
-
-    value_here : (e : Row) (es : Entries) (b : Bool) → b ≡ true → cond b (Some e.1) (value_under es q) ≡ Some v → e.1 ≡ v
-    value_here e es true is there = cc
-    value_here e es false is there = absurd (cc)
-
-    value_later : (e : Row) (es : Entries) (b : Bool) → b ≡ false → cond b (Some e.1) (value_under es q) ≡ Some v → value_under es q ≡ Some v
-    value_later e es true is there = absurd (cc)
-    value_later e es false is there = there
+    here : (es : Entries) → AllAbove r.0 es → Goal (r ∷ es)
+    here es above =
+        let test : is_from from last r.0 ≡ true = ap (λ b. b && (nat_le r.0.kind last && has_range r.0)) le ∙ ap (λ b. b && has_range r.0) kind ∙ range in
+        let not_above : is_above r.0 last r.0 ≡ false = ap (λ b. b && (nat_le r.0.kind last && has_range r.0)) (not_itself r.0) in
+        ap (λ b. put b r (records_from from last es)) test
+        ∙ ap (λ (more : Entries). r ∷ more) (all_above es above ∙ sym (ap (λ b. put b r (records_above r.0 last es)) not_above))
 
     later : (e : Row) (es : Entries) → is_le (key_cmp from e.0) ≡ false → Goal es → Goal (e ∷ es)
     later e es below more =
         let out : is_from from last e.0 ≡ false = ap (λ b. b && (nat_le e.0.kind last && has_range e.0)) below in
-        let not_above : is_above q last e.0 ≡ false = ap (λ b. b && (nat_le e.0.kind last && has_range e.0)) (not_before from q e.0 le below) in
+        let not_above : is_above r.0 last e.0 ≡ false = ap (λ b. b && (nat_le e.0.kind last && has_range e.0)) (not_before from r.0 e.0 le below) in
         ap (λ b. put b e (records_from from last es)) out ∙ more
-        ∙ sym (ap (λ b. (q, v) ∷ put b e (records_above q last es)) not_above)
+        ∙ sym (ap (λ b. r ∷ put b e (records_above r.0 last es)) not_above)
 
-    next_step : (e : Row) (es : Entries) → AllAbove e.0 es → value_under (e ∷ es) q ≡ Some v → (least_from es from ≡ Some q → value_under es q ≡ Some v → Goal es)
-        → (b : Bool) → is_le (key_cmp from e.0) ≡ b → cond b (Some e.0) (least_from es from) ≡ Some q → Goal (e ∷ es)
-    next_step e es above value more true is found =
-        let same : e.0 ≡ q = cc in
-        let at : is_at (key_cmp q) e.0 ≡ true = ap (is_at (key_cmp q)) same ∙ itself q in
-        here e es same (value_here e es (is_at (key_cmp q) e.0) at value) (subst (λ (k : Key). AllAbove k es) same above)
-    next_step e es above value more false is found =
-        later e es is (more found (value_later e es (is_at (key_cmp q) e.0) (apart from q e.0 le is) value))
+    next_step : (e : Row) (es : Entries) → AllAbove e.0 es → (record_from es from ≡ Some r → Goal es)
+        → (b : Bool) → is_le (key_cmp from e.0) ≡ b → cond b (Some e) (record_from es from) ≡ Some r → Goal (e ∷ es)
+    next_step e es above more true is found =
+        let same : r ≡ e = cc in
+        subst (λ (first : Row). Goal (first ∷ es)) same (here es (subst (λ (first : Row). AllAbove first.0 es) (sym same) above))
+    next_step e es above more false is found = later e es is (more found)
 
-    pub next_from : (es : Entries) → HasRisingKeys es → least_from es from ≡ Some q → value_under es q ≡ Some v → Goal es
+    pub next_from : (es : Entries) → HasRisingKeys es → record_from es from ≡ Some r → Goal es
     unfolding IsStrictlySortedBy
-    next_from [] rising found value = absurd (cc)
-    next_from (e ∷ es) rising found value =
-        next_step e es rising.0 value (λ more there. next_from es rising.1 more there) (is_le (key_cmp from e.0)) refl found
+    next_from [] rising found = absurd (cc)
+    next_from (e ∷ es) rising found = next_step e es rising.0 (λ more. next_from es rising.1 more) (is_le (key_cmp from e.0)) refl found
 
 -- ---- above a key, and from the next one on
 

@@ -1,5 +1,5 @@
--- What all records come to: each decodes, the clock isn't set, the counters are there, and how many bytes they take.
-use Rattle.std.specs.Prelude.{ℕ, ◌+◌, ◌-◌, ◌^◌, min, Bool, true, cond, not, nat_le, ◌==◌, Option, Some, None, Ok}
+-- What all records come to: each decodes, the counters are there, and how many bytes they take.
+use Rattle.std.specs.Prelude.{ℕ, ◌+◌, ◌-◌, ◌^◌, min, cond, nat_le, ◌==◌, Option, Some, None, Ok}
 use Rattle.ode_codec.specs.declared.record.Counters.{Counters}
 use Rattle.ode_codec.specs.declared.record.Record.{Record}
 use Rattle.ode_codec.specs.declared.record.Record.TheVariants as of
@@ -12,11 +12,6 @@ use Rattle.ode_passes.specs.Rules.{Ruled, ◌>>=◌, found, needs, through}
 use Rattle.ode_passes.specs.Walking.{within}
 use Rattle.ode_passes.specs.declared.cause.Cause.TheVariants as cause
 use Rattle.ode_passes.specs.declared.tally.Tally.{Tally}
-
--- there is no clock yet, so none is set
-abbrev pub is_built : Record → Bool
-is_built (of.Counters c) = not c.clock_set
-is_built _ = true
 
 -- the bytes with those of one record more, where it is no entry of the queue; they are counted as far as a number of 8 bytes goes
 abbrev pub counted : ℕ → Row → ℕ
@@ -31,7 +26,6 @@ counters_or before _ = before
 abbrev pub tallied : Tally → Row → Ruled Tally
 tallied t e = do
   r ← record_in e
-  _ ← needs (cause.Record e.0) (is_built r)
   Ok (record { total = counted t.total e; counters = counters_or t.counters r })
 
 abbrev pub no_tally : Tally

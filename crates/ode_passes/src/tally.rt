@@ -1,12 +1,13 @@
 //! All records: each decodes, and how many bytes they take together.
-ghost use Rattle.std.specs.Prelude.{◌≡◌, IsErrOf, IsTrue};
+ghost use Rattle.std.specs.Prelude.{◌≡◌, IsErrOf, IsTrue, OnOk};
 ghost use Rattle.ode_host.specs.Causes.{RoseIf};
 ghost use Rattle.ode_host.specs.Host.{Looks};
-ghost use Rattle.ode_keep.specs.Entries.{Entries};
+ghost use Rattle.ode_keep.specs.Entries.{AreBytes, Entries};
 ghost use Rattle.ode_value.specs.Keys.{counters_key};
 ghost use Rattle.ode_passes.specs.Answers.{Answers, Leaves, UnlessFault, is_usable};
 ghost use Rattle.ode_passes.specs.Rules.{found};
-ghost use Rattle.ode_passes.specs.Tally.{counted, counters_or, is_built, is_light, tally_in};
+ghost use Rattle.ode_passes.specs.Tally.{counted, counters_or, is_light, tally_in};
+ghost use Rattle.ode_passes.specs.Walking.{within};
 ghost use Rattle.ode_passes.specs.declared.cause.Cause.TheVariants as cause;
 
 use crate::cause::Cause;
@@ -27,16 +28,6 @@ pub struct Tally {
     total: u64,
     /// The counters, where their record was there.
     counters: Option<Counters>,
-}
-
-// There is no clock yet, so none is set.
-fn is_built(row: &Record) -> bool
-    ensures { result ≡ is_built row.now }
-{
-    match row {
-        Record::Counters(counters) => !counters.clock_set,
-        _ => true,
-    }
 }
 
 fn counters_or(before: Option<Counters>, row: &Record) -> Option<Counters>
@@ -66,9 +57,6 @@ impl Pass for Tally {
 
     fn take(&mut self, alloc: Global, key: Key, value: List<u8>) -> Result<(), OpenError> {
         let record = record_in(alloc, key, value.as_slice())?;
-        if !is_built(&record) {
-            return Err(OpenError::BadFile(Cause::Record(key)));
-        }
         self.total = counted(self.total, key, value.as_slice());
         self.counters = counters_or(self.counters, &record);
         Ok(())
@@ -89,8 +77,8 @@ fn counters_of(tally: Tally) -> Result<Counters, Cause>
     }
 }
 
-/// The counters, and the bytes of all records but for the queue's entries; or the first record that doesn't decode or has a clock
-/// that is set, or that there are no counters. Nothing is written.
+/// The counters, and the bytes of all records but for the queue's entries; or the first record that doesn't decode, or that there are no
+/// counters. All values are bytes. Nothing is written.
 #[tactic(auto, unfolding(crate::specs::Tally::tally_in))]
 pub fn read_tally<H: Host, K: Keep<H>>(
     alloc: Global,
@@ -100,6 +88,7 @@ pub fn read_tally<H: Host, K: Keep<H>>(
     requires live { IsTrue (K.live keeper.old) }
     ensures meant { (entries : Entries) → K.holds keeper.old (H.view host.old) entries
         → Answers (tally_in entries) result }
+    ensures bytes { OnOk result ((entries : Entries) → K.holds keeper.old (H.view host.old) entries → AreBytes (within 0 255 entries)) }
     ensures holds { UnlessFault result ((entries : Entries) → K.holds keeper.old (H.view host.old) entries
         → K.holds keeper.new (H.view host.new) entries) }
     ensures looks { Looks (H.view host.old) (H.view host.new) }

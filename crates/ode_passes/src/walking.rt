@@ -1,9 +1,9 @@
 //! A pass over the records of a keeper, in the order of their keys.
-ghost use Rattle.std.specs.Prelude.{◌≡◌, ◌<◌, ◌≤◌, ◌^◌, true, IfNone, IfOk, IfSome, IsErrOf, IsTrue};
+ghost use Rattle.std.specs.Prelude.{◌≡◌, ◌<◌, ◌≤◌, ◌^◌, ℕ, true, slice_index, IfNone, IfOk, IfSome, IsErrOf, IsTrue, OnOk};
 ghost use Rattle.std.specs.Ordering.{is_le};
 ghost use Rattle.ode_host.specs.Causes.{RoseIf};
 ghost use Rattle.ode_host.specs.Host.{Looks};
-ghost use Rattle.ode_keep.specs.Entries.{Entries};
+ghost use Rattle.ode_keep.specs.Entries.{AreBytes, Entries, HasBytes};
 ghost use Rattle.ode_value.specs.Keys.{key_cmp};
 ghost use Rattle.ode_value.specs.Records.{Row};
 ghost use Rattle.ode_value.specs.declared.key.Key.{Key as RecordKey};
@@ -11,7 +11,6 @@ ghost use Rattle.ode_passes.specs.Answers.{Leaves, OnBroken, UnlessFault, is_usa
 ghost use Rattle.ode_passes.specs.Rules.{Ruled, through};
 ghost use Rattle.ode_passes.specs.Walking.{IsNext, follows, has_range, rank, within};
 
-use crate::cause::Cause;
 use crate::error::OpenError;
 use ode_host::Host;
 use ode_keep::Keep;
@@ -29,8 +28,8 @@ pub trait Pass {
         ensures calm { IsErrOf result OpenError.DiskFault → ⊥ };
 }
 
-// The key that comes after this one, if there is one.
-fn next_key(key: Key) -> Option<Key>
+/// The key that comes after this one, if there is one.
+pub fn next_key(key: Key) -> Option<Key>
     ensures next { IfSome result (λ next. (k : RecordKey) → has_range k ≡ true → is_le (key_cmp next k) ≡ follows key k) }
     ensures last { IfNone result ((k : RecordKey) → has_range k ≡ true → follows key k ≡ true → 255 < k.kind) }
     ensures later { IfSome result (λ next. rank key < rank next) }
@@ -53,8 +52,13 @@ fn next_key(key: Key) -> Option<Key>
     Some(Key { kind, a: 0, b: 0 })
 }
 
-// The first record at or above a key, where its kind isn't past the last one.
-fn next_record<H: Host, K: Keep<H>>(
+// What a slice of bytes has is bytes.
+fn are_bytes(value: &[u8])
+    ensures { (i : ℕ) → slice_index value.now i < 2 ^ 8 }
+{}
+
+/// The first record at or above a key, where its kind isn't past the last one.
+pub fn next_record<H: Host, K: Keep<H>>(
     keeper: &mut K,
     host: &mut H,
     from: Key,
@@ -64,6 +68,7 @@ fn next_record<H: Host, K: Keep<H>>(
     ensures next { IfOk result (λ found. (entries : Entries) → K.holds keeper.old (H.view host.old) entries → IsNext from last entries found) }
     ensures kind { IfOk result (λ found. IfSome found (λ r. r.0.kind ≤ last)) }
     ensures above { IfOk result (λ found. IfSome found (λ r. rank from ≤ rank r.0)) }
+    ensures bytes { IfOk result (λ found. IfSome found HasBytes) }
     ensures broken { OnBroken result ((entries : Entries) → K.holds keeper.old (H.view host.old) entries → ⊥) }
     ensures holds { UnlessFault result ((entries : Entries) → K.holds keeper.old (H.view host.old) entries
         → K.holds keeper.new (H.view host.new) entries) }
@@ -71,19 +76,17 @@ fn next_record<H: Host, K: Keep<H>>(
     ensures usable { K.live keeper.new ≡ is_usable result }
     ensures cause { RoseIf (IsErrOf result OpenError.DiskFault) (H.view host.old).disk_faults (H.view host.new).disk_faults }
 {
-    let Some(key) = keeper.keys_from(host, from)? else {
+    let Some((key, value)) = keeper.record_from(host, from)? else {
         return Ok(None);
     };
     if key.kind > last {
         return Ok(None);
     }
-    match keeper.get(host, key)? {
-        Some(value) => Ok(Some((key, value))),
-        None => Err(OpenError::BadFile(Cause::Missing(key))),
-    }
+    are_bytes(value.as_slice());
+    Ok(Some((key, value)))
 }
 
-/// Goes over the records of kinds from the first to the last, in the order of their keys.
+/// Goes over the records of kinds from the first to the last, in the order of their keys. What it went over is bytes.
 pub fn walk<H: Host, K: Keep<H>, P: Pass>(
     alloc: Global,
     keeper: &mut K,
@@ -95,6 +98,7 @@ pub fn walk<H: Host, K: Keep<H>, P: Pass>(
     requires live { IsTrue (K.live keeper.old) }
     ensures meant { (entries : Entries) → K.holds keeper.old (H.view host.old) entries
         → Leaves (through P.takes pass.old (within first last entries)) pass.new result }
+    ensures bytes { OnOk result ((entries : Entries) → K.holds keeper.old (H.view host.old) entries → AreBytes (within first last entries)) }
     ensures holds { UnlessFault result ((entries : Entries) → K.holds keeper.old (H.view host.old) entries
         → K.holds keeper.new (H.view host.new) entries) }
     ensures looks { Looks (H.view host.old) (H.view host.new) }

@@ -2,32 +2,39 @@
 //! function that does nothing.
 #![tactic(auto)]
 
-ghost use Rattle.std.specs.Prelude.{◌≡◌, ℕ, List as Items, Ok};
+ghost use Rattle.std.specs.Prelude.{[], List as Items, Ok};
+ghost use Rattle.std.specs.List.{AllByRecursion};
 ghost use Rattle.ode_codec.specs.Standing.{HoldsWorld};
-ghost use Rattle.ode_heap_laws.specs.Few.{HoldsCounted};
+ghost use Rattle.ode_heap_laws.specs.Few.{HasFewParts};
 ghost use Rattle.ode_keep.specs.Entries.{Entries};
 ghost use Rattle.ode_language.specs.Languages.{ode};
-ghost use Rattle.ode_opening_laws.specs.Built.{IsBuilt};
-ghost use Rattle.ode_opening_records.specs.Reading.{opened_in};
+ghost use Rattle.ode_opening_records.specs.Reading.{AreOpened};
+ghost use Rattle.ode_opening_records.specs.declared.base.Base.{Base};
 ghost use Rattle.ode_sound_laws.specs.Typed.{AreFromOne};
+ghost use Rattle.ode_value.specs.GoodWorlds.{AreClasses};
 ghost use Rattle.ode_value.specs.Language.{ListWorld};
-ghost use Rattle.ode_value.specs.Tables.{Table};
-ghost use Rattle.ode_value.specs.declared.class.Class.{Class};
+ghost use Rattle.ode_value.specs.Worlds.{Declared};
 ghost use Rattle.ode_resting_laws.specs.Showing.{IsShown};
 
+use ode_again_laws::parameters_of_classes_are_few;
 use ode_opened_laws::held_worlds_are_opened;
+use ode_opening_records::records_are_opened_to_one_thing;
+use ode_settled_laws::tables_may_differ;
 
-/// The classes of a world of the built forms have no more fields than a record counts.
-pub fn built_worlds_are_counted()
-    ensures { (records : Entries) (w : ListWorld) → HoldsWorld ode records w → IsBuilt w → HoldsCounted ode records w }
-{}
-
-/// What records that hold a world of the built forms, whose versions are numbered from 1 on, are opened to is this world's. No class has
-/// a trigger, so any tables serve.
-pub fn opened_records_show_their_world()
-    ensures { (records : Entries) (w : ListWorld) (opened : Items Class × ℕ) (tables : ℕ → ℕ → Table) → HoldsWorld ode records w → IsBuilt w
-        → AreFromOne w.bones → opened_in ode records ≡ Ok opened → IsShown records w opened tables }
+/// Classes that are read and accepted one behind the other have parts that a record can count: their fields, and their triggers' parameters.
+pub fn read_classes_have_few_parts()
+    ensures { (ds : Items Declared) → AreClasses ode [] ds → AllByRecursion HasFewParts ds }
 {
-    built_worlds_are_counted();
+    parameters_of_classes_are_few();
+}
+
+/// What records that hold a world, whose versions are numbered from 1 on, are opened to is this world's.
+pub fn opened_records_show_their_world()
+    ensures { (records : Entries) (w : ListWorld) (opened : Base) → HoldsWorld ode records w → AreFromOne w.bones
+        → AreOpened ode records (Ok opened) → IsShown records w opened }
+{
+    read_classes_have_few_parts();
     held_worlds_are_opened();
+    records_are_opened_to_one_thing();
+    tables_may_differ();
 }

@@ -9,28 +9,27 @@ use Rattle.ode_host.specs.View.{View}
 use Rattle.ode_keep.specs.Entries.{Entries}
 use Rattle.ode_language.specs.Languages.{ode}
 use Rattle.ode_opened.specs.declared.opened.Opened.{Opened}
-use Rattle.ode_opening_laws.specs.Built.{IsBuilt}
-use Rattle.ode_opening_records.specs.Reading.{opened_in}
+use Rattle.ode_open.specs.Opening.{base_in}
+use Rattle.ode_opening_records.specs.Reading.{AreOpened}
+use Rattle.ode_opening_records.specs.declared.base.Base.{Base}
 use Rattle.ode_resting_laws.specs.Showing.{IsShown}
 use Rattle.ode_schema.specs.Parts.{AreFit}
 use Rattle.ode_sound_laws.specs.Typed.{AreFromOne}
-use Rattle.ode_transact.specs.Resting.{HoldsBy, IsAtRest, resting_parts, resting_tables}
+use Rattle.ode_transact.specs.Resting.{HoldsBy, IsAtRest, resting_parts}
 use Rattle.ode_value.specs.Language.{ListWorld}
-use Rattle.ode_value.specs.Tables.{Table}
-use Rattle.ode_value.specs.declared.class.Class.{Class}
 
--- what is opened of records that hold a world of the built forms is this world's
+-- what is opened of records that hold a world is this world's
 abbrev pub ShowWorlds : Type 0
 ShowWorlds =
-    (records : Entries) (w : ListWorld) (opened : List Class × ℕ) (tables : ℕ → ℕ → Table) → HoldsWorld ode records w → IsBuilt w → AreFromOne w.bones → opened_in ode records ≡ Ok opened → IsShown records w opened tables
+    (records : Entries) (w : ListWorld) (opened : Base) → HoldsWorld ode records w → AreFromOne w.bones → AreOpened ode records (Ok opened) → IsShown records w opened
 
 module _ {H : Type 0} (seen : H → View) (host : H) (image : List ℕ) (w : ListWorld) (o : Opened Areas) (entries : Entries) where
-  pub at_rest : ShowWorlds → HoldsBy ode AreasMean image w → IsBuilt w → AreasMean image entries → AreasHold o.keeper (seen host) entries → opened_in ode entries ≡ Ok (o.classes, o.bytes)
+  pub at_rest : ShowWorlds → HoldsBy ode AreasMean image w → AreasMean image entries → AreasHold o.keeper (seen host) entries → AreOpened ode entries (Ok (base_in o))
       → is_live o.keeper ≡ true → AreFit (resting_parts o) → IsAtRest seen AreasHold is_live ode w o host
-  at_rest show holds built means kept opened live fit =
+  at_rest show holds means kept opened live fit =
       let same : holds.entries ≡ entries = one_map_law image holds.entries entries holds.are means in
       let world : HoldsWorld ode entries w = subst (λ (es : Entries). HoldsWorld ode es w) same holds.world in
-      let shown = show entries w (o.classes, o.bytes) (resting_tables o) world built holds.ones opened in
+      let shown = show entries w (base_in o) world holds.ones opened in
       record {
         entries = entries;
         world = shown.world;

@@ -7,8 +7,8 @@ ghost use Rattle.ode_areas.specs.Holding.{AreasHold, is_live};
 ghost use Rattle.ode_areas.specs.Image.{AreasMean};
 ghost use Rattle.ode_keep.specs.Entries.{Entries};
 ghost use Rattle.ode_language.specs.Languages.{ode};
-ghost use Rattle.ode_opening_laws.specs.Built.{IsBuilt};
-ghost use Rattle.ode_opening_records.specs.Reading.{opened_in};
+ghost use Rattle.ode_open.specs.Opening.{base_in};
+ghost use Rattle.ode_opening_records.specs.Reading.{AreOpened};
 ghost use Rattle.ode_schema.specs.Parts.{AreFit};
 ghost use Rattle.ode_transact.specs.Resting.{HoldsBy, IsAtRest, resting_parts};
 ghost use Rattle.ode_value.specs.Language.{ListWorld};
@@ -18,11 +18,11 @@ use ode_host::Host;
 use ode_opened::Opened;
 use ode_resting_laws::opened_records_show_their_world;
 
-/// Of an image that holds a world of the built forms an opened file is at rest in this world: it was opened to the image's records, which
-/// its keeper holds, the keeper may be used, and its lists fit.
+/// Of an image that holds a world an opened file is at rest in this world: it was opened to the image's records, which its keeper holds, the
+/// keeper may be used, and its lists fit.
 pub fn opened_files_are_at_rest<H: Host>(opened: &Opened<Areas>, host: &H)
-    ensures { (image : Items ℕ) (w : ListWorld) (entries : Entries) → HoldsBy ode AreasMean image w → IsBuilt w
-        → AreasMean image entries → AreasHold opened.now.keeper (H.view host.now) entries → opened_in ode entries ≡ Ok (opened.now.classes, opened.now.bytes)
+    ensures { (image : Items ℕ) (w : ListWorld) (entries : Entries) → HoldsBy ode AreasMean image w
+        → AreasMean image entries → AreasHold opened.now.keeper (H.view host.now) entries → AreOpened ode entries (Ok (base_in opened.now))
         → is_live opened.now.keeper ≡ true → AreFit (resting_parts opened.now) → IsAtRest H.view AreasHold is_live ode w opened.now host.now }
 {
     opened_records_show_their_world();

@@ -1,18 +1,28 @@
-use Rattle.std.proofs.Common.{inr, ap, sym}
-use Rattle.ode_open.specs.Opening.{found_of}
-use Rattle.ode_file_laws.proofs.Weights.{records_few}
+use Rattle.std.proofs.Common.{Err, Ok, inr, refl}
+use Rattle.ode_open.proofs.One.{one_opening}
+use Rattle.ode_opened_laws.specs.WorldBases.{world_base}
+use Rattle.ode_language.specs.Languages.{ode}
+use Rattle.ode_transact.proofs.RecordLaws.{records_are_light}
 use Rattle.ode_file_laws.proofs.files_of_worlds_are_opened.Goals as goal
 
-pub returns : goal.returns
-returns c = λ image entries w means holds ones unset.
-    let built = c.runs_stay_openable.ensures.good w holds.good unset in
-    let counted = c.built_worlds_are_counted.ensures entries w holds built in
+pub returns-clause-opened : goal.returns-clause-opened
+returns-clause-opened c = λ image entries w means holds ones.
     inr (inr (inr (inr (record {
       header = means.header;
       counts = means.counts;
       areas = means.areas;
       entries = entries;
       has = means.has;
-      within = records_few c.lengths_are_counts.ensures.version entries w holds built;
-      is = sym (ap found_of (c.held_worlds_are_opened.ensures entries w counted built ones));
+      within = records_are_light ode entries w holds;
+      opened = Ok (world_base holds.stored.tables w.bones);
+      are =
+          c.held_worlds_are_opened.ensures entries w (record { world = holds; few = c.read_classes_have_few_parts.ensures w.bones.classes holds.good.bones.classes })
+          ones;
+      is = refl;
     }))))
+
+pub returns-clause-unbroken : goal.returns-clause-unbroken
+returns-clause-unbroken c = λ image entries w means holds ones error to.
+    let two =
+    one_opening c.records_are_opened_to_one_thing.ensures image (Ok (world_base holds.stored.tables w.bones)) (Err error) (returns-clause-opened c image entries w means holds ones) to in
+    cc (two)

@@ -1,24 +1,31 @@
-use Rattle.std.proofs.Common.{◌≡◌, ℕ, List, Ok, map, sym, ap, ◌∙◌}
+use Rattle.std.proofs.Common.{◌≡◌, Ok, map, sym, ap, subst, ◌∙◌}
+use Rattle.std.specs.List.{AllByRecursion}
 use Rattle.ode_heap_laws.specs.Few.{HoldsCounted}
+use Rattle.ode_laws.specs.Alike.{AgreesOn}
 use Rattle.ode_language.specs.Languages.{ode}
+use Rattle.ode_opened_laws.specs.WorldBases.{world_base}
 use Rattle.ode_opening_laws.specs.Holding.{class_of}
+use Rattle.ode_opening_records.specs.declared.base.Base.{Base}
+use Rattle.ode_schema.specs.Parts.{table_by}
 use Rattle.ode_value.specs.Weights.{weight}
 use Rattle.ode_value.specs.Worlds.{Bones}
-use Rattle.ode_value.specs.declared.class.Class.{Class}
-use Rattle.ode_resting_laws.proofs.AnyTables.{its_tables, with_tables}
+use Rattle.ode_resting_laws.proofs.Agreeing.{tables_agree}
 use Rattle.ode_resting_laws.proofs.opened_records_show_their_world.Goals as goal
 
 pub returns : goal.returns
-returns c = λ records w opened tables held built ones is.
-    let counted : HoldsCounted ode records w = c.built_worlds_are_counted.ensures records w held built in
-    let whole : HoldsCounted ode records w = record { world = with_tables records w held built tables; few = counted.few } in
-    let base : List Class × ℕ = (map class_of w.bones.classes, weight w.bones) in
-    let its : Ok opened ≡ Ok base = sym is ∙ c.held_worlds_are_opened.ensures records w counted built ones in
-    let same : opened ≡ base = cc (its) in
-    let back : w.bones ≡ whole.world.stored.world.bones = sym whole.world.stands.bones in
+returns c = λ records w opened held ones is.
+    let counted : HoldsCounted ode records w = record { world = held; few = c.read_classes_have_few_parts.ensures w.bones.classes held.good.bones.classes } in
+    let base : Base = world_base held.stored.tables w.bones in
+    let its = c.held_worlds_are_opened.ensures records w counted ones in
+    let one = c.records_are_opened_to_one_thing.ensures ode records (Ok opened) (Ok base) is its in
+    let same : opened ≡ base = cc (one) in
+    let agree : AllByRecursion (AgreesOn held.stored.tables (table_by opened.tables opened.maps)) w.bones.classes =
+    subst (λ (b : Base). AllByRecursion (AgreesOn held.stored.tables (table_by b.tables b.maps)) w.bones.classes) (sym same) (tables_agree ode held.stored.tables w.bones.classes held.good.bones.classes) in
+    let shown = c.tables_may_differ.ensures ode records w counted (table_by opened.tables opened.maps) agree in
+    let back : w.bones ≡ shown.held.world.stored.world.bones = sym shown.held.world.stands.bones in
     record {
-      world = whole;
-      tables = its_tables records w held built tables;
-      classes = ap (λ (o : List Class × ℕ). o.0) same ∙ ap (λ (b : Bones). map class_of b.classes) back;
-      bytes = ap (λ (o : List Class × ℕ). o.1) same ∙ ap weight back;
+      world = shown.held;
+      tables = shown.by;
+      classes = ap (λ (b : Base). b.classes) same ∙ ap (λ (b : Bones). map class_of b.classes) back;
+      bytes = ap (λ (b : Base). b.bytes) same ∙ ap weight back;
     }

@@ -13,7 +13,7 @@ returns-clause-answer g c = λ image tells.
 
 pub returns-clause-only : goal.returns-clause-only
 returns-clause-only g c = λ image found tells opened.
-    ⊎_elim (λ failed. inl failed) (λ its. inr (one_opening image _ found its opened)) (returns-clause-answer g c image tells)
+    ⊎_elim (λ failed. inl failed) (λ its. inr (one_opening c.records_are_opened_to_one_thing.ensures image _ found its opened)) (returns-clause-answer g c image tells)
 
 pub returns-clause-keeper : goal.returns-clause-keeper
 returns-clause-keeper g c =

@@ -3,10 +3,9 @@ use Rattle.std.proofs.lemmas.Result.{err_from_is_err_and}
 use Rattle.ode_areas.proofs.Fitting.{map_fits}
 use Rattle.ode_areas.specs.Image.{AreasMean}
 use Rattle.ode_host.proofs.Moments.{looks_joined, stands_looks, tells_looks}
-use Rattle.ode_open.proofs.Bare.{bare_parts_fit, no_triggers_opened}
+use Rattle.ode_keep.specs.Entries.{AreBytes}
 use Rattle.ode_open.proofs.AllBytes.{all_bytes}
-use Rattle.ode_open.proofs.Refusing.{is_opened, why_header, why_outside, why_records}
-use Rattle.ode_opening_laws.specs.Holding.{AreBytes}
+use Rattle.ode_open.proofs.Refusing.{is_opened, why_header, why_records}
 use Rattle.ode_open.proofs.opening.open_file.Goals as goal
 
 pub returns-in_err-header-clause-answer : goal.returns-in_err-header-clause-answer
@@ -27,44 +26,27 @@ returns-in_err-base-clause-answer g c = λ image stands.
     let held = c.in_ok-keeper.ensures.holds image (stands_looks image _ _ c.read_header.ensures.looks stands) counts in
     rw (p.1, p.2) (why_records image header counts c.in_ok-keeper.ensures.areas held.0 held.1 held.2.within c.in_err-base.field-0.0 (c.in_err-base.ensures.meant held.0 held.2))
 
-pub returns-in_err-read_bytes-clause-answer : goal.returns-in_err-read_bytes-clause-answer
-returns-in_err-read_bytes-clause-answer g c = λ image stands.
-    let p = err_from_is_err_and c.from_residual-in_err-read_bytes.result c.from_residual-in_err-read_bytes.ensures.1 in
-    let counts = c.in_ok-header.ensures.found image stands.tells in
-    let held = c.in_ok-keeper.ensures.holds image (stands_looks image _ _ c.read_header.ensures.looks stands) counts in
-    rw (p.1, p.2) (why_outside image c.in_err-read_bytes.field-0.0 _ (λ never. never held.0 (c.in_ok-base.ensures.holds held.0 held.2)) c.in_err-read_bytes.ensures.unbroken)
-
-pub returns-in_err-are_built-clause-answer : goal.returns-in_err-are_built-clause-answer
-returns-in_err-are_built-clause-answer g c = λ image stands.
-    let counts = c.in_ok-header.ensures.found image stands.tells in
-    let held = c.in_ok-keeper.ensures.holds image (stands_looks image _ _ c.read_header.ensures.looks stands) counts in
-    absurd (no_triggers_opened held.0 c.in_ok-base.base.0 c.in_ok-base.base.1 c.in_err-are_built.field-0.0 (c.in_ok-base.ensures.meant held.0 held.2) c.in_err-are_built.ensures)
-
 pub returns-clause-answer : goal.returns-clause-answer
 returns-clause-answer g c = λ image stands.
     let header = c.in_ok-header.header in
     let counts = c.in_ok-header.ensures.found image stands.tells in
     let held = c.in_ok-keeper.ensures.holds image (stands_looks image _ _ c.read_header.ensures.looks stands) counts in
-    inr (is_opened image header counts c.in_ok-keeper.ensures.areas held.0 held.1 held.2.within c.in_ok-base.base.0 c.in_ok-base.base.1 (c.in_ok-base.ensures.meant held.0 held.2))
+    inr (is_opened image header counts c.in_ok-keeper.ensures.areas held.0 held.1 held.2.within c.in_ok-base.base (c.in_ok-base.ensures.meant held.0 held.2))
 
 pub returns-clause-keeper : goal.returns-clause-keeper
 returns-clause-keeper g c = λ image stands.
     let counts = c.in_ok-header.ensures.found image stands.tells in
     let held = c.in_ok-keeper.ensures.holds image (stands_looks image _ _ c.read_header.ensures.looks stands) counts in
     let means : AreasMean image held.0 = record { header = c.in_ok-header.header; counts = counts; areas = c.in_ok-keeper.ensures.areas; has = held.1 } in
-    (held.0, means, c.in_ok-read_bytes.ensures.holds held.0 (c.in_ok-base.ensures.holds held.0 held.2), c.in_ok-base.ensures.meant held.0 held.2)
+    (held.0, means, c.in_ok-base.ensures.holds held.0 held.2, c.in_ok-base.ensures.meant held.0 held.2)
 
 pub returns-clause-bytes : goal.returns-clause-bytes
 returns-clause-bytes g c = λ image stands entries holds.
     let counts = c.in_ok-header.ensures.found image stands.tells in
     let held = c.in_ok-keeper.ensures.holds image (stands_looks image _ _ c.read_header.ensures.looks stands) counts in
-    let before = c.in_ok-base.ensures.holds held.0 held.2 in
-    let behind = c.in_ok-read_bytes.ensures.holds held.0 before in
+    let behind = c.in_ok-base.ensures.holds held.0 held.2 in
     let same : held.0 ≡ entries = sym behind.map ∙ holds.map in
-    subst AreBytes same (all_bytes held.0 (map_fits c.in_ok-header.header image held.0 held.1).rows (c.in_ok-read_bytes.ensures.bytes held.0 before))
+    subst AreBytes same (all_bytes held.0 (map_fits c.in_ok-header.header image held.0 held.1).rows (c.in_ok-base.ensures.bytes held.0 held.2))
 
 pub returns-clause-looks : goal.returns-clause-looks
-returns-clause-looks g c = looks_joined _ _ _ c.in_ok-header.ensures.looks (looks_joined _ _ _ c.in_ok-keeper.ensures.looks (looks_joined _ _ _ c.in_ok-base.ensures.looks c.in_ok-read_bytes.ensures.looks))
-
-pub returns-clause-fit : goal.returns-clause-fit
-returns-clause-fit g c = bare_parts_fit _ (sym c.in_ok-are_built.ensures)
+returns-clause-looks g c = looks_joined _ _ _ c.in_ok-header.ensures.looks (looks_joined _ _ _ c.in_ok-keeper.ensures.looks c.in_ok-base.ensures.looks)

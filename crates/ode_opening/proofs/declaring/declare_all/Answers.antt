@@ -19,9 +19,9 @@ returns-in_err-at-clause-meant c =
     let split : drop i records ≡ item ∷ drop (i + 1) records =
     drop_more records i item c.loop-found-test.true ∙ ap (λ f. f ∷ drop (i + 1) records) (sym c.found-item.is) in
     let p = err_from_is_err_and c.from_residual.result c.from_residual.ensures.1 in
-    rw (p.1, p.2) (declares_no_more (declares_next ode) records (c.loop-found.classes, drop c.loop-found.at records) c.declare_next.new.classes item (drop (i + 1) records) all
+    rw (p.1, p.2) (declares_no_more (declares_next ode) records (c.loop-found.accepted.classes, drop c.loop-found.at records) c.declare_next.new.accepted.classes item (drop (i + 1) records) all
     c.in_err-at.field-0.0 c.in_err-at.ensures.meant
-    (ap (λ (fs : Found). through (declares_next ode) (c.loop-found.classes, drop c.loop-found.at records) fs) (sym split) ∙ c.loop-found.invariant))
+    (ap (λ (fs : Found). through (declares_next ode) (c.loop-found.accepted.classes, drop c.loop-found.at records) fs) (sym split) ∙ c.loop-found.invariant.0))
 
 pub loop-found-preserved : goal.loop-found-preserved
 loop-found-preserved c =
@@ -30,6 +30,8 @@ loop-found-preserved c =
     let item = c.found-item.result in
     let all = through (declares_next ode) ([], drop (class_count records) records) records in
     let split : drop i records ≡ item ∷ drop (i + 1) records =
-    drop_more records i item c.loop-found-test.true ∙ ap (λ f. f ∷ drop (i + 1) records) (sym c.found-item.is) in
-    declares_on (declares_next ode) records (c.loop-found.classes, drop c.loop-found.at records) c.declare_next.new.classes c.in_ok-at.at item (drop (i + 1) records) all
-    c.in_ok-at.ensures.meant (ap (λ (fs : Found). through (declares_next ode) (c.loop-found.classes, drop c.loop-found.at records) fs) (sym split) ∙ c.loop-found.invariant)
+    drop_more records i item c.loop-found-test.true ∙ ap (λ f. f ∷ drop (i + 1) records) (sym c.found-item.is) in (
+      declares_on (declares_next ode) records (c.loop-found.accepted.classes, drop c.loop-found.at records) c.declare_next.new.accepted.classes c.in_ok-at.at item (drop (i + 1) records) all
+          c.in_ok-at.ensures.meant (ap (λ (fs : Found). through (declares_next ode) (c.loop-found.accepted.classes, drop c.loop-found.at records) fs) (sym split) ∙ c.loop-found.invariant.0),
+      c.in_ok-at.ensures.built c.loop-found.invariant.1,
+    )

@@ -1,6 +1,6 @@
 use Rattle.std.proofs.Common.{◌≡◌, IsTrue, ◌-◌, ◌^◌}
 use Rattle.ode_host.specs.Host.{Looks}
-use Rattle.ode_keep.specs.Entries.{Entries}
+use Rattle.ode_keep.specs.Entries.{AreBytes, Entries}
 use Rattle.ode_passes.specs.Rules.{through}
 use Rattle.ode_passes.specs.Walking.{rank, records_from, within}
 use Rattle.ode_passes.proofs.walking.walk.Given as goal
@@ -13,6 +13,8 @@ invariant-records g l = record {
   holds : (entries : Entries) → g.K.Keep.holds l.initial.keeper (g.H.Host.view l.initial.host) entries → g.K.Keep.holds l.keeper (g.H.Host.view l.host) entries;
   rest : (entries : Entries) → g.K.Keep.holds l.initial.keeper (g.H.Host.view l.initial.host) entries
       → through g.P.Pass.takes l.pass (records_from l.from l.last entries) ≡ through g.P.Pass.takes l.initial.pass (within l.first l.last entries);
+  bytes : (entries : Entries) → g.K.Keep.holds l.initial.keeper (g.H.Host.view l.initial.host) entries
+      → AreBytes (records_from l.from l.last entries) → AreBytes (within l.first l.last entries);
 }
 
 abbrev pub decreases-records : goal.decreases-records

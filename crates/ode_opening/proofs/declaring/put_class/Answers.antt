@@ -1,0 +1,17 @@
+use Rattle.std.proofs.Common.{◌++◌, List, sym, subst}
+use Rattle.ode_value.specs.Symbols.{MaskedKind}
+use Rattle.ode_value.specs.Tables.{Table}
+use Rattle.ode_value.specs.declared.class.Class.{Class}
+use Rattle.ode_opening.proofs.Built.{built_more}
+use Rattle.ode_opening.specs.Building.{AreBuilt}
+use Rattle.ode_opening.proofs.declaring.put_class.Goals as goal
+
+pub returns-clause-built : goal.returns-clause-built
+returns-clause-built c = λ are.
+    let a = c.args.accepted.now in
+    let made = c.args.made in
+    let tables = a.tables ++ made.tables in
+    let alphabets = a.alphabets ++ made.alphabets in
+    subst (λ (rows : List (List MaskedKind)). AreBuilt (record { classes = c.add.new.self; tables = c.put_tables.new.tables; alphabets = rows })) (sym c.in_ok-put_alphabets.ensures)
+    (subst (λ (ts : List Table). AreBuilt (record { classes = c.add.new.self; tables = ts; alphabets = alphabets })) (sym c.in_ok-put_tables.ensures)
+    (subst (λ (cs : List Class). AreBuilt (record { classes = cs; tables = tables; alphabets = alphabets })) (sym c.in_ok-add.ensures.ok) (built_more a made are c.requires.built)))

@@ -1,0 +1,16 @@
+//! What is opened is one thing alone: a law of definitions, carried by the contract of a function that does nothing.
+ghost use Rattle.std.specs.Prelude.{◌≡◌};
+ghost use Rattle.ode_keep.specs.Entries.{Entries};
+ghost use Rattle.ode_opening_records.specs.Reading.{AreOpened};
+ghost use Rattle.ode_opening_records.specs.declared.base.Base.{Base};
+ghost use Rattle.ode_passes.specs.Rules.{Ruled};
+ghost use Rattle.ode_value.specs.Language.{Language};
+
+use ode_opening_tables::tables_come_to_one_thing;
+
+/// Records are opened to one thing alone.
+pub fn records_are_opened_to_one_thing()
+    ensures { (l : Language) (entries : Entries) (opened other : Ruled Base) → AreOpened l entries opened → AreOpened l entries other → opened ≡ other }
+{
+    tables_come_to_one_thing();
+}

@@ -1,0 +1,61 @@
+-- What was built of triggers: alphabets, tables that mean their events, and what stored tables weigh beside them.
+use Rattle.std.proofs.Common.{◌≡◌, ℕ, zero, suc, ◌+◌, ◌-◌, List, [], ◌∷◌, map, length, Some, refl, ap, subst, ◌∙◌, arith}
+use Rattle.std.specs.Prelude.{slice_get}
+use Rattle.std.specs.Option.{IsSomeAnd}
+use Rattle.ode_compile.specs.Compiling.{AreCompiled, IsCompiled}
+use Rattle.ode_opening_tables.specs.Answers.{AreBuiltFrom, spare_beside}
+use Rattle.ode_opening_tables.specs.Tables.{spare_in}
+use Rattle.ode_symbols.specs.Alphabets.{alphabet}
+use Rattle.ode_value.specs.Lengths.{trigger_length}
+use Rattle.ode_value.specs.Symbols.{MaskedKind}
+use Rattle.ode_value.specs.Tables.{Means, Table}
+use Rattle.ode_value.specs.TreeCount.{tree_count}
+use Rattle.ode_value.specs.Weights.{trigger_weight}
+use Rattle.ode_value.specs.declared.member.TriggerDecl.{TriggerDecl}
+
+pub alphabets_are : (ts : List TriggerDecl) (built : List Table) (rows : List (List MaskedKind)) → AreCompiled ts built rows → rows ≡ map (λ (t : TriggerDecl). alphabet t.event) ts
+alphabets_are [] [] [] all = refl
+alphabets_are [] [] (r ∷ rows) all = absurd all
+alphabets_are [] (b ∷ built) rows all = absurd all
+alphabets_are (t ∷ ts) [] rows all = absurd all
+alphabets_are (t ∷ ts) (b ∷ built) [] all = absurd all
+alphabets_are (t ∷ ts) (b ∷ built) (r ∷ rows) all =
+    ap (λ x. x ∷ rows) all.0.rows_are ∙ ap (λ xs. alphabet t.event ∷ xs) (alphabets_are ts built rows all.1)
+
+pub as_many : (ts : List TriggerDecl) (built : List Table) (rows : List (List MaskedKind)) → AreCompiled ts built rows → length built ≡ length ts
+as_many [] [] [] all = refl
+as_many [] [] (r ∷ rows) all = absurd all
+as_many [] (b ∷ built) rows all = absurd all
+as_many (t ∷ ts) [] rows all = absurd all
+as_many (t ∷ ts) (b ∷ built) [] all = absurd all
+as_many (t ∷ ts) (b ∷ built) (r ∷ rows) all = ap suc (as_many ts built rows all.1)
+
+-- a built table weighs as its trigger does
+weighs : (t : TriggerDecl) (b : Table) (r : List MaskedKind) → IsCompiled t b r → trigger_length b.states b.symbols ≡ trigger_weight t
+weighs t b r is = ap (λ n. trigger_length n b.symbols) is.states ∙ ap (trigger_length (tree_count t.event)) is.means.symbols
+
+pub spare_is : (ts : List TriggerDecl) (built : List Table) (rows : List (List MaskedKind)) (stored : List Table) → AreCompiled ts built rows → spare_beside built stored ≡ spare_in ts stored
+spare_is [] [] [] [] all = refl
+spare_is [] [] [] (s ∷ stored) all = refl
+spare_is [] [] (r ∷ rows) stored all = absurd all
+spare_is [] (b ∷ built) rows stored all = absurd all
+spare_is (t ∷ ts) [] rows stored all = absurd all
+spare_is (t ∷ ts) (b ∷ built) [] stored all = absurd all
+spare_is (t ∷ ts) (b ∷ built) (r ∷ rows) [] all = refl
+spare_is (t ∷ ts) (b ∷ built) (r ∷ rows) (s ∷ stored) all =
+    ap (λ n. (n - trigger_length s.states s.symbols) + spare_beside built stored) (weighs t b r all.0)
+    ∙ ap (λ n. (trigger_weight t - trigger_length s.states s.symbols) + n) (spare_is ts built rows stored all.1)
+
+-- the table at a trigger's place means its event
+means_at : (ts : List TriggerDecl) (built : List Table) (rows : List (List MaskedKind)) → AreCompiled ts built rows → (place : ℕ) (t : TriggerDecl) → slice_get ts place ≡ Some t
+    → IsSomeAnd (slice_get built place) (λ table. Means table t.event)
+means_at [] built rows all place t is = absurd (cc)
+means_at (u ∷ ts) [] rows all place t is = absurd all
+means_at (u ∷ ts) (b ∷ built) [] all place t is = absurd all
+means_at (u ∷ ts) (b ∷ built) (r ∷ rows) all zero t is = let same : u ≡ t = cc in subst (λ (v : TriggerDecl). Means b v.event) same all.0.means
+means_at (u ∷ ts) (b ∷ built) (r ∷ rows) all (suc place) t is = means_at ts built rows all.1 place t is
+
+pub built_from : (ts : List TriggerDecl) (built : List Table) (rows : List (List MaskedKind)) → AreCompiled ts built rows → AreBuiltFrom built 0 ts
+built_from ts built rows all = λ place t is.
+    let same : place ≡ 0 + place = omega arith in
+    subst (λ (k : ℕ). IsSomeAnd (slice_get built k) (λ table. Means table t.event)) same (means_at ts built rows all place t is)

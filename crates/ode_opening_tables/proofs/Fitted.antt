@@ -1,0 +1,35 @@
+-- What is answered of tables fits the classes.
+use Rattle.std.proofs.Common.{◌≡◌, ◌<◌, ◌^◌, ℕ, List, length, Result, Ok, Err, sym, ap, subst, ◌∙◌}
+use Rattle.std.specs.Prelude.{IfOk}
+use Rattle.std.proofs.lemmas.List.{length-map}
+use Rattle.ode_opening.specs.Building.{AreBuilt, triggers_of}
+use Rattle.ode_opening.specs.declared.accepted.Accepted.{Accepted}
+use Rattle.ode_opening_tables.proofs.BuiltLaws.{alphabets_are, as_many}
+use Rattle.ode_opening_tables.proofs.Placing.{are_fit, are_numbered, as_many_places}
+use Rattle.ode_opening_tables.specs.Answers.{AreBeside, parts_of}
+use Rattle.ode_opening_tables.specs.Tables.{places_from}
+use Rattle.ode_passes.specs.declared.error.OpenError.{OpenError}
+use Rattle.ode_schema.specs.Parts.{AreFit}
+use Rattle.ode_symbols.specs.Alphabets.{alphabet}
+use Rattle.ode_types.specs.Checked.{AreChecked}
+use Rattle.ode_value.specs.Tables.{Table}
+use Rattle.ode_value.specs.declared.member.TriggerDecl.{TriggerDecl}
+
+abbrev Answer : Type 0
+Answer = Result (List Table × List ℕ) OpenError
+
+module _ (a : Accepted) (built : AreBuilt a) where
+  pub all_fit : AreChecked a.classes → length a.tables < 2 ^ 32 → (r : Answer) → IfOk r (λ x. x.1 ≡ places_from 0 a.classes) → IfOk r (λ x. AreBeside a.tables x.0)
+      → IfOk r (λ x. length x.0 ≡ length (triggers_of a.classes)) → IfOk r (λ x. AreFit (parts_of a x))
+  all_fit checked few (Ok x) maps beside count =
+      let long = count ∙ sym (as_many (triggers_of a.classes) a.tables a.alphabets built.compiled) in
+      subst (λ (ns : List ℕ). AreFit (parts_of a (x.0, ns))) (sym maps)
+      (are_fit a.classes (are_numbered a.classes checked) a.tables x.0 a.alphabets built.compiled beside long few)
+  all_fit checked few (Err e) maps beside count = tt
+
+  pub all_aligned : (r : Answer) → IfOk r (λ x. x.1 ≡ places_from 0 a.classes) → IfOk r (λ x. length x.0 ≡ length (triggers_of a.classes))
+      → IfOk r (λ x. (length x.1 ≡ length a.classes) × (length a.alphabets ≡ length x.0))
+  all_aligned (Ok x) maps count =
+      let own = alphabets_are (triggers_of a.classes) a.tables a.alphabets built.compiled in
+      (ap length maps ∙ as_many_places 0 a.classes, ap length own ∙ length-map (triggers_of a.classes) (λ (t : TriggerDecl). alphabet t.event) ∙ sym count)
+  all_aligned (Err e) maps count = tt

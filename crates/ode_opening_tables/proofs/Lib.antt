@@ -1,0 +1,11 @@
+pub mod BuiltLaws
+pub mod StoredOnce
+pub mod Once
+pub mod Compared
+pub mod Placing
+pub mod Spelled
+pub mod Pieces
+pub mod Under
+pub mod Gathering
+pub mod Weighed
+pub mod Fitted
