@@ -72,6 +72,7 @@ pub fn declare<H: Host, K: Keep<H> + Drop>(
     checked_classes_have_few_parts();
     language_has_sound_rules();
     language_reads_well();
+    // Read, so that they are known as checked.
     let _known = rest.classes.as_slice();
     match compile(alloc, &rest.classes, decl) {
         Ok(made) => {

@@ -65,6 +65,7 @@ fn prepare<H: Host, K: Keep<H> + Drop>(
 {
     declared_classes_settle();
     programs_take_classes();
+    // Read, so that the classes are known as checked, and the length of the name.
     let _known = rest.classes.as_slice();
     let _name = made.class.name.as_bytes();
     let mut ctx = begin(alloc, rest, host, Origin::Script)?;

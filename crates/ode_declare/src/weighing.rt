@@ -87,6 +87,7 @@ pub(crate) fn bring_in<H: Host, K: Keep<H> + Drop>(
 {
     classes_weigh_their_records();
     declarations_settle();
+    // Read, so that its length is known.
     let _name = made.class.name.as_bytes();
     let weighed = weigh(alloc, &made, rest.bytes)?;
     let (changes, bytes) = weighed;

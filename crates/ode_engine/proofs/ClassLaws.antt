@@ -1,8 +1,7 @@
 -- A class is declared, or refused.
 use Rattle.std.proofs.Common.{◌≡◌, List, Result, Some, None, Ok, Err, Bool, ℕ, refl, subst, sym}
 use Rattle.std.specs.List.{AllByRecursion}
-use Rattle.ode_built_texts.proofs.Checked.{checked_none}
-use Rattle.ode_built_texts.proofs.Pieces.{piece_plain}
+use Rattle.ode_again_laws.proofs.Parameters.{few_parameters}
 use Rattle.ode_declare.specs.Declaring.{Declares}
 use Rattle.ode_declare.specs.Texts.{HasText}
 use Rattle.ode_engine.proofs.ServeLaws.{HoldsNow, LeavesOne, quiet_serves, stopped_serves, unsettled_serves}
@@ -38,16 +37,15 @@ use Rattle.ode_value.specs.Pasts.{lists}
 use Rattle.ode_value.specs.Settling.{Settled, transaction}
 use Rattle.ode_value.specs.Transactions.{Script}
 use Rattle.ode_value.specs.Worlds.{Declared}
-use Rattle.ode_value.specs.declared.member.TriggerDecl.{TriggerDecl}
 use Rattle.ode_value.specs.declared.reason.Refusal.{Refusal}
 use Rattle.ode_value.specs.declared.statement.ClassDecl.{ClassDecl}
 use Rattle.ode_value.specs.declared.statement.Statement.TheVariants as statement
 
--- a class that is read has no triggers, so none of too many parameters
+-- the triggers of a class that is read have few parameters
 pub few_kept : (w : ListWorld) (d : ClassDecl) → HasText ode (statement.Class d) → (c : Declared) → declared_in ode w.bones d ≡ Ok c → AllByRecursion HasFewParams c.class.triggers
 few_kept w d text c is =
     let class : IsClass ode w.bones.classes c = declared_is ode sound_rules reads_well text.0 d text.1 w.bones c is in
-    subst (λ (ts : List TriggerDecl). AllByRecursion HasFewParams ts) (sym (checked_none _ c.tree c.class (piece_plain _ (statement.Class c.tree) class.text) class.checked)) tt
+    few_parameters _ c.tree _ c.class class.text class.checked
 
 -- a host that nothing was done to
 pub same_looks : {H : Type 0} (seen : H → View) (old new : H) → new ≡ old → Looks (seen old) (seen new)

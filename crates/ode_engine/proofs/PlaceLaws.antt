@@ -28,16 +28,6 @@ misplaced_inside w t s why is = ap (λ (p : Answer (Unit {0})). by_parts p (fals
 pub misplaced_outside : (w : ListWorld) (s : Statement) (why : Refusal) → place_of s false ≡ Err why → answer_to ode (closed w) s ≡ Err why
 misplaced_outside w s why is = ap (λ (p : Answer (Unit {0})). by_parts p (true && not (is_lone s)) (nat_lt w.bones.transaction number_limit) (carried ode (closed w) s)) is
 
--- a lone `;`
-pub lone_is : (s : Statement) → is_lone s ≡ true → s ≡ statement.Empty
-lone_is statement.Empty is = refl
-lone_is statement.Begin is = absurd (cc (is))
-lone_is statement.Commit is = absurd (cc (is))
-lone_is statement.Abort is = absurd (cc (is))
-lone_is (statement.Class d) is = absurd (cc (is))
-lone_is (statement.Clock text) is = absurd (cc (is))
-lone_is (statement.Simple s) is = absurd (cc (is))
-
 pub no_lone : (lone : Bool) → not lone ≡ true → lone ≡ false
 no_lone false is = refl
 no_lone true is = absurd (cc (is))

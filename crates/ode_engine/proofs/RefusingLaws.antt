@@ -1,5 +1,5 @@
 -- How a statement is checked, literal by literal.
-use Rattle.std.proofs.Common.{◌≡◌, ◌∙◌, ◌+◌, ◌<◌, ◌==◌, ℕ, Bool, true, false, cond, List, [], ◌∷◌, ◌++◌, drop, get_or, length, map, Result, None, Ok, Err, ap, append-nil, append_assoc, refl, subst, sym}
+use Rattle.std.proofs.Common.{◌≡◌, ◌∙◌, ◌+◌, ◌<◌, ◌==◌, ℕ, Bool, false, cond, List, [], ◌∷◌, ◌++◌, drop, get_or, length, map, Result, None, Ok, Err, ap, append-nil, append_assoc, refl, subst, sym}
 use Rattle.std.proofs.lemmas.List.{drop_more}
 use Rattle.std.specs.Prelude.{IsErrOf}
 use Rattle.ode_engine.proofs.FaultLaws.{fault_disk, fault_silent}
@@ -38,9 +38,6 @@ use Rattle.ode_value.specs.declared.value.Ref.{Ref}
 -- but null
 pub object_is : (b : Bones) (r : Ref) → (r.object == 0) ≡ false → object_of b r ≡ object_at b r.object
 object_is b r is = ap (λ (test : Bool). cond test None (object_at b r.object)) is
-
-pub null_is : (b : Bones) (r : Ref) → (r.object == 0) ≡ true → object_of b r ≡ None
-null_is b r is = ap (λ (test : Bool). cond test None (object_at b r.object)) is
 
 -- ---- what a check leaves
 

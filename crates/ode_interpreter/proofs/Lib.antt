@@ -1,3 +1,4 @@
+mod Creates
 mod Levels
 mod Locals
 mod Rounds

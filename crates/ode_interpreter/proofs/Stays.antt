@@ -250,9 +250,6 @@ live_stays id = live_stays_by (numbers no_tables) id
 pub class_stays : (id on class : ℕ) (x y : NumberTx) → class_of on x ≡ Done class y → is_touched id x ≡ true → is_touched id y ≡ true
 class_stays id = class_stays_by (numbers no_tables) id
 
-pub listed_stays : (id on : ℕ) (kind : Kind) (listed : Bool) (x y : NumberTx) → is_listed on kind x ≡ Done listed y → is_touched id x ≡ true → is_touched id y ≡ true
-listed_stays id = listed_stays_by (numbers no_tables) id
-
 pub hard_stays : (id : ℕ) (r : Ref) (x y : NumberTx) → tests_hard r x ≡ Done tt y → is_touched id x ≡ true → is_touched id y ≡ true
 hard_stays id = hard_stays_by (numbers no_tables) id
 

@@ -1,4 +1,5 @@
 pub mod Calling
+pub mod Creating
 pub mod Seen
 pub mod Settled
 pub mod Touching

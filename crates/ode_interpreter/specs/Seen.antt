@@ -1,11 +1,13 @@
 -- What the code's values are seen as, and how a call ends as an act does.
-use Rattle.std.specs.Prelude.{◌≡◌, ℕ, List, Option, Some, None, Result, Ok, Err}
+use Rattle.std.specs.Prelude.{◌≡◌, ℕ, List, true, nat_le, Option, Some, None, Result, Ok, Err}
 use Rattle.ode_value.specs.declared.member.TriggerDecl.{TriggerDecl}
 use Rattle.ode_value.specs.declared.value.Value.{Value}
 use Rattle.ode_value.specs.Acts.{Outcome, Done, Aborted}
 use Rattle.ode_value.specs.Classes.{Trigger}
 use Rattle.ode_value.specs.Evaluation.{Frame}
 use Rattle.ode_value.specs.Executing.{Flow, Goes, Gives}
+use Rattle.ode_value.specs.Lengths.{values_length}
+use Rattle.ode_value.specs.Limits.{args_limit}
 use Rattle.ode_value.specs.Transactions.{Tx, Firing}
 use Rattle.ode_value.specs.Worlds.{Declared}
 use Rattle.ode_interpreter.specs.declared.firing.Firing as fired
@@ -33,6 +35,10 @@ trigger declared t = record { class = t.class; place = t.place; decl = declared 
 -- the firing of one
 abbrev pub firing : (ℕ → ℕ → TriggerDecl) → fired.Firing → Firing
 firing declared f = record { object = f.object; activation = f.activation; trigger = trigger declared f.trigger; args = f.args }
+
+-- its arguments aren't too long for a record
+abbrev pub IsShort : fired.Firing → Type 0
+IsShort f = nat_le (values_length f.args) args_limit ≡ true
 
 -- what follows a statement that ended with this frame, and perhaps with a value
 abbrev pub flow_of : Frame → Option Value → Flow

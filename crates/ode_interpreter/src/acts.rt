@@ -1,5 +1,5 @@
 //! What a transaction does to what it holds.
-ghost use Rattle.std.specs.Prelude.{◌≡◌, ℕ, List as Items, Option, map, cond, is_some, slice_get, IfErr, IfOk, IfSome, true};
+ghost use Rattle.std.specs.Prelude.{◌≡◌, ℕ, List as Items, Option, map, cond, is_some, slice_get, IfErr, IfOk, true};
 ghost use Rattle.std.specs.List.{All};
 ghost use Rattle.std.specs.Option.{option_map};
 ghost use Rattle.ode_value.specs.Acts.{counts, prints, reads, sees};
@@ -9,17 +9,18 @@ ghost use Rattle.ode_value.specs.Constraints.{tests_hard};
 ghost use Rattle.ode_value.specs.Denoting.{denotes};
 ghost use Rattle.ode_value.specs.Expressions.{evaluates, stands, text_in};
 ghost use Rattle.ode_value.specs.Firings.{arises, both_lists, whole_list};
-ghost use Rattle.ode_value.specs.Making.{derives, drops, makes, removes, sets_field};
+ghost use Rattle.ode_value.specs.Making.{derives, drops, removes, sets_field};
 ghost use Rattle.ode_value.specs.Pasts.{numbers};
 ghost use Rattle.ode_value.specs.Posting.{collects, defers, fired_text, is_listed, is_touched};
 ghost use Rattle.ode_value.specs.Settling.{says};
-ghost use Rattle.ode_value.specs.Statements.{activates_initial, switches_off_numbered, switches_on_named};
+ghost use Rattle.ode_value.specs.Statements.{switches_off_numbered, switches_on_named};
 ghost use Rattle.ode_value.specs.Texts.{said_line, value_line};
 ghost use Rattle.ode_value.specs.Worlds.{Declared};
-ghost use Rattle.ode_interpreter.specs.Seen.{Ends, EndsBy, IsFault, Leaves, NumberTx, firing, scene, trigger, with_classes};
+ghost use Rattle.ode_interpreter.specs.Seen.{Ends, EndsBy, IsFault, IsShort, Leaves, NumberTx, firing, scene, with_classes};
+ghost use Rattle.ode_interpreter.specs.Creating.{makes_active};
 ghost use Rattle.ode_interpreter.specs.Touching.{joins_first};
 
-use crate::firing::{Firing, Trigger};
+use crate::firing::Firing;
 use crate::scene::Scene;
 use crate::schema::Schema;
 use crate::stop::Stop;
@@ -73,7 +74,6 @@ pub trait Acts<S: Schema> {
 
     /// The line of a firing.
     fn tell(&mut self, schema: &S, f: &Firing) -> Result<(), Stop>
-        requires { S.has_trigger schema.now f.now.trigger.class f.now.trigger.place }
         ensures acts { (classes : Items Declared) (g : Known) → S.declares schema.now classes → knows self.old schema.now g → Ends result (with_classes classes (view self.new g)) (prints (fired_text (firing (S.trigger schema.now) f.now)) (with_classes classes (view self.old g))) }
         ensures kept { (g : Known) → knows self.old schema.now g → Leaves result (knows self.new schema.now g) (failed self.new g) }
         ensures faults { (b : Base) → usable self.old b → Leaves result (usable self.new b) (ended self.new b) };
@@ -133,7 +133,7 @@ pub trait Acts<S: Schema> {
         ensures acts { (classes : Items Declared) (g : Known) → S.declares schema.now classes → knows self.old schema.now g → is_touched id (view self.old g) ≡ true → EndsBy (map (firing (S.trigger schema.now))) result (with_classes classes (view self.new g)) (arises (numbers (S.tables schema.now)) (both_lists (numbers (S.tables schema.now))) id kind.now args.now (with_classes classes (view self.old g))) }
         ensures kept { (g : Known) → knows self.old schema.now g → Leaves result (knows self.new schema.now g) (failed self.new g) }
         ensures faults { (b : Base) → usable self.old b → Leaves result (usable self.new b) (ended self.new b) }
-        ensures declared { IfOk result (All (λ f. S.has_trigger schema.now f.trigger.class f.trigger.place)) };
+        ensures short { IfOk result (All IsShort) };
 
     /// The same in the list of all points alone.
     fn arise_whole(
@@ -146,25 +146,24 @@ pub trait Acts<S: Schema> {
         ensures acts { (classes : Items Declared) (g : Known) → S.declares schema.now classes → knows self.old schema.now g → is_touched id (view self.old g) ≡ true → EndsBy (map (firing (S.trigger schema.now))) result (with_classes classes (view self.new g)) (arises (numbers (S.tables schema.now)) (whole_list (numbers (S.tables schema.now))) id kind.now args.now (with_classes classes (view self.old g))) }
         ensures kept { (g : Known) → knows self.old schema.now g → Leaves result (knows self.new schema.now g) (failed self.new g) }
         ensures faults { (b : Base) → usable self.old b → Leaves result (usable self.new b) (ended self.new b) }
-        ensures declared { IfOk result (All (λ f. S.has_trigger schema.now f.trigger.class f.trigger.place)) };
+        ensures short { IfOk result (All IsShort) };
 
     /// A deferred firing.
     fn defer(&mut self, schema: &S, f: &Firing) -> Result<(), Stop>
-        requires { S.has_trigger schema.now f.now.trigger.class f.now.trigger.place }
         ensures acts { (classes : Items Declared) (g : Known) → S.declares schema.now classes → knows self.old schema.now g → Ends result (with_classes classes (view self.new g)) (defers (firing (S.trigger schema.now) f.now) (with_classes classes (view self.old g))) }
         ensures kept { (g : Known) → knows self.old schema.now g → Leaves result (knows self.new schema.now g) (failed self.new g) }
         ensures faults { (b : Base) → usable self.old b → Leaves result (usable self.new b) (ended self.new b) };
 
     /// A detached firing.
     fn collect(&mut self, schema: &S, independent: bool, f: &Firing) -> Result<(), Stop>
-        requires { S.has_trigger schema.now f.now.trigger.class f.now.trigger.place }
+        requires { IsShort f.now }
         ensures acts { (classes : Items Declared) (g : Known) → S.declares schema.now classes → knows self.old schema.now g → Ends result (with_classes classes (view self.new g)) (collects prints independent (firing (S.trigger schema.now) f.now) (with_classes classes (view self.old g))) }
         ensures kept { (g : Known) → knows self.old schema.now g → Leaves result (knows self.new schema.now g) (failed self.new g) }
         ensures faults { (b : Base) → usable self.old b → Leaves result (usable self.new b) (ended self.new b) };
 
     /// One at a point of the settling, where lines have no limit.
     fn collect_last(&mut self, schema: &S, f: &Firing) -> Result<(), Stop>
-        requires { S.has_trigger schema.now f.now.trigger.class f.now.trigger.place }
+        requires { IsShort f.now }
         ensures acts { (classes : Items Declared) (g : Known) → S.declares schema.now classes → knows self.old schema.now g → Ends result (with_classes classes (view self.new g)) (collects says true (firing (S.trigger schema.now) f.now) (with_classes classes (view self.old g))) }
         ensures kept { (g : Known) → knows self.old schema.now g → Leaves result (knows self.new schema.now g) (failed self.new g) }
         ensures faults { (b : Base) → usable self.old b → Leaves result (usable self.new b) (ended self.new b) };
@@ -199,16 +198,9 @@ pub trait Acts<S: Schema> {
         ensures kept { (g : Known) → knows self.old schema.now g → Leaves result (knows self.new schema.now g) (failed self.new g) }
         ensures faults { (b : Base) → usable self.old b → Leaves result (usable self.new b) (ended self.new b) };
 
-    /// A new object of the class of a number, with these fields. It has no activations yet.
+    /// A new object of the class of a number, with these fields and an activation of each initial trigger.
     fn make(&mut self, schema: &S, class: u32, fields: List<Value>) -> Result<u64, Stop>
-        ensures acts { (classes : Items Declared) (g : Known) → S.declares schema.now classes → knows self.old schema.now g → Ends result (with_classes classes (view self.new g)) (makes (numbers (S.tables schema.now)) class fields (with_classes classes (view self.old g))) }
-        ensures kept { (g : Known) → knows self.old schema.now g → Leaves result (knows self.new schema.now g) (failed self.new g) }
-        ensures faults { (b : Base) → usable self.old b → Leaves result (usable self.new b) (ended self.new b) };
-
-    /// A new object has an activation of an initial trigger.
-    fn activate_initial(&mut self, schema: &S, id: u64, t: Trigger) -> Result<(), Stop>
-        requires { S.has_trigger schema.now t.class t.place }
-        ensures acts { (classes : Items Declared) (g : Known) → S.declares schema.now classes → knows self.old schema.now g → Ends result (with_classes classes (view self.new g)) (activates_initial (numbers (S.tables schema.now)) id (trigger (S.trigger schema.now) t) (with_classes classes (view self.old g))) }
+        ensures acts { (classes : Items Declared) (g : Known) → S.declares schema.now classes → knows self.old schema.now g → Ends result (with_classes classes (view self.new g)) (makes_active (numbers (S.tables schema.now)) class fields (with_classes classes (view self.old g))) }
         ensures kept { (g : Known) → knows self.old schema.now g → Leaves result (knows self.new schema.now g) (failed self.new g) }
         ensures faults { (b : Base) → usable self.old b → Leaves result (usable self.new b) (ended self.new b) };
 
@@ -255,8 +247,7 @@ pub trait Acts<S: Schema> {
         ensures acts { (classes : Items Declared) (g : Known) → S.declares schema.now classes → knows self.old schema.now g → EndsBy (option_map (firing (S.trigger schema.now))) result (with_classes classes (view self.new g)) (reads (λ x. slice_get x.deferred at) (with_classes classes (view self.old g))) }
         ensures kept { (g : Known) → knows self.old schema.now g → Leaves result (knows self.new schema.now g) (failed self.new g) }
         ensures faults { (b : Base) → usable self.old b → Leaves result (usable self.new b) (ended self.new b) }
-        ensures fault { IfErr result IsFault }
-        ensures declared { IfOk result (λ found. IfSome found (λ f. S.has_trigger schema.now f.trigger.class f.trigger.place)) };
+        ensures fault { IfErr result IsFault };
 
     /// All touched objects.
     fn touched(&mut self, schema: &S) -> Result<List<u64>, Stop>

@@ -1,18 +1,16 @@
 //! New objects and activations.
 ghost use Rattle.std.specs.Prelude.{◌≡◌, List as Items, IfOk, map};
-ghost use Rattle.std.specs.List.{All, find};
+ghost use Rattle.std.specs.List.{find};
 ghost use Rattle.std.specs.Option.{option_copied};
 ghost use Rattle.std.specs.Str.{bytes_eq};
-ghost use Rattle.ode_value.specs.Acts.{each};
 ghost use Rattle.ode_value.specs.Expressions.{evaluates_sets};
 ghost use Rattle.ode_value.specs.Pasts.{numbers};
-ghost use Rattle.ode_value.specs.Statements.{activates_initial, first_value, makes_named};
+ghost use Rattle.ode_value.specs.Statements.{first_value, makes_named};
 ghost use Rattle.ode_value.specs.Worlds.{Declared};
-ghost use Rattle.ode_interpreter.specs.Seen.{Ends, Leaves, scene, trigger, with_classes};
+ghost use Rattle.ode_interpreter.specs.Seen.{Ends, Leaves, scene, with_classes};
 
 use crate::acts::Acts;
 use crate::expressions::default_value;
-use crate::firing::Trigger;
 use crate::scene::Scene;
 use crate::schema::Schema;
 use crate::stop::Stop;
@@ -72,26 +70,8 @@ fn first_values(
     Ok(values)
 }
 
-// The initial triggers of a new object, in order.
-fn activate_all<S: Schema, T: Acts<S>>(
-    schema: &S,
-    tx: &mut T,
-    id: u64,
-    triggers: &[Trigger],
-) -> Result<(), Stop>
-    requires { All (λ t. S.has_trigger schema.now t.class t.place) triggers.now }
-    ensures acts { (classes : Items Declared) (g : T.Known) → S.declares schema.now classes → T.knows tx.old schema.now g → Ends result (with_classes classes (T.view tx.new g)) (each (activates_initial (numbers (S.tables schema.now)) id) (map (trigger (S.trigger schema.now)) triggers.now) (with_classes classes (T.view tx.old g))) }
-    ensures kept { (g : T.Known) → T.knows tx.old schema.now g → Leaves result (T.knows tx.new schema.now g) (T.failed tx.new g) }
-    ensures faults { (b : T.Base) → T.usable tx.old b → Leaves result (T.usable tx.new b) (T.ended tx.new b) }
-{
-    for t in triggers {
-        tx.activate_initial(schema, id, *t)?;
-    }
-    Ok(())
-}
-
 /// A new object of a class by its name, some of its fields set, with its initial activations.
-#[tactic(auto, unfolding(ode_value::specs::Statements::makes_named))]
+#[tactic(auto, using(crate::proofs::Creates::named_is))]
 pub(crate) fn make_named<S: Schema, T: Acts<S>>(
     alloc: Global,
     schema: &S,
@@ -109,8 +89,5 @@ pub(crate) fn make_named<S: Schema, T: Acts<S>>(
         return Err(Stop::Abort(Reason::NoObject(0)));
     };
     let fields = first_values(alloc, given.as_slice(), class.fields.as_slice())?;
-    let id = tx.make(schema, class.number, fields)?;
-    let triggers = schema.initial(alloc, class.number)?;
-    activate_all(schema, tx, id, triggers.as_slice())?;
-    Ok(id)
+    tx.make(schema, class.number, fields)
 }

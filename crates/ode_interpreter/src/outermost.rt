@@ -97,7 +97,6 @@ pub fn fire_now<S: Schema, T: Acts<S>>(
     tx: &mut T,
     f: &Firing,
 ) -> Result<(), Stop>
-    requires { S.has_trigger schema.now f.now.trigger.class f.now.trigger.place }
     ensures acts { (classes : Items Declared) (g : T.Known) → S.declares schema.now classes → T.knows tx.old schema.now g → Ends result (with_classes classes (T.view tx.new g)) (runs (first_actions (numbers (S.tables schema.now))) (firing (S.trigger schema.now) f.now) (with_classes classes (T.view tx.old g))) }
     ensures kept { (g : T.Known) → T.knows tx.old schema.now g → Leaves result (T.knows tx.new schema.now g) (T.failed tx.new g) }
     ensures faults { (b : T.Base) → T.usable tx.old b → Leaves result (T.usable tx.new b) (T.ended tx.new b) }

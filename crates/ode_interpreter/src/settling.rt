@@ -7,7 +7,7 @@ ghost use Rattle.ode_value.specs.Pasts.{numbers};
 ghost use Rattle.ode_value.specs.Posting.{collects, is_touched};
 ghost use Rattle.ode_value.specs.Settling.{posted, posts_last, says};
 ghost use Rattle.ode_value.specs.Worlds.{Declared};
-ghost use Rattle.ode_interpreter.specs.Seen.{Ends, EndsBy, IsFault, Leaves, firing, with_classes};
+ghost use Rattle.ode_interpreter.specs.Seen.{Ends, EndsBy, IsFault, IsShort, Leaves, firing, with_classes};
 ghost use Rattle.ode_interpreter.specs.Settled.{last_place};
 
 use crate::acts::Acts;
@@ -22,7 +22,7 @@ fn collect_all<S: Schema, T: Acts<S>>(
     tx: &mut T,
     firings: &[Firing],
 ) -> Result<(), Stop>
-    requires { All (λ f. S.has_trigger schema.now f.trigger.class f.trigger.place) firings.now }
+    requires { All IsShort firings.now }
     ensures acts { (classes : Items Declared) (g : T.Known) → S.declares schema.now classes → T.knows tx.old schema.now g → Ends result (with_classes classes (T.view tx.new g)) (each (collects says true) (map (firing (S.trigger schema.now)) firings.now) (with_classes classes (T.view tx.old g))) }
     ensures kept { (g : T.Known) → T.knows tx.old schema.now g → Leaves result (T.knows tx.new schema.now g) (T.failed tx.new g) }
     ensures faults { (b : T.Base) → T.usable tx.old b → Leaves result (T.usable tx.new b) (T.ended tx.new b) }
@@ -44,7 +44,7 @@ fn arise_last<S: Schema, T: Acts<S>>(
     ensures acts { (classes : Items Declared) (g : T.Known) → S.declares schema.now classes → T.knows tx.old schema.now g → is_touched id (T.view tx.old g) ≡ true → EndsBy (map (firing (S.trigger schema.now))) result (with_classes classes (T.view tx.new g)) (arises (numbers (S.tables schema.now)) (last_place (numbers (S.tables schema.now)) kept) id kind.now [] (with_classes classes (T.view tx.old g))) }
     ensures kept { (g : T.Known) → T.knows tx.old schema.now g → Leaves result (T.knows tx.new schema.now g) (T.failed tx.new g) }
     ensures faults { (b : T.Base) → T.usable tx.old b → Leaves result (T.usable tx.new b) (T.ended tx.new b) }
-    ensures declared { IfOk result (All (λ f. S.has_trigger schema.now f.trigger.class f.trigger.place)) }
+    ensures short { IfOk result (All IsShort) }
 {
     if kept {
         tx.arise(schema, id, kind, &[])

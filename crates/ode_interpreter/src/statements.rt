@@ -8,7 +8,7 @@ ghost use Rattle.ode_value.specs.Posting.{enters, is_touched, posts, runs, touch
 ghost use Rattle.ode_value.specs.Statements.{activates, calls_behind, calls_deeper, calls_inside, copies, creates, deactivates, deletes, drops_version};
 ghost use Rattle.ode_value.specs.Worlds.{Declared};
 ghost use Rattle.ode_interpreter.specs.Calling.{binds, runs_method, shows};
-ghost use Rattle.ode_interpreter.specs.Seen.{Ends, EndsBy, Leaves, firing, flow_of, scene, with_classes};
+ghost use Rattle.ode_interpreter.specs.Seen.{Ends, EndsBy, IsShort, Leaves, firing, flow_of, scene, with_classes};
 
 use crate::acts::Acts;
 use crate::creating::make_named;
@@ -530,7 +530,7 @@ pub(crate) fn fire_all<S: Schema, T: Acts<S>>(
     levels: u8,
     firings: &[Firing],
 ) -> Result<(), Stop>
-    requires { All (λ f. S.has_trigger schema.now f.trigger.class f.trigger.place) firings.now }
+    requires { All IsShort firings.now }
     ensures acts { (classes : Items Declared) (g : T.Known) → S.declares schema.now classes → T.knows tx.old schema.now g → Ends result (with_classes classes (T.view tx.new g)) (each (treats (actions_of (deeper (numbers (S.tables schema.now)) levels))) (map (firing (S.trigger schema.now)) firings.now) (with_classes classes (T.view tx.old g))) }
     ensures kept { (g : T.Known) → T.knows tx.old schema.now g → Leaves result (T.knows tx.new schema.now g) (T.failed tx.new g) }
     ensures faults { (b : T.Base) → T.usable tx.old b → Leaves result (T.usable tx.new b) (T.ended tx.new b) }
@@ -551,12 +551,12 @@ pub(crate) fn fire<S: Schema, T: Acts<S>>(
     levels: u8,
     f: &Firing,
 ) -> Result<(), Stop>
-    requires { S.has_trigger schema.now f.now.trigger.class f.now.trigger.place }
+    requires { IsShort f.now }
     ensures acts { (classes : Items Declared) (g : T.Known) → S.declares schema.now classes → T.knows tx.old schema.now g → Ends result (with_classes classes (T.view tx.new g)) (treats (actions_of (deeper (numbers (S.tables schema.now)) levels)) (firing (S.trigger schema.now) f.now) (with_classes classes (T.view tx.old g))) }
     ensures kept { (g : T.Known) → T.knows tx.old schema.now g → Leaves result (T.knows tx.new schema.now g) (T.failed tx.new g) }
     ensures faults { (b : T.Base) → T.usable tx.old b → Leaves result (T.usable tx.new b) (T.ended tx.new b) }
 {
-    match schema.trigger(f.trigger).mode {
+    match schema.mode(f.trigger) {
         Mode::Immediate => act(alloc, schema, tx, levels, f),
         Mode::Deferred => tx.defer(schema, f),
         Mode::Dependent => tx.collect(schema, false, f),
@@ -574,7 +574,6 @@ pub(crate) fn act<S: Schema, T: Acts<S>>(
     levels: u8,
     f: &Firing,
 ) -> Result<(), Stop>
-    requires { S.has_trigger schema.now f.now.trigger.class f.now.trigger.place }
     ensures acts { (classes : Items Declared) (g : T.Known) → S.declares schema.now classes → T.knows tx.old schema.now g → Ends result (with_classes classes (T.view tx.new g)) (runs (actions_of (deeper (numbers (S.tables schema.now)) levels)) (firing (S.trigger schema.now) f.now) (with_classes classes (T.view tx.old g))) }
     ensures kept { (g : T.Known) → T.knows tx.old schema.now g → Leaves result (T.knows tx.new schema.now g) (T.failed tx.new g) }
     ensures faults { (b : T.Base) → T.usable tx.old b → Leaves result (T.usable tx.new b) (T.ended tx.new b) }
@@ -588,8 +587,7 @@ pub(crate) fn act<S: Schema, T: Acts<S>>(
         },
         locals: f.args.copy(alloc)?,
     };
-    let trigger = schema.trigger(f.trigger);
-    enter(alloc, schema, tx, levels, on, trigger.action.as_slice())?;
+    enter(alloc, schema, tx, levels, on, schema.action(f.trigger))?;
     Ok(())
 }
 

@@ -2,15 +2,14 @@
 use Rattle.std.proofs.Common.{◌≡◌, ◌≤◌, ◌++◌, ℕ, List, [], ◌∷◌, true, Option, Some, None, length, refl, arith, length-append}
 use Rattle.std.proofs.lemmas.Bool.Decides.{nat_tests}
 use Rattle.std.proofs.lemmas.List.Sums.{sum_by-cons}
-use Rattle.std.specs.Prelude.{◌&&◌, nat_le, nat_lt, OnOk, Result, Ok, Err}
+use Rattle.std.specs.Prelude.{OnOk, Result, Ok, Err}
 use Rattle.std.specs.List.{flat_map}
 use Rattle.ode_codec.specs.Spelling.{u16, u32, value_of, values}
 use Rattle.ode_codec.specs.declared.record.Activation.{Activation}
 use Rattle.ode_codec.specs.declared.record.Counters.{Counters}
 use Rattle.ode_codec.specs.declared.record.Entry.{Entry}
 use Rattle.ode_codec.specs.declared.record.Record.TheVariants as of
-use Rattle.ode_objects.proofs.Kept.{second_of}
-use Rattle.ode_objects.specs.Values.{are_args, are_fields, are_kept}
+use Rattle.ode_objects.specs.Values.{are_args, are_fields}
 use Rattle.ode_value.specs.Lengths.{value_length, values_length, version_size}
 use Rattle.ode_value.specs.Limits.{args_limit, value_limit}
 use Rattle.ode_value.specs.Records.{byte, spelled_value}
@@ -28,14 +27,11 @@ use Rattle.ode_value.specs.declared.key.Key.{Key}
 
 fields_fit : (vs : List Value) → are_fields vs ≡ true → values_length vs ≤ 3962
 unfolding are_fields value_limit
-fields_fit vs kept = let short : nat_le (version_size vs) 3968 ≡ true = second_of (are_kept vs) (nat_le (version_size vs) 3968) kept in grind (arith, nat_tests)
+fields_fit vs short = let le : version_size vs ≤ 3968 = grind (arith, nat_tests) in omega (arith, le)
 
 args_fit : (vs : List Value) → are_args vs ≡ true → values_length vs ≤ 768
 unfolding are_args args_limit
-args_fit vs kept =
-    let rest = second_of (nat_lt (length vs) 256) (are_kept vs && nat_le (values_length vs) 768) kept in
-    let short : nat_le (values_length vs) 768 ≡ true = second_of (are_kept vs) (nat_le (values_length vs) 768) rest in
-    grind (arith, nat_tests)
+args_fit vs short = grind (arith, nat_tests)
 
 length-value : (v : Value) → length (spelled_value v) ≡ value_length v
 length-value (value.Int n) = refl

@@ -6,7 +6,7 @@ use Rattle.std.specs.Map.{values_of}
 use Rattle.std.specs.Option.{IfSome, unwrap_or}
 use Rattle.ode_codec.specs.declared.record.Activation.{Activation}
 use Rattle.ode_codec.specs.declared.record.Record.TheVariants as of
-use Rattle.ode_codec.specs.Rules.{IsKept}
+use Rattle.ode_codec.specs.Rules.{IsCounted}
 use Rattle.ode_codec.specs.Spelling.{value_of}
 use Rattle.ode_keep.specs.Entries.{Changes}
 use Rattle.ode_objects.specs.Objects.{has_number, is_numbered}
@@ -23,9 +23,9 @@ use Rattle.ode_value.specs.declared.key.Key.{Key}
 
 -- ---- what becomes of the record under a key
 
--- a record that is put keeps what a spelling asks, and its value isn't too long
+-- a record that is put has a spelling, and its value isn't too long
 abbrev pub IsKeptChange : Becomes → Type 0
-IsKeptChange (Is r) = IsKept r × (length (value_of r) ≤ value_limit)
+IsKeptChange (Is r) = IsCounted r × (length (value_of r) ≤ value_limit)
 IsKeptChange Goes = Unit {0}
 IsKeptChange Stays = Unit {0}
 

@@ -17,4 +17,4 @@ pub use loading::{class_of, load, load_actives, load_fields};
 pub use object::{Active, Fields, Object, Version};
 pub use records::{Becomes, put_becomes};
 pub use tracked::{First, Tracked};
-pub use values::{KeptArgs, KeptFields, are_kept, is_kept};
+pub use values::{KeptArgs, KeptFields};

@@ -18,7 +18,7 @@ pub enum Becomes {
     Stays,
 }
 
-#[tactic(auto, using(crate::proofs::ShortValues::short_object), unfolding(ode_codec::specs::Rules::IsKept))]
+#[tactic(auto, using(crate::proofs::ShortValues::short_object), unfolding(ode_codec::specs::Rules::IsCounted))]
 fn object_record(id: u64, object: &Object) -> Becomes
     ensures value { result ≡ object_record id object.now }
     ensures kept { IsKeptChange result }
@@ -30,7 +30,7 @@ fn object_record(id: u64, object: &Object) -> Becomes
     })
 }
 
-#[tactic(auto, using(crate::proofs::Kept::fields_kept, crate::proofs::ShortValues::short_version), unfolding(ode_codec::specs::Rules::IsKept))]
+#[tactic(auto, using(crate::proofs::Kept::fields_counted, crate::proofs::ShortValues::short_version), unfolding(ode_codec::specs::Rules::IsCounted))]
 fn version_record(alloc: Global, id: u64, version: &Version) -> Result<Becomes, AllocError>
     ensures value { IfOk result (λ b. b ≡ fields_record id version.now version.now.fields) }
     ensures kept { IfOk result IsKeptChange }
@@ -46,7 +46,7 @@ fn version_record(alloc: Global, id: u64, version: &Version) -> Result<Becomes, 
     }
 }
 
-#[tactic(auto, using(crate::proofs::Kept::args_kept, crate::proofs::ShortValues::short_activation), unfolding(ode_codec::specs::Rules::IsKept))]
+#[tactic(auto, using(crate::proofs::ShortValues::short_activation), unfolding(ode_codec::specs::Rules::IsCounted))]
 fn active_record(alloc: Global, id: u64, active: &Active) -> Result<Becomes, AllocError>
     ensures value { IfOk result (λ b. b ≡ active_record id (Some active.now)) }
     ensures kept { IfOk result IsKeptChange }

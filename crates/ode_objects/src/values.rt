@@ -1,6 +1,6 @@
-//! Values that a record can hold.
+//! Values that a record has room for.
 ghost use Rattle.std.specs.Prelude.{◌≡◌, cond, true, Some, None, IfOk};
-ghost use Rattle.ode_objects.specs.Values.{are_args, are_fields, are_kept, is_kept};
+ghost use Rattle.ode_objects.specs.Values.{are_args, are_fields};
 
 use crate::lengths::{VERSION_HEAD, fit};
 use ode_value::limits::{ARGS_LIMIT, VALUE_LIMIT};
@@ -8,44 +8,21 @@ use ode_value::{List, Value};
 use std::alloc::{AllocError, Global};
 use std::marker::Model;
 
-/// Whether a record can hold a value: it names no version 0, and none of null.
-pub fn is_kept(value: &Value) -> bool
-    ensures { result ≡ is_kept value.now }
-{
-    match value {
-        Value::Reference(reference) => match reference.version {
-            Some(version) => 0 < reference.object && 0 < version,
-            None => true,
-        },
-        _ => true,
-    }
-}
-
-/// Whether a record can hold each value.
-pub fn are_kept(values: &[Value]) -> bool
-    ensures { result ≡ are_kept values.now }
-{
-    match values {
-        [] => true,
-        [value, values @ ..] => is_kept(value) && are_kept(values),
-    }
-}
-
 #[tactic(auto, unfolding(crate::specs::Values::are_fields, ode_value::specs::Limits::value_limit))]
 fn are_fields(values: &[Value]) -> bool
     ensures { result ≡ are_fields values.now }
 {
-    are_kept(values) && fit(values, VALUE_LIMIT - VERSION_HEAD)
+    fit(values, VALUE_LIMIT - VERSION_HEAD)
 }
 
 #[tactic(auto, unfolding(crate::specs::Values::are_args, ode_value::specs::Limits::args_limit))]
 fn are_args(values: &[Value]) -> bool
     ensures { result ≡ are_args values.now }
 {
-    values.len() < 256 && are_kept(values) && fit(values, ARGS_LIMIT)
+    fit(values, ARGS_LIMIT)
 }
 
-/// Fields of a version that a record can hold.
+/// Fields of a version that a record has room for.
 #[derive(Drop)]
 pub struct KeptFields {
     values: List<Value>,
@@ -69,7 +46,7 @@ impl Model for KeptFields {
 }
 
 impl KeptFields {
-    /// These fields, where a record can hold them.
+    /// These fields, where a record has room for them.
     pub fn new(values: List<Value>) -> Option<KeptFields>
         ensures { result ≡ cond (are_fields values) (Some values) None }
     {
@@ -98,7 +75,7 @@ impl KeptFields {
     }
 }
 
-/// Arguments of an activation or of an entry that a record can hold.
+/// Arguments of an activation or of an entry that a record has room for.
 #[derive(Drop)]
 pub struct KeptArgs {
     values: List<Value>,
@@ -122,7 +99,7 @@ impl Model for KeptArgs {
 }
 
 impl KeptArgs {
-    /// These arguments, where a record can hold them.
+    /// These arguments, where a record has room for them.
     pub fn new(values: List<Value>) -> Option<KeptArgs>
         ensures { result ≡ cond (are_args values) (Some values) None }
     {

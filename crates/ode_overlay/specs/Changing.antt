@@ -14,7 +14,7 @@ use Rattle.ode_objects.specs.Tracked.{changed_to, made_object, read_object}
 use Rattle.ode_objects.specs.Values.{are_args, are_fields}
 use Rattle.ode_overlay.specs.Reading.{not_null, or_else}
 use Rattle.ode_overlay.specs.declared.error.OverlayError.{OverlayError}
-use Rattle.ode_overlay.specs.declared.error.OverlayError.TheVariants.{Damaged, LastVersion, NoNumber, NoObject, NoVersion, TooLong}
+use Rattle.ode_overlay.specs.declared.error.OverlayError.TheVariants.{LastVersion, NoNumber, NoObject, NoVersion, TooLong}
 use Rattle.ode_objects.specs.declared.object.Object.{Object}
 use Rattle.ode_objects.specs.declared.tracked.Tracked.{Tracked}
 use Rattle.ode_objects.specs.declared.object.Version.{Version}
@@ -80,23 +80,18 @@ put_new id (Some t) objects = insert_entry nat_cmp objects id t
 abbrev pub denoted_in : Ref → Object → Answer Version
 denoted_in r o = or_else (NoVersion r) (version_of r.version o.versions)
 
--- the fields of a version with a value in a slot
-abbrev pub with_value : Key → ℕ → Value → List Value → Answer (List Value)
-with_value k slot value fields = needs (Damaged k) (nat_lt slot (length fields)) >>= λ _. Ok (slice_set fields slot value)
-
--- where a record can hold them
-unfoldable pub fields_with : Ref → ℕ → Value → Version → Answer (List Value)
-fields_with r slot value v = do
-  fields ← with_value (version_key r.object v.number) slot value (values_of v.fields)
-  _ ← needs TooLong (are_fields fields)
-  Ok fields
+-- the fields of a version with a value in a slot, if it has the slot, where a record can hold them
+unfoldable pub fields_with : ℕ → Value → Version → Answer (List Value)
+fields_with slot value v =
+    let fields = slice_set (values_of v.fields) slot value in
+    needs TooLong (are_fields fields) >>= λ _. Ok fields
 
 -- a field of the version that a reference denotes is set
 unfoldable pub write_with : Option Tracked → Ref → ℕ → Value → Layer → Answer (Unit {0} × Layer)
 write_with new r slot value x = do
   o ← live new r.object x
   v ← denoted_in r o
-  fields ← fields_with r slot value v
+  fields ← fields_with slot value v
   keys ← holding (version_key r.object v.number ∷ []) x
   Ok (tt, with_now r.object new (written v.number fields o) keys x)
 

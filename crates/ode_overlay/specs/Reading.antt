@@ -1,5 +1,5 @@
 -- What is seen of objects through the overlay.
-use Rattle.std.specs.Prelude.{ℕ, zero, suc, ◌+◌, ◌^◌, List, [], ◌∷◌, ◌++◌, Bool, true, false, cond, nat_le, nat_lt, ◌==◌, ◌&&◌, Option, Some, None, Ok, Err}
+use Rattle.std.specs.Prelude.{◌≡◌, ℕ, zero, suc, ◌+◌, ◌^◌, List, [], ◌∷◌, ◌++◌, Bool, true, false, cond, nat_le, nat_lt, ◌==◌, ◌&&◌, Option, Some, None, Result, Ok, Err}
 use Rattle.std.specs.List.{slice_get}
 use Rattle.ode_heap.specs.Objects.{object_in}
 use Rattle.ode_heap.specs.declared.object.ObjectHead.{ObjectHead}
@@ -15,9 +15,10 @@ use Rattle.ode_objects.specs.declared.object.Object.{Object}
 use Rattle.ode_objects.specs.declared.tracked.Tracked.{Tracked}
 use Rattle.ode_objects.specs.declared.object.Version.{Version}
 use Rattle.ode_types.specs.declared.running.Running.{Running}
-use Rattle.ode_value.specs.Keys.{activation_key, object_key, version_key}
+use Rattle.ode_value.specs.Keys.{activation_key, object_key}
 use Rattle.ode_value.specs.declared.class.Class.{Class}
-use Rattle.ode_value.specs.declared.key.Key.{Key}
+use Rattle.ode_value.specs.declared.arithmetic.Fault.{Fault}
+use Rattle.ode_value.specs.declared.arithmetic.Fault.TheVariants as fault
 use Rattle.ode_value.specs.declared.value.Ref.{Ref}
 use Rattle.ode_value.specs.declared.value.Value.{Value}
 use Rattle.ode_versions.specs.Versions.{found}
@@ -63,21 +64,22 @@ object base id x = head_at base id (tracked_at id x) >>= shown id
 
 -- ---- fields
 
-abbrev pub field_of : Key → ℕ → List Value → Answer Value
-field_of k slot fields = or_else (Damaged k) (slice_get fields slot)
+-- a field; where there is no such slot, it is read as null is
+abbrev pub field_of : ℕ → List Value → Answer Value
+field_of slot fields = or_else (NoObject 0) (slice_get fields slot)
 
 abbrev pub if_live : Object → Option Object
 if_live o = cond o.live (Some o) None
 
 -- of an object that is tracked
-abbrev pub field_in : Ref → ℕ → Version → Answer Value
-field_in r slot v = field_of (version_key r.object v.number) slot (values_of v.fields)
+abbrev pub field_in : ℕ → Version → Answer Value
+field_in slot v = field_of slot (values_of v.fields)
 
 unfoldable pub read_now : Ref → ℕ → Object → Answer Value
 read_now r slot o = do
   o ← or_else (NoObject r.object) (if_live o)
   v ← or_else (NoVersion r) (version_of r.version o.versions)
-  field_in r slot v
+  field_in slot v
 
 -- of one that isn't
 unfoldable pub read_below : List Class → Entries → Ref → ℕ → Answer Value
@@ -88,7 +90,7 @@ read_below classes base r slot = do
   number ← or_else (NoVersion r) (found r.version head.versions)
   class ← from_records (class_in classes r.object head.class)
   fields ← from_records (fields_in base r.object number class)
-  field_of (version_key r.object number) slot fields
+  field_of slot fields
 
 abbrev pub read_at : List Class → Entries → Ref → ℕ → Option Tracked → Answer Value
 read_at classes base r slot (Some t) = read_now r slot t.current
@@ -97,6 +99,13 @@ read_at classes base r slot None = read_below classes base r slot
 -- null has no object
 abbrev pub not_null : Ref → Answer (Unit {0})
 not_null r = cond (r.object == 0) (Err (NoObject 0)) (Ok tt)
+
+-- a value that is read is that of an expression, and where it is refused, the expression has the same fault; no record is damaged
+abbrev pub ReadsAs : {V : Type 0} → Answer V → Result V Fault → Type 0
+ReadsAs (Ok v) meant = meant ≡ Ok v
+ReadsAs (Err (NoObject id)) meant = meant ≡ Err (fault.NoObject id)
+ReadsAs (Err (NoVersion r)) meant = meant ≡ Err (fault.NoVersion r)
+ReadsAs (Err why) meant = ⊥
 
 -- a field of the version that a reference denotes
 unfoldable pub read : List Class → Entries → Ref → ℕ → Layer → Answer Value

@@ -1,11 +1,11 @@
 //! Versions are written, made and removed; objects are touched, made and removed.
-ghost use Rattle.std.specs.Prelude.{◌≡◌, ◌<◌, ◌^◌, true, IfOk, IsErrOf, IsTrue, OnErr};
+ghost use Rattle.std.specs.Prelude.{◌≡◌, ◌<◌, ◌^◌, true, IfOk, IsErrOf, IsTrue, OnErr, slice_set};
 ghost use Rattle.ode_host.specs.Causes.{RoseIf};
 ghost use Rattle.ode_host.specs.Host.{Looks};
 ghost use Rattle.ode_keep.specs.Entries.{Entries};
 ghost use Rattle.ode_overlay.specs.Answers.{Answers, Gives, Leaves, UnlessFault, from_records, is_usable};
 ghost use Rattle.ode_value.specs.Limits.{number_limit};
-ghost use Rattle.ode_overlay.specs.Changing.{create, denoted_in, derive, derive_with, drop_version, drop_with, fields_with, fresh, next_number, remove, remove_with, touch, touch_with, with_value, write, write_with};
+ghost use Rattle.ode_overlay.specs.Changing.{create, denoted_in, derive, derive_with, drop_version, drop_with, fields_with, fresh, next_number, remove, remove_with, touch, touch_with, write, write_with};
 
 use crate::error::OverlayError;
 use crate::overlay::{Overlay, put_new, put_now};
@@ -19,27 +19,24 @@ use ode_objects::{
 };
 use ode_types::Classes;
 use ode_value::limits::{NUMBER_LIMIT, VERSION_LIMIT};
-use ode_value::{Key, List, Ref, Value};
-use std::alloc::Global;
+use ode_value::{List, Ref, Value};
+use std::alloc::{AllocError, Global};
 
-// A copy of fields with a value in a slot.
+// A copy of fields with a value in a slot, if there is one.
+#[tactic(auto, using(crate::proofs::Slots::set_past))]
 fn with_value(
     alloc: Global,
-    key: Key,
     slot: u16,
     value: Value,
     fields: &List<Value>,
-) -> Result<List<Value>, OverlayError>
-    ensures value { Answers result (with_value key slot value fields.now) }
-    ensures usable { is_usable result ≡ true }
-    ensures calm { IsErrOf result OverlayError.DiskFault → ⊥ }
+) -> Result<List<Value>, AllocError>
+    ensures { IfOk result (λ set. set ≡ slice_set fields.now slot value) }
 {
     let slot = usize::from(slot);
-    if fields.len() <= slot {
-        return Err(OverlayError::Damaged { key });
-    }
     let mut fields = fields.copy(alloc)?;
-    fields.set(slot, value);
+    if slot < fields.len() {
+        fields.set(slot, value);
+    }
     Ok(fields)
 }
 
@@ -59,17 +56,15 @@ fn denoted(of: Ref, object: &Object) -> Result<&Version, OverlayError>
 #[tactic(auto, unfolding(crate::specs::Changing::fields_with))]
 fn fields_with(
     alloc: Global,
-    of: Ref,
     slot: u16,
     value: Value,
     version: &Version,
 ) -> Result<KeptFields, OverlayError>
-    ensures value { Answers result (fields_with of slot value version.now) }
+    ensures value { Answers result (fields_with slot value version.now) }
     ensures usable { is_usable result ≡ true }
     ensures calm { IsErrOf result OverlayError.DiskFault → ⊥ }
 {
-    let key = version_key(of.object, u64::from(version.number));
-    let fields = with_value(alloc, key, slot, value, version.fields.values())?;
+    let fields = with_value(alloc, slot, value, version.fields.values())?;
     match KeptFields::new(fields) {
         Some(fields) => Ok(fields),
         None => Err(OverlayError::TooLong),
@@ -119,14 +114,14 @@ impl Overlay {
         let object = self.live(&new, of.object)?;
         let version = denoted(of, object)?;
         let number = version.number;
-        let fields = fields_with(self.alloc, of, slot, value, version)?;
+        let fields = fields_with(self.alloc, slot, value, version)?;
         let keys = self.holding(&[version_key(of.object, u64::from(number))])?;
         let now = object.copy(self.alloc)?.written(number, fields);
         self.put(of.object, new, now, keys)?;
         Ok(())
     }
 
-    /// Sets a field of the version that a reference denotes. Where there is no such slot, `Damaged` names the version's key.
+    /// Sets a field of the version that a reference denotes. Where there is no such slot, its fields stay as they are.
     #[tactic(auto, unfolding(crate::specs::Changing::write))]
     pub fn write<H: Host, K: Keep<H>>(
         &mut self,

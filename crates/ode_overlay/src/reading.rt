@@ -1,10 +1,11 @@
 //! What is seen of objects through the overlay.
-ghost use Rattle.std.specs.Prelude.{◌≡◌, [], true, IfOk, IsErrOf, IsTrue};
+ghost use Rattle.std.specs.Prelude.{◌≡◌, [], true, All, IfOk, IsErrOf, IsTrue};
 ghost use Rattle.std.specs.Option.{IfSome};
 ghost use Rattle.ode_host.specs.Causes.{RoseIf};
 ghost use Rattle.ode_host.specs.Host.{Looks};
 ghost use Rattle.ode_keep.specs.Entries.{Entries};
 ghost use Rattle.ode_overlay.specs.Answers.{Answers, UnlessFault, from_records, is_usable};
+ghost use Rattle.ode_objects.specs.Values.{are_args};
 ghost use Rattle.ode_overlay.specs.Reading.{acts, field_in, field_of, head_now, is_rising, map_of, not_null, object, place_from, read, read_below, read_now, rise_above, running_from, running_of, shown, shown_below, sound};
 ghost use Rattle.ode_versions.specs.Versions.{IsVersionList};
 
@@ -15,10 +16,9 @@ use ode_host::Host;
 use ode_keep::Keep;
 use ode_objects::{
     Active, Object, Version, activation_key, class_of, load_actives, load_fields, object_key,
-    version_key,
 };
 use ode_types::{Classes, Running};
-use ode_value::{Copied, Key, List, Ref, Value};
+use ode_value::{Copied, List, Ref, Value};
 use ode_versions::{Version as Listed, VersionList};
 use std::alloc::Global;
 
@@ -78,8 +78,8 @@ pub(crate) fn not_null(of: Ref) -> Result<(), OverlayError>
 }
 
 // The value in a slot, taken out.
-fn take_field(key: Key, slot: u16, fields: List<Value>) -> Result<Value, OverlayError>
-    ensures value { Answers result (field_of key slot fields) }
+fn take_field(slot: u16, fields: List<Value>) -> Result<Value, OverlayError>
+    ensures value { Answers result (field_of slot fields) }
     ensures usable { is_usable result ≡ true }
     ensures calm { IsErrOf result OverlayError.DiskFault → ⊥ }
 {
@@ -88,21 +88,19 @@ fn take_field(key: Key, slot: u16, fields: List<Value>) -> Result<Value, Overlay
     if slot < fields.len() {
         Ok(fields.remove(slot))
     } else {
-        Err(OverlayError::Damaged { key })
+        Err(OverlayError::NoObject(0))
     }
 }
 
 // A copy of the value in a slot.
-fn copy_field(alloc: Global, of: Ref, slot: u16, version: &Version) -> Result<Value, OverlayError>
-    ensures value { Answers result (field_in of slot version.now) }
+fn copy_field(alloc: Global, slot: u16, version: &Version) -> Result<Value, OverlayError>
+    ensures value { Answers result (field_in slot version.now) }
     ensures usable { is_usable result ≡ true }
     ensures calm { IsErrOf result OverlayError.DiskFault → ⊥ }
 {
     match version.fields.values().as_slice().get(usize::from(slot)) {
         Some(value) => Ok(value.copy(alloc)?),
-        None => Err(OverlayError::Damaged {
-            key: version_key(of.object, u64::from(version.number)),
-        }),
+        None => Err(OverlayError::NoObject(0)),
     }
 }
 
@@ -116,7 +114,7 @@ fn read_now(alloc: Global, of: Ref, slot: u16, object: &Object) -> Result<Value,
         return Err(OverlayError::NoObject(of.object));
     }
     match object.version(of.version) {
-        Some(version) => copy_field(alloc, of, slot, version),
+        Some(version) => copy_field(alloc, slot, version),
         None => Err(OverlayError::NoVersion(of)),
     }
 }
@@ -146,7 +144,7 @@ fn read_below<H: Host, K: Keep<H>>(
     };
     let class = class_of(classes, of.object, head.class)?;
     let fields = load_fields(alloc, heap, host, of.object, number, class)?;
-    take_field(version_key(of.object, u64::from(number)), slot, fields)
+    take_field(slot, fields)
 }
 
 // The place of a trigger's table.
@@ -165,6 +163,7 @@ fn running_of(
     active: &Active,
 ) -> Result<Running, OverlayError>
     ensures value { Answers result (running_of maps.now id active.now) }
+    ensures short { IfOk result (λ a. are_args a.args ≡ true) }
     ensures usable { is_usable result ≡ true }
     ensures calm { IsErrOf result OverlayError.DiskFault → ⊥ }
 {
@@ -191,6 +190,7 @@ fn running_in(
     actives: &[Active],
 ) -> Result<List<Running>, OverlayError>
     ensures value { Answers result (running_from maps.now id [] actives.now) }
+    ensures short { IfOk result (All (λ a. are_args a.args ≡ true)) }
     ensures usable { is_usable result ≡ true }
     ensures calm { IsErrOf result OverlayError.DiskFault → ⊥ }
 {
@@ -258,7 +258,7 @@ impl Overlay {
         }
     }
 
-    /// A field of the version that a reference denotes. Where there is no such slot, `Damaged` names the version's key.
+    /// A field of the version that a reference denotes. A slot that there isn't is read as null is.
     #[tactic(auto, unfolding(crate::specs::Reading::read))]
     pub fn read<H: Host, K: Keep<H>>(
         &self,
@@ -295,6 +295,7 @@ impl Overlay {
     ) -> Result<List<Running>, OverlayError>
         requires live { IsTrue (K.live heap.old) }
         ensures value { (base : Entries) → K.holds heap.old (H.view host.old) base → Answers result (acts classes.now base id maps.now self.now) }
+        ensures short { IfOk result (All (λ a. are_args a.args ≡ true)) }
         ensures holds { UnlessFault result ((base : Entries) → K.holds heap.old (H.view host.old) base → K.holds heap.new (H.view host.new) base) }
         ensures looks { Looks (H.view host.old) (H.view host.new) }
         ensures usable { K.live heap.new ≡ is_usable result }

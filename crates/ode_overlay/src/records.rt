@@ -22,7 +22,7 @@ use ode_value::Key;
 use std::alloc::{AllocError, Global};
 
 // The entry of a collected firing, by its number.
-#[tactic(auto, using(ode_objects::proofs::Kept::args_kept, ode_objects::proofs::ShortValues::short_entry), unfolding(ode_codec::specs::Rules::IsKept))]
+#[tactic(auto, using(ode_objects::proofs::ShortValues::short_entry), unfolding(ode_codec::specs::Rules::IsCounted))]
 fn queued_record(alloc: Global, number: u64, collected: &Collected) -> Result<Becomes, AllocError>
     ensures value { IfOk result (λ b. b ≡ Is (of.Entry number (entry_by collected.now))) }
     ensures kept { IfOk result IsKeptChange }
@@ -108,7 +108,7 @@ impl Overlay {
     }
 
     // The counters, and the entry that ran.
-    #[tactic(auto, using(ode_objects::proofs::ShortValues::short_counters), unfolding(ode_codec::specs::Rules::IsKept))]
+    #[tactic(auto, using(ode_objects::proofs::ShortValues::short_counters), unfolding(ode_codec::specs::Rules::IsCounted))]
     fn first_changes(&self) -> Result<Batch, AllocError>
         ensures value { IfOk result (λ b. b ≡ first_changes self.now) }
         ensures short { IfOk result AreShort }
@@ -158,6 +158,7 @@ impl Overlay {
         ensures few { IfOk result (λ b. length b ≤ MAX_CHANGES) }
         ensures short { IfOk result (λ b. All (λ value. IfSome value (λ bytes. length bytes ≤ MAX_VALUE)) (values_of b)) }
     {
+        // Read, so that what each overlay keeps to is known.
         let _ = &self.first;
         let mut batch = self.first_changes()?;
         self.fill(&mut batch)?;

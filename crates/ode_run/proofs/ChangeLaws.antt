@@ -1,18 +1,12 @@
 -- Fields are set, and lines behind new versions.
-use Rattle.std.proofs.Common.{◌≡◌, ℕ, Bool, true, false, cond, pos, List, Result, Ok, Err, refl, sym, ap, subst, ◌∙◌}
-use Rattle.std.specs.Prelude.{◌+ℤ◌, ℤ, OnErr, int_le, nat_le}
+use Rattle.std.proofs.Common.{◌≡◌, ℕ, Bool, true, false, cond, pos, List, Result, Ok, Err, sym, ap, subst, ◌∙◌}
+use Rattle.std.specs.Prelude.{◌+ℤ◌, ℤ, int_le, nat_le}
 use Rattle.std.specs.Result.{result_unwrap_or}
-use Rattle.ode_act_laws.specs.Unless.{ShowsUnless}
 use Rattle.ode_interpreter.specs.Seen.{Ends}
 use Rattle.ode_interpreter.specs.declared.stop.Stop.{Stop}
 use Rattle.ode_interpreter.specs.declared.stop.Stop.TheVariants as stop
 use Rattle.ode_laws.specs.Alike.{NumberTx}
-use Rattle.ode_overlay.specs.Answers.{Answer, Leaves}
-use Rattle.ode_overlay.specs.Layers.{Layer}
 use Rattle.ode_overlay.specs.declared.error.OverlayError.{OverlayError}
-use Rattle.ode_overlay.specs.declared.error.OverlayError.TheVariants as error
-use Rattle.ode_run.proofs.EndLaws.{shown_ends}
-use Rattle.ode_run.specs.Stopping.{ended}
 use Rattle.ode_run.specs.Telling.{EndsThen}
 use Rattle.ode_value.specs.Acts.{Outcome, Done, Aborted, gives, go_on, prints}
 use Rattle.ode_value.specs.Completing.{weighs}
@@ -23,24 +17,6 @@ use Rattle.ode_value.specs.Weights.{weight}
 use Rattle.ode_value.specs.declared.reason.Reason.TheVariants as reason
 use Rattle.ode_value.specs.declared.value.Ref.{Ref}
 use Rattle.ode_version_laws.specs.Denoting.{tells_version}
-
--- ---- a call of which nothing is said where a record is damaged
-
-module _ {R : Type 0} (D : Type 0) (view : Layer → NumberTx) (x : Layer) (outcome : Outcome (Unit {0}) ℕ R) where
-  abbrev Says : Answer (R × Layer) → Type 0
-  Says answer = ShowsUnless D view gives x answer outcome
-
-  pub unless_ends : (x' : Layer) (result : Result R OverlayError) (answer : Answer (R × Layer)) → Leaves result x' answer → OnErr result (x' ≡ x) → Says answer → Ends (ended result) (view x') outcome
-  unless_ends x' (Err error.Memory) answer leaves same shows = tt
-  unless_ends x' (Err error.DiskFault) answer leaves same shows = tt
-  unless_ends x' (Err (error.Damaged key)) answer leaves same shows = tt
-  unless_ends x' (Ok v) answer leaves same shows = shown_ends view x x' (Ok v) (Ok (v, x')) outcome refl same (subst Says leaves shows)
-  unless_ends x' (Err (error.NoObject id)) answer leaves same shows = shown_ends view x x' (Err (error.NoObject id)) (Err (error.NoObject id)) outcome refl same (subst Says leaves shows)
-  unless_ends x' (Err (error.NoVersion r)) answer leaves same shows = shown_ends view x x' (Err (error.NoVersion r)) (Err (error.NoVersion r)) outcome refl same (subst Says leaves shows)
-  unless_ends x' (Err (error.LastVersion id)) answer leaves same shows = shown_ends view x x' (Err (error.LastVersion id)) (Err (error.LastVersion id)) outcome refl same (subst Says leaves shows)
-  unless_ends x' (Err error.TooManyChanges) answer leaves same shows = shown_ends view x x' (Err error.TooManyChanges) (Err error.TooManyChanges) outcome refl same (subst Says leaves shows)
-  unless_ends x' (Err error.TooLong) answer leaves same shows = shown_ends view x x' (Err error.TooLong) (Err error.TooLong) outcome refl same (subst Says leaves shows)
-  unless_ends x' (Err error.NoNumber) answer leaves same shows = shown_ends view x x' (Err error.NoNumber) (Err error.NoNumber) outcome refl same (subst Says leaves shows)
 
 -- ---- new versions
 

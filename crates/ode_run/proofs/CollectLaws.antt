@@ -1,11 +1,10 @@
 -- Firings that are collected, or dropped.
-use Rattle.std.proofs.Common.{◌≡◌, ◌+◌, ◌++◌, ◌≤◌, ℕ, Bool, true, false, cond, List, length, Result, Some, None, refl, sym, ap, subst, ◌∙◌, arith}
+use Rattle.std.proofs.Common.{◌≡◌, ◌+◌, ◌++◌, ◌≤◌, ℕ, Bool, true, false, cond, List, length, Result, refl, sym, ap, subst, ◌∙◌, arith}
 use Rattle.std.proofs.lemmas.Bool.Decides.{nat_tests}
 use Rattle.std.specs.Prelude.{◌&&◌, nat_le, nat_lt}
 use Rattle.ode_interpreter.specs.Seen.{Ends}
 use Rattle.ode_interpreter.specs.declared.stop.Stop.{Stop}
 use Rattle.ode_laws.specs.Alike.{NumberTx, NumberWorld}
-use Rattle.ode_objects.specs.Values.{are_args}
 use Rattle.ode_overlay.specs.Layers.{Layer, generation_of}
 use Rattle.ode_overlay.specs.declared.origin.Origin.{Origin}
 use Rattle.ode_overlay.specs.declared.origin.Origin.TheVariants as from
@@ -21,15 +20,8 @@ use Rattle.ode_value.specs.Settling.{says}
 use Rattle.ode_value.specs.Transactions as transactions
 use Rattle.ode_value.specs.Transactions.{Firing}
 use Rattle.ode_value.specs.Worlds.{Declared}
-use Rattle.ode_value.specs.declared.value.Value.{Value}
 use Rattle.ode_view_laws.specs.Showing.{ShowsCollected}
 use Rattle.ode_view_laws.specs.Viewing.{Beside, running}
-
-pub kept_is : (values kept : List Value) → Some kept ≡ cond (are_args values) (Some values) None → kept ≡ values
-kept_is values kept is = by_test (are_args values) is where
-  by_test : (b : Bool) → Some kept ≡ cond b (Some values) None → kept ≡ values
-  by_test true e = cc e
-  by_test false e = absurd (cc e)
 
 -- what the overlay answers
 pub gathers : (tells : List ℕ → Deed (Unit {0}) ℕ) (independent : Bool) (f : Firing) (view : Layer → NumberTx) (x x' : Layer) (b : Bool) (pair : Bool × Layer) → (b, x') ≡ pair

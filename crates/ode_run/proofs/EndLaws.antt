@@ -28,7 +28,7 @@ use Rattle.ode_overlay.specs.Layers.{Layer}
 use Rattle.ode_overlay.specs.declared.error.OverlayError.{OverlayError}
 use Rattle.ode_overlay.specs.declared.error.OverlayError.TheVariants as error
 use Rattle.ode_run.specs.Knowing.{Failed, Holds, Known, beside}
-use Rattle.ode_run.specs.Stopping.{at_hand, ended, named, named_by, read, read_as}
+use Rattle.ode_run.specs.Stopping.{ended, read, read_as}
 use Rattle.ode_run.specs.Telling.{EndsThen, calm}
 use Rattle.ode_value.specs.Acts.{Act, Outcome, Done, Aborted, found, gives, go_on, valued}
 use Rattle.ode_value.specs.Changes.{class_of, is_live}
@@ -117,10 +117,6 @@ shown_sound {R} {S} next view x x' result answer outcome leaves shows key is =
     let s = subst (λ a. Shows view next x a outcome) names shows in
     cc s.1.0
 
--- where none is named
-pub none_sound : {R : Type 0} (result : Result R OverlayError) → named_by result ≡ None → IsSoundCall result
-none_sound {R} result none key is = let some : named_by result ≡ Some key = ap (λ (r : Result R OverlayError). named_by r) is in cc (none, some)
-
 -- and where its answer is never that one
 pub read_sound : {R : Type 0} (result : Result R OverlayError) (answer : Answer R) → Answers result answer → ((key : Key) → answer ≡ Err (error.Damaged key) → ⊥) → IsSoundCall result
 read_sound {R} result answer gives never key is = never key (subst (λ (r : Result R OverlayError). Answers r answer) is gives)
@@ -188,33 +184,6 @@ module _ {H K : Type 0} (seen : H → View) (held : K → View → Entries → T
     reading_leaves (Err error.TooManyChanges) sound known keeps usable cause = call_leaves (Err error.TooManyChanges) sound known keeps usable cause
     reading_leaves (Err error.TooLong) sound known keeps usable cause = call_leaves (Err error.TooLong) sound known keeps usable cause
     reading_leaves (Err error.NoNumber) sound known keeps usable cause = call_leaves (Err error.NoNumber) sound known keeps usable cause
-
-    -- it goes on where a key was named as damaged
-    pub named_leaves : {R : Type 0} (result : Result R OverlayError) (key : Key) → named_by result ≡ Some key → IsKnown k.entries k.first x' → UnlessFault result ((base : Entries) → held q (seen h) base → held q' (seen h') base)
-        → live q' ≡ is_usable result → RoseIf (IsErrOf result error.DiskFault) (seen h).disk_faults (seen h').disk_faults → After
-    named_leaves (Err (error.Damaged k')) key named known keeps usable cause = goes_on usable (keeps k.entries holds.records) (no_fault (Err (error.Damaged k')) (λ is. absurd (cc is)) cause) known
-    named_leaves (Ok v) key named known keeps usable cause = absurd (cc named)
-    named_leaves (Err error.DiskFault) key named known keeps usable cause = absurd (cc named)
-    named_leaves (Err error.Memory) key named known keeps usable cause = absurd (cc named)
-    named_leaves (Err (error.NoObject id)) key named known keeps usable cause = absurd (cc named)
-    named_leaves (Err (error.NoVersion r)) key named known keeps usable cause = absurd (cc named)
-    named_leaves (Err (error.LastVersion id)) key named known keeps usable cause = absurd (cc named)
-    named_leaves (Err error.TooManyChanges) key named known keeps usable cause = absurd (cc named)
-    named_leaves (Err error.TooLong) key named known keeps usable cause = absurd (cc named)
-    named_leaves (Err error.NoNumber) key named known keeps usable cause = absurd (cc named)
-
-    pub at_hand_leaves : {R : Type 0} (result : Result R OverlayError) → IsKnown k.entries k.first x' → UnlessFault result ((base : Entries) → held q (seen h) base → held q' (seen h') base)
-        → live q' ≡ is_usable result → RoseIf (IsErrOf result error.DiskFault) (seen h).disk_faults (seen h').disk_faults → interpreter.Leaves (at_hand result) After (Failed seen h' k)
-    at_hand_leaves (Ok v) known keeps usable cause = goes_on usable (keeps k.entries holds.records) (no_fault (Ok v) (λ is. absurd (cc is)) cause) known
-    at_hand_leaves (Err error.DiskFault) known keeps usable cause = faulted (Err error.DiskFault) refl cause
-    at_hand_leaves (Err error.Memory) known keeps usable cause = goes_on usable (keeps k.entries holds.records) (no_fault (Err error.Memory) (λ is. absurd (cc is)) cause) known
-    at_hand_leaves (Err (error.Damaged key)) known keeps usable cause = goes_on usable (keeps k.entries holds.records) (no_fault (Err (error.Damaged key)) (λ is. absurd (cc is)) cause) known
-    at_hand_leaves (Err (error.NoObject id)) known keeps usable cause = goes_on usable (keeps k.entries holds.records) (no_fault (Err (error.NoObject id)) (λ is. absurd (cc is)) cause) known
-    at_hand_leaves (Err (error.NoVersion r)) known keeps usable cause = goes_on usable (keeps k.entries holds.records) (no_fault (Err (error.NoVersion r)) (λ is. absurd (cc is)) cause) known
-    at_hand_leaves (Err (error.LastVersion id)) known keeps usable cause = goes_on usable (keeps k.entries holds.records) (no_fault (Err (error.LastVersion id)) (λ is. absurd (cc is)) cause) known
-    at_hand_leaves (Err error.TooManyChanges) known keeps usable cause = goes_on usable (keeps k.entries holds.records) (no_fault (Err error.TooManyChanges) (λ is. absurd (cc is)) cause) known
-    at_hand_leaves (Err error.TooLong) known keeps usable cause = goes_on usable (keeps k.entries holds.records) (no_fault (Err error.TooLong) (λ is. absurd (cc is)) cause) known
-    at_hand_leaves (Err error.NoNumber) known keeps usable cause = goes_on usable (keeps k.entries holds.records) (no_fault (Err error.NoNumber) (λ is. absurd (cc is)) cause) known
 
 -- ---- what is read
 
@@ -289,26 +258,18 @@ module _ {H K : Type 0} (seen : H → View) (held : K → View → Entries → T
     still : Left None → Still
     still behind = still_at None (λ is. absurd (cc is)) behind.keeps behind
 
-    pub evaluation_leaves : (result : Result Value (EvalStop Unread)) → named result ≡ None → Left (expr.stopped_by result None) → interpreter.Leaves (read_as result) Still (Failed seen h' k)
-    evaluation_leaves (Ok v) none behind = still behind
-    evaluation_leaves (Err (eval.Fault fault)) none behind = still behind
-    evaluation_leaves (Err eval.Memory) none behind = still behind
-    evaluation_leaves (Err (eval.Frame unread.DiskFault)) none behind =
+    pub evaluation_leaves : (result : Result Value (EvalStop Unread)) → Left (expr.stopped_by result None) → interpreter.Leaves (read_as result) Still (Failed seen h' k)
+    evaluation_leaves (Ok v) behind = still behind
+    evaluation_leaves (Err (eval.Fault fault)) behind = still behind
+    evaluation_leaves (Err eval.Memory) behind = still behind
+    evaluation_leaves (Err (eval.Frame unread.DiskFault)) behind =
         let looked = looks_joined (seen k.began) (seen h) (seen h') holds.looks behind.looks in
         record {
           sound = tt;
           looks = looked;
           faults = record { later = looked.keeps.disk_faults; rose = λ e. subst (λ n. Rose n (seen h').disk_faults) holds.faults (behind.faults.rose refl); calm = inl refl };
         }
-    evaluation_leaves (Err (eval.Frame (unread.Damaged key))) none behind = absurd (cc none)
-
-    -- it goes on where a record was named as damaged
-    pub evaluation_named : (result : Result Value (EvalStop Unread)) (key : Key) → named result ≡ Some key → Left (expr.stopped_by result None) → Still
-    evaluation_named (Ok v) key is behind = absurd (cc is)
-    evaluation_named (Err (eval.Fault fault)) key is behind = absurd (cc is)
-    evaluation_named (Err eval.Memory) key is behind = absurd (cc is)
-    evaluation_named (Err (eval.Frame unread.DiskFault)) key is behind = absurd (cc is)
-    evaluation_named (Err (eval.Frame (unread.Damaged k))) key is behind = still_at (Some (unread.Damaged k)) (λ e. absurd (cc e)) behind.keeps behind
+    evaluation_leaves (Err (eval.Frame (unread.Damaged key))) behind = absurd behind.sound
 
 -- where nothing changed, the view is the same
 pub same_view : (all : List Declared) (first : NumberWorld) (x x' : Layer) (ds ds' : List (ℕ × Fired)) (text text' : List ℕ) (left left' : ℕ) → x' ≡ x → ds' ≡ ds → text' ≡ text → left' ≡ left

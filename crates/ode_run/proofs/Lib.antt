@@ -16,3 +16,4 @@ pub mod PlaceLaws
 pub mod ServeLaws
 pub mod SettleLaws
 pub mod WholeLaws
+pub mod StayLaws

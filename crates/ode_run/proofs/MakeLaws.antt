@@ -1,50 +1,39 @@
 -- Lines behind what was made.
-use Rattle.std.proofs.Common.{◌≡◌, ℕ, Bool, true, false, List, Result, Option, Some, None, Err, refl, sym, ap, subst, ◌∙◌, length}
-use Rattle.std.specs.Prelude.{◌&&◌, nat_le, nat_lt, pos}
+use Rattle.std.proofs.Common.{◌≡◌, ◌+◌, ◌<◌, ℕ, List, [], ◌∷◌, drop, get_or, map, Result, Option, Some, None, Err, refl, sym, ap, subst, ◌∙◌, length}
+use Rattle.std.proofs.lemmas.List.{drop_more}
+use Rattle.std.specs.Prelude.{is_some, pos}
+use Rattle.std.specs.List.{AllByRecursion}
 use Rattle.std.specs.Option.{option_map}
 use Rattle.ode_activation_laws.specs.Switching.{tells_line}
 use Rattle.ode_heap.specs.Answering.{head_of_object}
 use Rattle.ode_heap.specs.declared.object.ObjectHead.{ObjectHead}
-use Rattle.ode_interpreter.specs.Seen.{Ends, Leaves}
+use Rattle.ode_interpreter.specs.Creating.{makes_active}
+use Rattle.ode_interpreter.specs.Seen.{Ends, Leaves, trigger}
+use Rattle.ode_interpreter.specs.declared.firing.Trigger as code
 use Rattle.ode_interpreter.specs.declared.stop.Stop.{Stop}
 use Rattle.ode_interpreter.specs.declared.stop.Stop.TheVariants as stop
 use Rattle.ode_laws.specs.Alike.{NumberTx, NumberWorld}
-use Rattle.ode_objects.specs.Values.{are_args, are_fields, are_kept}
+use Rattle.ode_object_laws.specs.Objects.{TakesTrigger}
 use Rattle.ode_overlay.specs.Layers.{Layer}
 use Rattle.ode_overlay_laws.specs.Following.{on_live}
 use Rattle.ode_run.proofs.OffLaws.{on_same}
-use Rattle.ode_run.specs.Activating.{IsOfClass, Names}
+use Rattle.ode_run.specs.Activating.{IsOfClass, Names, Takes, TakesAll}
 use Rattle.ode_run.specs.Telling.{EndsThen}
-use Rattle.ode_value.specs.Acts.{Act, Outcome, Done, Aborted, ◌>>=◌, finds, found, gives, go_on, reads}
-use Rattle.ode_value.specs.Changes.{is_live}
-use Rattle.ode_value.specs.Classes.{Trigger, trigger_named}
+use Rattle.ode_schema.specs.Parts.{trigger_of}
+use Rattle.ode_value.specs.Acts.{Act, Outcome, Done, Aborted, ◌>>=◌, ◌>>◌, each, finds, found, gives, go_on, sees}
+use Rattle.ode_value.specs.Classes.{Trigger, initial_triggers, trigger_named}
 use Rattle.ode_value.specs.Denoting.{object_at}
-use Rattle.ode_value.specs.Lengths.{values_length, version_size}
-use Rattle.ode_value.specs.Limits.{args_limit, value_limit}
-use Rattle.ode_value.specs.Making.{switches_on}
+use Rattle.ode_value.specs.Making.{makes, switches_on}
 use Rattle.ode_value.specs.Pasts.{numbers}
 use Rattle.ode_value.specs.Statements.{activates_initial, switches_on_named}
 use Rattle.ode_value.specs.Tables.{Table}
 use Rattle.ode_value.specs.Worlds.{Declared, Object}
+use Rattle.ode_value.specs.declared.class.Class.{Class}
 use Rattle.ode_value.specs.declared.reason.Reason.TheVariants as reason
 use Rattle.ode_value.specs.declared.value.Ref.{Ref}
 use Rattle.ode_value.specs.declared.value.Value.{Value}
 use Rattle.ode_value.specs.declared.value.Value.TheVariants as value
 use Rattle.ode_view_laws.specs.Viewing.{Beside, running, world_now}
-
--- ---- what a record can hold
-
-pub fields_fit : (fields : List Value) → are_kept fields ≡ true → are_fields fields ≡ nat_le (version_size fields) value_limit
-unfolding are_fields
-fields_fit fields kept = ap (λ b. b && nat_le (version_size fields) value_limit) kept
-
-pub args_fit : (args : List Value) → (nat_lt (length args) 256 && are_kept args) ≡ true → are_args args ≡ nat_le (values_length args) args_limit
-unfolding are_args
-args_fit args fit = by_cases (nat_lt (length args) 256) (are_kept args) fit where
-  by_cases : (few kept : Bool) → (few && kept) ≡ true → (few && (kept && nat_le (values_length args) args_limit)) ≡ nat_le (values_length args) args_limit
-  by_cases true true e = refl
-  by_cases true false e = absurd (cc e)
-  by_cases false kept e = absurd (cc e)
 
 -- ---- an act that goes on
 
@@ -75,18 +64,76 @@ pub left_there : {R S : Type 0} (result : Result R Stop) (other : Result S Stop)
 left_there {R} {S} result other why A F left is same =
     subst (λ (q : Result S Stop). Leaves q A F) (sym same) (left_too R S why A F (subst (λ (q : Result R Stop). Leaves q A F) is left))
 
+-- ---- a part that isn't done, and what would follow it
+
+ends_on : {R S : Type 0} (why : Stop) (z : NumberTx) (o : Outcome (Unit {0}) ℕ R) (next : R → Act (Unit {0}) ℕ S) → Ends {R = R} (Err why) z o → Ends {R = S} (Err why) z (go_on o next)
+ends_on (stop.Abort why) z o next ends = ap (λ q. go_on q next) ends
+ends_on stop.Memory z o next ends = tt
+ends_on stop.DiskFault z o next ends = tt
+ends_on (stop.Damaged key) z o next ends = tt
+
+pub stops_on : {R S : Type 0} (result : Result R Stop) (other : Result S Stop) (why : Stop) (z : NumberTx) (o : Outcome (Unit {0}) ℕ R) (next : R → Act (Unit {0}) ℕ S) → Ends result z o
+    → result ≡ Err why → other ≡ Err why → Ends other z (go_on o next)
+stops_on {R} {S} result other why z o next ends is same =
+    subst (λ (r : Result S Stop). Ends r z (go_on o next)) (sym same) (ends_on why z o next (subst (λ (r : Result R Stop). Ends r z o) is ends))
+
 -- ---- initial activations
 
-pub switched : (tables : ℕ → ℕ → Table) (id : ℕ) (t : Trigger) (y y' z w : NumberTx) (n : ℕ) (result : Result (Unit {0}) Stop) → reads (is_live id) y ≡ Done true y'
-    → on_live id (activates_initial (numbers tables) id t) y' ≡ tells_line n z → Ends result w (tells_line n z) → Ends result w (activates_initial (numbers tables) id t y)
-switched tables id t y y' z w n result there is ends =
-    ends_next tells_line n z w (activates_initial (numbers tables) id t y) result (sym (on_same (activates_initial (numbers tables) id t) id y y' there) ∙ is) ends
+-- of an object that is there
+pub live_on : (tables : ℕ → ℕ → Table) (id : ℕ) (t : Trigger) (y : NumberTx) (class : ℕ) → IsOfClass y id class → (result : Result ℕ Stop) (z : NumberTx)
+    → EndsThen tells_line result z (on_live id (activates_initial (numbers tables) id t) y) → EndsThen tells_line result z (activates_initial (numbers tables) id t y)
+live_on tables id t y class of result z ends = subst (EndsThen tells_line result z) (on_same (activates_initial (numbers tables) id t) id y y (ap (λ (o : Option Object). Done (is_some o) y) of.there)) ends
 
-pub not_switched : (tables : ℕ → ℕ → Table) (id : ℕ) (t : Trigger) (y y' z : NumberTx) (why : Stop) (result : Result ℕ Stop) (other : Result (Unit {0}) Stop) → reads (is_live id) y ≡ Done true y'
-    → EndsThen tells_line result z (on_live id (activates_initial (numbers tables) id t) y') → result ≡ Err why → other ≡ Err why → Ends other z (activates_initial (numbers tables) id t y)
-not_switched tables id t y y' z why result other there ends is same =
-    subst (λ (o : Outcome (Unit {0}) ℕ (Unit {0})). Ends other z o) (on_same (activates_initial (numbers tables) id t) id y y' there)
-    (not_done tells_line result other why z (on_live id (activates_initial (numbers tables) id t) y') ends is same)
+-- an object of a class has the trigger that the class has
+pub takes_one : (first : NumberWorld) (y : NumberTx) (id number class place : ℕ) → IsOfClass y id number → TakesTrigger first.bones.classes number class place → Takes first y id class place
+takes_one first y id number class place of takes = record {
+  object = of.object;
+  there = of.there;
+  takes = subst (λ (n : ℕ). TakesTrigger first.bones.classes n class place) (sym of.class) takes;
+}
+
+unmapped : {X Y : Type 0} (P : Y → Type 0) (f : X → Y) (xs : List X) → AllByRecursion P (map f xs) → AllByRecursion (λ x. P (f x)) xs
+unmapped P f [] all = tt
+unmapped P f (x ∷ xs) all = (all.0, unmapped P f xs all.1)
+
+-- each of those that a new object of the class has
+pub takes_all : (cs : List Class) (classes : List Declared) (number : ℕ) (ts : List code.Trigger) (initial : List Trigger) → map (trigger (trigger_of cs)) ts ≡ initial
+    → AllByRecursion (λ (t : Trigger). TakesTrigger classes number t.class t.place) initial → TakesAll classes number ts
+takes_all cs classes number ts initial is all =
+    unmapped (λ (t : Trigger). TakesTrigger classes number t.class t.place) (trigger (trigger_of cs)) ts
+    (subst (AllByRecursion (λ (t : Trigger). TakesTrigger classes number t.class t.place)) (sym is) all)
+
+pub more_left : {X : Type 0} (P : X → Type 0) (d : X) (xs : List X) (i : ℕ) → i < length xs → AllByRecursion P (drop i xs) → AllByRecursion P (get_or xs i d ∷ drop (i + 1) xs)
+more_left P d xs i less all = subst (AllByRecursion P) (drop_more xs i d less) all
+
+-- one after another
+pub each_next : {X Y : Type 0} (deed : Y → Act (Unit {0}) ℕ (Unit {0})) (says : X → Y) (d : X) (xs : List X) (i : ℕ) (y z : NumberTx) → i < length xs → deed (says (get_or xs i d)) y ≡ Done tt z
+    → each deed (map says (drop i xs)) y ≡ each deed (map says (drop (i + 1) xs)) z
+each_next deed says d xs i y z less done =
+    ap (λ rs. each deed (map says rs) y) (drop_more xs i d less) ∙ ap (λ (o : Outcome (Unit {0}) ℕ (Unit {0})). go_on o (λ _. each deed (map says (drop (i + 1) xs)))) done
+
+-- ---- a new object with its initial activations
+
+module _ (tables : ℕ → ℕ → Table) (class : ℕ) (fields : List Value) where
+  -- what follows the object itself
+  abbrev behind_bare : ℕ → Act (Unit {0}) ℕ ℕ
+  behind_bare id = sees (λ b. initial_triggers b.classes class) >>= λ triggers. each (activates_initial (numbers tables) id) triggers >> gives id
+
+  active_is : (y : NumberTx) → makes_active (numbers tables) class fields y ≡ go_on (makes (numbers tables) class fields y) behind_bare
+  unfolding makes_active
+  active_is y = refl
+
+  pub bare_stops : (y z : NumberTx) (result other : Result ℕ Stop) (why : Stop) → Ends result z (makes (numbers tables) class fields y) → result ≡ Err why → other ≡ Err why
+      → Ends other z (makes_active (numbers tables) class fields y)
+  bare_stops y z result other why ends is same =
+      subst (λ (o : Outcome (Unit {0}) ℕ ℕ). Ends other z o) (sym (active_is y)) (stops_on result other why z (makes (numbers tables) class fields y) behind_bare ends is same)
+
+  pub active_by : (y made : NumberTx) (id : ℕ) (all : List Declared) (ts : List Trigger) → made.now.bones.classes ≡ all → ts ≡ initial_triggers all class
+      → makes (numbers tables) class fields y ≡ Done id made
+      → makes_active (numbers tables) class fields y ≡ go_on (each (activates_initial (numbers tables) id) ts made) (λ _. gives id)
+  active_by y made id all ts classes are is =
+      active_is y ∙ ap (λ (o : Outcome (Unit {0}) ℕ ℕ). go_on o behind_bare) is
+      ∙ ap (λ (rs : List Trigger). go_on (each (activates_initial (numbers tables) id) rs made) (λ _. gives id)) (ap (λ (ds : List Declared). initial_triggers ds class) classes ∙ sym are)
 
 -- ---- activations by a name
 
@@ -94,6 +141,10 @@ not_switched tables id t y y' z why result other there ends is same =
 pub classes_now : (all : List Declared) (first : NumberWorld) (x : Layer) (b : Beside) → (running all first x b).now.bones.classes ≡ all
 unfolding world_now
 classes_now all first x b = refl
+
+pub named_there : (all : List Declared) (first : NumberWorld) (x : Layer) (b : Beside) (number : ℕ) (name : List ℕ) (t : Trigger)
+    → trigger_named (running all first x b).now.bones.classes number name ≡ Some t → trigger_named all number name ≡ Some t
+named_there all first x b number name t is = ap (λ (ds : List Declared). trigger_named ds number name) (sym (classes_now all first x b)) ∙ is
 
 -- an object's class is that of its head
 pub of_head : (y : NumberTx) (id : ℕ) (head : ObjectHead) → Some head ≡ option_map head_of_object (object_at y.now.bones id) → IsOfClass y id head.class

@@ -1,6 +1,6 @@
 -- What a call leaves of the keeper and of the host, where nothing is known of the records.
 use Rattle.std.specs.Prelude.{IfErr}
-use Rattle.std.proofs.Common.{◌≡◌, ◌⊎◌, IsErrOf, ℕ, Bool, true, List, [], Result, Option, Some, None, Ok, Err, refl, sym, ap, subst, ◌∙◌, inl, inr, arith}
+use Rattle.std.proofs.Common.{◌≡◌, ◌⊎◌, IsErrOf, ℕ, Bool, true, List, [], Result, Option, Some, None, Ok, Err, refl, sym, ap, subst, ◌∙◌, inl, inr}
 use Rattle.ode_expr.specs.Answers.{stopped_by}
 use Rattle.ode_expr.specs.declared.stop.EvalStop.{EvalStop}
 use Rattle.ode_expr.specs.declared.stop.EvalStop.TheVariants as eval
@@ -18,7 +18,7 @@ use Rattle.ode_overlay.specs.declared.error.OverlayError.TheVariants as error
 use Rattle.ode_run.proofs.ContextLaws.{IsReturned, known_of}
 use Rattle.ode_run.specs.Knowing.{Known, Lent}
 use Rattle.ode_run.specs.Serving.{GoesOn, Halts, IsServing, LeavesUsable, Serves, Stops}
-use Rattle.ode_run.specs.Stopping.{at_hand, ended, named, named_by, read, read_as}
+use Rattle.ode_run.specs.Stopping.{ended, read, read_as}
 use Rattle.ode_run.specs.Telling.{calm}
 use Rattle.ode_run.specs.declared.context.Ctx.{Ctx}
 use Rattle.ode_run.specs.declared.work.Work.{Work}
@@ -97,37 +97,6 @@ module _ (began before after : View) (live live' : Bool) (serves : Serves live b
       → Leaves answer (Serves live' began after) (Stops began after)
   reading_serves {R} result answer is usable cause = subst (λ (r : Result R Stop). Leaves r (Serves live' began after) (Stops began after)) (sym is) (serves_read result usable cause)
 
-  -- it goes on where a key was named as damaged
-  pub named_serves : {R : Type 0} (result : Result R OverlayError) (key : Key) → named_by result ≡ Some key → live' ≡ is_usable result → RoseIf (IsErrOf result error.DiskFault) before.disk_faults after.disk_faults → Serves live' began after
-  named_serves (Err (error.Damaged k)) key is usable cause = goes_on usable (none (Err (error.Damaged k)) (λ e. absurd (cc e)) cause)
-  named_serves (Ok v) key is usable cause = absurd (cc is)
-  named_serves (Err error.DiskFault) key is usable cause = absurd (cc is)
-  named_serves (Err error.Memory) key is usable cause = absurd (cc is)
-  named_serves (Err (error.NoObject id)) key is usable cause = absurd (cc is)
-  named_serves (Err (error.NoVersion r)) key is usable cause = absurd (cc is)
-  named_serves (Err (error.LastVersion id)) key is usable cause = absurd (cc is)
-  named_serves (Err error.TooManyChanges) key is usable cause = absurd (cc is)
-  named_serves (Err error.TooLong) key is usable cause = absurd (cc is)
-  named_serves (Err error.NoNumber) key is usable cause = absurd (cc is)
-
-  -- one that reads no record
-  pub serves_at_hand : {R : Type 0} (result : Result R OverlayError) → live' ≡ is_usable result → RoseIf (IsErrOf result error.DiskFault) before.disk_faults after.disk_faults
-      → Leaves (at_hand result) (Serves live' began after) (Stops began after)
-  serves_at_hand (Ok v) usable cause = goes_on usable (none (Ok v) (λ is. absurd (cc is)) cause)
-  serves_at_hand (Err error.DiskFault) usable cause = faulted (cause.rose refl)
-  serves_at_hand (Err error.Memory) usable cause = goes_on usable (none (Err error.Memory) (λ is. absurd (cc is)) cause)
-  serves_at_hand (Err (error.Damaged key)) usable cause = goes_on usable (none (Err (error.Damaged key)) (λ is. absurd (cc is)) cause)
-  serves_at_hand (Err (error.NoObject id)) usable cause = goes_on usable (none (Err (error.NoObject id)) (λ is. absurd (cc is)) cause)
-  serves_at_hand (Err (error.NoVersion r)) usable cause = goes_on usable (none (Err (error.NoVersion r)) (λ is. absurd (cc is)) cause)
-  serves_at_hand (Err (error.LastVersion id)) usable cause = goes_on usable (none (Err (error.LastVersion id)) (λ is. absurd (cc is)) cause)
-  serves_at_hand (Err error.TooManyChanges) usable cause = goes_on usable (none (Err error.TooManyChanges) (λ is. absurd (cc is)) cause)
-  serves_at_hand (Err error.TooLong) usable cause = goes_on usable (none (Err error.TooLong) (λ is. absurd (cc is)) cause)
-  serves_at_hand (Err error.NoNumber) usable cause = goes_on usable (none (Err error.NoNumber) (λ is. absurd (cc is)) cause)
-
-  pub at_hand_serves : {R : Type 0} (result : Result R OverlayError) (answer : Result R Stop) → answer ≡ at_hand result → live' ≡ is_usable result → RoseIf (IsErrOf result error.DiskFault) before.disk_faults after.disk_faults
-      → Leaves answer (Serves live' began after) (Stops began after)
-  at_hand_serves {R} result answer is usable cause = subst (λ (r : Result R Stop). Leaves r (Serves live' began after) (Stops began after)) (sym is) (serves_at_hand result usable cause)
-
 -- an evaluation
 module _ (began before after : View) (live live' : Bool) (serves : Serves live began before) where
   abbrev Left : Option Unread → Type 0
@@ -149,15 +118,6 @@ module _ (began before after : View) (live live' : Bool) (serves : Serves live b
 
   pub evaluation_serves : (result : Result Value (EvalStop Unread)) (answer : Result Value Stop) → answer ≡ read_as result → Left (stopped_by result None) → Leaves answer (Serves live' began after) (Stops began after)
   evaluation_serves result answer is left = subst (λ (r : Result Value Stop). Leaves r (Serves live' began after) (Stops began after)) (sym is) (serves_evaluated result left)
-
-  -- it goes on where a record was named as damaged
-  pub evaluation_goes_on : (result : Result Value (EvalStop Unread)) (key : Key) → named result ≡ Some key → Left (stopped_by result None) → Serves live' began after
-  evaluation_goes_on (Ok v) key is left = absurd (cc is)
-  evaluation_goes_on (Err (eval.Fault fault)) key is left = absurd (cc is)
-  evaluation_goes_on (Err eval.Memory) key is left = absurd (cc is)
-  evaluation_goes_on (Err (eval.Frame unread.DiskFault)) key is left = absurd (cc is)
-  evaluation_goes_on (Err (eval.Frame (unread.Damaged k))) key is left =
-      goes_on began before after live live' serves left.looks left.usable (calm_at (Some (unread.Damaged k)) (λ e. absurd (cc e)) left)
 
 -- ---- where the host wasn't asked
 
@@ -264,14 +224,6 @@ module _ {H K : Type 0} (seen : H → View) (live : K → Bool) where
         subst (λ (n : H). LeavesUsable result (live q) (seen w.host.now) (seen n)) (sym (back.host (sym lent.host)))
         (subst (λ (m : K). LeavesUsable result (live m) (seen w.host.now) (seen w'.host.now)) (sym (back.heap (sym lent.heap)))
         (leaves_so (seen w.host.now) (seen w'.host.now) result (live w'.heap.now) (plain_left result k after)))
-
--- where nothing was done
-pub unchanged_usable : {R : Type 0} (live : Bool) (before : View) → live ≡ true → LeavesUsable {R = R} (Err stop.Memory) live before before
-unchanged_usable live before usable = record {
-  usable = usable;
-  looks = looks_none before;
-  faults = record { later = omega arith; rose = λ e. absurd (cc e); calm = inr refl };
-}
 
 -- ---- by what a call before it left
 

@@ -1,5 +1,5 @@
 -- How a call of the overlay ends, as a call of a context.
-use Rattle.std.specs.Prelude.{Option, Some, None, Result, Ok, Err}
+use Rattle.std.specs.Prelude.{Result, Ok, Err}
 use Rattle.ode_expr.specs.declared.stop.EvalStop.{EvalStop}
 use Rattle.ode_expr.specs.declared.stop.EvalStop.TheVariants as eval
 use Rattle.ode_interpreter.specs.declared.stop.Stop.{Stop}
@@ -9,7 +9,6 @@ use Rattle.ode_overlay.specs.declared.error.OverlayError.TheVariants as error
 use Rattle.ode_run_frame.specs.declared.unread.Unread.{Unread}
 use Rattle.ode_run_frame.specs.declared.unread.Unread.TheVariants as unread
 use Rattle.ode_value.specs.Evaluation.{reason_of}
-use Rattle.ode_value.specs.declared.key.Key.{Key}
 use Rattle.ode_value.specs.declared.reason.Reason.TheVariants as reason
 
 abbrev pub stop_as : OverlayError → Stop
@@ -50,40 +49,3 @@ read_as (Err eval.Memory) = Err stop.Memory
 read_as (Err (eval.Fault fault)) = Err (stop.Abort (reason_of fault))
 read_as (Err (eval.Frame unread.DiskFault)) = Err stop.DiskFault
 read_as (Err (eval.Frame (unread.Damaged key))) = Err (stop.Damaged key)
-
--- the key that one named as damaged
-abbrev pub named : {R : Type 0} → Result R (EvalStop Unread) → Option Key
-named (Ok v) = None
-named (Err eval.Memory) = None
-named (Err (eval.Fault fault)) = None
-named (Err (eval.Frame unread.DiskFault)) = None
-named (Err (eval.Frame (unread.Damaged key))) = Some key
-
--- and a call of the overlay
-abbrev pub named_by : {R : Type 0} → Result R OverlayError → Option Key
-named_by (Ok v) = None
-named_by (Err error.Memory) = None
-named_by (Err error.DiskFault) = None
-named_by (Err (error.Damaged key)) = Some key
-named_by (Err (error.NoObject id)) = None
-named_by (Err (error.NoVersion r)) = None
-named_by (Err (error.LastVersion id)) = None
-named_by (Err error.TooManyChanges) = None
-named_by (Err error.TooLong) = None
-named_by (Err error.NoNumber) = None
-
--- How one ends that reads no record: what it says is damaged isn't one, so want of memory is told.
-abbrev pub stop_at_hand : OverlayError → Stop
-stop_at_hand error.DiskFault = stop.DiskFault
-stop_at_hand error.Memory = stop.Memory
-stop_at_hand (error.Damaged key) = stop.Memory
-stop_at_hand (error.NoObject id) = stop.Memory
-stop_at_hand (error.NoVersion r) = stop.Memory
-stop_at_hand (error.LastVersion id) = stop.Memory
-stop_at_hand error.TooManyChanges = stop.Memory
-stop_at_hand error.TooLong = stop.Memory
-stop_at_hand error.NoNumber = stop.Memory
-
-abbrev pub at_hand : {R : Type 0} → Result R OverlayError → Result R Stop
-at_hand (Ok v) = Ok v
-at_hand (Err why) = Err (stop_at_hand why)

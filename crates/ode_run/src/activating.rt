@@ -1,25 +1,22 @@
 //! Activations of triggers by their names.
-ghost use Rattle.std.specs.Prelude.{◌≡◌, ◌&&◌, ℕ, List as Items, length, nat_le, nat_lt};
+ghost use Rattle.std.specs.Prelude.{◌≡◌, ℕ, List as Items};
 ghost use Rattle.ode_activation_laws.specs.Switching.{tells_value};
 ghost use Rattle.ode_interpreter.specs.Seen.{Ends, Leaves};
 ghost use Rattle.ode_known_laws.specs.Knowing.{declared_in};
-ghost use Rattle.ode_objects.specs.Values.{are_args, are_kept};
 ghost use Rattle.ode_run.specs.Activating.{IsOfClass, Names, trigger_at};
 ghost use Rattle.ode_run.specs.Knowing.{Failed, IsRunning, Known, Lent, tx};
 ghost use Rattle.ode_run.specs.Serving.{IsServing, Stops};
 ghost use Rattle.ode_run.specs.Telling.{EndsThen};
 ghost use Rattle.ode_states.specs.Machine.{checked};
-ghost use Rattle.ode_value.specs.Lengths.{values_length};
-ghost use Rattle.ode_value.specs.Limits.{args_limit};
 ghost use Rattle.ode_value.specs.Pasts.{numbers};
 ghost use Rattle.ode_value.specs.Statements.{switches_on_named};
 ghost use Rattle.ode_value.specs.Tables.{Table};
 ghost use Rattle.ode_value.specs.Worlds.{Declared};
 ghost use Rattle.ode_value.specs.declared.member.TriggerDecl.{TriggerDecl};
 
-use crate::making::are_kept;
 use crate::stopping::ended;
 use crate::work::Work;
+use ode_arising_laws::triggers_are_taken;
 use ode_host::Host;
 use ode_interpreter::{Stop, Trigger};
 use ode_keep::Keep;
@@ -28,13 +25,6 @@ use ode_schema::Program;
 use ode_types::Classes;
 use ode_value::{List, Name, Reason, Ref, Value};
 use std::alloc::Global;
-
-// Whether a record can hold arguments, where they are short enough.
-fn fit_record(args: &[Value]) -> bool
-    ensures { result ≡ (nat_lt (length args.now) 256 && are_kept args.now) }
-{
-    args.len() < 256 && are_kept(args)
-}
 
 impl<'a, H: Host, K: Keep<H>> Work<'a, H, K> {
     // A new activation of a trigger that the object's class has under a name, up to its line.
@@ -45,16 +35,17 @@ impl<'a, H: Host, K: Keep<H>> Work<'a, H, K> {
         t: Trigger,
         args: List<Value>,
     ) -> Result<u64, Stop>
-        ensures acts { (all : Items Declared) (k : Known H) (tables : ℕ → ℕ → Table) (name : Items ℕ) (decl : TriggerDecl) → classes.now ≡ declared_in k.first → IsRunning H.view K.holds K.live self.old k
-            → are_args args ≡ nat_le (values_length args) args_limit → Names (tx all k self.old) of.object name (trigger_at t decl)
+        ensures acts { (all : Items Declared) (k : Known H) (tables : ℕ → ℕ → Table) (name : Items ℕ) (decl : TriggerDecl) → checked all ≡ classes.now → classes.now ≡ declared_in k.first → IsRunning H.view K.holds K.live self.old k
+            → Names (tx all k self.old) of.object name (trigger_at t decl)
             → EndsThen tells_value result (tx all k self.new) (switches_on_named (numbers tables) of name args (tx all k self.old)) }
-        ensures kept { (all : Items Declared) (k : Known H) (name : Items ℕ) (decl : TriggerDecl) → classes.now ≡ declared_in k.first → IsRunning H.view K.holds K.live self.old k
-            → are_args args ≡ nat_le (values_length args) args_limit → Names (tx all k self.old) of.object name (trigger_at t decl)
+        ensures kept { (all : Items Declared) (k : Known H) (name : Items ℕ) (decl : TriggerDecl) → checked all ≡ classes.now → classes.now ≡ declared_in k.first → IsRunning H.view K.holds K.live self.old k
+            → Names (tx all k self.old) of.object name (trigger_at t decl)
             → Leaves result (IsRunning H.view K.holds K.live self.new k) (Failed H.view self.new.host.now k) }
         ensures faults { (began : H) → IsServing H.view K.live began self.old → Leaves result (IsServing H.view K.live began self.new) (Stops (H.view began) (H.view self.new.host.now)) }
         ensures lent { (k : Known H) → Lent k self.old → Lent k self.new }
     {
         activations_known();
+        triggers_are_taken();
         if !self.heap.live() {
             return Err(Stop::DiskFault);
         }
@@ -87,9 +78,6 @@ impl<'a, H: Host, K: Keep<H>> Work<'a, H, K> {
         let Some(t) = program.trigger_named(class, name) else {
             return Err(Stop::Abort(Reason::NoObject(0)));
         };
-        if !fit_record(args.as_slice()) {
-            return Err(Stop::Memory);
-        }
         let number = self.switch_on_named(program.classes(), of, t, args)?;
         self.tell_number(alloc, program.classes(), number)
     }

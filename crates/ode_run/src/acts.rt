@@ -1,7 +1,7 @@
 //! A transaction's acts, as the interpreter calls them.
 use crate::work::Work;
 use ode_host::Host;
-use ode_interpreter::{Acts, Firing, Scene, Stop, Trigger};
+use ode_interpreter::{Acts, Firing, Scene, Stop};
 use ode_keep::Keep;
 use ode_schema::Program;
 use ode_value::{Expr, Kind, List, Name, Ref, Value};
@@ -129,11 +129,7 @@ impl<'a, 'b, H: Host, K: Keep<H>> Acts<Program<'b>> for Work<'a, H, K> {
     }
 
     fn make(&mut self, schema: &Program<'b>, class: u32, fields: List<Value>) -> Result<u64, Stop> {
-        self.make(self.alloc, schema.classes(), class, fields)
-    }
-
-    fn activate_initial(&mut self, schema: &Program<'b>, id: u64, t: Trigger) -> Result<(), Stop> {
-        self.activate_initial(self.alloc, schema.classes(), id, t)
+        self.make(self.alloc, schema, class, fields)
     }
 
     fn activate(

@@ -1,9 +1,9 @@
 //! Points arise.
 ghost use Rattle.std.specs.Prelude.{◌≡◌, ℕ, List as Items, All, IfErr, IfOk, OnOk, Ok, Some, map, true};
 ghost use Rattle.std.specs.List.{AllByRecursion};
-ghost use Rattle.std.specs.Option.{IsSome, option_copied, option_map};
-ghost use Rattle.ode_arising_laws.specs.Arising.{IsDeclared, IsGoing, firing_by, live_in};
-ghost use Rattle.ode_interpreter.specs.Seen.{EndsBy, IsFault, Leaves, firing};
+ghost use Rattle.std.specs.Option.{IsSome, option_copied};
+ghost use Rattle.ode_arising_laws.specs.Arising.{HasShortArgs, IsGoing, IsShortlyFired, firing_by, live_in};
+ghost use Rattle.ode_interpreter.specs.Seen.{EndsBy, IsFault, IsShort, Leaves, firing};
 ghost use Rattle.ode_known_laws.specs.Knowing.{declared_in};
 ghost use Rattle.ode_objects.specs.declared.object.Object.{Object as Held};
 ghost use Rattle.ode_overlay.specs.Changing.{put_acts};
@@ -12,17 +12,17 @@ ghost use Rattle.ode_overlay_laws.specs.Standing.{object_as};
 ghost use Rattle.ode_point_laws.specs.Points.{point_of};
 ghost use Rattle.ode_run.specs.Knowing.{Failed, IsRunning, Known, Lent, tx};
 ghost use Rattle.ode_run.specs.Serving.{IsServing, Stops};
-ghost use Rattle.ode_schema.specs.Parts.{table_by, trigger_of, trigger_under};
-ghost use Rattle.ode_states.specs.Advance.{IsReady, advanced, fired_in};
+ghost use Rattle.ode_schema.specs.Parts.{table_by, trigger_of};
+ghost use Rattle.ode_states.specs.Advance.{advanced, fired_in};
 ghost use Rattle.ode_states.specs.Machine.{checked};
 ghost use Rattle.ode_value.specs.Firings.{arises, both_lists, current_fields};
 ghost use Rattle.ode_value.specs.Pasts.{numbers};
 ghost use Rattle.ode_value.specs.Posting.{is_touched};
 ghost use Rattle.ode_value.specs.Worlds.{Declared};
 
-use crate::stopping::{at_hand, read};
+use crate::stopping::read;
 use crate::work::Work;
-use ode_arising_laws::points_show;
+use ode_arising_laws::{activations_go_on, points_show};
 use ode_held_laws::objects_are_read_fresh;
 use ode_host::Host;
 use ode_interpreter::{Firing, Stop, Trigger};
@@ -40,7 +40,7 @@ use std::alloc::{AllocError, Global};
 // ---- the object of a point
 
 // A tracked object, where it is there.
-fn live_in(overlay: &Overlay, id: u64) -> Option<&Object>
+pub(crate) fn live_in(overlay: &Overlay, id: u64) -> Option<&Object>
     ensures { option_copied result ≡ live_in id overlay.now }
 {
     let tracked = overlay.tracked(id)?;
@@ -48,15 +48,6 @@ fn live_in(overlay: &Overlay, id: u64) -> Option<&Object>
         Some(&tracked.current)
     } else {
         None
-    }
-}
-
-pub(crate) fn class_in(overlay: &Overlay, id: u64) -> Option<u32>
-    ensures { result ≡ option_map (λ (o : Held). o.class) (live_in id overlay.now) }
-{
-    match live_in(overlay, id) {
-        Some(object) => Some(object.class),
-        None => None,
     }
 }
 
@@ -82,45 +73,8 @@ fn fields_in(overlay: &Overlay, id: u64) -> &[Value]
 
 // ---- its activations
 
-// Whether an activation of an object of a class goes on by its trigger's table.
-#[tactic(auto, using(ode_arising_laws::proofs::GoingLaws::going))]
-fn goes_on(program: &Program, class: u32, a: &Running) -> bool
-    ensures { result ≡ true → IsGoing program.now class a.now }
-{
-    let _fit = program.tables();
-    let _checked = program.classes().as_slice();
-    let of = Trigger {
-        class: a.class,
-        place: a.trigger,
-    };
-    let Some(trigger) = program.trigger_at(of) else {
-        return false;
-    };
-    let Some(named) = program.trigger_named(class, &trigger.name) else {
-        return false;
-    };
-    if named.class != a.class || named.place != a.trigger || program.place(of) != a.table {
-        return false;
-    }
-    if program.table(of).states() <= a.state {
-        return false;
-    }
-    true
-}
-
-fn all_go_on(program: &Program, class: u32, acts: &[Running]) -> bool
-    ensures { result ≡ true → AllByRecursion (IsGoing program.now class) acts.now }
-{
-    for a in acts {
-        if !goes_on(program, class, a) {
-            return false;
-        }
-    }
-    true
-}
-
 // The activations of an object go on by a point: those that fire there.
-#[tactic(auto, using(ode_arising_laws::proofs::GoingLaws::fired_known))]
+#[tactic(auto, using(ode_arising_laws::proofs::GoingLaws::fired_short))]
 pub(crate) fn go_on(
     alloc: Global,
     program: &Program,
@@ -130,12 +84,11 @@ pub(crate) fn go_on(
     kind: &Kind,
     args: &[Value],
 ) -> Result<List<Fired>, AllocError>
-    requires { All (IsReady program.now.tables program.now.alphabets) there.old }
     ensures acts { (o : Held) → live_in id overlay.now ≡ Some o
         → OnOk result (there.new ≡ map (advanced program.now.tables program.now.alphabets program.now.classes (point_of id o kind.now args.now)) there.old) }
     ensures fired { (o : Held) → live_in id overlay.now ≡ Some o
         → IfOk result (λ fired. fired ≡ fired_in program.now.tables program.now.alphabets program.now.classes (point_of id o kind.now args.now) there.old) }
-    ensures known { (class : ℕ) → AllByRecursion (IsGoing program.now class) there.old → IfOk result (AllByRecursion (IsDeclared program.now)) }
+    ensures short { AllByRecursion HasShortArgs there.old → IfOk result (AllByRecursion IsShortlyFired) }
 {
     advance(
         alloc,
@@ -173,16 +126,14 @@ pub(crate) fn firings_of(
 }
 
 impl<'a, H: Host, K: Keep<H>> Work<'a, H, K> {
-    // The activations of an object of a class, where each goes on by its trigger's table.
-    pub(crate) fn activations(
-        &mut self,
-        program: &Program,
-        class: u32,
-        id: u64,
-    ) -> Result<List<Running>, Stop>
+    // The activations of an object that is there. Each goes on by its trigger's table.
+    pub(crate) fn activations(&mut self, program: &Program, id: u64) -> Result<List<Running>, Stop>
+        requires there { IsSome (live_in id self.old.overlay.now) }
         ensures value { (k : Known H) → program.now.classes ≡ declared_in k.first → IsRunning H.view K.holds K.live self.old k
             → IfOk result (λ there. acts program.now.classes k.entries id program.now.maps self.old.overlay.now ≡ Ok there) }
-        ensures going { IfOk result (AllByRecursion (IsGoing program.now class)) }
+        ensures going { (k : Known H) → program.now.classes ≡ declared_in k.first → IsRunning H.view K.holds K.live self.old k
+            → (o : Held) → live_in id self.old.overlay.now ≡ Some o → IfOk result (AllByRecursion (IsGoing program.now o.class)) }
+        ensures short { IfOk result (AllByRecursion HasShortArgs) }
         ensures fault { IfErr result IsFault }
         ensures same { (self.new.overlay.now ≡ self.old.overlay.now) × (self.new.deferred.now ≡ self.old.deferred.now) × (self.new.text.now ≡ self.old.text.now) × (self.new.budget.now ≡ self.old.budget.now) }
         ensures kept { (k : Known H) → program.now.classes ≡ declared_in k.first → IsRunning H.view K.holds K.live self.old k
@@ -190,29 +141,14 @@ impl<'a, H: Host, K: Keep<H>> Work<'a, H, K> {
         ensures faults { (began : H) → IsServing H.view K.live began self.old → Leaves result (IsServing H.view K.live began self.new) (Stops (H.view began) (H.view self.new.host.now)) }
         ensures lent { (k : Known H) → Lent k self.old → Lent k self.new }
     {
-        let there = self.stored(program, id)?;
-        if all_go_on(program, class, there.as_slice()) {
-            Ok(there)
-        } else {
-            Err(Stop::Memory)
-        }
-    }
-
-    // All activations of an object that is tracked, of which nothing is read.
-    fn stored(&mut self, program: &Program, id: u64) -> Result<List<Running>, Stop>
-        ensures value { (k : Known H) → program.now.classes ≡ declared_in k.first → IsRunning H.view K.holds K.live self.old k
-            → IfOk result (λ there. acts program.now.classes k.entries id program.now.maps self.old.overlay.now ≡ Ok there) }
-        ensures fault { IfErr result IsFault }
-        ensures same { (self.new.overlay.now ≡ self.old.overlay.now) × (self.new.deferred.now ≡ self.old.deferred.now) × (self.new.text.now ≡ self.old.text.now) × (self.new.budget.now ≡ self.old.budget.now) }
-        ensures kept { (k : Known H) → program.now.classes ≡ declared_in k.first → IsRunning H.view K.holds K.live self.old k
-            → Leaves result (IsRunning H.view K.holds K.live self.new k) (Failed H.view self.new.host.now k) }
-        ensures faults { (began : H) → IsServing H.view K.live began self.old → Leaves result (IsServing H.view K.live began self.new) (Stops (H.view began) (H.view self.new.host.now)) }
-        ensures lent { (k : Known H) → Lent k self.old → Lent k self.new }
-    {
+        activations_go_on();
+        // Read, so that the tables are known to fit, and the classes as checked.
+        let _fit = program.tables();
+        let _checked = program.classes().as_slice();
         if !self.heap.live() {
             return Err(Stop::DiskFault);
         }
-        at_hand(self.overlay.acts(program.classes(), self.heap, self.host, id, program.maps()))
+        read(self.overlay.acts(program.classes(), self.heap, self.host, id, program.maps()))
     }
 
     // The activations of an object are these from now on. It is never refused.
@@ -260,14 +196,15 @@ impl<'a, H: Host, K: Keep<H>> Work<'a, H, K> {
             → Leaves result (IsRunning H.view K.holds K.live self.new k) (Failed H.view self.new.host.now k) }
         ensures faults { (began : H) → IsServing H.view K.live began self.old → Leaves result (IsServing H.view K.live began self.new) (Stops (H.view began) (H.view self.new.host.now)) }
         ensures lent { (k : Known H) → Lent k self.old → Lent k self.new }
-        ensures declared { IfOk result (All (λ f. IsSome (trigger_under program.now.classes f.trigger.class f.trigger.place))) }
+        ensures short { IfOk result (All IsShort) }
     {
         points_show();
+        // Read, so that they are known as checked.
         let _checked = program.classes().as_slice();
-        let Some(class) = class_in(self.overlay, id) else {
+        let Some(_object) = live_in(self.overlay, id) else {
             return Err(Stop::Abort(Reason::NoObject(0)));
         };
-        let mut there = self.activations(program, class, id)?;
+        let mut there = self.activations(program, id)?;
         let fired = go_on(alloc, program, self.overlay, id, &mut there, kind, args)?;
         self.put_back(program.classes(), id, there)?;
         let firings = firings_of(alloc, id, fired)?;

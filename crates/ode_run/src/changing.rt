@@ -1,11 +1,9 @@
 //! Fields are set, versions are derived, and what is to be kept is weighed.
-ghost use Rattle.std.specs.Prelude.{◌≡◌, ◌+ℤ◌, List as Items, int_le, pos, true};
+ghost use Rattle.std.specs.Prelude.{◌≡◌, ◌+ℤ◌, List as Items, int_le, pos};
 ghost use Rattle.ode_interpreter.specs.Seen.{Ends, Leaves};
 ghost use Rattle.ode_known_laws.specs.Knowing.{declared_in};
-ghost use Rattle.ode_objects.specs.Values.{is_kept};
 ghost use Rattle.ode_run.specs.Knowing.{Failed, IsRunning, Known, Lent, tx};
 ghost use Rattle.ode_run.specs.Serving.{IsServing, Stops};
-ghost use Rattle.ode_run.specs.Stopping.{named_by};
 ghost use Rattle.ode_run.specs.Telling.{EndsThen};
 ghost use Rattle.ode_value.specs.Completing.{weighs};
 ghost use Rattle.ode_value.specs.Limits.{weight_limit};
@@ -13,14 +11,13 @@ ghost use Rattle.ode_value.specs.Making.{derives, sets_field};
 ghost use Rattle.ode_value.specs.Worlds.{Declared};
 ghost use Rattle.ode_version_laws.specs.Denoting.{tells_version};
 
-use crate::stopping::{ended, named_by};
+use crate::stopping::ended;
 use crate::work::Work;
 use ode_host::Host;
 use ode_interpreter::Stop;
 use ode_keep::Keep;
 use ode_known_laws::{derivations_known, worlds_known, writes_known};
 use ode_lines::version_line;
-use ode_objects::is_kept;
 use ode_types::Classes;
 use ode_value::limits::WEIGHT_LIMIT;
 use ode_value::{Reason, Ref, Value};
@@ -34,33 +31,6 @@ fn is_light(bytes: u64, grown: i64) -> bool
 }
 
 impl<'a, H: Host, K: Keep<H>> Work<'a, H, K> {
-    // A field is set to a value that a record can hold. Where a version's key is named as damaged, the object is read once more, whole: if
-    // nothing of it is, the version hasn't the field, which no checked statement sets, and want of memory is told.
-    fn write_kept(&mut self, classes: &Classes, of: Ref, place: u16, v: Value) -> Result<(), Stop>
-        ensures acts { (all : Items Declared) (k : Known H) → classes.now ≡ declared_in k.first → is_kept v ≡ true → IsRunning H.view K.holds K.live self.old k
-            → Ends result (tx all k self.new) (sets_field of place v (tx all k self.old)) }
-        ensures kept { (k : Known H) → classes.now ≡ declared_in k.first → is_kept v ≡ true → IsRunning H.view K.holds K.live self.old k
-            → Leaves result (IsRunning H.view K.holds K.live self.new k) (Failed H.view self.new.host.now k) }
-        ensures faults { (began : H) → IsServing H.view K.live began self.old → Leaves result (IsServing H.view K.live began self.new) (Stops (H.view began) (H.view self.new.host.now)) }
-        ensures lent { (k : Known H) → Lent k self.old → Lent k self.new }
-    {
-        writes_known();
-        worlds_known();
-        if !self.heap.live() {
-            return Err(Stop::DiskFault);
-        }
-        let answer = self
-            .overlay
-            .write(classes, self.heap, self.host, of, place, v);
-        match named_by(&answer) {
-            Some(key) => {
-                self.untracked(self.alloc, classes, key.a)?;
-                Err(Stop::Memory)
-            }
-            None => ended(answer),
-        }
-    }
-
     /// A field of the version that a reference denotes is set.
     pub fn set_field(
         &mut self,
@@ -76,10 +46,14 @@ impl<'a, H: Host, K: Keep<H>> Work<'a, H, K> {
         ensures faults { (began : H) → IsServing H.view K.live began self.old → Leaves result (IsServing H.view K.live began self.new) (Stops (H.view began) (H.view self.new.host.now)) }
         ensures lent { (k : Known H) → Lent k self.old → Lent k self.new }
     {
-        if !is_kept(&v) {
-            return Err(Stop::Memory);
+        writes_known();
+        if !self.heap.live() {
+            return Err(Stop::DiskFault);
         }
-        self.write_kept(classes, of, place, v)
+        ended(
+            self.overlay
+                .write(classes, self.heap, self.host, of, place, v),
+        )
     }
 
     // A new version, up to its line.
@@ -92,7 +66,6 @@ impl<'a, H: Host, K: Keep<H>> Work<'a, H, K> {
         ensures lent { (k : Known H) → Lent k self.old → Lent k self.new }
     {
         derivations_known();
-        worlds_known();
         if !self.heap.live() {
             return Err(Stop::DiskFault);
         }

@@ -1,14 +1,13 @@
 //! Detached firings are collected.
 ghost use Rattle.std.specs.Prelude.{◌≡◌, ◌+◌, ◌≤◌, List as Items, None, IfErr, IfOk, true};
-ghost use Rattle.std.specs.Option.{IfSome, IsSome};
-ghost use Rattle.ode_interpreter.specs.Seen.{Ends, IsFault, Leaves, firing};
+ghost use Rattle.std.specs.Option.{IfSome};
+ghost use Rattle.ode_interpreter.specs.Seen.{Ends, IsFault, IsShort, Leaves, firing};
 ghost use Rattle.ode_known_laws.specs.Knowing.{declared_in};
-ghost use Rattle.ode_objects.specs.Values.{are_args};
 ghost use Rattle.ode_overlay.specs.Layers.{generation_of};
 ghost use Rattle.ode_run.specs.Collecting.{Gathers};
 ghost use Rattle.ode_run.specs.Knowing.{Failed, IsRunning, Known, Lent, tx};
 ghost use Rattle.ode_run.specs.Serving.{IsServing, Stops};
-ghost use Rattle.ode_schema.specs.Parts.{trigger_of, trigger_under};
+ghost use Rattle.ode_schema.specs.Parts.{trigger_of};
 ghost use Rattle.ode_states.specs.Machine.{checked};
 ghost use Rattle.ode_value.specs.Acts.{prints};
 ghost use Rattle.ode_value.specs.Limits.{generation_limit};
@@ -20,29 +19,15 @@ use crate::printing::add;
 use crate::work::Work;
 use ode_codec::Entry;
 use ode_host::Host;
-use ode_interpreter::{Firing, Schema, Stop};
+use ode_interpreter::{Firing, Stop};
 use ode_keep::Keep;
 use ode_known_laws::collections_known;
 use ode_lines::dropped_line;
-use ode_objects::KeptArgs;
 use ode_overlay::Overlay;
 use ode_schema::Program;
 use ode_types::Classes;
 use ode_value::limits::GENERATION_LIMIT;
-use ode_value::{List, Value};
-use std::alloc::{AllocError, Global};
-
-// The arguments again, where a record can hold them.
-#[tactic(auto, using(crate::proofs::CollectLaws::kept_is))]
-fn kept_again(alloc: Global, args: &List<Value>) -> Result<Option<List<Value>>, AllocError>
-    ensures same { IfOk result (λ found. IfSome found (λ again. again ≡ args.now)) }
-    ensures kept { IfOk result (λ found. IfSome found (λ again. are_args again ≡ true)) }
-{
-    match KeptArgs::new(args.copy(alloc)?) {
-        Some(kept) => Ok(Some(kept.values().copy(alloc)?)),
-        None => Ok(None),
-    }
-}
+use std::alloc::Global;
 
 // The generation of what is collected, where there is one more.
 #[tactic(auto, unfolding(ode_value::specs::Limits::generation_limit))]
@@ -68,6 +53,7 @@ impl<'a, H: Host, K: Keep<H>> Work<'a, H, K> {
         independent: bool,
         f: &Firing,
     ) -> Result<bool, Stop>
+        requires { IsShort f.now }
         ensures running { (all : Items Declared) (k : Known H) → classes.now ≡ declared_in k.first → IsRunning H.view K.holds K.live self.old k
             → IfOk result (Gathers prints independent (firing (trigger_of classes.now) f.now) (tx all k self.old) (tx all k self.new)) }
         ensures settling { (all : Items Declared) (k : Known H) → classes.now ≡ declared_in k.first → IsRunning H.view K.holds K.live self.old k
@@ -79,12 +65,10 @@ impl<'a, H: Host, K: Keep<H>> Work<'a, H, K> {
         ensures lent { (k : Known H) → Lent k self.old → Lent k self.new }
     {
         collections_known();
-        let Some(args) = kept_again(alloc, &f.args)? else {
-            return Err(Stop::Memory);
-        };
         let Some(generation) = next_generation(self.overlay) else {
             return Ok(false);
         };
+        let args = f.args.copy(alloc)?;
         let entry = Entry {
             object: f.object,
             class: f.trigger.class,
@@ -105,7 +89,7 @@ impl<'a, H: Host, K: Keep<H>> Work<'a, H, K> {
         independent: bool,
         f: &Firing,
     ) -> Result<(), Stop>
-        requires { IsSome (trigger_under program.now.classes f.now.trigger.class f.now.trigger.place) }
+        requires { IsShort f.now }
         ensures acts { (all : Items Declared) (k : Known H) → checked all ≡ program.now.classes → program.now.classes ≡ declared_in k.first → IsRunning H.view K.holds K.live self.old k
             → Ends result (tx all k self.new) (collects prints independent (firing (trigger_of program.now.classes) f.now) (tx all k self.old)) }
         ensures kept { (k : Known H) → program.now.classes ≡ declared_in k.first → IsRunning H.view K.holds K.live self.old k
@@ -116,7 +100,7 @@ impl<'a, H: Host, K: Keep<H>> Work<'a, H, K> {
         if self.gather(alloc, program.classes(), independent, f)? {
             return Ok(());
         }
-        let line = dropped_line(alloc, &program.trigger(f.trigger).name, f.object)?;
+        let line = dropped_line(alloc, program.trigger_name(f.trigger), f.object)?;
         self.print(program.classes(), line.as_slice())
     }
 
@@ -137,7 +121,7 @@ impl<'a, H: Host, K: Keep<H>> Work<'a, H, K> {
     /// One at a point of the settling, where lines have no limit.
     #[tactic(auto, using(crate::proofs::CollectLaws::gathered_then, crate::proofs::CollectLaws::dropped_last))]
     pub fn collect_last(&mut self, alloc: Global, program: &Program, f: &Firing) -> Result<(), Stop>
-        requires { IsSome (trigger_under program.now.classes f.now.trigger.class f.now.trigger.place) }
+        requires { IsShort f.now }
         ensures acts { (all : Items Declared) (k : Known H) → checked all ≡ program.now.classes → program.now.classes ≡ declared_in k.first → IsRunning H.view K.holds K.live self.old k
             → Ends result (tx all k self.new) (collects says true (firing (trigger_of program.now.classes) f.now) (tx all k self.old)) }
         ensures kept { (k : Known H) → program.now.classes ≡ declared_in k.first → IsRunning H.view K.holds K.live self.old k
@@ -148,7 +132,7 @@ impl<'a, H: Host, K: Keep<H>> Work<'a, H, K> {
         if self.gather(alloc, program.classes(), true, f)? {
             return Ok(());
         }
-        let line = dropped_line(alloc, &program.trigger(f.trigger).name, f.object)?;
+        let line = dropped_line(alloc, program.trigger_name(f.trigger), f.object)?;
         self.settling_line(program.classes(), line.as_slice())
     }
 }

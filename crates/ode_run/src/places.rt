@@ -1,8 +1,8 @@
 //! What was touched and what was deferred, by places.
 ghost use Rattle.std.specs.Prelude.{◌≡◌, ◌+◌, List as Items, IfErr, IfOk, length, slice_get};
-ghost use Rattle.std.specs.Option.{IfSome, IsSome, option_map};
+ghost use Rattle.std.specs.Option.{IfSome, option_map};
 ghost use Rattle.ode_interpreter.specs.Seen.{Ends, EndsBy, IsFault, Leaves, firing};
-ghost use Rattle.ode_schema.specs.Parts.{trigger_of, trigger_under};
+ghost use Rattle.ode_schema.specs.Parts.{trigger_of};
 ghost use Rattle.ode_states.specs.Machine.{checked};
 ghost use Rattle.ode_value.specs.Acts.{reads};
 ghost use Rattle.ode_value.specs.Completing.{rounds};
@@ -104,7 +104,6 @@ impl<'a, H: Host, K: Keep<H>> Work<'a, H, K> {
         ensures faults { (began : H) → IsServing H.view K.live began self.old → Leaves result (IsServing H.view K.live began self.new) (Stops (H.view began) (H.view self.new.host.now)) }
         ensures lent { (k : Known H) → Lent k self.old → Lent k self.new }
         ensures fault { IfErr result IsFault }
-        ensures declared { IfOk result (λ found. IfSome found (λ f. IsSome (trigger_under program.now.classes f.trigger.class f.trigger.place))) }
     {
         let Some((object, fired)) = self.deferred.as_slice().get(at) else {
             return Ok(None);
@@ -113,9 +112,6 @@ impl<'a, H: Host, K: Keep<H>> Work<'a, H, K> {
             class: fired.class,
             place: fired.trigger,
         };
-        if program.trigger_at(trigger).is_none() {
-            return Err(Stop::Memory);
-        }
         Ok(Some(Firing {
             object: *object,
             activation: fired.activation,

@@ -4,7 +4,7 @@ ghost use Rattle.ode_interpreter.specs.Seen.{Ends, Leaves, scene};
 ghost use Rattle.ode_known_laws.specs.Knowing.{declared_in};
 ghost use Rattle.ode_run.specs.Knowing.{Failed, IsRunning, Known, Lent, tx};
 ghost use Rattle.ode_run.specs.Serving.{IsServing, Stops};
-ghost use Rattle.ode_run.specs.Stopping.{named, read_as};
+ghost use Rattle.ode_run.specs.Stopping.{read_as};
 ghost use Rattle.ode_value.specs.Evaluation.{reason_of};
 ghost use Rattle.ode_value.specs.Expressions.{evaluates};
 ghost use Rattle.ode_value.specs.Worlds.{Declared};
@@ -17,7 +17,7 @@ use ode_keep::Keep;
 use ode_known_laws::views_read_known;
 use ode_run_frame::{Unread, evaluate};
 use ode_types::Classes;
-use ode_value::{Expr, Fault, Key, Reason, Value};
+use ode_value::{Expr, Fault, Reason, Value};
 use std::alloc::Global;
 
 pub(crate) fn reason_of(fault: Fault) -> Reason
@@ -44,19 +44,8 @@ fn read_as(answer: Result<Value, EvalStop<Unread>>) -> Result<Value, Stop>
     }
 }
 
-// The key that an evaluation named as damaged.
-fn named(answer: &Result<Value, EvalStop<Unread>>) -> Option<Key>
-    ensures { result ≡ named answer.now }
-{
-    match answer {
-        Err(EvalStop::Frame(Unread::Damaged { key })) => Some(*key),
-        _ => None,
-    }
-}
-
 impl<'a, H: Host, K: Keep<H>> Work<'a, H, K> {
-    /// The value of an expression. Where it stops at a version's key, the object is read once more, whole: if nothing of it is damaged, the
-    /// version hasn't the field, which no checked expression asks for, and want of memory is told.
+    /// The value of an expression.
     pub fn evaluate(
         &mut self,
         alloc: Global,
@@ -75,13 +64,6 @@ impl<'a, H: Host, K: Keep<H>> Work<'a, H, K> {
         if !self.heap.live() {
             return Err(Stop::DiskFault);
         }
-        let answer = evaluate(alloc, on, classes, self.overlay, self.heap, self.host, e);
-        match named(&answer) {
-            Some(key) => {
-                self.untracked(alloc, classes, key.a)?;
-                Err(Stop::Memory)
-            }
-            None => read_as(answer),
-        }
+        read_as(evaluate(alloc, on, classes, self.overlay, self.heap, self.host, e))
     }
 }

@@ -1,13 +1,12 @@
 //! Statements, calls and points over what a context has.
 ghost use Rattle.std.specs.Prelude.{◌≡◌, true};
-ghost use Rattle.std.specs.Option.{IsSome};
 ghost use Rattle.ode_interpreter.specs.Seen.{Ends, firing};
 ghost use Rattle.ode_keep.specs.Entries.{Entries};
 ghost use Rattle.ode_known_laws.specs.Knowing.{declared_in};
 ghost use Rattle.ode_laws.specs.Alike.{NumberWorld};
 ghost use Rattle.ode_run.specs.Contexts.{IsOpen, LeavesOpen, tables_in, tx_over};
 ghost use Rattle.ode_run.specs.Serving.{LeavesUsable};
-ghost use Rattle.ode_schema.specs.Parts.{trigger_of, trigger_under};
+ghost use Rattle.ode_schema.specs.Parts.{trigger_of};
 ghost use Rattle.ode_value.specs.Completing.{completes};
 ghost use Rattle.ode_value.specs.Executing.{commands, first_actions, outermost};
 ghost use Rattle.ode_value.specs.Pasts.{numbers};
@@ -170,7 +169,6 @@ pub(crate) fn fire_now_over<'a, H: Host, K: Keep<H>>(
     host: &'a mut H,
     f: &Firing,
 ) -> Result<(), Stop>
-    requires { IsSome (trigger_under program.now.classes f.now.trigger.class f.now.trigger.place) }
     ensures acts { (entries : Entries) (first : NumberWorld) → program.now.classes ≡ declared_in first → IsOpen (K.holds heap.old (H.view host.old)) (K.live heap.old) overlay.old budget.old bytes entries first
         → Ends result (tx_over first overlay.new deferred.new text.new budget.new) (runs (first_actions (numbers (tables_in program.now))) (firing (trigger_of program.now.classes) f.now) (tx_over first overlay.old deferred.old text.old budget.old)) }
     ensures leaves { (entries : Entries) (first : NumberWorld) → program.now.classes ≡ declared_in first → IsOpen (K.holds heap.old (H.view host.old)) (K.live heap.old) overlay.old budget.old bytes entries first

@@ -1,10 +1,9 @@
 //! Lines that statements and firings print.
 ghost use Rattle.std.specs.Prelude.{◌≡◌, List as Items};
-ghost use Rattle.std.specs.Option.{IsSome};
 ghost use Rattle.ode_activation_laws.specs.Switching.{tells_line, tells_value};
 ghost use Rattle.ode_interpreter.specs.Seen.{Ends, Leaves, firing};
 ghost use Rattle.ode_overlay_laws.specs.Following.{tells_new};
-ghost use Rattle.ode_schema.specs.Parts.{trigger_of, trigger_under};
+ghost use Rattle.ode_schema.specs.Parts.{trigger_of};
 ghost use Rattle.ode_states.specs.Machine.{checked};
 ghost use Rattle.ode_value.specs.Acts.{prints};
 ghost use Rattle.ode_value.specs.Expressions.{text_in};
@@ -17,7 +16,7 @@ ghost use Rattle.ode_value.specs.Worlds.{Declared};
 
 use crate::work::Work;
 use ode_host::Host;
-use ode_interpreter::{Firing, Schema, Stop};
+use ode_interpreter::{Firing, Stop};
 use ode_keep::Keep;
 use ode_lines::{active_line, fired_line, new_line, said_line, value_line};
 use ode_schema::Program;
@@ -114,7 +113,6 @@ impl<'a, H: Host, K: Keep<H>> Work<'a, H, K> {
 
     /// The line of a firing.
     pub fn tell(&mut self, alloc: Global, program: &Program, f: &Firing) -> Result<(), Stop>
-        requires { IsSome (trigger_under program.now.classes f.now.trigger.class f.now.trigger.place) }
         ensures acts { (all : Items Declared) (k : Known H) → checked all ≡ program.now.classes → program.now.classes ≡ declared_in k.first → IsRunning H.view K.holds K.live self.old k
             → Ends result (tx all k self.new) (prints (fired_text (firing (trigger_of program.now.classes) f.now)) (tx all k self.old)) }
         ensures kept { (k : Known H) → program.now.classes ≡ declared_in k.first → IsRunning H.view K.holds K.live self.old k
@@ -122,7 +120,7 @@ impl<'a, H: Host, K: Keep<H>> Work<'a, H, K> {
         ensures faults { (began : H) → IsServing H.view K.live began self.old → Leaves result (IsServing H.view K.live began self.new) (Stops (H.view began) (H.view self.new.host.now)) }
         ensures lent { (k : Known H) → Lent k self.old → Lent k self.new }
     {
-        let line = fired_line(alloc, &program.trigger(f.trigger).name, f.object)?;
+        let line = fired_line(alloc, program.trigger_name(f.trigger), f.object)?;
         self.print(program.classes(), line.as_slice())
     }
 }

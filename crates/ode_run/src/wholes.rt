@@ -1,13 +1,12 @@
 //! Points arise in the list of all points alone.
 ghost use Rattle.std.specs.Prelude.{◌≡◌, ◌∷◌, List as Items, All, IfOk, drop, filter, map, true};
-ghost use Rattle.std.specs.Option.{IsSome};
-ghost use Rattle.ode_interpreter.specs.Seen.{EndsBy, Leaves, firing};
+ghost use Rattle.ode_interpreter.specs.Seen.{EndsBy, IsShort, Leaves, firing};
 ghost use Rattle.ode_known_laws.specs.Knowing.{declared_in};
 ghost use Rattle.ode_point_laws.specs.Points.{sees_whole};
 ghost use Rattle.ode_run.specs.Knowing.{Failed, IsRunning, Known, Lent, tx};
 ghost use Rattle.ode_run.specs.Serving.{IsServing, Stops};
 ghost use Rattle.ode_run.specs.Wholes.{merged, standing_as};
-ghost use Rattle.ode_schema.specs.Parts.{table_by, trigger_of, trigger_under};
+ghost use Rattle.ode_schema.specs.Parts.{table_by, trigger_of};
 ghost use Rattle.ode_states.specs.Machine.{checked};
 ghost use Rattle.ode_types.specs.declared.running.Running.{Running as Going};
 ghost use Rattle.ode_value.specs.Firings.{arises, whole_list};
@@ -15,7 +14,7 @@ ghost use Rattle.ode_value.specs.Pasts.{numbers};
 ghost use Rattle.ode_value.specs.Posting.{is_touched};
 ghost use Rattle.ode_value.specs.Worlds.{Declared};
 
-use crate::arising::{class_in, firings_of, go_on};
+use crate::arising::{firings_of, go_on, live_in};
 use crate::work::Work;
 use ode_arising_laws::points_show;
 use ode_host::Host;
@@ -109,14 +108,15 @@ impl<'a, H: Host, K: Keep<H>> Work<'a, H, K> {
             → Leaves result (IsRunning H.view K.holds K.live self.new k) (Failed H.view self.new.host.now k) }
         ensures faults { (began : H) → IsServing H.view K.live began self.old → Leaves result (IsServing H.view K.live began self.new) (Stops (H.view began) (H.view self.new.host.now)) }
         ensures lent { (k : Known H) → Lent k self.old → Lent k self.new }
-        ensures declared { IfOk result (All (λ f. IsSome (trigger_under program.now.classes f.trigger.class f.trigger.place))) }
+        ensures short { IfOk result (All IsShort) }
     {
         points_show();
+        // Read, so that they are known as checked.
         let _checked = program.classes().as_slice();
-        let Some(class) = class_in(self.overlay, id) else {
+        let Some(_object) = live_in(self.overlay, id) else {
             return Err(Stop::Abort(Reason::NoObject(0)));
         };
-        let there = self.activations(program, class, id)?;
+        let there = self.activations(program, id)?;
         let mut wholes = wholes_in(alloc, program, there.as_slice())?;
         let fired = go_on(alloc, program, self.overlay, id, &mut wholes, kind, args)?;
         let there = merged(program, there, wholes.as_slice());

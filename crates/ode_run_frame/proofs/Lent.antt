@@ -1,11 +1,11 @@
 -- What is behind an evaluation that began with a heap and a host.
-use Rattle.std.proofs.Common.{◌≡◌, ◌≤◌, ℕ, List, Bool, true, false, Option, Some, None, refl, sym, subst, inr, arith}
+use Rattle.std.proofs.Common.{◌≡◌, ℕ, List, Bool, Option, None, refl, sym, subst, inr, arith}
 use Rattle.std.specs.Prelude.{IsTrue}
 use Rattle.ode_host.proofs.Moments.{looks_none}
 use Rattle.ode_host.specs.View.{View}
 use Rattle.ode_keep.specs.Entries.{Entries}
 use Rattle.ode_overlay.specs.Layers.{Layer}
-use Rattle.ode_run_frame.specs.Knowing.{Base, Behind, Follows, Known, Shown, Since}
+use Rattle.ode_run_frame.specs.Knowing.{Behind, Follows, Shown, Since}
 use Rattle.ode_run_frame.specs.Reads.{Reads}
 use Rattle.ode_run_frame.specs.declared.unread.Unread.{Unread}
 use Rattle.ode_value.specs.Worlds.{Bones}
@@ -19,6 +19,7 @@ module _ {H K : Type 0} (seen : H → View) (holds : K → View → Entries → 
     heap = refl;
     host = refl;
     behind = record {
+      sound = tt;
       looks = looks_none (seen h);
       faults = record { later = omega arith; rose = λ is. absurd (cc is); calm = inr refl };
       keeps = record { usable = usable; records = held };

@@ -1,5 +1,5 @@
 -- What is known of a frame over a heap and an overlay.
-use Rattle.std.specs.Prelude.{◌≡◌, ℕ, List, Bool, true, Option, Some, None}
+use Rattle.std.specs.Prelude.{◌≡◌, ℕ, List, Bool, true, Option, Some}
 use Rattle.ode_host.specs.Causes.{RoseIf}
 use Rattle.ode_host.specs.Host.{Looks}
 use Rattle.ode_host.specs.View.{View}
@@ -7,7 +7,7 @@ use Rattle.ode_keep.specs.Entries.{Entries}
 use Rattle.ode_overlay.specs.Layers.{Layer}
 use Rattle.ode_run_frame.specs.Reads.{Reads}
 use Rattle.ode_run_frame.specs.declared.unread.Unread.{Unread}
-use Rattle.ode_run_frame.specs.declared.unread.Unread.TheVariants.{DiskFault}
+use Rattle.ode_run_frame.specs.declared.unread.Unread.TheVariants.{Damaged, DiskFault}
 use Rattle.ode_value.specs.Worlds.{Bones}
 use Rattle.ode_value.specs.declared.class.Class.{Class}
 
@@ -29,8 +29,14 @@ abbrev pub Until : Option Unread → Type 0 → Type 0
 Until (Some DiskFault) P = Unit {0}
 Until _ P = P
 
--- The host only looked; the disk failed exactly where that stopped it, and till then the keeper holds the records.
+-- no record is damaged
+abbrev pub IsSound : Option Unread → Type 0
+IsSound (Some (Damaged key)) = ⊥
+IsSound _ = Unit {0}
+
+-- The host only looked, and no record is damaged; the disk failed exactly where that stopped it, and till then the keeper holds the records.
 pub record Behind (before after : View) (holds : Entries → Type 0) (live : Bool) (stopped : Option Unread) (entries : Entries) : Type 0 where
+  pub sound : IsSound stopped
   pub looks : Looks before after
   pub faults : RoseIf (stopped ≡ Some DiskFault) before.disk_faults after.disk_faults
   pub keeps : Until stopped (Keeps holds live entries)

@@ -1,16 +1,13 @@
 -- What is read through an overlay, beside what bones have.
-use Rattle.std.specs.Prelude.{◌≡◌, ℕ, List, Bool, true, Option, Some, None, Result, Ok, Err}
+use Rattle.std.specs.Prelude.{ℕ, List}
 use Rattle.ode_expr.specs.Answers.{number_of}
 use Rattle.ode_expr.specs.declared.stop.EvalStop.{EvalStop}
 use Rattle.ode_expr.specs.declared.stop.EvalStop.TheVariants as eval
 use Rattle.ode_heap.specs.declared.object.ObjectHead.{ObjectHead}
-use Rattle.ode_host.specs.Causes.{RoseIf}
-use Rattle.ode_host.specs.Host.{Looks}
-use Rattle.ode_host.specs.View.{View}
 use Rattle.ode_keep.specs.Entries.{Entries}
 use Rattle.ode_overlay.specs.Answers.{Answer, ◌>>=◌}
 use Rattle.ode_overlay.specs.Layers.{Layer}
-use Rattle.ode_overlay.specs.Reading.{not_null, object, or_else, read}
+use Rattle.ode_overlay.specs.Reading.{ReadsAs, not_null, object, or_else, read}
 use Rattle.ode_overlay.specs.declared.error.OverlayError.{OverlayError}
 use Rattle.ode_overlay.specs.declared.error.OverlayError.TheVariants as error
 use Rattle.ode_run_frame.specs.declared.unread.Unread.{Unread}
@@ -18,7 +15,6 @@ use Rattle.ode_run_frame.specs.declared.unread.Unread.TheVariants as unread
 use Rattle.ode_value.specs.Evaluation.{field_of}
 use Rattle.ode_value.specs.Keys.{counters_key}
 use Rattle.ode_value.specs.Worlds.{Bones}
-use Rattle.ode_value.specs.declared.arithmetic.Fault.{Fault}
 use Rattle.ode_value.specs.declared.arithmetic.Fault.TheVariants as fault
 use Rattle.ode_value.specs.declared.class.Class.{Class}
 use Rattle.ode_value.specs.declared.value.Ref.{Ref}
@@ -34,13 +30,6 @@ number_read base r x = do
   head ← object base r.object x
   head ← or_else (error.NoObject r.object) head
   number_in r head
-
--- what is read is what was meant, a value or a fault
-abbrev pub ReadsAs : {A : Type 0} → Answer A → Result A Fault → Type 0
-ReadsAs (Ok v) meant = meant ≡ Ok v
-ReadsAs (Err (error.NoObject id)) meant = meant ≡ Err (fault.NoObject id)
-ReadsAs (Err (error.NoVersion r)) meant = meant ≡ Err (fault.NoVersion r)
-ReadsAs (Err _) meant = Unit {0}
 
 -- through an overlay over these records these bones are read
 pub record Reads (classes : List Class) (base : Entries) (x : Layer) (b : Bones) : Type 0 where

@@ -111,6 +111,7 @@ impl<'a, H: Host, K: Keep<H>> Frame for Reading<'a, H, K> {
         self.scene.this
     }
 
+    #[tactic(auto, using(crate::proofs::SoundReads::stops_sound))]
     fn read_field(&mut self, of: Ref, slot: u16) -> Result<Value, EvalStop<Unread>> {
         if let Some(stop) = self.stopped {
             return Err(EvalStop::Frame(stop));
@@ -134,6 +135,7 @@ impl<'a, H: Host, K: Keep<H>> Frame for Reading<'a, H, K> {
         }
     }
 
+    #[tactic(auto, using(crate::proofs::SoundReads::stops_sound))]
     fn current(&mut self, of: Ref) -> Result<u32, EvalStop<Unread>> {
         if let Some(stop) = self.stopped {
             return Err(EvalStop::Frame(stop));

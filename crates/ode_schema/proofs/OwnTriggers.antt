@@ -1,11 +1,11 @@
 -- The triggers that a class has stand at their places.
 use Rattle.std.proofs.Common.{◌≡◌, ◌≤◌, ℕ, zero, suc, ◌+◌, List, [], ◌∷◌, ◌++◌, map, length, drop, Bool, true, false, cond, Option, Some, None, refl, ap, sym, ◌∙◌, subst, arith, append-nil, append_assoc}
 use Rattle.std.specs.Prelude.{slice_get}
-use Rattle.std.specs.List.{All, AllByRecursion, enumerate_from, filter, find, flat_map}
+use Rattle.std.specs.List.{AllByRecursion, enumerate_from, filter, find, flat_map}
 use Rattle.std.specs.Option.{IfSome, IsSome, option_map, option_or, unwrap_or}
 use Rattle.std.specs.Str.{bytes_eq}
 use Rattle.std.proofs.lemmas.List.{map-append}
-use Rattle.std.proofs.lemmas.List.Elements.{All-from_recursion, filter-append}
+use Rattle.std.proofs.lemmas.List.Elements.{filter-append}
 use Rattle.std.proofs.lemmas.List.Folds.{find-append}
 use Rattle.ode_value.specs.declared.class.Class.{Class}
 use Rattle.ode_value.specs.declared.member.TriggerDecl.{TriggerDecl}
@@ -14,7 +14,7 @@ use Rattle.ode_value.specs.Worlds.{Declared}
 use Rattle.ode_types.specs.Checked.{AreChecked}
 use Rattle.ode_interpreter.specs.declared.firing.Trigger as code
 use Rattle.ode_interpreter.specs.Seen.{trigger as seen}
-use Rattle.ode_laws.proofs.Each.{all-filter, all-find, all-map, all-then}
+use Rattle.ode_laws.proofs.Each.{all-filter, all-find, all-then}
 use Rattle.ode_laws.proofs.Numbers.{IsPlaced, triggers_placed}
 use Rattle.ode_states.specs.Machine.{checked}
 use Rattle.ode_schema.specs.Parts as parts
@@ -145,12 +145,6 @@ module _ (cs : List Class) (checks : AreChecked cs) where
   initial_seen ds are n found is =
       ap (map (seen (parts.trigger_of cs))) is ∙ seen-all cs (first_of n) (initial_there n)
       ∙ ap (filter (λ (t : Trigger). t.decl.initial)) (triggers_by cs ds are n)
-
-  pub initial_declared : (n : ℕ) (found : List code.Trigger) → found ≡ map named_by_place (first_of n) → All (HasTrigger cs) found
-  initial_declared n found is =
-      subst (All (HasTrigger cs)) (sym is)
-      (All-from_recursion (HasTrigger cs) (map named_by_place (first_of n))
-      (all-map (HasTrigger cs) named_by_place (first_of n) (all-then (IsThere cs) (λ t. HasTrigger cs (named_by_place t)) (has_by cs) (first_of n) (initial_there n))))
 
   -- the one of a name
   abbrev named_in : ℕ → List ℕ → Option Trigger

@@ -1,13 +1,12 @@
 -- An activation whose table stands at its trigger's place goes on by that table.
-use Rattle.std.proofs.Common.{◌≡◌, ◌<◌, [], Some, ap, sym, ◌∙◌}
+use Rattle.std.proofs.Common.{◌≡◌, [], Some, ap, sym, ◌∙◌}
 use Rattle.std.specs.Prelude.{slice_get, slice_index_or}
 use Rattle.std.specs.Option.{option_map_or}
-use Rattle.std.proofs.lemmas.Option.{get_or_from_slice_get, slice_get_within}
+use Rattle.std.proofs.lemmas.Option.{get_or_from_slice_get}
 use Rattle.ode_value.specs.declared.member.TriggerDecl.{TriggerDecl}
-use Rattle.ode_value.specs.Tables.{Table}
-use Rattle.ode_symbols.specs.Alphabets.{alphabet, size_of}
+use Rattle.ode_symbols.specs.Alphabets.{alphabet}
 use Rattle.ode_types.specs.declared.running.Running.{Running}
-use Rattle.ode_states.specs.Advance.{IsReady, alphabet_of, no_table, table_of}
+use Rattle.ode_states.specs.Advance.{alphabet_of, no_table, table_of}
 use Rattle.ode_schema.specs.Parts.{AreFit, IsFit, Parts, table_by, table_place, trigger_under}
 
 module _ (p : Parts) (fit : AreFit p) (a : Running) (t : TriggerDecl) (there : trigger_under p.classes a.class a.trigger ≡ Some t) (at : table_place p.maps a.class a.trigger ≡ Some a.table) where
@@ -31,11 +30,3 @@ module _ (p : Parts) (fit : AreFit p) (a : Running) (t : TriggerDecl) (there : t
 
   pub table_by_place : table_of p.tables a ≡ table_by p.tables p.maps a.class a.trigger
   table_by_place = sym (ap (λ o. option_map_or (λ n. slice_index_or p.tables n no_table) o no_table) at)
-
-  pub is_ready : a.state < (table_of p.tables a).states → IsReady p.tables p.alphabets a
-  is_ready state = record {
-    table = slice_get_within p.tables a.table it.table has_table;
-    alphabet = slice_get_within p.alphabets a.table (alphabet t.event) has_alphabet;
-    state = state;
-    symbols = ap (λ (u : Table). u.symbols) table_is ∙ it.symbols ∙ ap size_of (sym alphabet_is);
-  }

@@ -1,5 +1,5 @@
 //! The machine's look-ups over declared classes are those over the classes as they were checked.
-ghost use Rattle.std.specs.Prelude.{◌≡◌, ◌<◌, ℕ, List as Items, Some, map};
+ghost use Rattle.std.specs.Prelude.{◌≡◌, ℕ, List as Items, Some, map};
 ghost use Rattle.std.specs.Option.{option_map};
 ghost use Rattle.ode_value.specs.declared.class.Class.{Class};
 ghost use Rattle.ode_value.specs.Classes as machine;
@@ -9,7 +9,7 @@ ghost use Rattle.ode_value.specs.Worlds.{Declared};
 ghost use Rattle.ode_types.specs.Checked.{AreChecked};
 ghost use Rattle.ode_types.specs.Families as families;
 ghost use Rattle.ode_types.specs.declared.running.Running.{Running};
-ghost use Rattle.ode_states.specs.Advance.{IsReady, alphabet_of, table_of};
+ghost use Rattle.ode_states.specs.Advance.{alphabet_of, table_of};
 ghost use Rattle.ode_states.specs.Machine.{checked};
 ghost use Rattle.ode_symbols.specs.Alphabets.{alphabet};
 ghost use Rattle.ode_value.specs.declared.member.TriggerDecl.{TriggerDecl};
@@ -33,9 +33,7 @@ pub fn lookups_agree()
 
 /// An activation of a declared trigger, whose table stands at the trigger's place, has a table and the alphabet of its trigger's event
 /// in the lists, and goes on by the trigger's table.
-pub fn fit_activations_are_ready()
-    ensures ready { (p : Parts) (a : Running) (t : TriggerDecl) → AreFit p → trigger_under p.classes a.class a.trigger ≡ Some t → table_place p.maps a.class a.trigger ≡ Some a.table →
-        a.state < (table_of p.tables a).states → IsReady p.tables p.alphabets a }
+pub fn fit_activations_have_tables()
     ensures table { (p : Parts) (a : Running) (t : TriggerDecl) → AreFit p → trigger_under p.classes a.class a.trigger ≡ Some t → table_place p.maps a.class a.trigger ≡ Some a.table →
         table_of p.tables a ≡ table_by p.tables p.maps a.class a.trigger }
     ensures alphabet { (p : Parts) (a : Running) (t : TriggerDecl) → AreFit p → trigger_under p.classes a.class a.trigger ≡ Some t → table_place p.maps a.class a.trigger ≡ Some a.table →

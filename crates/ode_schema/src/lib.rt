@@ -9,5 +9,5 @@ mod schema;
 mod triggers;
 
 pub use constraints::Constraints;
-pub use laws::{fit_activations_are_ready, lookups_agree};
+pub use laws::{fit_activations_have_tables, lookups_agree};
 pub use program::Program;

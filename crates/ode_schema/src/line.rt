@@ -72,6 +72,7 @@ impl<'a> Line<'a> {
     pub(crate) fn new(classes: &'a Classes, number: u32) -> Line<'a>
         ensures { result ≡ upward number (reverse classes.now) }
     {
+        // Read, so that they are known as checked.
         let _checked = classes.as_slice();
         Line { classes, number }
     }
@@ -118,6 +119,7 @@ impl<'a> Family<'a> {
     pub(crate) fn new(classes: &'a Classes, number: u32) -> Family<'a>
         ensures { result ≡ family_in classes.now number }
     {
+        // Read, so that they are known as checked.
         let _checked = classes.as_slice();
         let left = Line::new(classes, number).len();
         Family {

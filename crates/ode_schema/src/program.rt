@@ -1,5 +1,5 @@
 //! The declared classes of a running transaction.
-ghost use Rattle.std.specs.Prelude.{◌≡◌, [], ◌∷◌, IfSome, List as Items, Some, reverse, slice_get};
+ghost use Rattle.std.specs.Prelude.{◌≡◌, [], ◌∷◌, IfOk, IfSome, List as Items, Some, map, reverse, slice_get};
 ghost use Rattle.std.specs.List.{list_any};
 ghost use Rattle.std.specs.Option.{IsSome, option_and_then, option_copied, option_map};
 ghost use Rattle.std.specs.Str.{bytes_eq};
@@ -11,16 +11,17 @@ ghost use Rattle.ode_types.specs.Checked.{AreChecked};
 ghost use Rattle.ode_types.specs.Families.{method_named, upward};
 ghost use Rattle.ode_states.specs.Machine.{checked};
 ghost use Rattle.ode_interpreter.specs.Seen.{trigger as seen};
-ghost use Rattle.ode_schema.specs.Parts.{AreFit, family_in, table_by, table_place, trigger_of, trigger_under};
+ghost use Rattle.ode_schema.specs.Parts.{AreFit, family_in, table_place, trigger_of, trigger_under};
 
 use crate::constraints::Constraints;
 use crate::line::{Family, Line};
-use crate::triggers::named_of;
+use crate::triggers::{initial_of, named_of};
 use ode_interpreter::Trigger;
 use ode_symbols::Alphabet;
 use ode_table::Table;
 use ode_types::Classes;
 use ode_value::{Class, Kind, List, Method, Name, TriggerDecl};
+use std::alloc::{AllocError, Global};
 use std::marker::Model;
 
 /// The declared classes, with the tables and the alphabets of their triggers and, for each class, the place of its first one.
@@ -108,6 +109,7 @@ impl<'a> Program<'a> {
         requires { AreFit (record { classes = classes.now; tables = tables.now; alphabets = alphabets.now; maps = maps.now }) }
         ensures { result ≡ record { classes = classes.now; tables = tables.now; alphabets = alphabets.now; maps = maps.now } }
     {
+        // Read, so that they are known as checked.
         let _checked = classes.as_slice();
         Program {
             classes,
@@ -198,6 +200,23 @@ impl<'a> Program<'a> {
         own_trigger(self.classes.class(t.class), t.place)
     }
 
+    /// The name of a trigger, and no bytes where there is none.
+    pub fn trigger_name(&self, t: Trigger) -> &'a [u8]
+        ensures { result.now ≡ (trigger_of self.now.classes t.class t.place).name }
+    {
+        match self.trigger_at(t) {
+            Some(trigger) => trigger.name.as_bytes(),
+            None => &[],
+        }
+    }
+
+    /// The triggers of which a new object of a class has an activation.
+    pub fn initial(&self, alloc: Global, class: u32) -> Result<List<Trigger>, AllocError>
+        ensures { (classes : Items Declared) → checked classes ≡ self.now.classes → IfOk result (λ ts. map (seen (trigger_of self.now.classes)) ts ≡ machine.initial_triggers classes class) }
+    {
+        initial_of(alloc, &mut self.family(class))
+    }
+
     /// Whether a class or an ancestor lists a kind.
     pub fn lists(&self, class: u32, kind: &Kind) -> bool
         ensures { (classes : Items Declared) → checked classes ≡ self.now.classes → result ≡ machine.lists_kind classes class kind.now }
@@ -213,16 +232,9 @@ impl<'a> Program<'a> {
         requires { IsSome (trigger_under self.now.classes t.class t.place) }
         ensures { Some result ≡ table_place self.now.maps t.class t.place }
     {
+        // Read, so that they are known to fit.
         let _fit = self.tables();
         let first = self.maps().as_slice()[t.class as usize - 1];
         first + u32::from(t.place)
-    }
-
-    /// The table of a declared trigger.
-    pub fn table(&self, t: Trigger) -> &'a Table
-        requires { IsSome (trigger_under self.now.classes t.class t.place) }
-        ensures { result.now ≡ table_by self.now.tables self.now.maps t.class t.place }
-    {
-        &self.tables().as_slice()[self.place(t) as usize]
     }
 }

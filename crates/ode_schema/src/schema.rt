@@ -1,21 +1,16 @@
 //! The declared classes as the interpreter sees them.
 use crate::program::Program;
-use crate::triggers::initial_of;
 use ode_interpreter::{Schema, Trigger};
-use ode_value::{Class, List, Method, Name, TriggerDecl};
-use std::alloc::{AllocError, Global};
+use ode_value::{Class, Method, Mode, Name, Stmt};
 
 impl<'a> Schema for Program<'a> {
     ghost use Rattle.std.specs.Prelude.{◌≡◌};
-    ghost use Rattle.std.specs.Option.{IsSome};
     ghost use Rattle.ode_states.specs.Machine.{checked};
-    ghost use Rattle.ode_schema.specs.Parts.{longest as longest_body, table_by, trigger_of, trigger_under};
+    ghost use Rattle.ode_schema.specs.Parts.{longest as longest_body, table_by, trigger_of};
 
     ghost declares = { λ p classes. checked classes ≡ p.classes };
 
     ghost tables = { λ p. table_by p.tables p.maps };
-
-    ghost has_trigger = { λ p class place. IsSome (trigger_under p.classes class place) };
 
     ghost trigger = { λ p. trigger_of p.classes };
 
@@ -29,14 +24,17 @@ impl<'a> Schema for Program<'a> {
         self.classes().named(name)
     }
 
-    fn initial(&self, alloc: Global, class: u32) -> Result<List<Trigger>, AllocError> {
-        initial_of(alloc, &mut self.family(class))
+    fn mode(&self, t: Trigger) -> Mode {
+        match self.trigger_at(t) {
+            Some(trigger) => trigger.mode,
+            None => Mode::Immediate,
+        }
     }
 
-    fn trigger(&self, t: Trigger) -> &TriggerDecl {
+    fn action(&self, t: Trigger) -> &[Stmt] {
         match self.trigger_at(t) {
-            Some(trigger) => trigger,
-            None => unreachable!(),
+            Some(trigger) => trigger.action.as_slice(),
+            None => &[],
         }
     }
 }

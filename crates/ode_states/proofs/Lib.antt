@@ -4,3 +4,4 @@ pub mod MachineLaws
 pub mod MovedLaws
 pub mod PlacedLaws
 pub mod TriggerLaws
+pub mod PlaceLaws

@@ -1,7 +1,7 @@
 //! All activations of an object go on by a point.
-ghost use Rattle.std.specs.Prelude.{◌≡◌, All, IfOk, OnErr, OnOk, length, map};
+ghost use Rattle.std.specs.Prelude.{◌≡◌, IfOk, OnErr, OnOk, length, map};
 ghost use Rattle.ode_states.specs.declared.step.Step.{Step as Move};
-ghost use Rattle.ode_states.specs.Advance.{IsReady, advanced, fired_in, fires_among, moved, one_more, step_by};
+ghost use Rattle.ode_states.specs.Advance.{advanced, fired_in, fires_among, moved, one_more, step_by};
 ghost use Rattle.ode_types.specs.declared.running.Running.{Running as Activation};
 
 use crate::fired::{Fired, firing, place};
@@ -23,7 +23,6 @@ fn steps_of(
     args: &[Value],
     own: &[Value],
 ) -> Result<Vec<Step>, AllocError>
-    requires { All (IsReady tables.now alphabets.now) acts.now }
     ensures { IfOk result (λ steps. steps.items ≡ map (step_by tables.now alphabets.now classes.now (record { kind = kind.now; args = args.now; fields = own.now })) acts.now) }
 {
     let mut steps = Vec::new(alloc);
@@ -87,7 +86,6 @@ pub fn advance(
     args: &[Value],
     own: &[Value],
 ) -> Result<List<Fired>, AllocError>
-    requires { All (IsReady tables.now alphabets.now) acts.old }
     ensures acts { OnOk result (acts.new
         ≡ map (advanced tables.now alphabets.now classes.now (record { kind = kind.now; args = args.now; fields = own.now })) acts.old) }
     ensures fired { IfOk result (λ fired. fired

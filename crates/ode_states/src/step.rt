@@ -1,6 +1,9 @@
 //! One activation's step.
-ghost use Rattle.std.specs.Prelude.{◌≡◌};
-ghost use Rattle.ode_states.specs.Advance.{IsReady, once, step_by};
+ghost use Rattle.std.specs.Prelude.{◌≡◌, []};
+ghost use Rattle.std.specs.Option.{option_copied, unwrap_or};
+ghost use Rattle.ode_states.specs.Advance.{no_table, once, step_by};
+ghost use Rattle.ode_symbols.specs.Alphabets.{symbol_among};
+ghost use Rattle.ode_value.specs.Tables.{next_state, says_yes};
 
 use ode_symbols::Alphabet;
 use ode_table::Table;
@@ -28,7 +31,44 @@ fn is_once(classes: &Classes, a: &Running) -> bool
     }
 }
 
-/// The step of an activation at a point.
+// The symbol of a point in an alphabet, where there is one.
+fn symbol_in(
+    alphabet: Option<&Alphabet>,
+    params: &[Value],
+    kind: &Kind,
+    args: &[Value],
+    own: &[Value],
+) -> u8
+    ensures { result ≡ symbol_among (unwrap_or (option_copied alphabet.entry) []) params.now (record { kind = kind.now; args = args.now; fields = own.now }) }
+{
+    match alphabet {
+        Some(alphabet) => alphabet.symbol(params, kind, args, own),
+        None => 0,
+    }
+}
+
+// The state behind a symbol by a table, where there is one.
+fn next_in(table: Option<&Table>, state: u16, symbol: u8) -> u16
+    ensures { result ≡ next_state (unwrap_or (option_copied table.entry) no_table) state symbol }
+{
+    match table {
+        Some(table) => table.step(state, symbol),
+        None => 0,
+    }
+}
+
+// What a table says of a state, where there is one.
+fn says_in(table: Option<&Table>, state: u16) -> bool
+    ensures { result ≡ says_yes (unwrap_or (option_copied table.entry) no_table) state }
+{
+    match table {
+        Some(table) => table.says(state),
+        None => false,
+    }
+}
+
+/// The step of an activation at a point. Where its place isn't one of both lists, or its state none of its table's, it goes to the start.
+#[tactic(auto, using(crate::proofs::PlaceLaws::at_place))]
 pub(crate) fn step_of(
     tables: &List<Table>,
     alphabets: &List<Alphabet>,
@@ -38,14 +78,13 @@ pub(crate) fn step_of(
     args: &[Value],
     own: &[Value],
 ) -> Step
-    requires { IsReady tables.now alphabets.now a.now }
     ensures { result ≡ step_by tables.now alphabets.now classes.now (record { kind = kind.now; args = args.now; fields = own.now }) a.now }
 {
-    let table = &tables.as_slice()[a.table as usize];
-    let alphabet = &alphabets.as_slice()[a.table as usize];
-    let symbol = alphabet.symbol(a.args.as_slice(), kind, args, own);
-    let state = table.next(a.state, symbol);
-    let fires = a.on && table.yes(state);
+    let table = tables.as_slice().get(a.table as usize);
+    let alphabet = alphabets.as_slice().get(a.table as usize);
+    let symbol = symbol_in(alphabet, a.args.as_slice(), kind, args, own);
+    let state = next_in(table, a.state, symbol);
+    let fires = a.on && says_in(table, state);
     Step {
         state,
         fires,

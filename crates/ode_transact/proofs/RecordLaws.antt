@@ -16,10 +16,10 @@ use Rattle.ode_value.specs.Fitting.{HaveTrigger}
 use Rattle.ode_value.specs.GoodWorlds.{AreBones, IsEntry}
 use Rattle.ode_value.specs.Language.{Language, ListWorld}
 use Rattle.ode_value.specs.Lengths.{activation_length, counters_length, key_length, piece_count, pieces_length, record_length, table_length, value_length, values_length}
-use Rattle.ode_value.specs.Limits.{args_limit, queue_limit, value_limit}
+use Rattle.ode_value.specs.Limits.{args_limit, queue_limit, value_limit, weight_limit}
 use Rattle.ode_value.specs.Objects.{Activation}
 use Rattle.ode_value.specs.PrintedClasses.{decl_text}
-use Rattle.ode_value.specs.Records.{Row, byte, clock_bytes, row_weight, spelled_value, total_weight, version_row}
+use Rattle.ode_value.specs.Records.{Row, byte, clock_bytes, counted, row_weight, spelled_value, total_weight, version_row}
 use Rattle.ode_value.specs.Symbols.{symbol_count}
 use Rattle.ode_value.specs.Tables.{Table}
 use Rattle.ode_value.specs.TreeCount.{tree_count}
@@ -175,7 +175,7 @@ versions_weigh id (v ∷ vs) = omega (arith, length-version id v, versions_weigh
 
 activation_weighs : (id state : ℕ) (a : Activation) → row_weight (activation_row id state a) ≡ activation_length a.args
 activation_weighs id state a =
-    omega (arith, length-append (u32 a.class ++ u16 a.trigger ++ u16 state) (byte (length a.args) ++ flat_map spelled_value a.args), length-append (byte (length a.args)) (flat_map spelled_value a.args), values_weigh a.args)
+    omega (arith, length-append (u32 a.class ++ u16 a.trigger ++ u16 state) (counted a.args ++ flat_map spelled_value a.args), length-append (counted a.args) (flat_map spelled_value a.args), values_weigh a.args)
 
 module _ (w : World (Unit {0}) ℕ) where
   activations_weigh : (id : ℕ) (acts : List Activation) → total_weight (map (λ (a : Activation). activation_row id (state_of w id a.number) a) acts) ≡ sum_by activation_weight acts
@@ -201,19 +201,24 @@ args_short : (b : Bones) (args : List Value) (t : Option Trigger) → HaveTrigge
 args_short b args (Some t) has = has.short
 args_short b args None has = absurd has
 
-entry_weighs : (b : Bones) (q : ℕ × Entry) → IsEntry b q → row_weight (entry_row q) ≤ 801
+-- an entry's record at most: what comes before its arguments, and these
+abbrev longest_entry : ℕ
+longest_entry = record_length (16 + args_limit)
+
+entry_weighs : (b : Bones) (q : ℕ × Entry) → IsEntry b q → row_weight (entry_row q) ≤ longest_entry
 unfolding args_limit
 entry_weighs b (n, e) is =
     let short = args_short b e.args (trigger_at b.classes e.class e.trigger) is.trigger in
     omega (
       arith,
       short,
-      length-append (u64 e.object ++ u32 e.class ++ u16 e.trigger ++ byte e.generation) (byte (length e.args) ++ flat_map spelled_value e.args),
-      length-append (byte (length e.args)) (flat_map spelled_value e.args),
+      length-append (u64 e.object ++ u32 e.class ++ u16 e.trigger ++ byte e.generation) (counted e.args ++ flat_map spelled_value e.args),
+      length-append (counted e.args) (flat_map spelled_value e.args),
       values_weigh e.args,
     )
 
-entries_weigh : (b : Bones) (qs : List (ℕ × Entry)) → AllByRecursion (IsEntry b) qs → total_weight (map entry_row qs) ≤ 801 * length qs
+entries_weigh : (b : Bones) (qs : List (ℕ × Entry)) → AllByRecursion (IsEntry b) qs → total_weight (map entry_row qs) ≤ longest_entry * length qs
+unfolding args_limit
 entries_weigh b [] are = omega arith
 entries_weigh b (q ∷ qs) are = omega (arith, entry_weighs b q are.0, entries_weigh b qs are.1)
 
@@ -227,7 +232,9 @@ counters_weigh b = by b.clock
     by (Some p) = refl
 
 -- half a keeper is left for the queue
-within : (all first classes objects queue weighed entries : ℕ) → all ≡ first + classes + objects + queue → first + classes + objects ≤ weighed → weighed ≤ 8388608 → queue ≤ 801 * entries → entries ≤ 4096 → all ≤ 16777216
+within : (all first classes objects queue weighed entries : ℕ) → all ≡ first + classes + objects + queue → first + classes + objects ≤ weighed → weighed ≤ weight_limit
+    → queue ≤ longest_entry * entries → entries ≤ queue_limit → all ≤ MAX_RECORD_BYTES
+unfolding args_limit queue_limit
 within all first classes objects queue weighed entries is light most weighs few = omega (arith, is, light, most, weighs, few)
 
 module _ (l : Language) (s : Stored) (are : AreBones l s.world.bones) (mean : AllByRecursion (HasTables s.tables) s.world.bones.classes) where
@@ -270,7 +277,6 @@ module _ (l : Language) (s : Stored) (are : AreBones l s.world.bones) (mean : Al
       omega (arith, first, classes, objects)
 
   rows_light : total_weight (rows s) ≤ MAX_RECORD_BYTES
-  unfolding queue_limit
   rows_light =
       within (total_weight (rows s)) (row_weight (counters_row b)) class_rows object_rows (total_weight (map entry_row b.queue)) (weight b) (length b.queue)
       rows_are world_weighs are.light (entries_weigh b b.queue are.queue) are.few

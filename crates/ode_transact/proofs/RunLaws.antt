@@ -46,14 +46,6 @@ module _ (a b : ℕ) where
   ended_cause (Err stop.DiskFault) counts = rose_as (Faults (Err stop.DiskFault)) (FaultsThen (Err stop.DiskFault)) a b (λ e. refl) (λ e. refl) counts
   ended_cause (Err (stop.Damaged key)) counts = nor_then (Err (stop.Damaged key)) (λ e. absurd (cc e)) (λ e. absurd (cc e)) counts
 
--- no print failed
-pub ended_silent : (answer : Result (Unit {0}) Stop) → IsErrOf (ending_of answer) engine.WriteFault → ⊥
-ended_silent (Ok v) is = cc is
-ended_silent (Err (stop.Abort why)) is = cc is
-ended_silent (Err stop.Memory) is = cc is
-ended_silent (Err stop.DiskFault) is = cc is
-ended_silent (Err (stop.Damaged key)) is = cc is
-
 -- the keeper may be used, where it was done or aborted
 pub ended_usable : (answer : Result (Unit {0}) Stop) (live : Bool) → Leaves answer (live ≡ true) (λ why. Unit {0}) → IfOk (ending_of answer) (λ _. live ≡ true)
 ended_usable (Ok v) live usable = usable

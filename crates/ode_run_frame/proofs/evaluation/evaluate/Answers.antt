@@ -1,4 +1,4 @@
-use Rattle.std.proofs.Common.{◌≡◌, None, sym}
+use Rattle.std.proofs.Common.{None, sym}
 use Rattle.ode_expr.specs.Answers.{stopped_by}
 use Rattle.ode_run_frame.proofs.Lent.{begins, begins_plain, ends, ends_plain}
 use Rattle.ode_run_frame.proofs.evaluation.evaluate.Goals as goal

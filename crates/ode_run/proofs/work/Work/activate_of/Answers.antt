@@ -1,10 +1,9 @@
-use Rattle.std.proofs.Common.{rules, ◌≡◌, ◌∙◌, ap, sym, true, length}
-use Rattle.std.specs.Prelude.{◌&&◌, nat_lt, Some, None}
+use Rattle.std.proofs.Common.{rules, ◌≡◌, ◌∙◌, ap, sym}
+use Rattle.std.specs.Prelude.{Some, None}
 use Rattle.std.specs.Option.{option_map}
 use Rattle.ode_activation_laws.specs.Switching.{tells_value}
 use Rattle.ode_interpreter.specs.Seen.{trigger}
-use Rattle.ode_objects.specs.Values.{are_kept}
-use Rattle.ode_run.proofs.MakeLaws.{args_fit, classes_now, ends_next, left_there, names_it, none_named, not_done}
+use Rattle.ode_run.proofs.MakeLaws.{classes_now, ends_next, left_there, names_it, none_named, not_done}
 use Rattle.ode_run.proofs.work.Work.activate_of.Goals as goal
 use Rattle.ode_run.specs.Activating.{trigger_at}
 use Rattle.ode_run.specs.Knowing.{Failed, IsRunning, beside, tx}
@@ -18,9 +17,7 @@ returns-in_err-number-clause-acts g c = λ all k tables fits same holds of.
     let t = trigger_at c.in-Some.t decl in
     let found : Some t ≡ trigger_named all c.args.class c.args.name.now = ap (option_map (trigger (trigger_of c.args.program.now.classes))) (sym c.in-Some.is) ∙ c.trigger_named.ensures.is all fits in
     let names = names_it (tx all k c.args.self.now) all c.args.of.object c.args.class c.args.name.now t (classes_now all k.first c.args.self.now.overlay.now (beside k.first c.args.self.now.deferred.now c.args.self.now.text.now c.args.self.now.budget.now)) of found in
-    let few : (nat_lt (length c.args.args) 256 && are_kept c.args.args) ≡ true = search rules in
-    let fit = args_fit c.args.args few in
-    not_done tells_value c.switch_on_named.result c.from_residual.result c.in_err-number.field-0.0 _ _ (c.switch_on_named.ensures.acts all k tables c.args.name.now decl (c.classes.ensures ∙ same) holds fit names) (search rules) (search rules)
+    not_done tells_value c.switch_on_named.result c.from_residual.result c.in_err-number.field-0.0 _ _ (c.switch_on_named.ensures.acts all k tables c.args.name.now decl (fits ∙ sym c.classes.ensures) (c.classes.ensures ∙ same) holds names) (search rules) (search rules)
 
 pub returns-in_err-number-clause-kept : goal.returns-in_err-number-clause-kept
 returns-in_err-number-clause-kept g c = λ all k fits same holds of.
@@ -28,10 +25,8 @@ returns-in_err-number-clause-kept g c = λ all k fits same holds of.
     let t = trigger_at c.in-Some.t decl in
     let found : Some t ≡ trigger_named all c.args.class c.args.name.now = ap (option_map (trigger (trigger_of c.args.program.now.classes))) (sym c.in-Some.is) ∙ c.trigger_named.ensures.is all fits in
     let names = names_it (tx all k c.args.self.now) all c.args.of.object c.args.class c.args.name.now t (classes_now all k.first c.args.self.now.overlay.now (beside k.first c.args.self.now.deferred.now c.args.self.now.text.now c.args.self.now.budget.now)) of found in
-    let few : (nat_lt (length c.args.args) 256 && are_kept c.args.args) ≡ true = search rules in
-    let fit = args_fit c.args.args few in
     left_there c.switch_on_named.result c.from_residual.result c.in_err-number.field-0.0 (IsRunning g.H.Host.view g.K.Keep.holds g.K.Keep.live c.switch_on_named.new.self k) (Failed g.H.Host.view c.switch_on_named.new.self.host.now k)
-    (c.switch_on_named.ensures.kept all k c.args.name.now decl (c.classes.ensures ∙ same) holds fit names) (search rules) (search rules)
+    (c.switch_on_named.ensures.kept all k c.args.name.now decl (fits ∙ sym c.classes.ensures) (c.classes.ensures ∙ same) holds names) (search rules) (search rules)
 
 pub returns-clause-acts : goal.returns-clause-acts
 returns-clause-acts g c = λ all k tables fits same holds of.
@@ -39,11 +34,9 @@ returns-clause-acts g c = λ all k tables fits same holds of.
     let t = trigger_at c.in-Some.t decl in
     let found : Some t ≡ trigger_named all c.args.class c.args.name.now = ap (option_map (trigger (trigger_of c.args.program.now.classes))) (sym c.in-Some.is) ∙ c.trigger_named.ensures.is all fits in
     let names = names_it (tx all k c.args.self.now) all c.args.of.object c.args.class c.args.name.now t (classes_now all k.first c.args.self.now.overlay.now (beside k.first c.args.self.now.deferred.now c.args.self.now.text.now c.args.self.now.budget.now)) of found in
-    let few : (nat_lt (length c.args.args) 256 && are_kept c.args.args) ≡ true = search rules in
-    let fit = args_fit c.args.args few in
     ends_next tells_value c.in_ok-number.number (tx all k c.switch_on_named.new.self) _ _ c.tell_number.result
-    (c.in_ok-number.ensures.acts all k tables c.args.name.now decl (c.classes.ensures ∙ same) holds fit names)
-    (c.tell_number.ensures.acts all k (c.classes-2.ensures ∙ same) (c.in_ok-number.ensures.kept all k c.args.name.now decl (c.classes.ensures ∙ same) holds fit names))
+    (c.in_ok-number.ensures.acts all k tables c.args.name.now decl (fits ∙ sym c.classes.ensures) (c.classes.ensures ∙ same) holds names)
+    (c.tell_number.ensures.acts all k (c.classes-2.ensures ∙ same) (c.in_ok-number.ensures.kept all k c.args.name.now decl (fits ∙ sym c.classes.ensures) (c.classes.ensures ∙ same) holds names))
 
 pub returns-clause-kept : goal.returns-clause-kept
 returns-clause-kept g c = λ all k fits same holds of.
@@ -51,9 +44,7 @@ returns-clause-kept g c = λ all k fits same holds of.
     let t = trigger_at c.in-Some.t decl in
     let found : Some t ≡ trigger_named all c.args.class c.args.name.now = ap (option_map (trigger (trigger_of c.args.program.now.classes))) (sym c.in-Some.is) ∙ c.trigger_named.ensures.is all fits in
     let names = names_it (tx all k c.args.self.now) all c.args.of.object c.args.class c.args.name.now t (classes_now all k.first c.args.self.now.overlay.now (beside k.first c.args.self.now.deferred.now c.args.self.now.text.now c.args.self.now.budget.now)) of found in
-    let few : (nat_lt (length c.args.args) 256 && are_kept c.args.args) ≡ true = search rules in
-    let fit = args_fit c.args.args few in
-    c.tell_number.ensures.kept k (c.classes-2.ensures ∙ same) (c.in_ok-number.ensures.kept all k c.args.name.now decl (c.classes.ensures ∙ same) holds fit names)
+    c.tell_number.ensures.kept k (c.classes-2.ensures ∙ same) (c.in_ok-number.ensures.kept all k c.args.name.now decl (fits ∙ sym c.classes.ensures) (c.classes.ensures ∙ same) holds names)
 
 pub returns-clause-lent : goal.returns-clause-lent
 returns-clause-lent g c = λ k lent. c.tell_number.ensures.lent k (c.switch_on_named.ensures.lent k lent)

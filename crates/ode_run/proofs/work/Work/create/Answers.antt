@@ -6,7 +6,6 @@ use Rattle.ode_overlay.specs.Changing.{create}
 use Rattle.ode_overlay.specs.declared.error.OverlayError.{OverlayError}
 use Rattle.ode_overlay_laws.specs.Following.{tells_new}
 use Rattle.ode_run.proofs.EndLaws.{calm_leaves, calm_then, known_left, shown_sound}
-use Rattle.ode_run.proofs.MakeLaws.{fields_fit}
 use Rattle.ode_run.proofs.ServeLaws.{making_serves}
 use Rattle.ode_run.proofs.work.Work.create.Goals as goal
 use Rattle.ode_run.specs.Knowing.{Failed, Holds, beside}
@@ -18,19 +17,19 @@ use Rattle.ode_value.specs.Pasts.{numbers}
 use Rattle.ode_view_laws.specs.Viewing.{running}
 
 pub returns-clause-acts : goal.returns-clause-acts
-returns-clause-acts g c = λ all k tables same fit holds.
+returns-clause-acts g c = λ all k tables same holds.
     let b = beside k.first c.args.self.now.deferred.now c.args.self.now.text.now c.args.self.now.budget.now in
     let x = c.args.self.now.overlay.now in
-    let law = c.makings_known.ensures all k.first b k.entries x holds.known tables c.args.class c.args.fields (fields_fit c.args.fields fit) in
+    let law = c.makings_known.ensures all k.first b k.entries x holds.known tables c.args.class c.args.fields in
     subst (λ (r : Result ℕ Stop). EndsThen tells_new r (running all k.first c.create.new.self b) (makes (numbers tables) c.args.class c.args.fields (running all k.first x b)))
     (sym (c.ended.ensures ∙ ap (λ (r : Result ℕ OverlayError). ended r) c.calm.ensures))
     (calm_then tells_new (λ now. running all k.first now b) x c.create.new.self c.create.result (create c.args.class c.args.fields x) (makes (numbers tables) c.args.class c.args.fields (running all k.first x b)) c.create.ensures.acts c.create.ensures.err law.0)
 
 pub returns-clause-kept : goal.returns-clause-kept
-returns-clause-kept g c = λ k same fit holds.
+returns-clause-kept g c = λ k same holds.
     let b = beside k.first c.args.self.now.deferred.now c.args.self.now.text.now c.args.self.now.budget.now in
     let x = c.args.self.now.overlay.now in
-    let law = c.makings_known.ensures k.first.bones.classes k.first b k.entries x holds.known (λ c t. no_table) c.args.class c.args.fields (fields_fit c.args.fields fit) in
+    let law = c.makings_known.ensures k.first.bones.classes k.first b k.entries x holds.known (λ c t. no_table) c.args.class c.args.fields in
     let known = known_left k.entries k.first x c.create.new.self c.create.result (create c.args.class c.args.fields x) c.create.ensures.acts c.create.ensures.err holds.known law.1 in
     subst (λ (r : Result ℕ Stop). interpreter.Leaves r (Holds g.H.Host.view (g.K.Keep.holds c.create.new._heap (g.H.Host.view c.create.new._host)) (g.K.Keep.live c.create.new._heap) c.create.new._host c.create.new.self c.args.self.now.budget.now c.args.self.now.bytes k) (Failed g.H.Host.view c.create.new._host k))
     (sym (c.ended.ensures ∙ ap (λ (r : Result ℕ OverlayError). ended r) c.calm.ensures))

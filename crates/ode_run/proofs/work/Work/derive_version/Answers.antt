@@ -20,8 +20,7 @@ pub returns-clause-acts : goal.returns-clause-acts
 returns-clause-acts g c = λ all k same holds.
     let b = beside k.first c.args.self.now.deferred.now c.args.self.now.text.now c.args.self.now.budget.now in
     let x = c.args.self.now.overlay.now in
-    let references = c.worlds_known.ensures.references all k.first b k.entries x holds.known c.args.of in
-    let law = c.derivations_known.ensures all k.first b k.entries x holds.known c.args.of references in
+    let law = c.derivations_known.ensures all k.first b k.entries x holds.known c.args.of in
     let leaves = subst (λ (cs : List Class). Leaves c.derive.result c.derive.new.self (derive cs k.entries c.args.of x)) same (c.derive.ensures.acts k.entries holds.records) in
     subst (λ (r : Result Ref Stop). EndsThen tells_version r (running all k.first c.derive.new.self b) (derives c.args.of (running all k.first x b))) (sym c.ended.ensures)
     (shown_then tells_version (λ now. running all k.first now b) x c.derive.new.self c.derive.result (derive (declared_in k.first) k.entries c.args.of x) (derives c.args.of (running all k.first x b)) leaves c.derive.ensures.err law.0)
@@ -30,8 +29,7 @@ pub returns-clause-kept : goal.returns-clause-kept
 returns-clause-kept g c = λ k same holds.
     let b = beside k.first c.args.self.now.deferred.now c.args.self.now.text.now c.args.self.now.budget.now in
     let x = c.args.self.now.overlay.now in
-    let references = c.worlds_known.ensures.references k.first.bones.classes k.first b k.entries x holds.known c.args.of in
-    let law = c.derivations_known.ensures k.first.bones.classes k.first b k.entries x holds.known c.args.of references in
+    let law = c.derivations_known.ensures k.first.bones.classes k.first b k.entries x holds.known c.args.of in
     let leaves = subst (λ (cs : List Class). Leaves c.derive.result c.derive.new.self (derive cs k.entries c.args.of x)) same (c.derive.ensures.acts k.entries holds.records) in
     let known = known_left k.entries k.first x c.derive.new.self c.derive.result (derive (declared_in k.first) k.entries c.args.of x) leaves c.derive.ensures.err holds.known law.1 in
     subst (λ (r : Result Ref Stop). interpreter.Leaves r (Holds g.H.Host.view (g.K.Keep.holds c.derive.new.heap (g.H.Host.view c.derive.new.host)) (g.K.Keep.live c.derive.new.heap) c.derive.new.host c.derive.new.self c.args.self.now.budget.now c.args.self.now.bytes k) (Failed g.H.Host.view c.derive.new.host k)) (sym c.ended.ensures)

@@ -2,6 +2,7 @@ use Rattle.std.proofs.Common.{◌≡◌, rules, sym, subst, ap, ◌∙◌}
 use Rattle.std.specs.Prelude.{Bool, true, ◌+◌}
 use Rattle.ode_codec.specs.declared.record.Entry.{Entry}
 use Rattle.ode_interpreter.specs.Seen.{firing}
+use Rattle.ode_objects.proofs.Kept.{args_room}
 use Rattle.ode_objects.specs.Values.{are_args}
 use Rattle.ode_overlay.specs.Layers.{Layer, generation_of}
 use Rattle.ode_overlay.specs.Settling.{collect}
@@ -20,9 +21,9 @@ returns-clause-running g c = λ all k same holds.
     let x = c.args.self.now.overlay.now in
     let b = beside k.first c.args.self.now.deferred.now c.args.self.now.text.now c.args.self.now.budget.now in
     let f = firing (trigger_of c.args.classes.now) c.args.f.now in
-    let kept : are_args f.args ≡ true = search rules in
+    let kept : are_args f.args ≡ true = args_room f.args ∙ c.requires in
     let law = c.collections_known.ensures.running all k.first b k.entries x holds.known c.args.independent f kept in
-    let entry : record { object = f.object; class = f.trigger.class; trigger = f.trigger.place; generation = c.in-Some-next_generation.generation; args = c.in-Some.args } ≡ entry_by (generation_of x.origin + 1) f = search rules in
+    let entry : record { object = f.object; class = f.trigger.class; trigger = f.trigger.place; generation = c.in-Some.generation; args = c.in_ok-args.args } ≡ entry_by (generation_of x.origin + 1) f = search rules in
     gathers prints c.args.independent f (λ now. running all k.first now b) x c.collect.new.self c.in_ok-collected.collected (collect (entry_by (generation_of x.origin + 1) f) c.args.independent x)
     (c.in_ok-collected.ensures.acts ∙ ap (λ (e : Entry). collect e c.args.independent x) entry) law.0
 
@@ -31,9 +32,9 @@ returns-clause-settling g c = λ all k same holds.
     let x = c.args.self.now.overlay.now in
     let b = beside k.first c.args.self.now.deferred.now c.args.self.now.text.now c.args.self.now.budget.now in
     let f = firing (trigger_of c.args.classes.now) c.args.f.now in
-    let kept : are_args f.args ≡ true = search rules in
+    let kept : are_args f.args ≡ true = args_room f.args ∙ c.requires in
     let law = c.collections_known.ensures.settling all k.first b k.entries x holds.known c.args.independent f kept in
-    let entry : record { object = f.object; class = f.trigger.class; trigger = f.trigger.place; generation = c.in-Some-next_generation.generation; args = c.in-Some.args } ≡ entry_by (generation_of x.origin + 1) f = search rules in
+    let entry : record { object = f.object; class = f.trigger.class; trigger = f.trigger.place; generation = c.in-Some.generation; args = c.in_ok-args.args } ≡ entry_by (generation_of x.origin + 1) f = search rules in
     gathers says c.args.independent f (λ now. running all k.first now b) x c.collect.new.self c.in_ok-collected.collected (collect (entry_by (generation_of x.origin + 1) f) c.args.independent x)
     (c.in_ok-collected.ensures.acts ∙ ap (λ (e : Entry). collect e c.args.independent x) entry) law.0
 
@@ -42,9 +43,9 @@ returns-clause-kept g c = λ k same holds.
     let x = c.args.self.now.overlay.now in
     let b = beside k.first c.args.self.now.deferred.now c.args.self.now.text.now c.args.self.now.budget.now in
     let f = firing (trigger_of c.args.classes.now) c.args.f.now in
-    let kept : are_args f.args ≡ true = search rules in
+    let kept : are_args f.args ≡ true = args_room f.args ∙ c.requires in
     let law = c.collections_known.ensures.running k.first.bones.classes k.first b k.entries x holds.known c.args.independent f kept in
-    let entry : record { object = f.object; class = f.trigger.class; trigger = f.trigger.place; generation = c.in-Some-next_generation.generation; args = c.in-Some.args } ≡ entry_by (generation_of x.origin + 1) f = search rules in
+    let entry : record { object = f.object; class = f.trigger.class; trigger = f.trigger.place; generation = c.in-Some.generation; args = c.in_ok-args.args } ≡ entry_by (generation_of x.origin + 1) f = search rules in
     let known : IsKnown k.entries k.first c.collect.new.self =
     subst (λ (pair : Bool × Layer). IsKnown k.entries k.first pair.1) (sym (c.in_ok-collected.ensures.acts ∙ ap (λ (e : Entry). collect e c.args.independent x) entry)) law.1 in
     record { usable = holds.usable; records = holds.records; looks = holds.looks; faults = holds.faults; known = known; budget = holds.budget; bytes = holds.bytes }
