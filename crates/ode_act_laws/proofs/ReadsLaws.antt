@@ -2,11 +2,9 @@
 use Rattle.std.proofs.Common.{◌≡◌, ℕ, List, Result, Ok, Err, refl, subst}
 use Rattle.ode_expr.specs.Answers as expr
 use Rattle.ode_keep.specs.Entries.{Entries}
-use Rattle.ode_overlay.specs.Answers.{Answer}
 use Rattle.ode_overlay.specs.Layers.{Layer}
-use Rattle.ode_overlay.specs.Reading.{read}
-use Rattle.ode_overlay.specs.declared.error.OverlayError.TheVariants as error
-use Rattle.ode_run_frame.specs.Reads.{Reads, ReadsAs, number_read}
+use Rattle.ode_overlay.specs.Reading.{ReadsAs, read}
+use Rattle.ode_run_frame.specs.Reads.{Reads, number_read}
 use Rattle.ode_value.specs.Denoting.{denoted}
 use Rattle.ode_value.specs.Evaluation.{field_of}
 use Rattle.ode_value.specs.Versions.{Version}
@@ -14,24 +12,17 @@ use Rattle.ode_value.specs.Worlds.{Bones}
 use Rattle.ode_value.specs.declared.arithmetic.Fault.{Fault}
 use Rattle.ode_value.specs.declared.class.Class.{Class}
 use Rattle.ode_value.specs.declared.value.Ref.{Ref}
-use Rattle.ode_version_laws.specs.Denoting.{LacksSlot}
-use Rattle.ode_version_laws.specs.Showing.{ReadsUnless, number_in, number_seen}
-
-reads_as : {V : Type 0} (D : Type 0) (answer : Answer V) (meant : Result V Fault) → ReadsUnless D answer meant → ReadsAs answer meant
-reads_as D (Ok v) meant h = h
-reads_as D (Err (error.NoObject id)) meant h = h
-reads_as D (Err (error.NoVersion r)) meant h = h
-reads_as D (Err why) meant h = tt
+use Rattle.ode_version_laws.specs.Showing.{number_in, number_seen}
 
 same_number : (d : Result Version Fault) → number_in d ≡ expr.number_in d
 same_number (Ok v) = refl
 same_number (Err why) = refl
 
 pub reads_bones : (classes : List Class) (base : Entries) (x : Layer) (b : Bones)
-    → ((r : Ref) (slot : ℕ) → ReadsUnless (LacksSlot b r slot) (read classes base r slot x) (field_of b slot r))
-    → ((r : Ref) → ReadsUnless ⊥ (number_seen base r x) (number_in (denoted b r))) → Reads classes base x b
+    → ((r : Ref) (slot : ℕ) → ReadsAs (read classes base r slot x) (field_of b slot r))
+    → ((r : Ref) → ReadsAs (number_seen base r x) (number_in (denoted b r))) → Reads classes base x b
 unfolding number_read
 reads_bones classes base x b fields numbers = record {
-  field = λ r slot. reads_as (LacksSlot b r slot) (read classes base r slot x) (field_of b slot r) (fields r slot);
-  number = λ r. subst (ReadsAs (number_seen base r x)) (same_number (denoted b r)) (reads_as ⊥ (number_seen base r x) (number_in (denoted b r)) (numbers r));
+  field = fields;
+  number = λ r. subst (ReadsAs (number_seen base r x)) (same_number (denoted b r)) (numbers r);
 }

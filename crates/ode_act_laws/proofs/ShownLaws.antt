@@ -1,15 +1,12 @@
 -- Versions and activations change on the view as in the machine.
-use Rattle.std.proofs.Common.{◌≡◌, ◌+◌, ℕ, pos, Bool, true, false, cond, length, List, [], Option, Ok, Err, refl}
+use Rattle.std.proofs.Common.{◌≡◌, ◌+◌, ℕ, pos, Bool, true, false, cond, length, List, [], Option, Ok, refl}
 use Rattle.std.specs.Prelude.{nat_le}
 use Rattle.ode_activation_laws.specs.Switching.{tells_line, tells_value}
-use Rattle.ode_act_laws.specs.Unless.{ShowsUnless}
 use Rattle.ode_keep.specs.Entries.{Entries}
 use Rattle.ode_laws.specs.Alike.{NumberTx, NumberWorld}
 use Rattle.ode_objects.specs.declared.tracked.Tracked.{Tracked}
-use Rattle.ode_overlay.specs.Answers.{Answer}
 use Rattle.ode_overlay.specs.Changing.{activate, activate_with, deactivate, deactivate_with, derive, drop_version, fresh, write}
 use Rattle.ode_overlay.specs.Layers.{Layer}
-use Rattle.ode_overlay.specs.declared.error.OverlayError.TheVariants as error
 use Rattle.ode_overlay_laws.specs.Following.{Follows, on_live}
 use Rattle.ode_overlay_laws.specs.Standing.{IsFresh}
 use Rattle.ode_value.specs.Acts.{Outcome, Done, Aborted, does, gives, go_on, prints, reached, with_line}
@@ -25,7 +22,7 @@ use Rattle.ode_value.specs.declared.reason.Reason.TheVariants.{Output}
 use Rattle.ode_value.specs.declared.value.Ref.{Ref}
 use Rattle.ode_value.specs.declared.value.Value.{Value}
 use Rattle.ode_value.specs.declared.value.Value.TheVariants as value
-use Rattle.ode_version_laws.specs.Denoting.{FollowsUnless, LacksSlot, tells_version}
+use Rattle.ode_version_laws.specs.Denoting.{tells_version}
 use Rattle.ode_view_laws.proofs.ActLaws.{behind_read, gives_quiet, line_quiet, live_tidy}
 use Rattle.ode_view_laws.proofs.DrawnLaws.{AreDrawn, Leaves, activate_leaves, deactivate_leaves, derive_leaves, drop_leaves, leaves_then, write_leaves}
 use Rattle.ode_view_laws.proofs.OrderLaws.{derive_tidy, drop_tidy, initial_tidy, named_tidy, off_tidy, set_tidy}
@@ -78,18 +75,10 @@ module _ (classes : List Declared) (first : NumberWorld) (beside : Beside) (x : 
   drop_shown declared base r follows =
       shown classes first beside x gives (drops r) viewed (drop_tidy r) gives_quiet (drop_version declared base r x) (drop_all declared base x viewed.touched r) follows
 
-  module _ (D : Type 0) (r : Ref) (slot : ℕ) (v : Value) where
-    by_answer : (answer : Answer (Unit {0} × Layer)) → Leaves answer → FollowsUnless D y gives answer (sets_field r slot v y)
-        → ShowsUnless D now gives x answer (sets_field r slot v y) × StaysViewed first answer
-    by_answer (Ok done) drawn follows = shown classes first beside x gives (sets_field r slot v) viewed (set_tidy r slot v) gives_quiet (Ok done) drawn follows
-    by_answer (Err (error.Damaged key)) drawn follows = (follows, tt)
-    by_answer (Err why) drawn follows = (follows, tt)
-
-  pub write_shown : (declared : List Class) (base : Entries) (r : Ref) (slot : ℕ) (v : Value)
-      → FollowsUnless (LacksSlot y.now.bones r slot) y gives (write declared base r slot v x) (sets_field r slot v y)
-      → ShowsUnless (LacksSlot y.now.bones r slot) now gives x (write declared base r slot v x) (sets_field r slot v y) × StaysViewed first (write declared base r slot v x)
+  pub write_shown : (declared : List Class) (base : Entries) (r : Ref) (slot : ℕ) (v : Value) → Follows y gives (write declared base r slot v x) (sets_field r slot v y)
+      → Shows now gives x (write declared base r slot v x) (sets_field r slot v y) × StaysViewed first (write declared base r slot v x)
   write_shown declared base r slot v follows =
-      by_answer (LacksSlot y.now.bones r slot) r slot v (write declared base r slot v x) (write_all declared base x viewed.touched r slot v) follows
+      shown classes first beside x gives (sets_field r slot v) viewed (set_tidy r slot v) gives_quiet (write declared base r slot v x) (write_all declared base x viewed.touched r slot v) follows
 
   -- ---- activations
 

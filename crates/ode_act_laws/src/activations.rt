@@ -1,9 +1,8 @@
 //! Activations go on and off, on the view.
-ghost use Rattle.std.specs.Prelude.{◌≡◌, ℕ, pos, List as Items, [], Option, Some, Ok, nat_le};
+ghost use Rattle.std.specs.Prelude.{◌≡◌, ℕ, pos, List as Items, [], Option, Some, Ok};
 ghost use Rattle.ode_activation_laws.specs.Switching.{tells_line, tells_value};
 ghost use Rattle.ode_keep.specs.Entries.{Entries};
 ghost use Rattle.ode_laws.specs.Alike.{NumberWorld};
-ghost use Rattle.ode_objects.specs.Values.{are_args};
 ghost use Rattle.ode_objects.specs.declared.tracked.Tracked.{Tracked};
 ghost use Rattle.ode_overlay.specs.Changing.{activate, deactivate, fresh};
 ghost use Rattle.ode_overlay.specs.Layers.{Layer};
@@ -12,8 +11,6 @@ ghost use Rattle.ode_overlay_laws.specs.Standing.{IsFresh};
 ghost use Rattle.ode_value.specs.Acts.{gives};
 ghost use Rattle.ode_value.specs.Classes.{Trigger, trigger_named};
 ghost use Rattle.ode_value.specs.Denoting.{object_at};
-ghost use Rattle.ode_value.specs.Lengths.{values_length};
-ghost use Rattle.ode_value.specs.Limits.{args_limit};
 ghost use Rattle.ode_value.specs.Pasts.{numbers};
 ghost use Rattle.ode_value.specs.Statements.{activates_initial, switches_off_numbered, switches_on_named};
 ghost use Rattle.ode_value.specs.Tables.{Table};
@@ -29,11 +26,11 @@ use ode_activation_laws::{activations_follow, deactivations_follow};
 use ode_view_laws::overlays_have_views;
 
 /// An activation goes on through the overlay as by the machine on its view, up to its line: that of a trigger's name which the object's
-/// class has, where a record can hold its arguments whenever they are short enough, and one without arguments of a new object.
+/// class has, and one without arguments of a new object.
 pub fn activations_show()
     ensures named { (classes : Items Declared) (first : NumberWorld) (beside : Beside) (x : Layer) → IsViewed first x → (declared : Items Class) (base : Entries) (r : Ref) (new : Option Tracked)
         → fresh declared base r.object x ≡ Ok new → IsFresh x (running classes first x beside) r.object new
-        → (tables : ℕ → ℕ → Table) (o : Object) (name : Items ℕ) (t : Trigger) (args : Items Value) → are_args args ≡ nat_le (values_length args) args_limit
+        → (tables : ℕ → ℕ → Table) (o : Object) (name : Items ℕ) (t : Trigger) (args : Items Value)
         → object_at (running classes first x beside).now.bones r.object ≡ Some o → trigger_named (running classes first x beside).now.bones.classes o.class name ≡ Some t
         → Shows (λ now. running classes first now beside) tells_value x (activate declared base r.object t.class t.place args x)
         (switches_on_named (numbers tables) r name args (running classes first x beside))

@@ -1,9 +1,7 @@
 //! Versions are derived, removed and written, on the view.
-ghost use Rattle.std.specs.Prelude.{◌≡◌, ℕ, List as Items, true};
-ghost use Rattle.ode_act_laws.specs.Unless.{ShowsUnless};
+ghost use Rattle.std.specs.Prelude.{ℕ, List as Items};
 ghost use Rattle.ode_keep.specs.Entries.{Entries};
 ghost use Rattle.ode_laws.specs.Alike.{NumberWorld};
-ghost use Rattle.ode_objects.specs.Values.{is_kept};
 ghost use Rattle.ode_overlay.specs.Changing.{derive, drop_version, write};
 ghost use Rattle.ode_overlay.specs.Layers.{Layer};
 ghost use Rattle.ode_value.specs.Acts.{gives};
@@ -12,18 +10,17 @@ ghost use Rattle.ode_value.specs.Worlds.{Declared};
 ghost use Rattle.ode_value.specs.declared.class.Class.{Class};
 ghost use Rattle.ode_value.specs.declared.value.Ref.{Ref};
 ghost use Rattle.ode_value.specs.declared.value.Value.{Value};
-ghost use Rattle.ode_version_laws.specs.Denoting.{HasVersionsAt, HoldsReferences, IsRead, LacksSlot, tells_version};
+ghost use Rattle.ode_version_laws.specs.Denoting.{HasVersionsAt, IsRead, tells_version};
 ghost use Rattle.ode_view_laws.specs.Showing.{IsViewed, Shows, StaysViewed};
 ghost use Rattle.ode_view_laws.specs.Viewing.{Beside, running};
 
 use ode_version_laws::{derivations_follow, version_removals_follow, writes_follow};
 use ode_view_laws::overlays_have_views;
 
-/// A version is derived through the overlay as by the machine on its view, up to its line, where a record can hold each reference among the
-/// fields.
+/// A version is derived through the overlay as by the machine on its view, up to its line.
 pub fn derivations_show()
     ensures { (classes : Items Declared) (first : NumberWorld) (beside : Beside) (x : Layer) → IsViewed first x → (declared : Items Class) (base : Entries) (r : Ref)
-        → IsRead declared base x (running classes first x beside) r.object → HoldsReferences (running classes first x beside) r
+        → IsRead declared base x (running classes first x beside) r.object
         → Shows (λ now. running classes first now beside) tells_version x (derive declared base r x) (derives r (running classes first x beside))
         × StaysViewed first (derive declared base r x) }
 {
@@ -42,13 +39,11 @@ pub fn version_removals_show()
     version_removals_follow();
 }
 
-/// A field is set through the overlay as by the machine on its view, where a record can hold each reference and the numbers of the object's
-/// versions rise; the records are damaged only where the version hasn't the slot.
+/// A field is set through the overlay as by the machine on its view, where the numbers of the object's versions rise.
 pub fn writes_show()
     ensures { (classes : Items Declared) (first : NumberWorld) (beside : Beside) (x : Layer) → IsViewed first x → (declared : Items Class) (base : Entries) (r : Ref) (slot : ℕ) (v : Value)
         → IsRead declared base x (running classes first x beside) r.object → HasVersionsAt (running classes first x beside) r.object
-        → HoldsReferences (running classes first x beside) r → is_kept v ≡ true
-        → ShowsUnless (LacksSlot (running classes first x beside).now.bones r slot) (λ now. running classes first now beside) gives x (write declared base r slot v x)
+        → Shows (λ now. running classes first now beside) gives x (write declared base r slot v x)
         (sets_field r slot v (running classes first x beside))
         × StaysViewed first (write declared base r slot v x) }
 {

@@ -7,6 +7,7 @@ use Rattle.ode_activation_laws.proofs.ChangedLaws.{others_now, tracked_now}
 use Rattle.ode_activation_laws.specs.Switching.{tells_active, tells_line, tells_value}
 use Rattle.ode_laws.specs.Alike.{NumberTx}
 use Rattle.ode_objects.specs.Objects.{activated, new_active}
+use Rattle.ode_objects.proofs.Kept.{args_room}
 use Rattle.ode_objects.specs.Values.{are_args}
 use Rattle.ode_objects.specs.declared.object.Active.{Active}
 use Rattle.ode_objects.specs.declared.object.Object.{Object}
@@ -108,14 +109,13 @@ module _ (tables : ℕ → ℕ → Table) (t : Trigger) (args : List Value) (x :
       (act_at x.next) (sym none_is_short) (then_y, (then_stands o at, (record { first = refl; bones = refl; deferred = refl; text = refl; run = refl }, refl)))
   by_short o at false = (reason.Size, (refl, refl))
 
-  pub switched_on : are_args args ≡ nat_le (values_length args) args_limit
-      → Follows y tells_active (activate_with new id t.class t.place args x) (on_live id (switches_on (numbers tables) id t args) y)
+  pub switched_on : Follows y tells_active (activate_with new id t.class t.place args x) (on_live id (switches_on (numbers tables) id t args) y)
   unfolding activate_with
-  switched_on short =
+  switched_on =
       follows_live y id tells_active (switches_on (numbers tables) id t args) (λ o. drawn o (are_args args)) (object_of new id x) (has_found x y id new stands fresh)
       (λ (tracked : Tracked) is at live.
       as_well y tells_active (drawn tracked.current (are_args args)) (switches_on (numbers tables) id t args y) (machine_at x.next (are_args args))
-      (ap (λ n. machine_at n (nat_le (values_length args) args_limit)) stands.next ∙ ap (machine_at x.next) (sym short)) (by_short tracked.current at (are_args args)))
+      (ap (λ n. machine_at n (nat_le (values_length args) args_limit)) stands.next ∙ ap (machine_at x.next) (sym (args_room args))) (by_short tracked.current at (are_args args)))
 
 -- ---- what goes on behind it
 
@@ -138,10 +138,6 @@ unanswered : {R : Type 0} (m : Outcome (Unit {0}) ℕ (Unit {0})) (r : R) → go
 unanswered (Done u z) r = refl
 unanswered (Aborted why z) r = refl
 
-no_args : are_args [] ≡ nat_le (values_length []) args_limit
-unfolding are_args args_limit
-no_args = refl
-
 -- an initial trigger of a new object
 pub initially_on : (tables : ℕ → ℕ → Table) (t : Trigger) (x : Layer) (y : NumberTx) (id : ℕ) (new : Option Tracked) → Stands x y → IsFresh x y id new
     → Follows y tells_line (activate_with new id t.class t.place [] x) (on_live id (activates_initial (numbers tables) id t) y)
@@ -151,11 +147,11 @@ initially_on tables t x y id new stands fresh =
     (λ (n : ℕ) (z : NumberTx). unanswered (prints (active_line n) z) n)
     (sym (in_turn (machine.lives id y) (λ _. switches_on (numbers tables) id t []) (λ _. nothing)))
     (follows_on y tells_active (activate_with new id t.class t.place [] x) (on_live id (switches_on (numbers tables) id t []) y) (λ _. nothing)
-    (switched_on tables t [] x y id new stands fresh no_args))
+    (switched_on tables t [] x y id new stands fresh))
 
 -- ---- a trigger by its name
 
-there : {R : Type 0} (y : NumberTx) (id : ℕ) (act : Act (Unit {0}) ℕ R) (f : Option worlds.Object) → object_at y.now.bones id ≡ f → is_some f ≡ true → on_live id act y ≡ act y
+pub there : {R : Type 0} (y : NumberTx) (id : ℕ) (act : Act (Unit {0}) ℕ R) (f : Option worlds.Object) → object_at y.now.bones id ≡ f → is_some f ≡ true → on_live id act y ≡ act y
 there y id act f is some = ap (λ (g : Option worlds.Object). go_on (cond (is_some g) (Done tt y) (Aborted (reason.NoObject id) y)) (λ _. act)) is
     ∙ ap (λ b. go_on (cond b (Done tt y) (Aborted (reason.NoObject id) y)) (λ _. act)) some
 
@@ -173,13 +169,13 @@ module _ (tables : ℕ → ℕ → Table) (o : worlds.Object) (name : List ℕ) 
   abbrev named_in : worlds.Object → Act (Unit {0}) ℕ Value
   named_in p z = go_on (found (trigger_named z.now.bones.classes p.class name) z) (λ u w. go_on (on u w) valued)
 
-  pub named_on : are_args args ≡ nat_le (values_length args) args_limit → object_at y.now.bones r.object ≡ Some o → trigger_named y.now.bones.classes o.class name ≡ Some t
+  pub named_on : object_at y.now.bones r.object ≡ Some o → trigger_named y.now.bones.classes o.class name ≡ Some t
       → Follows y tells_value (activate_with new r.object t.class t.place args x) (switches_on_named (numbers tables) r name args y)
   unfolding switches_on_named
-  named_on short at named =
+  named_on at named =
       follows_as y (λ (n : ℕ) z. go_on (tells_active n z) valued) tells_value (activate_with new r.object t.class t.place args x) (go_on (on_live r.object (on t) y) valued)
       (switches_on_named (numbers tables) r name args y)
       (λ (n : ℕ) (z : NumberTx). in_turn (prints (active_line n) z) (λ _. gives n) valued)
       (ap (λ (f : Option worlds.Object). go_on (found f y) named_in) at ∙ ap on_by named ∙ ap (λ (m : Outcome (Unit {0}) ℕ ℕ). go_on m valued) (sym (there y r.object (on t) (Some o) at refl)))
       (follows_on y tells_active (activate_with new r.object t.class t.place args x) (on_live r.object (on t) y) valued
-      (switched_on tables t args x y r.object new stands fresh short))
+      (switched_on tables t args x y r.object new stands fresh))

@@ -1,3 +1,4 @@
 mod FiringLaws
 pub mod GoingLaws
+mod HadLaws
 mod ShownLaws

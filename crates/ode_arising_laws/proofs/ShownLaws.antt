@@ -4,6 +4,7 @@ use Rattle.std.specs.Prelude.{nat_le}
 use Rattle.std.specs.List.{AllByRecursion}
 use Rattle.std.specs.Option.{option_and_then}
 use Rattle.ode_arising_laws.proofs.FiringLaws.{arisen, firings_by, none_arise}
+use Rattle.ode_arising_laws.proofs.HadLaws.{there_by}
 use Rattle.ode_arising_laws.specs.Arising.{IsGoing, firing_by, live_in}
 use Rattle.ode_interpreter.specs.Seen.{firing}
 use Rattle.ode_keep.specs.Entries.{Entries}
@@ -66,24 +67,6 @@ same_activations (a ∷ own) [] are = absurd are
 numbers_same : (there : List Running) → map (λ (a : Activation). a.number) (map activation_of there) ≡ map (λ (r : Running). r.id) there
 numbers_same [] = refl
 numbers_same (r ∷ there) = ap (λ (ns : List ℕ). r.id ∷ ns) (numbers_same there)
-
--- ---- a tracked object that is there
-
-record IsThere (id : ℕ) (x : Layer) (o : Object) : Type 0 where
-  tracked : Tracked
-  found : tracked_at id x ≡ Some tracked
-  current : tracked.current ≡ o
-  live : tracked.current.live ≡ true
-
-there_by : (id : ℕ) (x : Layer) (o : Object) → live_in id x ≡ Some o → IsThere id x o
-there_by id x o is = by_tracked (tracked_at id x) refl is where
-  by_live : (t : Tracked) → tracked_at id x ≡ Some t → (b : Bool) → t.current.live ≡ b → cond b (Some t.current) None ≡ Some o → IsThere id x o
-  by_live t found true live e = record { tracked = t; found = found; current = cc e; live = live }
-  by_live t found false live e = absurd (cc e)
-
-  by_tracked : (f : Option Tracked) → tracked_at id x ≡ f → option_and_then (λ (t : Tracked). if_live t.current) f ≡ Some o → IsThere id x o
-  by_tracked None found e = absurd (cc e)
-  by_tracked (Some t) found e = by_live t found t.current.live refl e
 
 abbrev left_in : Layer → Answer (Unit {0} × Layer) → Layer
 left_in other (Ok done) = done.1

@@ -1,25 +1,27 @@
-//! Points of touched objects arise through an overlay as in the machine on its view: a law of definitions, carried by the contract of a
-//! function that does nothing.
+//! Points of touched objects arise through an overlay as in the machine on its view, and the activations that it has go on. Laws of
+//! definitions, each carried by the contract of a function that does nothing.
 #![tactic(auto)]
 
 ghost use Rattle.std.specs.Prelude.{◌≡◌, ℕ, List as Items, None, Some, Ok, map, true};
 ghost use Rattle.std.specs.List.{AllByRecursion};
-ghost use Rattle.ode_arising_laws.specs.Arising.{IsGoing, firing_by, live_in};
+ghost use Rattle.ode_arising_laws.specs.Arising.{AllGo, IsGoing, firing_by, live_in};
 ghost use Rattle.ode_interpreter.specs.Seen.{firing};
 ghost use Rattle.ode_keep.specs.Entries.{Entries};
 ghost use Rattle.ode_key_laws.specs.Keys.{HoldsKeys};
 ghost use Rattle.ode_laws.specs.Alike.{NumberWorld};
 ghost use Rattle.ode_laws.specs.Numbered.{AreNumbered};
+ghost use Rattle.ode_object_laws.specs.Objects.{HaveTriggers, TakesTrigger};
 ghost use Rattle.ode_objects.specs.declared.object.Object.{Object};
 ghost use Rattle.ode_overlay.specs.Changing.{put_acts};
 ghost use Rattle.ode_overlay.specs.Layers.{Layer, is_touched};
 ghost use Rattle.ode_overlay.specs.Reading.{acts};
 ghost use Rattle.ode_point_laws.specs.Points.{all_behind, all_fired, point_of, whole_behind, whole_fired};
-ghost use Rattle.ode_schema.specs.Parts.{Parts, table_by, trigger_of};
+ghost use Rattle.ode_schema.specs.Parts.{AreFit, Parts, table_by, trigger_of};
 ghost use Rattle.ode_states.specs.Machine.{checked};
 ghost use Rattle.ode_types.specs.Checked.{AreChecked};
 ghost use Rattle.ode_types.specs.declared.running.Running.{Running};
 ghost use Rattle.ode_value.specs.Acts.{Aborted, Done};
+ghost use Rattle.ode_value.specs.Classes.{Trigger, initial_triggers, trigger_named};
 ghost use Rattle.ode_value.specs.Firings.{Place, arises, both_lists, whole_list};
 ghost use Rattle.ode_value.specs.Pasts.{numbers};
 ghost use Rattle.ode_value.specs.Worlds.{Declared};
@@ -50,4 +52,21 @@ pub fn points_show()
     ensures none { (classes : Items Declared) (first : NumberWorld) (beside : Beside) (x : Layer) → IsViewed first x → HoldsKeys first x
         → (p : Parts) (place : Place (Unit {0}) ℕ) (id : ℕ) (kind : Kind) (args : Items Value) → is_touched id x ≡ true → live_in id x ≡ None
         → arises (numbers (table_by p.tables p.maps)) place id kind args (running classes first x beside) ≡ Aborted (NoObject 0) (running classes first x beside) }
+{}
+
+/// Where the class of each object has the triggers of its activations, those that the overlay has of an object that is there are given by a
+/// program of the first world's classes whose tables fit, and each goes on by its trigger's table.
+pub fn activations_go_on()
+    ensures { (first : NumberWorld) (x : Layer) → IsViewed first x → HaveTriggers first.bones.classes (world_now first.bones.classes first x).bones
+        → (p : Parts) → AreFit p → AreChecked p.classes → checked first.bones.classes ≡ p.classes
+        → (base : Entries) (id : ℕ) (o : Object) → live_in id x ≡ Some o → AllGo p o.class (acts p.classes base id p.maps x) }
+{}
+
+/// The trigger that a class has under a name [`named`] and those that its new objects begin with [`initial`] are triggers that it has, by
+/// other texts of the same classes too.
+pub fn triggers_are_taken()
+    ensures named { (classes others : Items Declared) → checked classes ≡ checked others → (number : ℕ) (name : Items ℕ) (t : Trigger) → trigger_named classes number name ≡ Some t
+        → TakesTrigger others number t.class t.place }
+    ensures initial { (classes others : Items Declared) → checked classes ≡ checked others → (number : ℕ)
+        → AllByRecursion (λ (t : Trigger). TakesTrigger others number t.class t.place) (initial_triggers classes number) }
 {}

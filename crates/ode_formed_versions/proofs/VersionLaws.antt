@@ -91,10 +91,10 @@ module _ (base : Entries) (x : Layer) (r : Ref) (new : Option Tracked) (formed :
   unfolding write_with
   write_stays slot value =
       by_live base id (object_of new id x)
-      (λ o. denoted_in r o >>= λ v. fields_with r slot value v >>= λ fields. holding (one_key v.number) x >>= λ keys. Ok (tt, with_now id new (written v.number fields o) keys x))
+      (λ o. denoted_in r o >>= λ v. fields_with slot value v >>= λ fields. holding (one_key v.number) x >>= λ keys. Ok (tt, with_now id new (written v.number fields o) keys x))
       (λ t found is_live.
-      by_answer base (denoted_in r t.current) (λ v. fields_with r slot value v >>= λ fields. holding (one_key v.number) x >>= λ keys. Ok (tt, with_now id new (written v.number fields t.current) keys x))
-      (λ v. by_answer base (fields_with r slot value v) (λ fields. holding (one_key v.number) x >>= λ keys. Ok (tt, with_now id new (written v.number fields t.current) keys x))
+      by_answer base (denoted_in r t.current) (λ v. fields_with slot value v >>= λ fields. holding (one_key v.number) x >>= λ keys. Ok (tt, with_now id new (written v.number fields t.current) keys x))
+      (λ v. by_answer base (fields_with slot value v) (λ fields. holding (one_key v.number) x >>= λ keys. Ok (tt, with_now id new (written v.number fields t.current) keys x))
       (λ fields. by_few base x (one_key v.number) (λ keys. Ok (tt, with_now id new (written v.number fields t.current) keys x)) (written_so v.number fields t found))))
 
   -- ---- a version is removed

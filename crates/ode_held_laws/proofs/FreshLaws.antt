@@ -84,7 +84,7 @@ module _ (l : Language) (records : Entries) (w : ListWorld) (held : HoldsCounted
       each : (acts : List Activation) → AllByRecursion (IsReadableActivation s.world o.id) acts → AllByRecursion (IsActivation w.bones o.class) acts
           → AllByRecursion (λ (a : Activation). are_args a.args ≡ true) acts
       each [] here there = tt
-      each (a ∷ acts) here there = (args_fit s.world w.bones o.id o.class a here.0 there.0, each acts here.1 there.1)
+      each (a ∷ acts) here there = (args_fit w.bones o.class a there.0, each acts here.1 there.1)
 
     activations_are : actives_in classes records o.id ≡ There (map (read_active s.world o.id) o.activations)
     unfolding actives_in

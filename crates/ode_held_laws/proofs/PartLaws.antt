@@ -1,19 +1,16 @@
 -- The versions and the activations of an object are read whole.
-use Rattle.std.proofs.Common.{◌≡◌, ◌==◌, ◌<◌, ◌≤◌, ℕ, List, [], ◌∷◌, ◌++◌, Bool, true, cond, map, length, Option, Some, None, refl, sym, ap, ◌∙◌, append_assoc, append-nil, arith}
-use Rattle.std.proofs.lemmas.Bool.{and_from}
+use Rattle.std.proofs.Common.{◌≡◌, ◌==◌, ◌≤◌, ℕ, List, [], ◌∷◌, ◌++◌, Bool, true, cond, map, Option, Some, None, refl, sym, ap, ◌∙◌, append_assoc, append-nil, arith}
 use Rattle.std.proofs.lemmas.Bool.Decides.{nat_tests}
-use Rattle.std.specs.Prelude.{◌&&◌, nat_le, nat_lt}
+use Rattle.std.specs.Prelude.{nat_le}
 use Rattle.std.specs.List.{AllByRecursion, find}
-use Rattle.std.specs.Option.{IfSome}
-use Rattle.ode_codec.specs.Rules.{AreKept, IsKept, IsKeptValue}
-use Rattle.ode_heap.specs.Answering.{IsReadableActivation, with_state}
+use Rattle.ode_heap.specs.Answering.{with_state}
 use Rattle.ode_heap.specs.Answers.{Found, ◌>>=◌}
 use Rattle.ode_heap.specs.Answers.{There, Broken}
 use Rattle.ode_keep.specs.Entries.{Entries}
 use Rattle.ode_laws.proofs.Rows.{find_rising}
 use Rattle.ode_laws.specs.Alike.{NumberWorld}
 use Rattle.ode_objects.specs.Loading.{active_read, actives_from, fields_in, version_read, versions_from}
-use Rattle.ode_objects.specs.Values.{are_args, are_kept, is_kept}
+use Rattle.ode_objects.specs.Values.{are_args}
 use Rattle.ode_objects.specs.declared.object.Active.{Active}
 use Rattle.ode_objects.specs.declared.object.Version as objects
 use Rattle.ode_overlay_laws.specs.Standing.{active_as, version_as}
@@ -28,7 +25,6 @@ use Rattle.ode_value.specs.Versions.{Version, version_numbered}
 use Rattle.ode_value.specs.Worlds.{Bones}
 use Rattle.ode_value.specs.declared.class.Class.{Class}
 use Rattle.ode_value.specs.declared.value.Value.{Value}
-use Rattle.ode_value.specs.declared.value.Value.TheVariants as value
 use Rattle.ode_versions.specs.Versions.{listed}
 
 -- ---- versions
@@ -65,36 +61,17 @@ numbered_each vs rising = each vs (find_rising (λ (v : Version). v.number) 0 vs
 
 -- ---- activations
 
-is_less : (a b : ℕ) → a < b → nat_lt a b ≡ true
-is_less a b less = grind (arith, nat_tests)
-
 is_most : (a b : ℕ) → a ≤ b → nat_le a b ≡ true
 is_most a b most = grind (arith, nat_tests)
-
-value_kept : (v : Value) → IsKeptValue v → is_kept v ≡ true
-value_kept (value.Int n) kept = refl
-value_kept (value.Bool b) kept = refl
-value_kept (value.Text t) kept = refl
-value_kept (value.Reference r) kept = by_version r.version kept where
-  by_version : (version : Option ℕ) → IfSome version (λ v. (0 < r.object) × (0 < v)) → is_kept (value.Reference (record { object = r.object; version = version })) ≡ true
-  by_version None is = refl
-  by_version (Some v) is = and_from (nat_lt 0 r.object) (nat_lt 0 v) (is_less 0 r.object is.0) (is_less 0 v is.1)
-
-values_kept : (vs : List Value) → AreKept vs → are_kept vs ≡ true
-values_kept [] kept = refl
-values_kept (v ∷ vs) kept = and_from (is_kept v) (are_kept vs) (value_kept v kept.0) (values_kept vs kept.1)
 
 short_args : (b : Bones) (args : List Value) (t : Option Trigger) → HaveTrigger b args t → values_length args ≤ args_limit
 short_args b args None have = absurd have
 short_args b args (Some t) have = have.short
 
--- a record can hold the arguments of one that fits
-pub args_fit : (w : NumberWorld) (b : Bones) (id class : ℕ) (a : Activation) → IsReadableActivation w id a → IsActivation b class a → are_args a.args ≡ true
-unfolding are_args IsKept
-args_fit w b id class a reads is =
-    and_from (nat_lt (length a.args) 256) (are_kept a.args && nat_le (values_length a.args) args_limit) (is_less (length a.args) 256 reads.spells.kept.0)
-    (and_from (are_kept a.args) (nat_le (values_length a.args) args_limit) (values_kept a.args reads.spells.kept.1)
-    (is_most (values_length a.args) args_limit (short_args b a.args (trigger_in b.classes class a) is.trigger)))
+-- a record has room for the arguments of one that fits
+pub args_fit : (b : Bones) (class : ℕ) (a : Activation) → IsActivation b class a → are_args a.args ≡ true
+unfolding are_args
+args_fit b class a is = is_most (values_length a.args) args_limit (short_args b a.args (trigger_in b.classes class a) is.trigger)
 
 module _ (w : NumberWorld) (id : ℕ) where
   abbrev pub read_active : Activation → Active

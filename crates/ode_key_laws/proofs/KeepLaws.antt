@@ -194,7 +194,7 @@ module _ (classes : List Class) (base : Entries) (x : Layer) (y : NumberTx) (r :
   unfolding write write_with
   write_holds slot value =
       bound Q (not_null r) _ (λ _. read_bound Q (fresh classes base r.object x) of _ read.read (live_bound Q r.object (object_of of r.object x) _
-      (λ t is. bound Q (denoted_in r t.current) _ (λ v. bound Q (fields_with r slot value v) _
+      (λ t is. bound Q (denoted_in r t.current) _ (λ v. bound Q (fields_with slot value v) _
       (λ fields. held_bound Q x (version_key r.object v.number ∷ []) _ (puts t is (written v.number fields t.current) (version_key r.object v.number ∷ []) refl))))))
 
   pub derive_holds : StillHoldsKeys y.first (derive classes base r x)

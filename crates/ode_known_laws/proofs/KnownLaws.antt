@@ -1,7 +1,6 @@
 -- What is known of an overlay goes on behind a call.
 use Rattle.std.proofs.Common.{Bool, true, false, cond, ◌≡◌, ◌≤◌, ℕ, List, Option, Some, Ok, Err, refl, subst, le_refl, le_trans}
 use Rattle.std.specs.Prelude.{◌&&◌}
-use Rattle.ode_act_laws.specs.Unless.{ShowsUnless}
 use Rattle.ode_codec.specs.declared.record.Entry.{Entry}
 use Rattle.ode_formed_laws.specs.Staying.{StaysFormed}
 use Rattle.ode_keep.specs.Entries.{Entries}
@@ -10,21 +9,22 @@ use Rattle.ode_known_laws.specs.Knowing.{IsKnown, StaysKnown}
 use Rattle.ode_laws.specs.Alike.{NumberTx, NumberWorld}
 use Rattle.ode_laws.specs.Numbered.{AreNumbered}
 use Rattle.ode_object_laws.proofs.NumberLaws.{are_numbered, numbers_of}
-use Rattle.ode_object_laws.specs.Objects.{HaveNumbers, HaveValues, StillHaveNumbers, StillHaveValues}
+use Rattle.ode_laws.proofs.Rows.{at_numbered}
+use Rattle.ode_object_laws.specs.Objects.{HaveNumbers, HaveTriggers, StillHaveNumbers, StillHaveTriggers, TakesTrigger}
 use Rattle.ode_objects.specs.Values.{are_args}
 use Rattle.ode_objects.specs.declared.tracked.Tracked.{Tracked}
 use Rattle.ode_overlay.specs.Answers.{Answer}
 use Rattle.ode_overlay.specs.Changing.{object_of}
 use Rattle.ode_overlay.specs.Layers.{Layer}
 use Rattle.ode_overlay.specs.Settling.{collect, has_room, with_entry}
-use Rattle.ode_overlay.specs.declared.error.OverlayError.TheVariants as error
 use Rattle.ode_overlay.specs.declared.origin.Origin.{Origin}
 use Rattle.ode_overlay_laws.proofs.AlteredLaws.{Has, has_found}
 use Rattle.ode_overlay_laws.specs.Following.{Continues}
 use Rattle.ode_overlay_laws.specs.Standing.{IsFresh, Stands, object_as}
 use Rattle.ode_settling_laws.specs.Formed.{IsFormed}
 use Rattle.ode_value.specs.Acts.{Act, Outcome}
-use Rattle.ode_value.specs.Worlds.{Declared}
+use Rattle.ode_value.specs.Denoting.{object_at, object_numbered}
+use Rattle.ode_value.specs.Worlds.{Bones, Declared, Object}
 use Rattle.ode_version_laws.specs.Denoting.{HasVersions, HaveVersions}
 use Rattle.ode_version_laws.specs.Growing.{GoesOnNumbered}
 use Rattle.ode_version_laws.specs.Leaving.{StillHaveVersions, StillRemembers}
@@ -40,13 +40,13 @@ pub begun_versioned : (origin : Origin) (w : NumberWorld) → HaveVersions w.bon
 unfolding world_now
 begun_versioned origin w versions = versions
 
-pub begun_valued : (origin : Origin) (w : NumberWorld) → HaveValues w.bones → HaveValues (world_now w.bones.classes w (began_over origin w)).bones
-unfolding world_now
-begun_valued origin w values = values
-
 pub begun_numbered : (origin : Origin) (w : NumberWorld) → AreNumbered w.bones → GoesOnNumbered (running w.bones.classes w (began_over origin w) nothing_beside)
 unfolding world_now
 begun_numbered origin w numbered = record { first = numbered; now = record { classes = numbered.classes; rising = numbered.rising; objects = numbered.objects }; next = le_refl w.bones.next; classes = refl }
+
+pub begun_triggers : (origin : Origin) (w : NumberWorld) → HaveTriggers w.bones.classes w.bones → HaveTriggers w.bones.classes (world_now w.bones.classes w (began_over origin w)).bones
+unfolding world_now
+begun_triggers origin w triggers = triggers
 
 -- ---- what goes on
 
@@ -55,13 +55,13 @@ versioned_by : (classes other : List Declared) (first : NumberWorld) (x : Layer)
 unfolding world_now
 versioned_by classes other first x versions = versions
 
-valued_by : (classes other : List Declared) (first : NumberWorld) (x : Layer) → HaveValues (world_now classes first x).bones → HaveValues (world_now other first x).bones
-unfolding world_now
-valued_by classes other first x values = values
-
 pub numbered_by : (classes other : List Declared) (first : NumberWorld) (x : Layer) → HaveNumbers (world_now classes first x).bones → HaveNumbers (world_now other first x).bones
 unfolding world_now
 numbered_by classes other first x numbers = numbers
+
+triggers_by : (own classes other : List Declared) (first : NumberWorld) (x : Layer) → HaveTriggers own (world_now classes first x).bones → HaveTriggers own (world_now other first x).bones
+unfolding world_now
+triggers_by own classes other first x triggers = triggers
 
 -- a view goes on as another one
 pub views_go_on : (classes : List Declared) (first : NumberWorld) (beside : Beside) (x x' : Layer) → Continues (running classes first x beside) (running classes first x' beside)
@@ -90,8 +90,8 @@ same_next classes other first x x' more = more
 pub record Leaves {R : Type 0} (base : Entries) (y : NumberTx) (answer : Answer (R × Layer)) : Type 0 where
   pub remembers : StillRemembers y.first answer
   pub versions : StillHaveVersions y answer
-  pub values : StillHaveValues y answer
   pub numbers : StillHaveNumbers y answer
+  pub triggers : StillHaveTriggers y.first.bones.classes y answer
   pub formed : StaysFormed base answer
   pub keys : StillHoldsKeys y.first answer
 
@@ -105,11 +105,11 @@ module _ (classes : List Declared) (first : NumberWorld) (beside : Beside) (base
   pub versions_now : HaveVersions y.now.bones
   versions_now = versioned_by first.bones.classes classes first x known.versions
 
-  pub values_now : HaveValues y.now.bones
-  values_now = valued_by first.bones.classes classes first x known.values
-
   pub numbers_now : HaveNumbers y.now.bones
   numbers_now = numbered_by first.bones.classes classes first x (numbers_of (world_now first.bones.classes first x).bones known.numbered.now)
+
+  pub triggers_now : HaveTriggers first.bones.classes y.now.bones
+  triggers_now = triggers_by first.bones.classes first.bones.classes classes first x known.triggers
 
   -- of what is read
   pub versions_read : (id : ℕ) (new : Option Tracked) → Stands x y → IsFresh x y id new → (t : Tracked) → object_of new id x ≡ Some t → HasVersions (object_as id t.current)
@@ -127,10 +127,10 @@ module _ (classes : List Declared) (first : NumberWorld) (beside : Beside) (base
         viewed = viewed;
         remembers = left.remembers;
         versions = versioned_by classes first.bones.classes first x' (left.versions (now x') stands on);
-        values = valued_by classes first.bones.classes first x' (left.values (now x') stands on);
         numbered = goes_numbered first x x' known.numbered viewed (numbered_by classes first.bones.classes first x' numbers.0) (same_next classes first.bones.classes first x x' numbers.1);
         formed = left.formed;
         keys = left.keys;
+        triggers = triggers_by first.bones.classes classes first.bones.classes first x' (left.triggers (now x') stands on);
       }
 
   module _ {R S : Type 0} (next : R → Act (Unit {0}) ℕ S) (outcome : Outcome (Unit {0}) ℕ S) where
@@ -140,14 +140,18 @@ module _ (classes : List Declared) (first : NumberWorld) (beside : Beside) (base
     known_then (Ok done) shows left = (
       shows.0,
       known_behind done.1 shows.1
-          (record { remembers = left.remembers; versions = left.versions; values = left.values; numbers = left.numbers; formed = left.formed; keys = left.keys }),
+          (record { remembers = left.remembers; versions = left.versions; numbers = left.numbers; triggers = left.triggers; formed = left.formed; keys = left.keys }),
     )
 
-    pub known_unless : (D : Type 0) (answer : Answer (R × Layer)) → ShowsUnless D now next x answer outcome × StaysViewed first answer → Leaves base y answer
-        → ShowsUnless D now next x answer outcome × StaysKnown base first answer
-    known_unless D (Ok done) shows left = known_then (Ok done) shows left
-    known_unless D (Err (error.Damaged key)) shows left = (shows.0, tt)
-    known_unless D (Err why) shows left = (shows.0, tt)
+-- ---- activations
+
+-- the class of an object that is there has a trigger
+pub taken_at : (classes : List Declared) (b : Bones) (id class place : ℕ) (o : Object) → object_at b id ≡ Some o → TakesTrigger classes o.class class place
+    → (q : Object) → object_numbered id b.objects ≡ Some q → TakesTrigger classes q.class class place
+taken_at classes b id class place o at takes q is =
+    let there = at_numbered b id o at in
+    let same : o ≡ q = cc (there, is) in
+    subst (λ (w : Object). TakesTrigger classes w.class class place) same takes
 
 -- ---- firings
 
@@ -162,10 +166,10 @@ module _ (base : Entries) (first : NumberWorld) (x : Layer) (known : IsKnown bas
     viewed = viewed;
     remembers = known.remembers;
     versions = known.versions;
-    values = known.values;
     numbered = record { first = known.numbered.first; now = known.numbered.now; next = known.numbered.next; classes = refl };
     formed = formed;
     keys = keys;
+    triggers = known.triggers;
   }
   by_room false viewed formed keys = known
 

@@ -6,7 +6,7 @@ use Rattle.ode_known_laws.proofs.KnownLaws.{goes_numbered}
 use Rattle.ode_known_laws.specs.Knowing.{IsKnown, declared_in}
 use Rattle.ode_laws.proofs.Each.{all-map, all-then}
 use Rattle.ode_laws.specs.Alike.{NumberTx, NumberWorld}
-use Rattle.ode_object_laws.specs.Objects.{HaveNumbers, HaveValues}
+use Rattle.ode_object_laws.specs.Objects.{HaveNumbers, HaveTriggers}
 use Rattle.ode_overlay.specs.Layers.{Layer}
 use Rattle.ode_overlay.specs.Rewinding.{rewind}
 use Rattle.ode_overlay_laws.specs.Following.{Continues}
@@ -80,17 +80,17 @@ module _ (tables : ℕ → ℕ → Table) (first : NumberWorld) (beside : Beside
   next_left = le_refl x.next
 
   pub left_known : (aborted (numbers tables) y ≡ running classes first left beside) × IsViewed first left → Remembers left.objects first
-      → HaveVersions (aborted (numbers tables) y).now.bones → HaveValues (aborted (numbers tables) y).now.bones → HaveNumbers (aborted (numbers tables) y).now.bones
-      → IsFormed base left → HoldsKeys first left → IsKnown base first left
-  left_known viewed remembers versions values has formed keys = record {
+      → HaveVersions (aborted (numbers tables) y).now.bones → HaveNumbers (aborted (numbers tables) y).now.bones
+      → HaveTriggers classes (aborted (numbers tables) y).now.bones → IsFormed base left → HoldsKeys first left → IsKnown base first left
+  left_known viewed remembers versions has triggers formed keys = record {
     held = known.held;
     viewed = viewed.1;
     remembers = remembers;
     versions = subst (λ (z : NumberTx). HaveVersions z.now.bones) viewed.0 versions;
-    values = subst (λ (z : NumberTx). HaveValues z.now.bones) viewed.0 values;
     numbered = goes_numbered first x left known.numbered viewed.1 (subst (λ (z : NumberTx). HaveNumbers z.now.bones) viewed.0 has) next_left;
     formed = formed;
     keys = keys;
+    triggers = subst (λ (z : NumberTx). HaveTriggers classes z.now.bones) viewed.0 triggers;
   }
 
 -- by whatever classes the view is

@@ -80,4 +80,4 @@ module _ (base : Entries) (first : NumberWorld) (x : Layer) (known : IsKnown bas
       let numbers = left.numbers (running classes first done.1 nothing_beside) (view_stands classes first done.1 nothing_beside above.0) (views_go_on classes first nothing_beside x done.1) in
       known_behind classes first nothing_beside base x known done.1
       (record { over = above.0; began = known.viewed.began; now = layer_ordered first done.1 known.viewed.began (numbered_by classes classes first done.1 numbers.0); touched = above.1 })
-      (record { remembers = left.remembers; versions = left.versions; values = left.values; numbers = left.numbers; formed = left.formed; keys = left.keys })
+      (record { remembers = left.remembers; versions = left.versions; numbers = left.numbers; triggers = left.triggers; formed = left.formed; keys = left.keys })

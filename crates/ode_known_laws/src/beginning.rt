@@ -17,7 +17,7 @@ use ode_act_laws::views_are_read;
 use ode_formed_laws::overlays_begin_formed;
 use ode_key_laws::calls_keep_keys;
 use ode_laws::good_worlds_are_numbered;
-use ode_object_laws::values_can_be_held;
+use ode_object_laws::good_worlds_have_triggers;
 use ode_version_laws::{
     firsts_are_remembered, good_worlds_are_settled, held_worlds_are_shown, reads_follow,
 };
@@ -30,8 +30,8 @@ pub fn transactions_begin_known()
     transactions_begin_with_views();
     firsts_are_remembered();
     good_worlds_are_numbered();
+    good_worlds_have_triggers();
     good_worlds_are_settled();
-    values_can_be_held();
     overlays_begin_formed();
     calls_keep_keys();
 }

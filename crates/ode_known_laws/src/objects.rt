@@ -1,15 +1,12 @@
 //! Objects are touched, made and removed.
-ghost use Rattle.std.specs.Prelude.{◌≡◌, ℕ, List as Items, nat_le};
+ghost use Rattle.std.specs.Prelude.{ℕ, List as Items};
 ghost use Rattle.ode_keep.specs.Entries.{Entries};
 ghost use Rattle.ode_known_laws.specs.Knowing.{IsKnown, StaysKnown, declared_in};
 ghost use Rattle.ode_laws.specs.Alike.{NumberWorld};
-ghost use Rattle.ode_objects.specs.Values.{are_fields};
 ghost use Rattle.ode_overlay.specs.Changing.{create, remove, touch};
 ghost use Rattle.ode_overlay.specs.Layers.{Layer};
 ghost use Rattle.ode_overlay_laws.specs.Following.{joins_first, on_live, tells_new};
 ghost use Rattle.ode_value.specs.Acts.{gives};
-ghost use Rattle.ode_value.specs.Lengths.{version_size};
-ghost use Rattle.ode_value.specs.Limits.{value_limit};
 ghost use Rattle.ode_value.specs.Making.{makes, removes};
 ghost use Rattle.ode_value.specs.Pasts.{numbers};
 ghost use Rattle.ode_value.specs.Tables.{Table};
@@ -21,7 +18,7 @@ ghost use Rattle.ode_view_laws.specs.Viewing.{Beside, running};
 use ode_formed_laws::{changes_stay_formed, objects_are_read_as_stored};
 use ode_held_laws::objects_are_read_fresh;
 use ode_key_laws::calls_keep_keys;
-use ode_object_laws::{calls_keep_numbers, calls_keep_values};
+use ode_object_laws::{calls_keep_numbers, calls_keep_triggers};
 use ode_version_laws::{calls_keep_versions, calls_remember_firsts};
 use ode_view_laws::{makings_show, overlays_have_views, removals_show, touches_show};
 
@@ -36,8 +33,8 @@ pub fn touches_known()
     touches_show();
     calls_remember_firsts();
     calls_keep_versions();
-    calls_keep_values();
     calls_keep_numbers();
+    calls_keep_triggers();
     objects_are_read_as_stored();
     changes_stay_formed();
     calls_keep_keys();
@@ -54,17 +51,17 @@ pub fn removals_known()
     removals_show();
     calls_remember_firsts();
     calls_keep_versions();
-    calls_keep_values();
     calls_keep_numbers();
+    calls_keep_triggers();
     objects_are_read_as_stored();
     changes_stay_formed();
     calls_keep_keys();
 }
 
-/// The making of an object, up to its line, where a record can hold every reference among the fields.
+/// The making of an object, up to its line.
 pub fn makings_known()
     ensures { (classes : Items Declared) (first : NumberWorld) (beside : Beside) (base : Entries) (x : Layer) → IsKnown base first x
-        → (tables : ℕ → ℕ → Table) (class : ℕ) (fields : Items Value) → are_fields fields ≡ nat_le (version_size fields) value_limit
+        → (tables : ℕ → ℕ → Table) (class : ℕ) (fields : Items Value)
         → Shows (λ now. running classes first now beside) tells_new x (create class fields x) (makes (numbers tables) class fields (running classes first x beside))
         × StaysKnown base first (create class fields x) }
 {
@@ -72,8 +69,8 @@ pub fn makings_known()
     makings_show();
     calls_remember_firsts();
     calls_keep_versions();
-    calls_keep_values();
     calls_keep_numbers();
+    calls_keep_triggers();
     changes_stay_formed();
     calls_keep_keys();
 }

@@ -10,7 +10,7 @@ ghost use Rattle.ode_types.specs.declared.running.Running.{Running};
 use ode_formed_laws::{changes_stay_formed, objects_are_read_as_stored};
 use ode_held_laws::objects_are_read_fresh;
 use ode_key_laws::calls_keep_keys;
-use ode_object_laws::{calls_keep_numbers, calls_keep_values};
+use ode_object_laws::{calls_keep_numbers, calls_keep_triggers};
 use ode_version_laws::{calls_keep_versions, calls_remember_firsts};
 use ode_view_laws::overlays_have_views;
 
@@ -23,8 +23,8 @@ pub fn puts_known()
     objects_are_read_fresh();
     calls_remember_firsts();
     calls_keep_versions();
-    calls_keep_values();
     calls_keep_numbers();
+    calls_keep_triggers();
     objects_are_read_as_stored();
     changes_stay_formed();
     calls_keep_keys();

@@ -13,7 +13,7 @@ ghost use Rattle.ode_view_laws.specs.Viewing.{Beside, running};
 
 use ode_formed_rewinds::rewinds_stay_formed;
 use ode_key_laws::calls_keep_keys;
-use ode_object_laws::{rewinds_keep_objects, values_can_be_held};
+use ode_object_laws::{good_worlds_have_triggers, rewinds_keep_objects};
 use ode_version_laws::{good_worlds_are_settled, held_worlds_are_shown, rewinds_follow};
 use ode_view_laws::overlays_have_views;
 
@@ -28,8 +28,8 @@ pub fn rewinds_known()
     held_worlds_are_shown();
     good_worlds_are_settled();
     rewinds_follow();
+    good_worlds_have_triggers();
     rewinds_keep_objects();
-    values_can_be_held();
     rewinds_stay_formed();
     calls_keep_keys();
 }

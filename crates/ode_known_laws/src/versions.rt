@@ -1,10 +1,8 @@
 //! Versions are derived, removed and written.
-ghost use Rattle.std.specs.Prelude.{◌≡◌, ℕ, List as Items, true};
-ghost use Rattle.ode_act_laws.specs.Unless.{ShowsUnless};
+ghost use Rattle.std.specs.Prelude.{ℕ, List as Items};
 ghost use Rattle.ode_keep.specs.Entries.{Entries};
 ghost use Rattle.ode_known_laws.specs.Knowing.{IsKnown, StaysKnown, declared_in};
 ghost use Rattle.ode_laws.specs.Alike.{NumberWorld};
-ghost use Rattle.ode_objects.specs.Values.{is_kept};
 ghost use Rattle.ode_overlay.specs.Changing.{derive, drop_version, write};
 ghost use Rattle.ode_overlay.specs.Layers.{Layer};
 ghost use Rattle.ode_value.specs.Acts.{gives};
@@ -12,7 +10,7 @@ ghost use Rattle.ode_value.specs.Making.{derives, drops, sets_field};
 ghost use Rattle.ode_value.specs.Worlds.{Declared};
 ghost use Rattle.ode_value.specs.declared.value.Ref.{Ref};
 ghost use Rattle.ode_value.specs.declared.value.Value.{Value};
-ghost use Rattle.ode_version_laws.specs.Denoting.{HoldsReferences, LacksSlot, tells_version};
+ghost use Rattle.ode_version_laws.specs.Denoting.{tells_version};
 ghost use Rattle.ode_view_laws.specs.Showing.{Shows};
 ghost use Rattle.ode_view_laws.specs.Viewing.{Beside, running};
 
@@ -21,14 +19,13 @@ use ode_formed_laws::objects_are_read_as_stored;
 use ode_formed_versions::versions_stay_formed;
 use ode_held_laws::objects_are_read_fresh;
 use ode_key_laws::calls_keep_keys;
-use ode_object_laws::{calls_keep_numbers, calls_keep_values};
+use ode_object_laws::{calls_keep_numbers, calls_keep_triggers};
 use ode_version_laws::{calls_keep_versions, calls_remember_firsts};
 use ode_view_laws::overlays_have_views;
 
-/// A new version, up to its line, where a record can hold each reference among the fields.
+/// A new version, up to its line.
 pub fn derivations_known()
     ensures { (classes : Items Declared) (first : NumberWorld) (beside : Beside) (base : Entries) (x : Layer) → IsKnown base first x → (r : Ref)
-        → HoldsReferences (running classes first x beside) r
         → Shows (λ now. running classes first now beside) tells_version x (derive (declared_in first) base r x) (derives r (running classes first x beside))
         × StaysKnown base first (derive (declared_in first) base r x) }
 {
@@ -37,8 +34,8 @@ pub fn derivations_known()
     derivations_show();
     calls_remember_firsts();
     calls_keep_versions();
-    calls_keep_values();
     calls_keep_numbers();
+    calls_keep_triggers();
     objects_are_read_as_stored();
     versions_stay_formed();
     calls_keep_keys();
@@ -55,18 +52,17 @@ pub fn version_removals_known()
     version_removals_show();
     calls_remember_firsts();
     calls_keep_versions();
-    calls_keep_values();
     calls_keep_numbers();
+    calls_keep_triggers();
     objects_are_read_as_stored();
     versions_stay_formed();
     calls_keep_keys();
 }
 
-/// A field that is set, where a record can hold each reference; the records are damaged only where the version hasn't the slot.
+/// A field that is set.
 pub fn writes_known()
     ensures { (classes : Items Declared) (first : NumberWorld) (beside : Beside) (base : Entries) (x : Layer) → IsKnown base first x → (r : Ref) (slot : ℕ) (v : Value)
-        → HoldsReferences (running classes first x beside) r → is_kept v ≡ true
-        → ShowsUnless (LacksSlot (running classes first x beside).now.bones r slot) (λ now. running classes first now beside) gives x (write (declared_in first) base r slot v x)
+        → Shows (λ now. running classes first now beside) gives x (write (declared_in first) base r slot v x)
         (sets_field r slot v (running classes first x beside))
         × StaysKnown base first (write (declared_in first) base r slot v x) }
 {
@@ -75,8 +71,8 @@ pub fn writes_known()
     writes_show();
     calls_remember_firsts();
     calls_keep_versions();
-    calls_keep_values();
     calls_keep_numbers();
+    calls_keep_triggers();
     objects_are_read_as_stored();
     versions_stay_formed();
     calls_keep_keys();

@@ -1,3 +1,3 @@
-mod ValueLaws
 pub mod NumberLaws
+pub mod TriggerLaws
 mod FirstLaws

@@ -17,7 +17,7 @@ use Rattle.ode_value.specs.Objects.{Activation}
 use Rattle.ode_value.specs.Worlds as worlds
 use Rattle.ode_value.specs.Worlds.{Bones, Declared}
 use Rattle.ode_value.specs.declared.value.Value.{Value}
-use Rattle.ode_version_laws.proofs.EachLaws.{IsKept}
+use Rattle.ode_version_laws.proofs.EachLaws.{AnyTaking, IsKept}
 use Rattle.ode_version_laws.proofs.SumLaws.{all_numbered}
 
 abbrev number_of : Activation → ℕ
@@ -80,14 +80,14 @@ active_numbers next id class trigger args o has =
     subst (λ (acts : List Activation). HasNumbers (next + 1) (record (object_as id o) { activations = acts })) (sym (map-append active_as o.activations (new_active next class trigger args ∷ [])))
     (one_more next (object_as id o) a refl has)
 
-pub numbers_kept : IsKept HasNumbers
+pub numbers_kept : IsKept HasNumbers AnyTaking
 numbers_kept = record {
   later = later_numbers;
   set = λ next id n fields o fit has. record { drawn = has.drawn; rising = has.rising; activations = has.activations };
   version = λ next id v o fit has. record { drawn = has.drawn; rising = has.rising; activations = has.activations };
   dropped = λ next id n o more has. record { drawn = has.drawn; rising = has.rising; activations = has.activations };
   removed = λ next id o has. record { drawn = has.drawn; rising = has.rising; activations = has.activations };
-  active = active_numbers;
+  active = λ next id class trigger args o may has. active_numbers next id class trigger args o has;
   off = λ next id number o has. same_numbers next id o (switched_off number o) (off_numbers number o.activations) has;
   states = λ next id rs o has. same_numbers next id o (with_states rs o) (taken_numbers rs o.activations) has;
   new = λ next class fields fit. record { drawn = omega arith; rising = tt; activations = tt };

@@ -10,6 +10,7 @@ use Rattle.std.specs.Ordering.{nat_cmp}
 use Rattle.ode_keep.proofs.Maps.{lookup_put}
 use Rattle.ode_laws.proofs.Rows.{kept-append, numbered-append}
 use Rattle.ode_laws.specs.Alike.{NumberTx}
+use Rattle.ode_objects.proofs.Kept.{fields_room}
 use Rattle.ode_objects.specs.Objects.{made}
 use Rattle.ode_objects.specs.Values.{are_fields}
 use Rattle.ode_objects.specs.declared.object.Object.{Object}
@@ -45,7 +46,7 @@ use Rattle.ode_value.specs.declared.value.Value.{Value}
 
 -- ---- one more behind the others
 
-numbered_push : (id : ℕ) (os : List worlds.Object) (o : worlds.Object) → (o.id == id) ≡ true → object_numbered id os ≡ None → object_numbered id (os ++ o ∷ []) ≡ Some o
+pub numbered_push : (id : ℕ) (os : List worlds.Object) (o : worlds.Object) → (o.id == id) ≡ true → object_numbered id os ≡ None → object_numbered id (os ++ o ∷ []) ≡ Some o
 numbered_push id [] o is none = ap (λ b. cond b (Some o) None) is
 numbered_push id (p ∷ os) o is none = by_test (p.id == id) none (numbered_push id os o is) where
   by_test : (b : Bool) → cond b (Some p) (object_numbered id os) ≡ None → (object_numbered id os ≡ None → object_numbered id (os ++ o ∷ []) ≡ Some o)
@@ -186,10 +187,9 @@ module _ (tables : ℕ → ℕ → Table) (class : ℕ) (fields : List Value) (x
   abbrev made_at : ℕ → Outcome (Unit {0}) ℕ ℕ
   made_at n = go_on (changes (object_key n ∷ version_key n 1 ∷ []) (version_size fields) has_number y) (λ _. act_at n)
 
-  pub made_law : are_fields fields ≡ nat_le (version_size fields) value_limit
-      → Follows y (λ n. prints (new_line n) >> gives n) (create class fields x) (makes (numbers tables) class fields y)
+  pub made_law : Follows y (λ n. prints (new_line n) >> gives n) (create class fields x) (makes (numbers tables) class fields y)
   unfolding create
-  made_law kept =
+  made_law =
       as_well y (λ n. prints (new_line n) >> gives n) (create class fields x) (makes (numbers tables) class fields y) (made_at id) (ap made_at stands.next)
       (follows_drawing x y ks stands (object_part id, (version_part id 1, tt)) (version_size fields) (are_fields fields) (λ n. prints (new_line n) >> gives n)
-      (λ keys n. Ok (n, created class fields keys x)) (act_at id) kept (then_y, (made_stands, (record { first = refl; bones = refl; deferred = refl; text = refl; run = refl }, refl))))
+      (λ keys n. Ok (n, created class fields keys x)) (act_at id) (fields_room fields) (then_y, (made_stands, (record { first = refl; bones = refl; deferred = refl; text = refl; run = refl }, refl))))

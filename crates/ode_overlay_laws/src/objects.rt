@@ -1,15 +1,12 @@
 //! Objects are touched, made and removed, in the overlay and in the machine.
-ghost use Rattle.std.specs.Prelude.{◌≡◌, ℕ, List as Items, Option, nat_le};
+ghost use Rattle.std.specs.Prelude.{ℕ, List as Items, Option};
 ghost use Rattle.ode_laws.specs.Alike.{NumberTx};
-ghost use Rattle.ode_objects.specs.Values.{are_fields};
 ghost use Rattle.ode_objects.specs.declared.tracked.Tracked.{Tracked};
 ghost use Rattle.ode_overlay.specs.Changing.{create, remove_with, touch_with};
 ghost use Rattle.ode_overlay.specs.Layers.{Layer};
 ghost use Rattle.ode_overlay_laws.specs.Following.{Follows, IsNewNumber, joins_first, on_live, tells_new};
 ghost use Rattle.ode_overlay_laws.specs.Standing.{IsFresh, Stands};
 ghost use Rattle.ode_value.specs.Acts.{gives};
-ghost use Rattle.ode_value.specs.Lengths.{version_size};
-ghost use Rattle.ode_value.specs.Limits.{value_limit};
 ghost use Rattle.ode_value.specs.Making.{makes, removes};
 ghost use Rattle.ode_value.specs.Pasts.{numbers};
 ghost use Rattle.ode_value.specs.Tables.{Table};
@@ -20,11 +17,9 @@ pub fn touches_follow()
     ensures { (x : Layer) (y : NumberTx) (id : ℕ) (new : Option Tracked) → Stands x y → IsFresh x y id new → Follows y gives (touch_with new id x) (on_live id (joins_first id) y) }
 {}
 
-/// An object is made in the overlay as in the machine, up to its line, where the next number is a new one and a record can hold every
-/// reference among the fields.
+/// An object is made in the overlay as in the machine, up to its line, where the next number is a new one.
 pub fn makings_follow()
     ensures { (tables : ℕ → ℕ → Table) (class : ℕ) (fields : Items Value) (x : Layer) (y : NumberTx) → Stands x y → IsNewNumber x y x.next
-        → are_fields fields ≡ nat_le (version_size fields) value_limit
         → Follows y tells_new (create class fields x) (makes (numbers tables) class fields y) }
 {}
 

@@ -1,6 +1,6 @@
 -- What a call leaves, where it is done.
 use Rattle.std.proofs.Common.{◌≡◌, ◌+◌, ℕ, List, [], ◌∷◌, Bool, true, false, cond, length, nat_lt, Option, Some, None, Ok, Err, refl, sym, subst}
-use Rattle.std.specs.List.{list_any}
+use Rattle.std.specs.List.{list_any, slice_set}
 use Rattle.ode_keep.specs.Entries.{Entries}
 use Rattle.ode_objects.specs.Objects.{activated, activation_keys, dead, derived, is_on, new_active, object_keys, switched_off, values_of, with_states, without, written}
 use Rattle.ode_objects.specs.Values.{are_args, are_fields}
@@ -8,7 +8,7 @@ use Rattle.ode_objects.specs.declared.object.Object.{Object}
 use Rattle.ode_objects.specs.declared.object.Version.{Version}
 use Rattle.ode_objects.specs.declared.tracked.Tracked.{Tracked}
 use Rattle.ode_overlay.specs.Answers.{Answer, ◌>>=◌}
-use Rattle.ode_overlay.specs.Changing.{activate, activate_with, create, created, deactivate, deactivate_with, denoted_in, derive, derive_with, drop_version, drop_with, fields_with, fresh, live_of, needs, next_drawn, next_number, object_of, put_acts, put_of, put_with, remove, remove_with, switch_off, touch, touch_first, touch_with, touched_with, with_now, with_value, write, write_with}
+use Rattle.ode_overlay.specs.Changing.{activate, activate_with, create, created, deactivate, deactivate_with, denoted_in, derive, derive_with, drop_version, drop_with, fields_with, fresh, live_of, needs, next_drawn, next_number, object_of, put_acts, put_of, put_with, remove, remove_with, switch_off, touch, touch_first, touch_with, touched_with, with_now, write, write_with}
 use Rattle.ode_overlay.specs.Layers.{Layer, holding, is_touched}
 use Rattle.ode_overlay.specs.Reading.{not_null}
 use Rattle.ode_overlay.specs.declared.error.OverlayError.{OverlayError}
@@ -44,17 +44,13 @@ module _ {R : Type 0} (P : Layer → Type 0) where
     by_live false = tt
 
   -- fields that a record can hold
-  fields_bound : (r : Ref) (slot : ℕ) (value : Value) (v : Version) (next : List Value → Answer (R × Layer)) → ((fields : List Value) → are_fields fields ≡ true → IfDone P (next fields))
-      → IfDone P (fields_with r slot value v >>= next)
+  fields_bound : (slot : ℕ) (value : Value) (v : Version) (next : List Value → Answer (R × Layer)) → ((fields : List Value) → are_fields fields ≡ true → IfDone P (next fields))
+      → IfDone P (fields_with slot value v >>= next)
   unfolding fields_with
-  fields_bound r slot value v next each = by_value (with_value (version_key r.object v.number) slot value (values_of v.fields)) where
+  fields_bound slot value v next each = by_fit (slice_set (values_of v.fields) slot value) (are_fields (slice_set (values_of v.fields) slot value)) refl where
     by_fit : (fields : List Value) (b : Bool) → are_fields fields ≡ b → IfDone P ((needs TooLong b >>= λ _. Ok fields) >>= next)
     by_fit fields true fit = each fields fit
     by_fit fields false fit = tt
-
-    by_value : (a : Answer (List Value)) → IfDone P ((a >>= λ fields. needs TooLong (are_fields fields) >>= λ _. Ok fields) >>= next)
-    by_value (Ok fields) = by_fit fields (are_fields fields) refl
-    by_value (Err why) = tt
 
   number_bound : (x : Layer) (next : ℕ → Answer (R × Layer)) → IfDone P (next x.next) → IfDone P (next_number x >>= next)
   number_bound x next leaves = by_test (nat_lt x.next number_limit) where
@@ -81,7 +77,7 @@ module _ (P : Layer → Type 0) (classes : List Class) (base : Entries) (x : Lay
   unfolding write write_with
   write_leaves r slot value new read put =
       bound P (not_null r) _ (λ _. read_bound P (fresh classes base r.object x) new _ read (live_bound P r.object (object_of new r.object x) _
-      (λ t is. bound P (denoted_in r t.current) _ (λ v. fields_bound P r slot value v _ (λ fields fit. bound P (holding (version_key r.object v.number ∷ []) x) _ (λ keys. put t v fields fit keys is))))))
+      (λ t is. bound P (denoted_in r t.current) _ (λ v. fields_bound P slot value v _ (λ fields fit. bound P (holding (version_key r.object v.number ∷ []) x) _ (λ keys. put t v fields fit keys is))))))
 
   pub derive_leaves : (r : Ref) (new : Option Tracked) → Reads r.object new → ((t : Tracked) (v : Version) → are_fields (values_of v.fields) ≡ true → Puts r.object new t (derived v.number (values_of v.fields) t.current))
       → IfDone P (derive classes base r x)

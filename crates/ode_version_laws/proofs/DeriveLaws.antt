@@ -3,6 +3,7 @@ use Rattle.std.proofs.Common.{◌≡◌, ◌+◌, ℕ, List, [], ◌∷◌, nat_
 use Rattle.std.proofs.lemmas.List.{map-append}
 use Rattle.ode_keep.specs.Entries.{Entries}
 use Rattle.ode_laws.specs.Alike.{NumberTx}
+use Rattle.ode_objects.proofs.Kept.{fields_room}
 use Rattle.ode_objects.specs.Objects.{derived, values_of}
 use Rattle.ode_objects.specs.Values.{are_fields}
 use Rattle.ode_objects.specs.declared.object.Fields.TheVariants.{Written}
@@ -34,9 +35,9 @@ use Rattle.ode_value.specs.Worlds as worlds
 use Rattle.ode_value.specs.declared.class.Class.{Class}
 use Rattle.ode_value.specs.declared.key.Key.{Key}
 use Rattle.ode_value.specs.declared.value.Ref.{Ref}
-use Rattle.ode_version_laws.proofs.SpacedLaws.{altered_continues, answers_well, fields_fit, follows_spaced}
+use Rattle.ode_version_laws.proofs.SpacedLaws.{altered_continues, answers_well, follows_spaced}
 use Rattle.ode_version_laws.proofs.VersionLaws.{follows_denoted}
-use Rattle.ode_version_laws.specs.Denoting.{HoldsReferences, IsRead, tells_version}
+use Rattle.ode_version_laws.specs.Denoting.{IsRead, tells_version}
 
 -- one more version
 pub derived_same : (id : ℕ) (v : Version) (o : Object) → derived_from (version_as v) (object_as id o) ≡ object_as id (derived v.number (values_of v.fields) o)
@@ -44,7 +45,7 @@ derived_same id v o =
     ap (λ (vs : List versions.Version). record (object_as id o) { last = o.last + 1; versions = vs })
     (sym (map-append version_as o.versions (record { number = o.last + 1; parent = Some v.number; fields = Written (values_of v.fields) } ∷ [])))
 
-module _ (x : Layer) (y : NumberTx) (r : Ref) (new : Option Tracked) (stands : Stands x y) (kept : HoldsReferences y r) where
+module _ (x : Layer) (y : NumberTx) (r : Ref) (new : Option Tracked) (stands : Stands x y) where
   abbrev id : ℕ
   id = r.object
 
@@ -76,7 +77,7 @@ module _ (x : Layer) (y : NumberTx) (r : Ref) (new : Option Tracked) (stands : S
       let o = t.current in
       as_well y tells_version (rest o v) (acts (version_as v) y) (acts_on (version_as v) (object_as id o) y) (finds_object y id (object_as id o) (acts_on (version_as v)) (live_at y id o at true live))
       (follows_spaced x y (keys_by o) stands (object_part id, (version_part id (o.last + 1), tt)) (version_size (values_of v.fields)) (are_fields (values_of v.fields)) (nat_lt o.last version_limit)
-      tells_version (λ keys. Ok (new_version r o, then_x o v keys)) (change_by (version_as v) (object_as id o)) (fields_fit (values_of v.fields) (kept (version_as v) one)) (
+      tells_version (λ keys. Ok (new_version r o, then_x o v keys)) (change_by (version_as v) (object_as id o)) (fields_room (values_of v.fields)) (
         altered id (derived_from (version_as v)) (keys_by o) y,
         (
           altered_stands x y id new o (derived v.number (values_of v.fields) o) (derived_from (version_as v)) (keys_by o) stands at
@@ -85,10 +86,10 @@ module _ (x : Layer) (y : NumberTx) (r : Ref) (new : Option Tracked) (stands : S
         ),
       ))
 
-pub derives_law : (classes : List Class) (base : Entries) (x : Layer) (y : NumberTx) (r : Ref) → Stands x y → IsRead classes base x y r.object → HoldsReferences y r
+pub derives_law : (classes : List Class) (base : Entries) (x : Layer) (y : NumberTx) (r : Ref) → Stands x y → IsRead classes base x y r.object
     → Follows y tells_version (derive classes base r x) (derives r y)
 unfolding derive derive_with
-derives_law classes base x y r stands found kept =
+derives_law classes base x y r stands found =
     answers_well y tells_version (derive classes base r x) (not_null r >>= λ _. derive_with found.object r x) (derives r y) (ap (λ (a : Answer (Option Tracked)). not_null r >>= λ _. a >>= λ new. derive_with new r x) found.read)
-    (follows_denoted y r tells_version (rest x y r found.object stands kept) (acts x y r found.object stands kept) (object_of found.object r.object x)
-    (has_found x y r.object found.object stands found.is) (next x y r found.object stands kept))
+    (follows_denoted y r tells_version (rest x y r found.object stands) (acts x y r found.object stands) (object_of found.object r.object x)
+    (has_found x y r.object found.object stands found.is) (next x y r found.object stands))

@@ -33,6 +33,13 @@ use Rattle.ode_version_laws.specs.Leaving.{IfDone}
 abbrev pub Holding : Type 1
 Holding = ℕ → worlds.Object → Type 0
 
+-- what an object must have so that an activation of a class and a place may be new there
+abbrev pub Taking : Type 1
+Taking = worlds.Object → ℕ → ℕ → Type 0
+
+abbrev pub AnyTaking : Taking
+AnyTaking o class trigger = Unit {0}
+
 -- of an object in the overlay
 abbrev pub Own : Holding → ℕ → ℕ → Object → Type 0
 Own P next id o = P next (object_as id o)
@@ -46,18 +53,18 @@ abbrev pub GoesOn : Holding → NumberTx → Layer → Type 0
 GoesOn P y x = (z : NumberTx) → Stands x z → Continues y z → Each P z.now.bones × (y.now.bones.next ≤ z.now.bones.next)
 
 -- It holds where the next number is a later one, and behind each change of an object.
-pub record IsKept (P : Holding) : Type 0 where
+pub record IsKept (P : Holding) (May : Taking) : Type 0 where
   pub later : (low next : ℕ) (o : worlds.Object) → low ≤ next → P low o → P next o
   pub set : (next id n : ℕ) (fields : List Value) (o : Object) → are_fields fields ≡ true → Own P next id o → Own P next id (written n fields o)
   pub version : (next id : ℕ) (v : Version) (o : Object) → are_fields (values_of v.fields) ≡ true → Own P next id o → Own P next id (derived v.number (values_of v.fields) o)
   pub dropped : (next id n : ℕ) (o : Object) → nat_lt 1 (length o.versions) ≡ true → Own P next id o → Own P next id (without n o)
   pub removed : (next id : ℕ) (o : Object) → Own P next id o → Own P next id (dead o)
-  pub active : (next id class trigger : ℕ) (args : List Value) (o : Object) → Own P next id o → Own P (next + 1) id (activated (new_active next class trigger args) o)
+  pub active : (next id class trigger : ℕ) (args : List Value) (o : Object) → May (object_as id o) class trigger → Own P next id o → Own P (next + 1) id (activated (new_active next class trigger args) o)
   pub off : (next id number : ℕ) (o : Object) → Own P next id o → Own P next id (switched_off number o)
   pub states : (next id : ℕ) (rs : List Running) (o : Object) → Own P next id o → Own P next id (with_states rs o)
   pub new : (next class : ℕ) (fields : List Value) → are_fields fields ≡ true → Own P (next + 1) next (made class fields)
 
-module _ (P : Holding) (kept : IsKept P) where
+module _ (P : Holding) {May : Taking} (kept : IsKept P May) where
   module _ (x : Layer) (y : NumberTx) (stands : Stands x y) (each : Each P y.now.bones) where
     in_world : (id : ℕ) (o : worlds.Object) → object_numbered id y.now.bones.objects ≡ Some o → P x.next o
     in_world id o is = subst (λ n. P n o) stands.next (each id o is)
@@ -111,10 +118,11 @@ module _ (P : Holding) (kept : IsKept P) where
             found n = ap (lookup (is_at (nat_cmp n))) same ∙ lookup_put nat_cmp_total id then_tracked n x.objects
 
     module _ (id : ℕ) (new : Option Tracked) (fresh : IsFresh x y id new) where
+      was_there : (t : Tracked) → object_of new id x ≡ Some t → object_numbered id y.now.bones.objects ≡ Some (object_as id t.current)
+      was_there t is = let there : Has y id (Some t) = subst (Has y id) is (has_found x y id new stands fresh) in there.object
+
       was_own : (t : Tracked) → object_of new id x ≡ Some t → Own P x.next id t.current
-      was_own t is =
-          let there : Has y id (Some t) = subst (Has y id) is (has_found x y id new stands fresh) in
-          in_world id (object_as id t.current) there.object
+      was_own t is = in_world id (object_as id t.current) (was_there t is)
 
       -- one that is read
       read_own : (x' : Layer) → x'.next ≡ x.next → x'.objects ≡ put_new id new x.objects → GoesOn P y x'
@@ -162,11 +170,12 @@ module _ (P : Holding) (kept : IsKept P) where
       remove_leaves (GoesOn P y) classes base x id found.object found.read (λ t keys is.
       put_own x y stands each id found.object (dead t.current) (with_now id found.object (dead t.current) keys x) (le_refl x.next) (kept.removed x.next id t.current (was_own x y stands each id found.object found.is t is)) refl)
 
-  pub activate_each : (classes : List Class) (base : Entries) (x : Layer) (y : NumberTx) (id class trigger : ℕ) (args : List Value) → Stands x y → Each P y.now.bones → IsRead classes base x y id → IfDone (GoesOn P y) (activate classes base id class trigger args x)
-  activate_each classes base x y id class trigger args stands each found =
+  pub activate_each : (classes : List Class) (base : Entries) (x : Layer) (y : NumberTx) (id class trigger : ℕ) (args : List Value) → Stands x y → Each P y.now.bones → IsRead classes base x y id
+      → ((o : worlds.Object) → object_numbered id y.now.bones.objects ≡ Some o → May o class trigger) → IfDone (GoesOn P y) (activate classes base id class trigger args x)
+  activate_each classes base x y id class trigger args stands each found may =
       activate_leaves (GoesOn P y) classes base x id class trigger args found.object found.read (λ t keys is.
       put_own x y stands each id found.object (activated (new_active x.next class trigger args) t.current) (next_drawn (with_now id found.object (activated (new_active x.next class trigger args) t.current) keys x)) (omega arith)
-      (kept.active x.next id class trigger args t.current (was_own x y stands each id found.object found.is t is)) refl)
+      (kept.active x.next id class trigger args t.current (may (object_as id t.current) (was_there x y stands each id found.object found.is t is)) (was_own x y stands each id found.object found.is t is)) refl)
 
   pub deactivate_each : (classes : List Class) (base : Entries) (x : Layer) (y : NumberTx) (id number : ℕ) → Stands x y → Each P y.now.bones → IsRead classes base x y id → IfDone (GoesOn P y) (deactivate classes base id number x)
   deactivate_each classes base x y id number stands each found =

@@ -25,7 +25,7 @@ use Rattle.ode_value.specs.declared.class.Class.{Class}
 use Rattle.ode_value.specs.declared.value.Ref.{Ref}
 use Rattle.ode_value.specs.declared.value.Value.{Value}
 use Rattle.ode_version_laws.proofs.DeriveLaws.{derived_same}
-use Rattle.ode_version_laws.proofs.EachLaws.{GoesOn, IsKept, activate_each, create_each, deactivate_each, derive_each, done_then, drop_each, put_each, remove_each, touch_each, write_each}
+use Rattle.ode_version_laws.proofs.EachLaws.{AnyTaking, GoesOn, IsKept, activate_each, create_each, deactivate_each, derive_each, done_then, drop_each, put_each, remove_each, touch_each, write_each}
 use Rattle.ode_version_laws.proofs.PositionLaws.{without_same, written_same}
 use Rattle.ode_version_laws.specs.Denoting.{HasVersions, HaveVersions, IsRead}
 use Rattle.ode_version_laws.specs.Leaving.{IfDone, StillHaveVersions}
@@ -111,14 +111,14 @@ made_has id class fields = record { some = omega arith; rising = (omega arith, t
 
 -- ---- the same of all objects
 
-versions_kept : IsKept (λ next. HasVersions)
+versions_kept : IsKept (λ next. HasVersions) AnyTaking
 versions_kept = record {
   later = λ low next o up has. has;
   set = λ next id n fields o fit has. written_has id n fields o has;
   version = λ next id v o fit has. derived_own id v o has;
   dropped = λ next id n o more has. without_has id n o more has;
   removed = λ next id o has. record { some = has.some; rising = has.rising; last = has.last };
-  active = λ next id class trigger args o has. record { some = has.some; rising = has.rising; last = has.last };
+  active = λ next id class trigger args o may has. record { some = has.some; rising = has.rising; last = has.last };
   off = λ next id number o has. record { some = has.some; rising = has.rising; last = has.last };
   states = λ next id rs o has. record { some = has.some; rising = has.rising; last = has.last };
   new = λ next class fields fit. made_has next class fields;
@@ -145,7 +145,7 @@ pub remove_has : (classes : List Class) (base : Entries) (x : Layer) (y : Number
 remove_has classes base x y id stands have found = have_then y (remove classes base id x) (remove_each (λ next. HasVersions) versions_kept classes base x y id stands have found)
 
 pub activate_has : (classes : List Class) (base : Entries) (x : Layer) (y : NumberTx) (id class trigger : ℕ) (args : List Value) → Stands x y → HaveVersions y.now.bones → IsRead classes base x y id → StillHaveVersions y (activate classes base id class trigger args x)
-activate_has classes base x y id class trigger args stands have found = have_then y (activate classes base id class trigger args x) (activate_each (λ next. HasVersions) versions_kept classes base x y id class trigger args stands have found)
+activate_has classes base x y id class trigger args stands have found = have_then y (activate classes base id class trigger args x) (activate_each (λ next. HasVersions) versions_kept classes base x y id class trigger args stands have found (λ o is. tt))
 
 pub deactivate_has : (classes : List Class) (base : Entries) (x : Layer) (y : NumberTx) (id number : ℕ) → Stands x y → HaveVersions y.now.bones → IsRead classes base x y id → StillHaveVersions y (deactivate classes base id number x)
 deactivate_has classes base x y id number stands have found = have_then y (deactivate classes base id number x) (deactivate_each (λ next. HasVersions) versions_kept classes base x y id number stands have found)

@@ -20,4 +20,3 @@ mod RewindLaws
 mod RewoundVersions
 mod WeightLaws
 mod GrowthLaws
-pub mod HoldingLaws

@@ -17,7 +17,7 @@ use Rattle.ode_objects.specs.declared.tracked.Tracked.{Tracked}
 use Rattle.ode_overlay.specs.Answers.{Answer, ◌>>=◌, from_records}
 use Rattle.ode_overlay.specs.Layers.{Layer, tracked_at}
 use Rattle.ode_overlay.specs.Reading as seen
-use Rattle.ode_overlay.specs.Reading.{head_at, head_now, not_null, object, or_else, read, read_at, read_below, read_now, shown, sound}
+use Rattle.ode_overlay.specs.Reading.{ReadsAs, head_at, head_now, not_null, object, or_else, read, read_at, read_below, read_now, shown, sound}
 use Rattle.ode_overlay.specs.declared.error.OverlayError.TheVariants as error
 use Rattle.ode_overlay_laws.proofs.FollowingLaws.{live_at}
 use Rattle.ode_overlay_laws.specs.Standing.{IsIn, Stands, object_as, version_as}
@@ -30,13 +30,12 @@ use Rattle.ode_value.specs.Worlds as worlds
 use Rattle.ode_value.specs.declared.arithmetic.Fault.{Fault}
 use Rattle.ode_value.specs.declared.arithmetic.Fault.TheVariants as fault
 use Rattle.ode_value.specs.declared.class.Class.{Class}
-use Rattle.ode_value.specs.declared.key.Key.{Key}
 use Rattle.ode_value.specs.declared.value.Ref.{Ref}
 use Rattle.ode_value.specs.declared.value.Value.{Value}
 use Rattle.ode_version_laws.proofs.HeadLaws.{class_same, denoted_found, found_of, head_same, head_shown, head_sound}
 use Rattle.ode_version_laws.proofs.VersionLaws.{gone_denotes, null_denotes, object_denotes, some_object, tracked_denotes}
-use Rattle.ode_version_laws.specs.Denoting.{HasVersionsAt, LacksSlot}
-use Rattle.ode_version_laws.specs.Showing.{IsSettledAt, ReadsUnless, Shows, number_in, number_seen}
+use Rattle.ode_version_laws.specs.Denoting.{HasVersionsAt}
+use Rattle.ode_version_laws.specs.Showing.{IsSettledAt, Shows, number_in, number_seen}
 use Rattle.ode_versions.specs.Versions.{found, number_of}
 
 -- ---- heads
@@ -78,7 +77,7 @@ module _ (base : Entries) (x : Layer) (y : NumberTx) (r : Ref) (stands : Stands 
   by_object h = or_else (error.NoObject r.object) h >>= by_versions
 
   abbrev Numbers : Answer ℕ → Type 0
-  Numbers a = ReadsUnless ⊥ a (number_in (denoted y.now.bones r))
+  Numbers a = ReadsAs a (number_in (denoted y.now.bones r))
 
   by_version : (o : worlds.Object) → denoted y.now.bones r ≡ ok_or (versions.version_of r.version o.versions) (fault.NoVersion r) → (f : Option versions.Version)
       → versions.version_of r.version o.versions ≡ f → Numbers (or_else (error.NoVersion r) (option_map number_of f))
@@ -91,7 +90,7 @@ module _ (base : Entries) (x : Layer) (y : NumberTx) (r : Ref) (stands : Stands 
       subst (λ (n : Option ℕ). Numbers (or_else (error.NoVersion r) n)) (sym (found_of r.version o))
       (by_version o (object_denotes y.now.bones r o some is) (versions.version_of r.version o.versions) refl)
 
-  pub numbers_law : ReadsUnless ⊥ (number_seen base r x) (number_in (denoted y.now.bones r))
+  pub numbers_law : ReadsAs (number_seen base r x) (number_in (denoted y.now.bones r))
   numbers_law = by_null (r.object == 0) refl where
     by_null : (b : Bool) → (r.object == 0) ≡ b → Numbers (some_object b >>= λ _. object base r.object x >>= by_object)
     by_null true null = ap number_in (null_denotes y.now.bones r null) ∙ ap (λ (n : ℕ). Err (fault.NoObject n)) (eqb-true r.object 0 null)
@@ -113,43 +112,42 @@ module _ (base : Entries) (x : Layer) (y : NumberTx) (r : Ref) (slot : ℕ) (sta
   by d = with_version d (λ v. value_at v.fields slot)
 
   abbrev Is : Answer Value → Result Value Fault → Type 0
-  Is = ReadsUnless (LacksSlot y.now.bones r slot)
+  Is = ReadsAs
 
   reads_well : (a b : Answer Value) (m n : Result Value Fault) → a ≡ b → m ≡ n → Is b n → Is a m
   reads_well a b m n same alike reads = subst (λ (c : Answer Value). Is c m) (sym same) (subst (λ (o : Result Value Fault). Is b o) (sym alike) reads)
 
-  slot_read : (k : Key) (v : versions.Version) → denoted y.now.bones r ≡ Ok v → Is (seen.field_of k slot v.fields) (value_at v.fields slot)
-  slot_read k v denotes = by_value (slice_get v.fields slot) refl where
-    by_value : (f : Option Value) → slice_get v.fields slot ≡ f → Is (or_else (error.Damaged k) f) (ok_or f (fault.NoObject 0))
-    by_value None is = record { version = v; denotes = denotes; lacks = is }
-    by_value (Some w) is = refl
+  slot_read : (v : versions.Version) → Is (seen.field_of slot v.fields) (value_at v.fields slot)
+  slot_read v = by_value (slice_get v.fields slot) where
+    by_value : (f : Option Value) → Is (or_else (error.NoObject 0) f) (ok_or f (fault.NoObject 0))
+    by_value None = refl
+    by_value (Some w) = refl
 
   gone : object_at y.now.bones id ≡ None → Is (Err (error.NoObject id)) (field_of y.now.bones slot r)
   gone none = ap by (gone_denotes y.now.bones r none)
 
   -- of an object that is tracked
   now_version : (o : Object) → denoted y.now.bones r ≡ ok_or (option_map version_as (objects.version_of r.version o.versions)) (fault.NoVersion r)
-      → Is (or_else (error.NoVersion r) (objects.version_of r.version o.versions) >>= seen.field_in r slot) (field_of y.now.bones slot r)
+      → Is (or_else (error.NoVersion r) (objects.version_of r.version o.versions) >>= seen.field_in slot) (field_of y.now.bones slot r)
   now_version o denotes = by_version (objects.version_of r.version o.versions) refl where
-    by_version : (f : Option Version) → objects.version_of r.version o.versions ≡ f → Is (or_else (error.NoVersion r) f >>= seen.field_in r slot) (field_of y.now.bones slot r)
+    by_version : (f : Option Version) → objects.version_of r.version o.versions ≡ f → Is (or_else (error.NoVersion r) f >>= seen.field_in slot) (field_of y.now.bones slot r)
     by_version None is = ap by (denotes ∙ ap (λ (v : Option Version). ok_or (option_map version_as v) (fault.NoVersion r)) is)
     by_version (Some v) is =
         let one : denoted y.now.bones r ≡ Ok (version_as v) = denotes ∙ ap (λ (w : Option Version). ok_or (option_map version_as w) (fault.NoVersion r)) is in
-        let k = version_key id v.number in
-        reads_well (seen.field_of k slot (values_of v.fields)) (seen.field_of k slot (values_of v.fields)) (field_of y.now.bones slot r) (value_at (values_of v.fields) slot) refl (ap by one)
-        (slot_read k (version_as v) one)
+        reads_well (seen.field_of slot (values_of v.fields)) (seen.field_of slot (values_of v.fields)) (field_of y.now.bones slot r) (value_at (values_of v.fields) slot) refl (ap by one)
+        (slot_read (version_as v))
 
   now_object : (t : Tracked) → (r.object == 0) ≡ false → IsIn y.now id t.current → Is (read_now r slot t.current) (field_of y.now.bones slot r)
   unfolding read_now
   now_object t some at = by_live t.current.live refl where
     by_live : (b : Bool) → t.current.live ≡ b
-        → Is (or_else (error.NoObject id) (cond b (Some t.current) None) >>= λ o. or_else (error.NoVersion r) (objects.version_of r.version o.versions) >>= seen.field_in r slot) (field_of y.now.bones slot r)
+        → Is (or_else (error.NoObject id) (cond b (Some t.current) None) >>= λ o. or_else (error.NoVersion r) (objects.version_of r.version o.versions) >>= seen.field_in slot) (field_of y.now.bones slot r)
     by_live true live = now_version t.current (tracked_denotes y r t.current some at live)
     by_live false dead = gone (live_at y id t.current at false dead)
 
   -- of one that isn't
   abbrev by_class : ℕ → Class → Answer Value
-  by_class n class = from_records (fields_in base id n class) >>= seen.field_of (version_key id n) slot
+  by_class n class = from_records (fields_in base id n class) >>= seen.field_of slot
 
   abbrev by_number : worlds.Object → ℕ → Answer Value
   by_number o n = from_records (class_in classes id o.class) >>= by_class n
@@ -161,13 +159,13 @@ module _ (base : Entries) (x : Layer) (y : NumberTx) (r : Ref) (slot : ℕ) (sta
   by_head h = or_else (error.NoObject id) h >>= λ h. sound id h >>= by_sound
 
   first_version : (o : worlds.Object) (v : versions.Version) → object_numbered id y.first.bones.objects ≡ Some o → versions.version_numbered v.number o.versions ≡ Some v
-      → by_number o v.number ≡ seen.field_of (version_key id v.number) slot v.fields
+      → by_number o v.number ≡ seen.field_of slot v.fields
   first_version o v first found = by_declared (worlds.class_numbered o.class y.first.bones.classes) refl (settled o first).class where
-    by_declared : (f : Option Class) → worlds.class_numbered o.class y.first.bones.classes ≡ f → IsSome f → by_number o v.number ≡ seen.field_of (version_key id v.number) slot v.fields
+    by_declared : (f : Option Class) → worlds.class_numbered o.class y.first.bones.classes ≡ f → IsSome f → by_number o v.number ≡ seen.field_of slot v.fields
     by_declared None is some = absurd (cc)
     by_declared (Some c) is some =
         ap (λ (f : Option Class). from_records (there_at (object_key id) f) >>= by_class v.number) (class_same o.class y.first.bones.classes ∙ is)
-        ∙ ap (λ (f : Found (Option (List Value))). from_records (heap.◌>>=◌ f (there_at (version_key id v.number))) >>= seen.field_of (version_key id v.number) slot)
+        ∙ ap (λ (f : Found (Option (List Value))). from_records (heap.◌>>=◌ f (there_at (version_key id v.number))) >>= seen.field_of slot)
         (shows.version id v.number o c first is ∙ ap (λ (w : Option versions.Version). There (option_map (λ (u : versions.Version). u.fields) w)) found)
 
   first_object : (o : worlds.Object) → (r.object == 0) ≡ false → object_numbered id y.first.bones.objects ≡ Some o → object_numbered id y.now.bones.objects ≡ Some o
@@ -184,9 +182,8 @@ module _ (base : Entries) (x : Layer) (y : NumberTx) (r : Ref) (slot : ℕ) (sta
         by_version None is = ap by (denotes ∙ ap (λ (v : Option versions.Version). ok_or v (fault.NoVersion r)) is)
         by_version (Some v) is =
             let one : denoted y.now.bones r ≡ Ok v = denotes ∙ ap (λ (w : Option versions.Version). ok_or w (fault.NoVersion r)) is in
-            let k = version_key id v.number in
-            reads_well (by_number o v.number) (seen.field_of k slot v.fields) (field_of y.now.bones slot r) (value_at v.fields slot)
-            (first_version o v first (denoted_found r.version o.versions v (has o now).rising is)) (ap by one) (slot_read k v one)
+            reads_well (by_number o v.number) (seen.field_of slot v.fields) (field_of y.now.bones slot r) (value_at v.fields slot)
+            (first_version o v first (denoted_found r.version o.versions v (has o now).rising is)) (ap by one) (slot_read v)
 
   first_read : (f : Option worlds.Object) → (r.object == 0) ≡ false → object_numbered id y.first.bones.objects ≡ f → object_numbered id y.now.bones.objects ≡ f
       → Is (by_head (option_map head_of_object f)) (field_of y.now.bones slot r)
@@ -202,7 +199,7 @@ module _ (base : Entries) (x : Layer) (y : NumberTx) (r : Ref) (slot : ℕ) (sta
       subst (λ (f : Found (Option ObjectHead)). Is (from_records f >>= by_head) (field_of y.now.bones slot r)) (sym (shows.object id))
       (first_read (object_numbered id y.first.bones.objects) some refl (stands.others id is).object)
 
-  pub fields_law : ReadsUnless (LacksSlot y.now.bones r slot) (read classes base r slot x) (field_of y.now.bones slot r)
+  pub fields_law : ReadsAs (read classes base r slot x) (field_of y.now.bones slot r)
   unfolding read
   fields_law = by_null (r.object == 0) refl where
     by_null : (b : Bool) → (r.object == 0) ≡ b → Is (some_object b >>= λ _. read_at classes base r slot (tracked_at id x)) (field_of y.now.bones slot r)

@@ -3,7 +3,6 @@ use Rattle.std.proofs.Common.{◌≡◌, ℕ, List, Bool, true, false, cond, Ok,
 use Rattle.std.specs.Prelude.{◌&&◌, nat_le}
 use Rattle.std.specs.List.{AllByRecursion, fold}
 use Rattle.ode_laws.specs.Alike.{NumberTx}
-use Rattle.ode_objects.specs.Values.{are_fields, are_kept}
 use Rattle.ode_overlay.specs.Answers.{Answer, ◌>>=◌}
 use Rattle.ode_overlay.specs.Changing as calls
 use Rattle.ode_overlay.specs.Layers.{Layer, few, holding, key_count}
@@ -16,12 +15,10 @@ use Rattle.ode_overlay_laws.specs.Standing.{Stands}
 use Rattle.ode_value.specs.Acts.{Act, Outcome, ◌>>◌, does, go_on, needs}
 use Rattle.ode_value.specs.Changes as machine
 use Rattle.ode_value.specs.Changes.{changes, with_key}
-use Rattle.ode_value.specs.Lengths.{version_size}
 use Rattle.ode_value.specs.Limits.{change_limit, value_limit}
 use Rattle.ode_value.specs.Worlds as worlds
 use Rattle.ode_value.specs.declared.key.Key.{Key}
 use Rattle.ode_value.specs.declared.reason.Reason.TheVariants as reason
-use Rattle.ode_value.specs.declared.value.Value.{Value}
 
 -- what goes on as another answer does
 pub answers_well : {R S : Type 0} (y : NumberTx) (go : R → Act (Unit {0}) ℕ S) (a b : Answer (R × Layer)) (m : Outcome (Unit {0}) ℕ S) → a ≡ b → Follows y go b m → Follows y go a m
@@ -30,11 +27,6 @@ answers_well {R} {S} y go a b m same follows = subst (λ (c : Answer (R × Layer
 -- a change of one object leaves all else as it was
 pub altered_continues : (y : NumberTx) (id : ℕ) (g : worlds.Object → worlds.Object) (ks : List Key) → Continues y (altered id g ks y)
 altered_continues y id g ks = record { first = refl; bones = refl; deferred = refl; text = refl; run = refl }
-
--- fields whose references can be held fit a record exactly where they aren't too long
-pub fields_fit : (fields : List Value) → are_kept fields ≡ true → are_fields fields ≡ nat_le (version_size fields) value_limit
-unfolding are_fields
-fields_fit fields kept = ap (λ b. b && nat_le (version_size fields) value_limit) kept
 
 module _ (x : Layer) (y : NumberTx) (ks : List Key) (stands : Stands x y) (parts : AllByRecursion IsPart ks) where
   abbrev held : List Key

@@ -1,13 +1,11 @@
 -- Fields of versions are set, in the overlay and in the machine.
-use Rattle.std.proofs.Common.{◌≡◌, ℕ, zero, suc, List, [], ◌∷◌, Bool, true, false, length, map, nat_lt, slice_get, Option, Some, None, Ok, Err, refl, sym, ap, subst, ◌∙◌, arith}
-use Rattle.std.proofs.lemmas.Bool.Decides.{nat_tests}
-use Rattle.std.specs.Cmp.Derive.{both_true}
+use Rattle.std.proofs.Common.{◌≡◌, ℕ, List, [], ◌∷◌, Bool, true, false, map, Option, Some, Ok, Err, refl, sym, ap, subst, ◌∙◌}
 use Rattle.std.specs.List.{slice_set}
 use Rattle.ode_keep.specs.Entries.{Entries}
 use Rattle.ode_laws.specs.Alike.{NumberTx}
-use Rattle.ode_objects.proofs.Kept.{first_of, second_of}
+use Rattle.ode_objects.proofs.Kept.{fields_room}
 use Rattle.ode_objects.specs.Objects.{values_of, written}
-use Rattle.ode_objects.specs.Values.{are_fields, are_kept, is_kept}
+use Rattle.ode_objects.specs.Values.{are_fields}
 use Rattle.ode_objects.specs.declared.object.Object.{Object}
 use Rattle.ode_objects.specs.declared.object.Version.{Version}
 use Rattle.ode_objects.specs.declared.tracked.Tracked.{Tracked}
@@ -17,7 +15,7 @@ use Rattle.ode_overlay.specs.Changing.{fields_with, object_of, with_now, write, 
 use Rattle.ode_overlay.specs.Layers.{Layer, holding}
 use Rattle.ode_overlay.specs.Reading.{not_null}
 use Rattle.ode_overlay.specs.declared.error.OverlayError.{OverlayError}
-use Rattle.ode_overlay.specs.declared.error.OverlayError.TheVariants.{Damaged, TooLong}
+use Rattle.ode_overlay.specs.declared.error.OverlayError.TheVariants.{TooLong}
 use Rattle.ode_overlay_laws.proofs.AlteredLaws.{altered, altered_stands, has_found}
 use Rattle.ode_overlay_laws.proofs.KeySets.{version_part}
 use Rattle.ode_overlay_laws.specs.Following.{Follows, reason_as}
@@ -36,50 +34,22 @@ use Rattle.ode_value.specs.declared.reason.Reason.{Reason}
 use Rattle.ode_value.specs.declared.value.Ref.{Ref}
 use Rattle.ode_value.specs.declared.value.Value.{Value}
 use Rattle.ode_version_laws.proofs.PositionLaws.{written_same}
-use Rattle.ode_version_laws.proofs.SpacedLaws.{altered_continues, answers_well, fields_fit, follows_spaced}
+use Rattle.ode_version_laws.proofs.SpacedLaws.{altered_continues, answers_well, follows_spaced}
 use Rattle.ode_version_laws.proofs.VersionLaws.{on_denoted}
-use Rattle.ode_version_laws.specs.Denoting.{FollowsUnless, HasVersionsAt, HoldsReferences, IsRead, LacksSlot}
-
--- references can still be held where one more is set
-kept_set : (fields : List Value) (slot : ℕ) (value : Value) → are_kept fields ≡ true → is_kept value ≡ true → are_kept (slice_set fields slot value) ≡ true
-kept_set [] slot value kept one = refl
-kept_set (v ∷ fields) zero value kept one = both_true one (second_of (is_kept v) (are_kept fields) kept)
-kept_set (v ∷ fields) (suc slot) value kept one =
-    both_true (first_of (is_kept v) (are_kept fields) kept) (kept_set fields slot value (second_of (is_kept v) (are_kept fields) kept) one)
+use Rattle.ode_version_laws.specs.Denoting.{HasVersionsAt, IsRead}
 
 -- what a test asks for comes first
 asks_first : {A B : Type 0} (why : OverlayError) (b : Bool) (a : A) (next : A → Answer B) → (calls.needs why b >>= λ _. Ok a) >>= next ≡ calls.needs why b >>= λ _. next a
 asks_first why true a next = refl
 asks_first why false a next = refl
 
--- the fields of a version that has the slot
-fields_set : (r : Ref) (slot : ℕ) (value : Value) (v : Version) → nat_lt slot (length (values_of v.fields)) ≡ true
-    → fields_with r slot value v ≡ calls.needs TooLong (are_fields (slice_set (values_of v.fields) slot value)) >>= λ _. Ok (slice_set (values_of v.fields) slot value)
+-- the fields of a version, where a record can hold them
+fields_set : (slot : ℕ) (value : Value) (v : Version)
+    → fields_with slot value v ≡ calls.needs TooLong (are_fields (slice_set (values_of v.fields) slot value)) >>= λ _. Ok (slice_set (values_of v.fields) slot value)
 unfolding fields_with
-fields_set r slot value v there =
-    let fields = slice_set (values_of v.fields) slot value in
-    ap (λ (b : Bool). (calls.needs (Damaged (version_key r.object v.number)) b >>= λ _. Ok fields) >>= λ fields. calls.needs TooLong (are_fields fields) >>= λ _. Ok fields) there
+fields_set slot value v = refl
 
--- what is damaged where it hasn't
-fields_damaged : (r : Ref) (slot : ℕ) (value : Value) (v : Version) → nat_lt slot (length (values_of v.fields)) ≡ false → fields_with r slot value v ≡ Err (Damaged (version_key r.object v.number))
-unfolding fields_with
-fields_damaged r slot value v missing =
-    let fields = slice_set (values_of v.fields) slot value in
-    ap (λ (b : Bool). (calls.needs (Damaged (version_key r.object v.number)) b >>= λ _. Ok fields) >>= λ fields. calls.needs TooLong (are_fields fields) >>= λ _. Ok fields) missing
-
-slot_missing : (values : List Value) (slot : ℕ) → nat_lt slot (length values) ≡ false → slice_get values slot ≡ None
-slot_missing [] slot missing = refl
-slot_missing (v ∷ values) zero missing = absurd (grind (arith, nat_tests))
-slot_missing (v ∷ values) (suc slot) missing = let more : nat_lt slot (length values) ≡ false = grind (arith, nat_tests) in slot_missing values slot more
-
--- what follows isn't damaged
-unless_follows : {R S : Type 0} (D : Type 0) (y : NumberTx) (go : R → Act (Unit {0}) ℕ S) (a : Answer (R × Layer)) (m : Outcome (Unit {0}) ℕ S) → Follows y go a m → FollowsUnless D y go a m
-unless_follows D y go (Ok done) m follows = follows
-unless_follows D y go (Err (Damaged key)) m follows = absurd (cc (follows.1.0))
-unless_follows D y go (Err why) m follows = follows
-
-module _ (x : Layer) (y : NumberTx) (r : Ref) (slot : ℕ) (value : Value) (new : Option Tracked) (stands : Stands x y) (has : HasVersionsAt y r.object)
-    (kept : HoldsReferences y r) (one : is_kept value ≡ true) where
+module _ (x : Layer) (y : NumberTx) (r : Ref) (slot : ℕ) (value : Value) (new : Option Tracked) (stands : Stands x y) (has : HasVersionsAt y r.object) where
   abbrev id : ℕ
   id = r.object
 
@@ -93,7 +63,7 @@ module _ (x : Layer) (y : NumberTx) (r : Ref) (slot : ℕ) (value : Value) (new 
   held_by o v fields = holding (keys_by v.number) x >>= λ keys. Ok (tt, with_now id new (written v.number fields o) keys x)
 
   abbrev rest : Object → Version → Answer (Unit {0} × Layer)
-  rest o v = fields_with r slot value v >>= held_by o v
+  rest o v = fields_with slot value v >>= held_by o v
 
   abbrev changed : ℕ → List Value → worlds.Object → worlds.Object
   changed number fields q = record q { versions = map (with_fields number fields) q.versions }
@@ -102,20 +72,20 @@ module _ (x : Layer) (y : NumberTx) (r : Ref) (slot : ℕ) (value : Value) (new 
   acts v = changes (keys_by v.number) (version_size (set v.fields)) draws_none >> alters_object id (changed v.number (set v.fields))
 
   abbrev Is : Answer (Unit {0} × Layer) → Outcome (Unit {0}) ℕ (Unit {0}) → Type 0
-  Is = FollowsUnless (LacksSlot y.now.bones r slot) y gives
+  Is = Follows y gives
 
   refused : (why : OverlayError) (reason : Reason) → reason_as why ≡ Some reason → Is (Err why) (Aborted reason y)
-  refused why reason is = unless_follows (LacksSlot y.now.bones r slot) y gives (Err why) (Aborted reason y) (reason, (is, refl))
+  refused why reason is = (reason, (is, refl))
 
-  sets : (t : Tracked) (v : Version) → object_of new id x ≡ Some t → IsIn y.now id t.current → denoted y.now.bones r ≡ Ok (version_as v) → nat_lt slot (length (values_of v.fields)) ≡ true
+  sets : (t : Tracked) (v : Version) → object_of new id x ≡ Some t → IsIn y.now id t.current → denoted y.now.bones r ≡ Ok (version_as v)
       → Follows y gives (rest t.current v) (acts (version_as v) y)
-  sets t v is at denotes there =
+  sets t v is at denotes =
       let o = t.current in
       let fields = set (values_of v.fields) in
       answers_well y gives (rest o v) (calls.needs TooLong (are_fields fields) >>= λ _. held_by o v fields) (acts (version_as v) y)
-      (ap (λ (a : Answer (List Value)). a >>= held_by o v) (fields_set r slot value v there) ∙ asks_first TooLong (are_fields fields) fields (held_by o v))
+      (ap (λ (a : Answer (List Value)). a >>= held_by o v) (fields_set slot value v) ∙ asks_first TooLong (are_fields fields) fields (held_by o v))
       (follows_spaced x y (keys_by v.number) stands (version_part id v.number, tt) (version_size fields) (are_fields fields) true gives
-      (λ keys. Ok (tt, with_now id new (written v.number fields o) keys x)) (alters_object id (changed v.number fields)) (fields_fit fields (kept_set (values_of v.fields) slot value (kept (version_as v) denotes) one)) (
+      (λ keys. Ok (tt, with_now id new (written v.number fields o) keys x)) (alters_object id (changed v.number fields)) (fields_room fields) (
         altered id (changed v.number fields) (keys_by v.number) y,
         (
           altered_stands x y id new o (written v.number fields o) (changed v.number fields) (keys_by v.number) stands at (version_part id v.number, tt)
@@ -126,18 +96,13 @@ module _ (x : Layer) (y : NumberTx) (r : Ref) (slot : ℕ) (value : Value) (new 
 
   next : (t : Tracked) (v : Version) → object_of new id x ≡ Some t → IsIn y.now id t.current → t.current.live ≡ true → denoted y.now.bones r ≡ Ok (version_as v)
       → Is (rest t.current v) (acts (version_as v) y)
-  next t v is at live denotes = by_slot (nat_lt slot (length (values_of v.fields))) refl where
-    by_slot : (b : Bool) → nat_lt slot (length (values_of v.fields)) ≡ b → Is (rest t.current v) (acts (version_as v) y)
-    by_slot true there = unless_follows (LacksSlot y.now.bones r slot) y gives (rest t.current v) (acts (version_as v) y) (sets t v is at denotes there)
-    by_slot false missing =
-        subst (λ (a : Answer (List Value)). Is (a >>= held_by t.current v) (acts (version_as v) y)) (sym (fields_damaged r slot value v missing))
-        (record { version = version_as v; denotes = denotes; lacks = slot_missing (values_of v.fields) slot missing })
+  next t v is at live denotes = sets t v is at denotes
 
 pub writes_law : (classes : List Class) (base : Entries) (x : Layer) (y : NumberTx) (r : Ref) (slot : ℕ) (value : Value) → Stands x y → IsRead classes base x y r.object
-    → HasVersionsAt y r.object → HoldsReferences y r → is_kept value ≡ true → FollowsUnless (LacksSlot y.now.bones r slot) y gives (write classes base r slot value x) (sets_field r slot value y)
+    → HasVersionsAt y r.object → Follows y gives (write classes base r slot value x) (sets_field r slot value y)
 unfolding write write_with
-writes_law classes base x y r slot value stands found has kept one =
-    subst (λ (a : Answer (Option Tracked)). FollowsUnless (LacksSlot y.now.bones r slot) y gives (not_null r >>= λ _. a >>= λ new. write_with new r slot value x) (sets_field r slot value y)) (sym found.read)
-    (on_denoted y r (FollowsUnless (LacksSlot y.now.bones r slot) y gives) (refused x y r slot value found.object stands has kept one) (rest x y r slot value found.object stands has kept one)
-    (acts x y r slot value found.object stands has kept one) (object_of found.object r.object x) (has_found x y r.object found.object stands found.is)
-    (next x y r slot value found.object stands has kept one))
+writes_law classes base x y r slot value stands found has =
+    subst (λ (a : Answer (Option Tracked)). Follows y gives (not_null r >>= λ _. a >>= λ new. write_with new r slot value x) (sets_field r slot value y)) (sym found.read)
+    (on_denoted y r (Follows y gives) (refused x y r slot value found.object stands has) (rest x y r slot value found.object stands has)
+    (acts x y r slot value found.object stands has) (object_of found.object r.object x) (has_found x y r.object found.object stands found.is)
+    (next x y r slot value found.object stands has))

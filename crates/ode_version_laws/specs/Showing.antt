@@ -19,7 +19,6 @@ use Rattle.ode_value.specs.Pasts.{Kept}
 use Rattle.ode_value.specs.Versions.{Version, version_numbered}
 use Rattle.ode_value.specs.Worlds.{Object, class_numbered, kept_at}
 use Rattle.ode_value.specs.declared.arithmetic.Fault.{Fault}
-use Rattle.ode_value.specs.declared.arithmetic.Fault.TheVariants as fault
 use Rattle.ode_value.specs.declared.class.Class.{Class}
 use Rattle.ode_value.specs.declared.value.Ref.{Ref}
 use Rattle.ode_versions.specs.Versions.{found}
@@ -61,12 +60,3 @@ number_seen base r x = do
 abbrev pub number_in : Result Version Fault → Result ℕ Fault
 number_in (Ok v) = Ok v.number
 number_in (Err why) = Err why
-
--- A value that is read is that of an expression; where it is refused, the expression has the same fault, or the records are damaged, and
--- then this is known.
-abbrev pub ReadsUnless : {V : Type 0} → Type 0 → Answer V → Result V Fault → Type 0
-ReadsUnless D (Ok v) outcome = outcome ≡ Ok v
-ReadsUnless D (Err (error.NoObject id)) outcome = outcome ≡ Err (fault.NoObject id)
-ReadsUnless D (Err (error.NoVersion r)) outcome = outcome ≡ Err (fault.NoVersion r)
-ReadsUnless D (Err (error.Damaged key)) outcome = D
-ReadsUnless D (Err why) outcome = ⊥

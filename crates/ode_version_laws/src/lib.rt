@@ -3,13 +3,11 @@
 #![tactic(auto)]
 
 mod growing;
-mod holding;
 mod reading;
 mod rewinding;
 mod versions;
 
 pub use growing::{changed_objects_weighed_less, growths_are_the_worlds};
-pub use holding::values_that_fit_can_be_held;
 pub use reading::{held_worlds_are_shown, reads_follow};
 pub use rewinding::{
     calls_remember_firsts, firsts_are_remembered, good_worlds_are_settled, rewinds_follow,

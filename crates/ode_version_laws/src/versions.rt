@@ -1,8 +1,7 @@
 //! Versions are derived, removed and written, in the overlay and in the machine.
-ghost use Rattle.std.specs.Prelude.{◌≡◌, ℕ, List as Items, true};
+ghost use Rattle.std.specs.Prelude.{ℕ, List as Items};
 ghost use Rattle.ode_keep.specs.Entries.{Entries};
 ghost use Rattle.ode_laws.specs.Alike.{NumberTx};
-ghost use Rattle.ode_objects.specs.Values.{is_kept};
 ghost use Rattle.ode_overlay.specs.Changing.{activate, create, deactivate, derive, drop_version, put_acts, remove, touch, write};
 ghost use Rattle.ode_overlay.specs.Layers.{Layer};
 ghost use Rattle.ode_overlay_laws.specs.Following.{Follows};
@@ -13,12 +12,12 @@ ghost use Rattle.ode_value.specs.Making.{derives, drops, sets_field};
 ghost use Rattle.ode_value.specs.declared.class.Class.{Class};
 ghost use Rattle.ode_value.specs.declared.value.Ref.{Ref};
 ghost use Rattle.ode_value.specs.declared.value.Value.{Value};
-ghost use Rattle.ode_version_laws.specs.Denoting.{FollowsUnless, HasVersionsAt, HaveVersions, HoldsReferences, IsRead, LacksSlot, tells_version};
+ghost use Rattle.ode_version_laws.specs.Denoting.{HasVersionsAt, HaveVersions, IsRead, tells_version};
 ghost use Rattle.ode_version_laws.specs.Leaving.{StillHaveVersions};
 
-/// A version is derived in the overlay as in the machine, up to its line, where a record can hold each reference among the fields.
+/// A version is derived in the overlay as in the machine, up to its line.
 pub fn derivations_follow()
-    ensures { (classes : Items Class) (base : Entries) (x : Layer) (y : NumberTx) (r : Ref) → Stands x y → IsRead classes base x y r.object → HoldsReferences y r
+    ensures { (classes : Items Class) (base : Entries) (x : Layer) (y : NumberTx) (r : Ref) → Stands x y → IsRead classes base x y r.object
         → Follows y tells_version (derive classes base r x) (derives r y) }
 {}
 
@@ -28,12 +27,11 @@ pub fn version_removals_follow()
         → Follows y gives (drop_version classes base r x) (drops r y) }
 {}
 
-/// A field is set in the overlay as in the machine, where a record can hold each reference and the numbers of the object's versions rise;
-/// the records are damaged only where the version hasn't the slot.
+/// A field is set in the overlay as in the machine, where the numbers of the object's versions rise.
 pub fn writes_follow()
     ensures { (classes : Items Class) (base : Entries) (x : Layer) (y : NumberTx) (r : Ref) (slot : ℕ) (value : Value) → Stands x y
-        → IsRead classes base x y r.object → HasVersionsAt y r.object → HoldsReferences y r → is_kept value ≡ true
-        → FollowsUnless (LacksSlot y.now.bones r slot) y gives (write classes base r slot value x) (sets_field r slot value y) }
+        → IsRead classes base x y r.object → HasVersionsAt y r.object
+        → Follows y gives (write classes base r slot value x) (sets_field r slot value y) }
 {}
 
 /// Where each object has versions, so it does behind each call, in every transaction that goes on and for which the overlay then stands: one

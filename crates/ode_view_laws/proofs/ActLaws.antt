@@ -6,7 +6,7 @@ use Rattle.std.proofs.lemmas.Bool.Decides.{nat_tests}
 use Rattle.ode_keep.specs.Entries.{Entries}
 use Rattle.ode_laws.proofs.AlikePairs.{all_found}
 use Rattle.ode_laws.specs.Alike.{NumberTx, NumberWorld}
-use Rattle.ode_objects.specs.Values.{are_args, are_fields}
+use Rattle.ode_objects.specs.Values.{are_args}
 use Rattle.ode_objects.specs.declared.tracked.Tracked.{Tracked}
 use Rattle.ode_overlay.specs.Answers.{Answer, ◌>>=◌}
 use Rattle.ode_overlay.specs.Changing.{create, fresh, object_of, remove, remove_with, touch, touch_with}
@@ -22,8 +22,6 @@ use Rattle.ode_overlay_laws.specs.Standing.{IsFresh, Stands, object_as}
 use Rattle.ode_value.specs.Acts.{Act, Deed, Outcome, Done, Aborted, ◌>>◌, does, gives, go_on, prints, reached, with_line}
 use Rattle.ode_value.specs.Changes.{is_live}
 use Rattle.ode_value.specs.Denoting.{object_numbered}
-use Rattle.ode_value.specs.Lengths.{version_size}
-use Rattle.ode_value.specs.Limits.{value_limit}
 use Rattle.ode_value.specs.Making.{makes, removes}
 use Rattle.ode_value.specs.Pasts.{Kept, numbers}
 use Rattle.ode_value.specs.Posting as posting
@@ -166,11 +164,11 @@ module _ (classes : List Declared) (first : NumberWorld) (beside : Beside) (x : 
 
   -- ---- a new object
 
-  pub create_shows : (tables : ℕ → ℕ → Table) (class : ℕ) (fields : List Value) → are_fields fields ≡ nat_le (version_size fields) value_limit
+  pub create_shows : (tables : ℕ → ℕ → Table) (class : ℕ) (fields : List Value)
       → Shows (view classes first beside) tells_new x (create class fields x) (makes (numbers tables) class fields y) × StaysViewed first (create class fields x)
-  create_shows tables class fields kept =
+  create_shows tables class fields =
       shown classes first beside x tells_new (makes (numbers tables) class fields) viewed (makes_tidy tables class fields) (λ n z. line_quiet (new_line n) n z) (create class fields x)
-      (create_leaves class fields x viewed.touched) (made_law tables class fields x y stands is_new kept)
+      (create_leaves class fields x viewed.touched) (made_law tables class fields x y stands is_new)
 
   -- ---- firings
 

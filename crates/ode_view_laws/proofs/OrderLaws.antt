@@ -104,10 +104,6 @@ module _ (tables : ℕ → ℕ → Table) where
   abbrev pub side : List Declared → Sides (Unit {0}) ℕ (Unit {0}) ℕ
   side cs = alone (numbers tables) Ordering ordering_keeps cs
 
-  -- an act whose small changes keep the order
-  abbrev pub IsTidy : {X : Type 0} → Act (Unit {0}) ℕ X → Type 0
-  IsTidy a = (cs : List Declared) (y : NumberTx) → Ends (side cs) 0 (a y) (a y)
-
   ends_ordered : {X : Type 0} (cs : List Declared) (p : Outcome (Unit {0}) ℕ X) → Ends (side cs) 0 p p → IsOrdered (reached p).now
   ends_ordered cs (Done r y) h = h.1.2
   ends_ordered cs (Aborted r y) h = h.1.2

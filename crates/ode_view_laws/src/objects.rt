@@ -1,16 +1,13 @@
 //! Objects are touched, made and removed, on the view.
-ghost use Rattle.std.specs.Prelude.{◌≡◌, ℕ, List as Items, Option, Ok, nat_le};
+ghost use Rattle.std.specs.Prelude.{◌≡◌, ℕ, List as Items, Option, Ok};
 ghost use Rattle.ode_keep.specs.Entries.{Entries};
 ghost use Rattle.ode_laws.specs.Alike.{NumberWorld};
-ghost use Rattle.ode_objects.specs.Values.{are_fields};
 ghost use Rattle.ode_objects.specs.declared.tracked.Tracked.{Tracked};
 ghost use Rattle.ode_overlay.specs.Changing.{create, fresh, remove, touch};
 ghost use Rattle.ode_overlay.specs.Layers.{Layer};
 ghost use Rattle.ode_overlay_laws.specs.Following.{joins_first, on_live, tells_new};
 ghost use Rattle.ode_overlay_laws.specs.Standing.{IsFresh};
 ghost use Rattle.ode_value.specs.Acts.{gives};
-ghost use Rattle.ode_value.specs.Lengths.{version_size};
-ghost use Rattle.ode_value.specs.Limits.{value_limit};
 ghost use Rattle.ode_value.specs.Making.{makes, removes};
 ghost use Rattle.ode_value.specs.Pasts.{numbers};
 ghost use Rattle.ode_value.specs.Tables.{Table};
@@ -36,11 +33,10 @@ pub fn removals_show()
         × StaysViewed first (remove declared base id x) }
 {}
 
-/// An object is made through the overlay as by the machine on its view, up to its line, where a record can hold every reference among the
-/// fields.
+/// An object is made through the overlay as by the machine on its view, up to its line.
 pub fn makings_show()
     ensures { (classes : Items Declared) (first : NumberWorld) (beside : Beside) (x : Layer) → IsViewed first x
-        → (tables : ℕ → ℕ → Table) (class : ℕ) (fields : Items Value) → are_fields fields ≡ nat_le (version_size fields) value_limit
+        → (tables : ℕ → ℕ → Table) (class : ℕ) (fields : Items Value)
         → Shows (λ now. running classes first now beside) tells_new x (create class fields x) (makes (numbers tables) class fields (running classes first x beside))
         × StaysViewed first (create class fields x) }
 {}

@@ -22,7 +22,7 @@ pub returns-clause-remove : goal.returns-clause-remove
 returns-clause-remove c = remove_each HasNumbers numbers_kept
 
 pub returns-clause-activate : goal.returns-clause-activate
-returns-clause-activate c = activate_each HasNumbers numbers_kept
+returns-clause-activate c = λ classes base x y id class trigger args stands have read. activate_each HasNumbers numbers_kept classes base x y id class trigger args stands have read (λ o is. tt)
 
 pub returns-clause-deactivate : goal.returns-clause-deactivate
 returns-clause-deactivate c = deactivate_each HasNumbers numbers_kept

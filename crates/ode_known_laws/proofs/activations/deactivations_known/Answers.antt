@@ -1,7 +1,7 @@
 use Rattle.std.proofs.Common.{refl}
 use Rattle.ode_known_laws.proofs.FormedLaws.{deactivate_formed}
 use Rattle.ode_known_laws.proofs.HeldLaws.{read_now, stored_now}
-use Rattle.ode_known_laws.proofs.KnownLaws.{known_then, numbers_now, values_now, versions_now}
+use Rattle.ode_known_laws.proofs.KnownLaws.{known_then, numbers_now, triggers_now, versions_now}
 use Rattle.ode_known_laws.proofs.activations.deactivations_known.Goals as goal
 use Rattle.ode_known_laws.specs.Knowing.{declared_in}
 use Rattle.ode_overlay.specs.Changing.{deactivate}
@@ -24,8 +24,8 @@ returns c = λ classes first beside base x known r number tables.
     (record {
       remembers = c.calls_remember_firsts.ensures.deactivate (declared_in first) base x y r.object number stands known.remembers read;
       versions = c.calls_keep_versions.ensures.deactivate (declared_in first) base x y r.object number stands (versions_now classes first beside base x known) read;
-      values = c.calls_keep_values.ensures.deactivate (declared_in first) base x y r.object number stands (values_now classes first beside base x known) read;
       numbers = c.calls_keep_numbers.ensures.deactivate (declared_in first) base x y r.object number stands (numbers_now classes first beside base x known) read;
+      triggers = c.calls_keep_triggers.ensures.deactivate first.bones.classes (declared_in first) base x y r.object number stands (triggers_now classes first beside base x known) read;
       formed = deactivate_formed base (declared_in first) x r.object number read.object read.read (c.changes_stay_formed.ensures.deactivate base x r.object number read.object known.formed stored);
       keys = c.calls_keep_keys.ensures.deactivate (declared_in first) base x y r.object number stands known.keys read;
     })

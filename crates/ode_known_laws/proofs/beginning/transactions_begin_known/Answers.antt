@@ -1,9 +1,9 @@
 use Rattle.ode_heap.specs.Answering.{counters_of}
 use Rattle.ode_known_laws.proofs.HeldLaws.{held_numbered, held_ordered, on_first}
-use Rattle.ode_known_laws.proofs.KnownLaws.{begun_numbered, begun_valued, begun_versioned}
+use Rattle.ode_known_laws.proofs.KnownLaws.{begun_numbered, begun_triggers, begun_versioned}
 use Rattle.ode_known_laws.proofs.beginning.transactions_begin_known.Goals as goal
 use Rattle.ode_laws.specs.Alike.{NumberWorld}
-use Rattle.ode_object_laws.specs.Objects.{HaveValues}
+use Rattle.ode_object_laws.specs.Objects.{HaveTriggers}
 use Rattle.ode_overlay_laws.specs.Standing.{origin_as}
 use Rattle.ode_value.specs.Posting.{waiting}
 use Rattle.ode_version_laws.specs.Denoting.{HaveVersions}
@@ -21,10 +21,10 @@ returns c = λ origin base w held.
       versions =
           begun_versioned origin w
           (on_first base w held (λ (v : NumberWorld). HaveVersions v.bones) (c.good_worlds_are_settled.ensures.versions held.language h.stored.tables h.stored.world held.world h.good h.stands));
-      values =
-          begun_valued origin w
-          (on_first base w held (λ (v : NumberWorld). HaveValues v.bones) (c.values_can_be_held.ensures.good held.language h.stored.tables h.stored.world held.world h.good h.stands));
       numbered = begun_numbered origin w (held_numbered base w held numbered);
       formed = c.overlays_begin_formed.ensures base (counters_of w.bones) queued origin;
       keys = c.calls_keep_keys.ensures.begun w (counters_of w.bones) queued origin;
+      triggers =
+          begun_triggers origin w
+          (on_first base w held (λ (v : NumberWorld). HaveTriggers v.bones.classes v.bones) (c.good_worlds_have_triggers.ensures held.language h.stored.tables h.stored.world held.world h.good h.stands));
     }

@@ -1,7 +1,7 @@
 use Rattle.std.proofs.Common.{refl}
 use Rattle.ode_known_laws.proofs.FormedLaws.{remove_formed}
 use Rattle.ode_known_laws.proofs.HeldLaws.{read_now, stored_now}
-use Rattle.ode_known_laws.proofs.KnownLaws.{known_then, numbers_now, values_now, versions_now}
+use Rattle.ode_known_laws.proofs.KnownLaws.{known_then, numbers_now, triggers_now, versions_now}
 use Rattle.ode_known_laws.proofs.objects.removals_known.Goals as goal
 use Rattle.ode_known_laws.specs.Knowing.{declared_in}
 use Rattle.ode_overlay.specs.Changing.{remove}
@@ -21,8 +21,8 @@ returns c = λ classes first beside base x known id.
     (record {
       remembers = c.calls_remember_firsts.ensures.remove (declared_in first) base x y id stands known.remembers read;
       versions = c.calls_keep_versions.ensures.remove (declared_in first) base x y id stands (versions_now classes first beside base x known) read;
-      values = c.calls_keep_values.ensures.remove (declared_in first) base x y id stands (values_now classes first beside base x known) read;
       numbers = c.calls_keep_numbers.ensures.remove (declared_in first) base x y id stands (numbers_now classes first beside base x known) read;
+      triggers = c.calls_keep_triggers.ensures.remove first.bones.classes (declared_in first) base x y id stands (triggers_now classes first beside base x known) read;
       formed = remove_formed base (declared_in first) x id read.object read.read (c.changes_stay_formed.ensures.remove base x id read.object known.formed stored);
       keys = c.calls_keep_keys.ensures.remove (declared_in first) base x y id stands known.keys read;
     })

@@ -1,7 +1,7 @@
 use Rattle.std.proofs.Common.{refl}
 use Rattle.ode_known_laws.proofs.FormedLaws.{put_formed}
 use Rattle.ode_known_laws.proofs.HeldLaws.{read_now, stored_now}
-use Rattle.ode_known_laws.proofs.KnownLaws.{numbers_now, values_now, versions_now}
+use Rattle.ode_known_laws.proofs.KnownLaws.{numbers_now, triggers_now, versions_now}
 use Rattle.ode_known_laws.proofs.TakenLaws.{put_above, put_known}
 use Rattle.ode_known_laws.proofs.points.puts_known.Goals as goal
 use Rattle.ode_known_laws.specs.Knowing.{declared_in}
@@ -19,8 +19,8 @@ returns c = λ base first x known id rs.
     (record {
       remembers = c.calls_remember_firsts.ensures.put (declared_in first) base x y id rs stands known.remembers read;
       versions = c.calls_keep_versions.ensures.put (declared_in first) base x y id rs stands (versions_now classes first nothing_beside base x known) read;
-      values = c.calls_keep_values.ensures.put (declared_in first) base x y id rs stands (values_now classes first nothing_beside base x known) read;
       numbers = c.calls_keep_numbers.ensures.put (declared_in first) base x y id rs stands (numbers_now classes first nothing_beside base x known) read;
+      triggers = c.calls_keep_triggers.ensures.put first.bones.classes (declared_in first) base x y id rs stands (triggers_now classes first nothing_beside base x known) read;
       formed = put_formed base (declared_in first) x id rs read.object read.read (c.changes_stay_formed.ensures.put base x id rs read.object known.formed stored);
       keys = c.calls_keep_keys.ensures.put (declared_in first) base x y id rs stands known.keys read;
     })

@@ -5,7 +5,7 @@ use Rattle.ode_known_laws.proofs.rewinding.rewinds_known.Goals as goal
 use Rattle.ode_known_laws.specs.Knowing.{declared_in}
 use Rattle.ode_laws.specs.Alike.{NumberWorld}
 use Rattle.ode_object_laws.proofs.NumberLaws.{numbers_of}
-use Rattle.ode_object_laws.specs.Objects.{HaveValues}
+use Rattle.ode_object_laws.specs.Objects.{HaveTriggers}
 use Rattle.ode_version_laws.specs.Denoting.{HaveVersions}
 use Rattle.ode_version_laws.specs.Remembering.{Remembers}
 use Rattle.ode_version_laws.specs.Showing.{AreSettled}
@@ -19,14 +19,13 @@ returns c = λ classes first beside base x known tables.
     let settled = on_first base first known.held AreSettled (c.held_worlds_are_shown.ensures.settled known.held.language base known.held.world known.held.held) in
     let versions =
     on_first base first known.held (λ (v : NumberWorld). HaveVersions v.bones) (c.good_worlds_are_settled.ensures.versions known.held.language h.stored.tables h.stored.world known.held.world h.good h.stands) in
-    let values =
-    on_first base first known.held (λ (v : NumberWorld). HaveValues v.bones) (c.values_can_be_held.ensures.good known.held.language h.stored.tables h.stored.world known.held.world h.good h.stands) in
+    let triggers = on_first base first known.held (λ (v : NumberWorld). HaveTriggers v.bones.classes v.bones) (c.good_worlds_have_triggers.ensures known.held.language h.stored.tables h.stored.world known.held.world h.good h.stands) in
     let viewed = left_viewed tables first beside base x known (c.rewinds_follow.ensures.stands tables x y stands known.remembers settled) in (
       left_by tables classes first.bones.classes first x beside ∙ viewed.0,
       left_known tables first beside base x known viewed (c.rewinds_follow.ensures.remembers tables x y known.remembers)
           (c.rewinds_follow.ensures.versions tables x y stands known.remembers versions)
-          (c.rewinds_keep_objects.ensures.values tables y values)
           (c.rewinds_keep_objects.ensures.numbers tables y (numbers_of first.bones known.numbered.first) (more_drawn tables first beside base x known))
+          (c.rewinds_keep_objects.ensures.triggers tables y first.bones.classes triggers)
           (c.rewinds_stay_formed.ensures known.held.language base known.held.world (declared_in first) x h (subst (Remembers x.objects) known.held.is known.remembers) known.formed)
           (c.calls_keep_keys.ensures.rewind first (declared_in first) x known.remembers known.keys),
     )

@@ -1,7 +1,7 @@
 use Rattle.std.proofs.Common.{refl}
 use Rattle.ode_known_laws.proofs.FormedLaws.{derive_formed}
 use Rattle.ode_known_laws.proofs.HeldLaws.{read_now, stored_now}
-use Rattle.ode_known_laws.proofs.KnownLaws.{known_then, numbers_now, values_now, versions_now, versions_read}
+use Rattle.ode_known_laws.proofs.KnownLaws.{known_then, numbers_now, triggers_now, versions_now, versions_read}
 use Rattle.ode_known_laws.proofs.versions.derivations_known.Goals as goal
 use Rattle.ode_known_laws.specs.Knowing.{declared_in}
 use Rattle.ode_overlay.specs.Changing.{derive}
@@ -10,18 +10,18 @@ use Rattle.ode_version_laws.specs.Denoting.{tells_version}
 use Rattle.ode_view_laws.specs.Viewing.{running}
 
 pub returns : goal.returns
-returns c = λ classes first beside base x known r kept.
+returns c = λ classes first beside base x known r.
     let y = running classes first x beside in
     let stands = c.overlays_have_views.ensures.stands classes first x beside known.viewed.over in
     let read = read_now base first known.held x y r.object stands refl c.objects_are_read_fresh.ensures in
     let stored = stored_now base first known.held x r.object read.object read.read c.objects_are_read_as_stored.ensures in
     known_then classes first beside base x known tells_version (derives r y) (derive (declared_in first) base r x)
-    (c.derivations_show.ensures classes first beside x known.viewed (declared_in first) base r read kept)
+    (c.derivations_show.ensures classes first beside x known.viewed (declared_in first) base r read)
     (record {
       remembers = c.calls_remember_firsts.ensures.derive (declared_in first) base x y r stands known.remembers read;
       versions = c.calls_keep_versions.ensures.derive (declared_in first) base x y r stands (versions_now classes first beside base x known) read;
-      values = c.calls_keep_values.ensures.derive (declared_in first) base x y r stands (values_now classes first beside base x known) read;
       numbers = c.calls_keep_numbers.ensures.derive (declared_in first) base x y r stands (numbers_now classes first beside base x known) read;
+      triggers = c.calls_keep_triggers.ensures.derive first.bones.classes (declared_in first) base x y r stands (triggers_now classes first beside base x known) read;
       formed = derive_formed base (declared_in first) x r read.object read.read (c.versions_stay_formed.ensures.derive base x r read.object known.formed stored (versions_read classes first beside base x known r.object read.object stands read.is));
       keys = c.calls_keep_keys.ensures.derive (declared_in first) base x y r stands known.keys read;
     })

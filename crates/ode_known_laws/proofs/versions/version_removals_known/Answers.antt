@@ -1,7 +1,7 @@
 use Rattle.std.proofs.Common.{refl}
 use Rattle.ode_known_laws.proofs.FormedLaws.{drop_formed}
 use Rattle.ode_known_laws.proofs.HeldLaws.{read_now, stored_now}
-use Rattle.ode_known_laws.proofs.KnownLaws.{known_then, numbers_now, values_now, versions_now, versions_read}
+use Rattle.ode_known_laws.proofs.KnownLaws.{known_then, numbers_now, triggers_now, versions_now, versions_read}
 use Rattle.ode_known_laws.proofs.versions.version_removals_known.Goals as goal
 use Rattle.ode_known_laws.specs.Knowing.{declared_in}
 use Rattle.ode_overlay.specs.Changing.{drop_version}
@@ -20,8 +20,8 @@ returns c = λ classes first beside base x known r.
     (record {
       remembers = c.calls_remember_firsts.ensures.drop (declared_in first) base x y r stands known.remembers read;
       versions = c.calls_keep_versions.ensures.drop (declared_in first) base x y r stands (versions_now classes first beside base x known) read;
-      values = c.calls_keep_values.ensures.drop (declared_in first) base x y r stands (values_now classes first beside base x known) read;
       numbers = c.calls_keep_numbers.ensures.drop (declared_in first) base x y r stands (numbers_now classes first beside base x known) read;
+      triggers = c.calls_keep_triggers.ensures.drop first.bones.classes (declared_in first) base x y r stands (triggers_now classes first beside base x known) read;
       formed = drop_formed base (declared_in first) x r read.object read.read (c.versions_stay_formed.ensures.drop base x r read.object known.formed stored (versions_read classes first beside base x known r.object read.object stands read.is));
       keys = c.calls_keep_keys.ensures.drop (declared_in first) base x y r stands known.keys read;
     })

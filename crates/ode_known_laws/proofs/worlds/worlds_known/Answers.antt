@@ -1,5 +1,4 @@
 use Rattle.ode_known_laws.proofs.HeldLaws.{on_first}
-use Rattle.ode_known_laws.proofs.KnownLaws.{values_now}
 use Rattle.ode_known_laws.proofs.LightLaws.{first_light, light_by}
 use Rattle.ode_known_laws.proofs.worlds.worlds_known.Goals as goal
 use Rattle.ode_overlay.specs.Settling.{bytes_after, bytes_before}
@@ -8,9 +7,6 @@ use Rattle.ode_value.specs.Weights.{weight}
 use Rattle.ode_version_laws.specs.Growing.{GoesOnNumbered}
 use Rattle.ode_version_laws.specs.Showing.{AreSettled}
 use Rattle.ode_view_laws.specs.Viewing.{running}
-
-pub returns-clause-references : goal.returns-clause-references
-returns-clause-references c = λ classes first beside base x known r. c.values_can_be_held.ensures.denoted (running classes first x beside) r (values_now classes first beside base x known)
 
 pub returns-clause-numbered : goal.returns-clause-numbered
 returns-clause-numbered c = λ first beside base x known. known.numbered.now
