@@ -1,23 +1,20 @@
 -- What a run is to the call of the program.
-use Rattle.std.proofs.Common.{◌≡◌, ◌<◌, ◌≤◌, ◌⊎◌, ⊎_elim, List, [], ◌∷◌, ℕ, zero, suc, Option, Some, None, IsSome, IsTrue, refl, sym, ◌∙◌, subst, arith}
+use Rattle.std.proofs.Common.{◌≡◌, ◌<◌, ◌≤◌, ◌⊎◌, ⊎_elim, List, ℕ, Option, Some, None, IsSome, IsTrue, refl, sym, ◌∙◌, subst, arith}
 use Rattle.std.proofs.lemmas.Bool.{cases_lt}
 use Rattle.std.specs.Prelude.{◌≢◌}
 use Rattle.ode_areas.specs.Image.{AreasMean}
-use Rattle.std.specs.List.{AllByRecursion}
 use Rattle.ode_host.specs.Host.{Keeps, LeavesOnly, Only, Tells}
 use Rattle.ode_host.specs.View.{View}
 use Rattle.ode_host.specs.declared.status.Status.{Status}
 use Rattle.ode_host.specs.declared.status.Status.TheVariants as status
-use Rattle.ode_host.proofs.Moments.{weaker}
 use Rattle.ode_script.specs.Cutting.{pieces}
 use Rattle.ode_language.specs.Languages.{ode}
 use Rattle.ode_machine.proofs.MomentLaws.{at_start}
 use Rattle.ode_machine.specs.Moments.{IsAfterSome}
-use Rattle.ode_machine.specs.Runs.{Item, Settles, Refuses, final, trace, world_at, worlds}
+use Rattle.ode_machine.specs.Runs.{Item, trace}
 use Rattle.ode_script.specs.Cutting.{ending_of}
 use Rattle.ode_trace.specs.Running.{RanAs}
 use Rattle.ode_trace.specs.Statuses.{IsRunStatus}
-use Rattle.ode_transact.specs.Resting.{HoldsBy}
 use Rattle.ode_value.specs.Language.{ListWorld}
 use Rattle.ode_top.specs.Answers.{IsMachineRun}
 use Rattle.ode_top.specs.Holds.{Holds}
@@ -26,55 +23,20 @@ use Rattle.ode_top.specs.Stops.{CutShort}
 same_text : (a b : List ℕ) → Some a ≡ Some b → a ≡ b
 same_text a b is = cc (is)
 
--- ---- what holds of each world of a run
-
-module _ (P : ListWorld → Type 0) where
-  pub all_at : (k : ℕ) (w : ListWorld) (items : List Item) → P w → AllByRecursion P (worlds items) → P (world_at k w items)
-  all_at k w [] now all = now
-  all_at k w (Refuses line ∷ items) now all = all_at k w items now all
-  all_at zero w (Settles world text ∷ items) now all = now
-  all_at (suc k) w (Settles world text ∷ items) now all = all_at k world items all.0 all.1
-
-  pub all_last : (w : ListWorld) (items : List Item) → P w → AllByRecursion P (worlds items) → P (final w items)
-  all_last w [] now all = now
-  all_last w (Refuses line ∷ items) now all = all_last w items now all
-  all_last w (Settles world text ∷ items) now all = all_last world items all.0 all.1
-
--- of no world of it the clock is set
-abbrev pub AreUnset : List ListWorld → Type 0
-AreUnset ws = AllByRecursion (λ (v : ListWorld). v.bones.clock ≡ None) ws
-
 -- a run has ended as the machine's, and what its keeper holds stands on the disk
-pub machine_run : (bytes text : List ℕ) (w : ListWorld) (left : Option (List ℕ)) (view : View) (status : Status) → w.bones.clock ≡ None → AreUnset (worlds (trace ode w bytes))
+pub machine_run : (bytes text : List ℕ) (w : ListWorld) (left : Option (List ℕ)) (view : View) (status : Status)
     → RanAs AreasMean (trace ode w bytes) (ending_of (pieces bytes)) w text left view status → IsMachineRun bytes w text left view status
-machine_run bytes text w left view status unset all ran =
+machine_run bytes text w left view status ran =
     record {
       stated = ran.stated;
       ends = record {
         image = ran.ends.image;
         stands = ran.ends.stands;
-        holds = record { held = ran.ends.holds; no_clock = all_last (λ (v : ListWorld). v.bones.clock ≡ None) w (trace ode w bytes) unset all };
+        holds = ran.ends.holds;
         printed = ran.ends.printed;
       };
       nothing = ran.nothing;
     }
-
--- a moment of it
-pub clockless : (items : List Item) (w : ListWorld) (text image out : List ℕ) → w.bones.clock ≡ None → AreUnset (worlds items)
-    → IsAfterSome (HoldsBy ode AreasMean) items w text image out → IsAfterSome Holds items w text image out
-clockless items w text image out unset all some = record {
-  settled = some.settled;
-  held = record { held = some.held; no_clock = all_at (λ (v : ListWorld). v.bones.clock ≡ None) some.settled w items unset all };
-  front = some.front;
-  rest = some.rest;
-  is_front = some.is_front;
-  printed = some.printed;
-}
-
-pub clockless_leaves : (items : List Item) (w : ListWorld) (text : List ℕ) (old new : View) → w.bones.clock ≡ None → AreUnset (worlds items)
-    → LeavesOnly old new (IsAfterSome (HoldsBy ode AreasMean) items w text) → LeavesOnly old new (IsAfterSome Holds items w text)
-clockless_leaves items w text old new unset all run =
-    weaker old new (IsAfterSome (HoldsBy ode AreasMean) items w text) (IsAfterSome Holds items w text) (λ image out some. clockless items w text image out unset all some) run
 
 -- a run of a script is never answered with the usage
 pub never_usage : (s : Status) → IsRunStatus s ⊎ (s ≡ status.BadFile) → s ≢ status.Usage

@@ -14,16 +14,13 @@ no_table = record { states = 0; symbols = 0; next = []; yes = [] }
 
 pub fresh_holds : IsGood ode empty_world → (image : List ℕ) → AreasMean image first_rows → Holds image empty_world
 fresh_holds good image means = record {
-  held = record {
-    entries = first_rows;
-    are = means;
-    world = record {
-      stored = record { world = empty_world; tables = λ class place. no_table };
-      rows = refl;
-      stands = record { bones = refl; mean = tt; pasts = tt; within = tt };
-      good = good;
-    };
-    ones = tt;
+  entries = first_rows;
+  are = means;
+  world = record {
+    stored = record { world = empty_world; tables = λ class place. no_table };
+    rows = refl;
+    stands = record { bones = refl; mean = tt; pasts = tt; within = tt };
+    good = good;
   };
-  no_clock = refl;
+  ones = tt;
 }

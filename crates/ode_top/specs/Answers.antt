@@ -1,6 +1,6 @@
 -- What a call of the program is answered with.
-use Rattle.std.specs.Prelude.{◌≡◌, ◌⊎◌, ℕ, List, ◌++◌, take, Option, Some, codes}
-use Rattle.ode_gate.specs.Slots.{HasOpenSlot}
+use Rattle.std.specs.Prelude.{◌≡◌, ◌⊎◌, ℕ, List, [], ◌++◌, take, Option, Some, Err, codes}
+use Rattle.ode_causes.specs.Lines.{cause_line, format_line}
 use Rattle.ode_host.specs.Host.{Spares, Stands, Tells}
 use Rattle.ode_host.specs.View.{View}
 use Rattle.ode_host.specs.declared.status.Status.{Status}
@@ -8,6 +8,9 @@ use Rattle.ode_host.specs.declared.status.Status.TheVariants as status
 use Rattle.ode_language.specs.Languages.{ode}
 use Rattle.ode_machine.specs.Runs.{run_status, run_text, run_world}
 use Rattle.ode_make.specs.Making.{IsInUse, IsInitialised, first_rows}
+use Rattle.ode_open.specs.Opening.{IsOpenedTo}
+use Rattle.ode_open.specs.declared.error.OpenError.{OpenError}
+use Rattle.ode_open.specs.declared.error.OpenError.TheVariants.{Memory, DiskFault, NoDatabase, NewerFormat, BadFile}
 use Rattle.ode_trace.specs.Running.{LeavesNothing}
 use Rattle.ode_value.specs.Language.{ListWorld}
 use Rattle.ode_value.specs.Records.{snapshot}
@@ -54,16 +57,23 @@ pub record IsRefused (file text : List ℕ) (view : View) : Type 0 where
   pub tells : Tells view file
   pub printed : view.text ≡ Some (text ++ line (codes "file exists"))
 
-abbrev pub HoldsNone : List ℕ → Type 0
-HoldsNone image = (w : ListWorld) → ¬ Holds image w
+-- A rule is broken that a file must keep, from its slots to the references among its objects: the first of them.
+abbrev pub BreaksRule : List ℕ → Type 0
+BreaksRule image = (why : OpenError) × IsOpenedTo image (Err why)
 
--- what is said of a file that holds no world
+-- the line of a broken rule; want of memory and a fault of the disk are none
+abbrev pub why_line : OpenError → List ℕ
+why_line NoDatabase = line (codes "no database")
+why_line (NewerFormat found) = format_line found
+why_line (BadFile cause) = cause_line cause
+why_line Memory = []
+why_line DiskFault = []
+
+-- what is said of a file that breaks a rule is the line of the first one
 abbrev pub SaysWhy : List ℕ → List ℕ → Type 0
-SaysWhy image said =
-    ((¬ HasOpenSlot image) × (said ≡ line (codes "no database")))
-    ⊎ (HasOpenSlot image × HoldsNone image × (said ≡ line (codes "bad file")))
+SaysWhy image said = (why : OpenError) × IsOpenedTo image (Err why) × (said ≡ why_line why)
 
--- The file holds no world, stayed as it was, and it was said.
+-- The file breaks a rule, stayed as it was, and it was said.
 pub record IsBadFile (image text : List ℕ) (view : View) : Type 0 where
   pub tells : Tells view image
   pub said : List ℕ
@@ -80,7 +90,7 @@ pub record IsInitCut (file text : List ℕ) (view : View) : Type 0 where
   pub reason : (IsInUse file × (said ≡ line (codes "file exists"))) ⊎ ((¬ IsInUse file) × (said ≡ line (codes "ready")))
   pub front : SaidFront said text view
 
--- The print failed of the line that says why a file holds no world.
+-- The print failed of the line that says which way a file breaks a rule.
 pub record IsBadFileCut (image text : List ℕ) (view : View) : Type 0 where
   pub said : List ℕ
   pub reason : SaysWhy image said
@@ -99,7 +109,7 @@ IsInitStatus status.Memory = ⊥
 IsInitStatus status.LongStatement = ⊥
 IsInitStatus status.LongScript = ⊥
 
--- the statuses that a run may end with where the file holds no world
+-- the statuses that a run may end with where the file breaks a rule
 abbrev pub IsNoRun : Status → Type 0
 IsNoRun status.BadFile = Unit {0}
 IsNoRun status.DiskFault = Unit {0}

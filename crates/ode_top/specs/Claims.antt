@@ -1,4 +1,4 @@
--- What a call of the program claims, each field a claim: of a run where the file holds a world, of one where it holds none, and
+-- What a call of the program claims, each field a claim: of a run where the file holds a world, of one where it breaks a rule, and
 -- of `init`. The views are the host's at the start and at the end, and so is what is left of the script.
 use Rattle.std.specs.Prelude.{◌≡◌, ◌≢◌, ℕ, List, Option, Some}
 use Rattle.ode_host.specs.FirstSync.{SyncedRun}
@@ -12,7 +12,7 @@ use Rattle.ode_machine.specs.Runs.{trace}
 use Rattle.ode_make.specs.Making.{IsInUse}
 use Rattle.ode_trace.specs.Statuses.{IsEnding, IsRunStatus}
 use Rattle.ode_value.specs.Language.{ListWorld}
-use Rattle.ode_top.specs.Answers.{HoldsNone, IsBadFile, IsBadFileCut, IsIdle, IsInitCut, IsInitStatus, IsMachineRun, IsMade, IsNoRun, IsRefused, IsSilent}
+use Rattle.ode_top.specs.Answers.{BreaksRule, IsBadFile, IsBadFileCut, IsIdle, IsInitCut, IsInitStatus, IsMachineRun, IsMade, IsNoRun, IsRefused, IsSilent}
 use Rattle.ode_top.specs.Holds.{Holds}
 use Rattle.ode_top.specs.Stops.{CutShort, IsCut}
 
@@ -39,13 +39,14 @@ pub record RunsWorld (before after : Option (List ℕ)) (old new : View) (result
   -- It ends as the machine does, by a fault, or for want of memory.
   pub answers : (image : List ℕ) (w : ListWorld) → Tells old image → Holds image w → IsRunStatus result
 
--- A run where the file holds no world.
+-- A run where the file breaks a rule, and so holds no world.
 pub record RunsNone (before after : Option (List ℕ)) (old new : View) (result : Status) : Type 0 where
-  pub bad_file : result ≡ BadFile → (image text : List ℕ) → Tells old image → old.text ≡ Some text → IsBadFile image text new
-  pub no_world : (image : List ℕ) → Tells old image → HoldsNone image → IsNoRun result
+  pub held : (image : List ℕ) (w : ListWorld) → Tells old image → Holds image w → ¬ BreaksRule image
+  pub bad_file : result ≡ BadFile → (image text : List ℕ) → Tells old image → old.text ≡ Some text → BreaksRule image → IsBadFile image text new
+  pub no_world : (image : List ℕ) → Tells old image → BreaksRule image → IsNoRun result
   -- Nothing is written, nothing of the script is taken, and nothing is printed but the line.
-  pub idle : (image : List ℕ) → Tells old image → HoldsNone image → IsIdle result old new × (after ≡ before)
-  pub bad_file_cut : result ≡ WriteFault → (image text : List ℕ) → Tells old image → old.text ≡ Some text → HoldsNone image
+  pub idle : (image : List ℕ) → Tells old image → BreaksRule image → IsIdle result old new × (after ≡ before)
+  pub bad_file_cut : result ≡ WriteFault → (image text : List ℕ) → Tells old image → old.text ≡ Some text → BreaksRule image
       → IsBadFileCut image text new
 
 -- An `init`. A file in use stays as it was, whatever the status.

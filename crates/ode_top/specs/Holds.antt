@@ -1,20 +1,20 @@
 -- What it is that a file holds a world.
-use Rattle.std.specs.Prelude.{◌≡◌, ℕ, List, None, Ok}
+use Rattle.std.specs.Prelude.{ℕ, List, Ok}
 use Rattle.ode_areas.specs.Holding.{AreasHold}
 use Rattle.ode_areas.specs.Image.{AreasMean}
 use Rattle.ode_areas.specs.declared.areas.Areas.{Areas}
 use Rattle.ode_host.specs.View.{View}
 use Rattle.ode_keep.specs.Entries.{Entries}
+use Rattle.ode_open.specs.Opening.{base_in}
 use Rattle.ode_opened.specs.declared.opened.Opened.{Opened}
-use Rattle.ode_opening_records.specs.Reading.{opened_in}
+use Rattle.ode_opening_records.specs.Reading.{AreOpened}
 use Rattle.ode_language.specs.Languages.{ode}
 use Rattle.ode_transact.specs.Resting.{HoldsBy}
 use Rattle.ode_value.specs.Language.{ListWorld}
 
--- The file of two areas stands for records that hold this world, whose clock isn't set: the clock isn't built yet.
-pub record Holds (image : List ℕ) (w : ListWorld) : Type 0 where
-  pub held : HoldsBy ode AreasMean image w
-  pub no_clock : w.bones.clock ≡ None
+-- the file of two areas stands for records that hold this world
+abbrev pub Holds : List ℕ → ListWorld → Type 0
+Holds image w = HoldsBy ode AreasMean image w
 
 -- A file that holds this world was opened, and its keeper holds the records that were opened.
 pub record OpensTo (image : List ℕ) (w : ListWorld) (o : Opened Areas) (view : View) : Type 0 where
@@ -22,4 +22,4 @@ pub record OpensTo (image : List ℕ) (w : ListWorld) (o : Opened Areas) (view :
   pub entries : Entries
   pub means : AreasMean image entries
   pub kept : AreasHold o.keeper view entries
-  pub opened : opened_in ode entries ≡ Ok (o.classes, o.bytes)
+  pub opened : AreOpened ode entries (Ok (base_in o))

@@ -17,19 +17,19 @@ ghost use Rattle.ode_top.specs.Claims.{Initialises, RunsNone, RunsWorld};
 ghost use Rattle.ode_top.specs.Holds.{Holds, OpensTo};
 
 use crate::call::{Mode, call_of};
-use ode_area_laws::mapped_records_fit;
 use ode_areas::Areas;
-use ode_built_worlds::runs_stay_openable;
-use ode_file_laws::{files_of_worlds_are_opened, refusals_tell_of_slots};
-use ode_found_laws::opened_records_hold_worlds;
+use ode_causes::{cause_line, format_line};
+use ode_file_laws::files_of_worlds_are_opened;
 use ode_good_runs::runs_stay_good;
 use ode_host::{Failed, Host, Source, Status};
 use ode_language_laws::language_has_sound_rules;
 use ode_make::{InitError, initialise};
 use ode_open::{OpenError, open_base};
 use ode_opened::Opened;
+use ode_passes::Cause;
 use ode_start_laws::opened_files_are_at_rest;
 use ode_trace::run_script;
+use ode_value::Key;
 use std::alloc::Global;
 
 const USAGE: &[u8] = b"usage: ode (init|run|check|dump) FILE | ode gen FILE N\n";
@@ -64,6 +64,17 @@ fn init<H: Host>(host: &mut H) -> Status
     }
 }
 
+// Says which record was found damaged, where there is memory for it.
+fn damaged<H: Host>(alloc: Global, host: &mut H, key: Key) -> Status
+    ensures status { (result ≡ Status.Memory) ⊎ ((result ≡ Status.BadFile) ⊎ (result ≡ Status.WriteFault)) }
+    ensures leaves { HostCalls (result ≡ Status.DiskFault) (result ≡ Status.WriteFault) (H.view host.old) (H.view host.new) }
+{
+    match cause_line(alloc, &Cause::Record(key)) {
+        Ok(text) => end_with(host, text.as_bytes(), Status::BadFile),
+        Err(_) => Status::Memory,
+    }
+}
+
 // A run over an opened file.
 fn run_opened<H: Host, S: Source>(
     alloc: Global,
@@ -85,11 +96,10 @@ fn run_opened<H: Host, S: Source>(
 {
     runs_stay_good();
     language_has_sound_rules();
-    runs_stay_openable();
     opened_files_are_at_rest(&opened, host);
     match run_script(alloc, script, host, opened) {
-        Status::BadFile => end_with(host, b"bad file\n", Status::BadFile),
-        status => status,
+        Ok(status) => status,
+        Err(key) => damaged(alloc, host, key),
     }
 }
 
@@ -102,14 +112,17 @@ fn run<H: Host, S: Source>(alloc: Global, script: &mut S, host: &mut H) -> Statu
     ensures reads { RoseIf (result ≡ Status.ReadFault) (S.faults script.old) (S.faults script.new) }
 {
     files_of_worlds_are_opened();
-    refusals_tell_of_slots();
-    mapped_records_fit();
-    opened_records_hold_worlds();
     match open_base(alloc, host) {
         Ok(opened) => run_opened(alloc, script, host, opened),
         Err(OpenError::NoDatabase) => end_with(host, b"no database\n", Status::BadFile),
-        Err(OpenError::NewerFormat { .. }) => end_with(host, b"bad file\n", Status::BadFile),
-        Err(OpenError::BadFile(_)) => end_with(host, b"bad file\n", Status::BadFile),
+        Err(OpenError::NewerFormat { found }) => match format_line(alloc, found) {
+            Ok(text) => end_with(host, text.as_bytes(), Status::BadFile),
+            Err(_) => Status::Memory,
+        },
+        Err(OpenError::BadFile(cause)) => match cause_line(alloc, &cause) {
+            Ok(text) => end_with(host, text.as_bytes(), Status::BadFile),
+            Err(_) => Status::Memory,
+        },
         Err(OpenError::DiskFault) => Status::DiskFault,
         Err(OpenError::Memory) => Status::Memory,
     }
@@ -127,7 +140,7 @@ pub fn run_ode<H: Host, S: Source>(
     // world after some of the machine's settled transactions, never fewer than the printed ones.
     ensures world { Asks Mode.Run (bytes_of words.now.items)
         → RunsWorld (S.left script.old) (S.left script.new) (H.view host.old) (H.view host.new) result }
-    // On a file that holds none it says why, and changes nothing.
+    // On a file that breaks a rule it says which, and changes nothing.
     ensures no_world { Asks Mode.Run (bytes_of words.now.items)
         → RunsNone (S.left script.old) (S.left script.new) (H.view host.old) (H.view host.new) result }
     // `init` makes a database, or leaves a file in use as it was.

@@ -10,7 +10,7 @@ use Rattle.ode_host.specs.declared.status.Status.TheVariants as status
 use Rattle.ode_language.specs.declared.reading.ReadStop.{ReadStop}
 use Rattle.ode_language.specs.declared.reading.ReadStop.TheVariants as read
 use Rattle.ode_trace.proofs.StatusLaws.{engine_disk, engine_print}
-use Rattle.ode_trace.specs.Statuses.{status_of_engine, unread}
+use Rattle.ode_trace.specs.Statuses.{ended_by, status_in, unread}
 use Rattle.ode_transact.specs.Errors.{OnDamaged}
 use Rattle.ode_transact.specs.declared.error.EngineError.{EngineError}
 use Rattle.ode_transact.specs.declared.error.EngineError.TheVariants as error
@@ -47,10 +47,10 @@ pub told_behind : (F P : Type 0) (old mid new : View) → HostCalls ⊥ ⊥ old 
 told_behind F P old mid new first second = host_calls_on ⊥ ⊥ F P old mid new (λ none. none) (λ none. none) first second
 
 -- by the status that an error ends a run with
-pub error_stated : (R : Type 0) (e : EngineError) (old new : View) → Told {R = R} (Err e) old new → HostCalls (status_of_engine e ≡ status.DiskFault) (status_of_engine e ≡ status.WriteFault) old new
+pub error_stated : (R : Type 0) (e : EngineError) (old new : View) → Told {R = R} (Err e) old new → HostCalls (status_in (ended_by e) ≡ status.DiskFault) (status_in (ended_by e) ≡ status.WriteFault) old new
 error_stated R e old new calls =
-    host_calls_as _ _ _ _ old new (λ is. let same : e ≡ error.DiskFault = cc (is) in ap status_of_engine same) (λ is. ap Err (engine_disk e is))
-    (λ is. let same : e ≡ error.WriteFault = cc (is) in ap status_of_engine same) (λ is. ap Err (engine_print e is)) calls
+    host_calls_as _ _ _ _ old new (λ is. let same : e ≡ error.DiskFault = cc (is) in ap (λ (e : EngineError). status_in (ended_by e)) same) (λ is. ap Err (engine_disk e is))
+    (λ is. let same : e ≡ error.WriteFault = cc (is) in ap (λ (e : EngineError). status_in (ended_by e)) same) (λ is. ap Err (engine_print e is)) calls
 
 -- a piece that gives no statement calls nothing
 pub unread_told : (stop : ReadStop) (v : View) → Told {R = Done} (unread stop) v v

@@ -1,48 +1,47 @@
 -- Statuses, by what a run ends with.
-use Rattle.std.proofs.Common.{◌≡◌, ◌⊎◌, inl, inr, Bool, true, false, List, ℕ, Option, Some, Err, [], refl}
+use Rattle.std.proofs.Common.{◌≡◌, Bool, true, false, List, ℕ, Option, Some, Result, Err, [], refl, ap}
+use Rattle.ode_host.specs.declared.status.Status.{Status}
 use Rattle.ode_host.specs.declared.status.Status.TheVariants as status
+use Rattle.ode_value.specs.declared.key.Key.{Key}
 use Rattle.ode_script.specs.Cutting.{End}
 use Rattle.ode_script.specs.declared.reader.ScriptError.{ScriptError}
 use Rattle.ode_script.specs.declared.reader.ScriptError.TheVariants as script
 use Rattle.ode_machine.specs.Runs.{status_at}
 use Rattle.ode_trace.specs.Running.{LeavesNothing}
-use Rattle.ode_trace.specs.Statuses.{IsEnding, IsRunStatus, status_of_engine, status_of_script}
+use Rattle.ode_trace.specs.Statuses.{IsEnding, IsRunStatus, ended_by, status_in, status_of_script}
 use Rattle.ode_transact.specs.Errors.{OnDamaged}
 use Rattle.ode_transact.specs.declared.error.EngineError.{EngineError}
 use Rattle.ode_transact.specs.declared.error.EngineError.TheVariants as engine
 
-pub engine_no_end : (e : EngineError) → IsEnding (status_of_engine e) → ⊥
+pub ended_is : (r : Result Status Key) (e : EngineError) → r ≡ ended_by e → status_in r ≡ status_in (ended_by e)
+ended_is r e is = ap status_in is
+
+pub engine_no_end : (e : EngineError) → IsEnding (status_in (ended_by e)) → ⊥
 engine_no_end engine.Memory is = is
 engine_no_end engine.DiskFault is = is
 engine_no_end engine.WriteFault is = is
 engine_no_end (engine.Damaged key) is = is
 
-pub engine_disk : (e : EngineError) → status_of_engine e ≡ status.DiskFault → e ≡ engine.DiskFault
+pub engine_disk : (e : EngineError) → status_in (ended_by e) ≡ status.DiskFault → e ≡ engine.DiskFault
 engine_disk engine.Memory is = absurd (cc (is))
 engine_disk engine.DiskFault is = refl
 engine_disk engine.WriteFault is = absurd (cc (is))
 engine_disk (engine.Damaged key) is = absurd (cc (is))
 
-pub engine_print : (e : EngineError) → status_of_engine e ≡ status.WriteFault → e ≡ engine.WriteFault
+pub engine_print : (e : EngineError) → status_in (ended_by e) ≡ status.WriteFault → e ≡ engine.WriteFault
 engine_print engine.Memory is = absurd (cc (is))
 engine_print engine.DiskFault is = absurd (cc (is))
 engine_print engine.WriteFault is = refl
 engine_print (engine.Damaged key) is = absurd (cc (is))
 
-pub engine_no_read : (e : EngineError) → status_of_engine e ≡ status.ReadFault → ⊥
+pub engine_no_read : (e : EngineError) → status_in (ended_by e) ≡ status.ReadFault → ⊥
 engine_no_read engine.Memory is = cc (is)
 engine_no_read engine.DiskFault is = cc (is)
 engine_no_read engine.WriteFault is = cc (is)
 engine_no_read (engine.Damaged key) is = cc (is)
 
-pub engine_runs : (e : EngineError) → IsRunStatus (status_of_engine e) ⊎ (status_of_engine e ≡ status.BadFile)
-engine_runs engine.Memory = inl tt
-engine_runs engine.DiskFault = inl tt
-engine_runs engine.WriteFault = inl tt
-engine_runs (engine.Damaged key) = inr refl
-
 -- where no record is damaged
-pub engine_answers : (R : Type 0) (e : EngineError) → OnDamaged {R = R} (Err e) ⊥ → IsRunStatus (status_of_engine e)
+pub engine_answers : (R : Type 0) (e : EngineError) → OnDamaged {R = R} (Err e) ⊥ → IsRunStatus (status_in (ended_by e))
 engine_answers R engine.Memory is = tt
 engine_answers R engine.DiskFault is = tt
 engine_answers R engine.WriteFault is = tt

@@ -10,18 +10,24 @@ use Rattle.ode_script.specs.declared.reader.ScriptError.{ScriptError}
 use Rattle.ode_script.specs.declared.reader.ScriptError.TheVariants as script
 use Rattle.ode_transact.specs.declared.error.EngineError.{EngineError}
 use Rattle.ode_transact.specs.declared.error.EngineError.TheVariants as engine
+use Rattle.ode_value.specs.declared.key.Key.{Key}
 
 -- where a piece gives no statement
 abbrev pub unread : ReadStop → Result Done EngineError
 unread read.Memory = Err engine.Memory
 unread (read.Refused why) = Ok (done.Refused why)
 
--- where the engine doesn't answer
-abbrev pub status_of_engine : EngineError → Status
-status_of_engine engine.Memory = status.Memory
-status_of_engine engine.DiskFault = status.DiskFault
-status_of_engine engine.WriteFault = status.WriteFault
-status_of_engine (engine.Damaged key) = status.BadFile
+-- what a run ends with where the engine doesn't answer: a status, or the key of a damaged record
+abbrev pub ended_by : EngineError → Result Status Key
+ended_by engine.Memory = Ok status.Memory
+ended_by engine.DiskFault = Ok status.DiskFault
+ended_by engine.WriteFault = Ok status.WriteFault
+ended_by (engine.Damaged key) = Err key
+
+-- the status of an end
+abbrev pub status_in : Result Status Key → Status
+status_in (Ok s) = s
+status_in (Err key) = status.BadFile
 
 -- where the script gives no piece
 abbrev pub status_of_script : ScriptError → Status

@@ -13,21 +13,21 @@ ghost use Rattle.ode_machine.specs.Sessions.{Session};
 ghost use Rattle.ode_schema.specs.Parts.{AreFit};
 ghost use Rattle.ode_script.specs.Cutting.{End, ending_of, pieces};
 ghost use Rattle.ode_trace.specs.Running.{Begins, Carries, Commands, EndsWith, RanAs, Serves};
-ghost use Rattle.ode_trace.specs.Statuses.{IsEnding, IsRunStatus, status_of_engine, status_of_script, unread};
+ghost use Rattle.ode_trace.specs.Statuses.{IsEnding, IsRunStatus, ended_by, status_in, status_of_script, unread};
 ghost use Rattle.ode_transact.specs.Errors.{OnDamaged};
 ghost use Rattle.ode_transact.specs.Resting.{HoldsBy, IsAtRest, resting_parts};
 ghost use Rattle.ode_value.specs.Language.{ListWorld};
 ghost use Rattle.ode_value.specs.Limits.{statement_limit};
 ghost use Rattle.ode_value.specs.Texts.{refused_line};
 
-use ode_built_texts::read_statements_are_built;
+use ode_built_laws::read_statements_are_built;
 use ode_engine::{Done, Engine, EngineError};
 use ode_host::{Failed, Host, Source, Status};
 use ode_keep::Keep;
 use ode_language::{ReadStop, read_statement};
 use ode_opened::Opened;
 use ode_script::{Piece, Reader, ScriptError, refusal_line};
-use ode_value::{Boxed, Refusal};
+use ode_value::{Boxed, Key, Refusal};
 use std::alloc::Global;
 
 fn print_refusal<H: Host>(
@@ -110,15 +110,15 @@ fn carry_out<H: Host, K: Keep<H> + Drop>(
     }
 }
 
-// The status that a run ends with where the engine doesn't answer.
-fn status_of_engine(error: EngineError) -> Status
-    ensures { result ≡ status_of_engine error }
+// What a run ends with where the engine doesn't answer: a status, or the key of a record that was found damaged.
+fn ended_by(error: EngineError) -> Result<Status, Key>
+    ensures { result ≡ ended_by error }
 {
     match error {
-        EngineError::Memory => Status::Memory,
-        EngineError::DiskFault => Status::DiskFault,
-        EngineError::WriteFault => Status::WriteFault,
-        EngineError::Damaged { .. } => Status::BadFile,
+        EngineError::Memory => Ok(Status::Memory),
+        EngineError::DiskFault => Ok(Status::DiskFault),
+        EngineError::WriteFault => Ok(Status::WriteFault),
+        EngineError::Damaged { key } => Err(key),
     }
 }
 
@@ -139,21 +139,27 @@ fn end_script<H: Host, K: Keep<H> + Drop>(
     host: &mut H,
     engine: &mut Engine<K>,
     refused: bool,
-) -> Status
+) -> Result<Status, Key>
     requires live { IsLive K.live engine.old }
-    ensures ends { (session : Session) (text : Items ℕ) → Serves H.view K.holds K.live session engine.old host.old text → IsEnding result
+    ensures ends { (session : Session) (text : Items ℕ) → Serves H.view K.holds K.live session engine.old host.old text → IsEnding (status_in result)
         → EndsWith K.means (H.view host.new) (final session.world (stretch_of (finish session)).1) (text ++ text_of (stretch_of (finish session)).1) }
-    ensures stated { IsEnding result → result ≡ status_at End refused }
+    ensures stated { IsEnding (status_in result) → status_in result ≡ status_at End refused }
     ensures any_moment { (session : Session) (text : Items ℕ) → Serves H.view K.holds K.live session engine.old host.old text
         → LeavesOnly (H.view host.old) (H.view host.new) (IsAfterSome (HoldsBy ode K.means) (stretch_of (finish session)).1 session.world text) }
-    ensures statuses { IsRunStatus result ⊎ (result ≡ Status.BadFile) }
-    ensures answers { (session : Session) → StandsFor H.view K.holds K.live ode session engine.old host.old → IsRunStatus result }
-    ensures leaves { HostCalls (result ≡ Status.DiskFault) (result ≡ Status.WriteFault) (H.view host.old) (H.view host.new) }
-    ensures reads { result ≢ Status.ReadFault }
+    ensures statuses { IsRunStatus (status_in result) ⊎ (status_in result ≡ Status.BadFile) }
+    ensures answers { (session : Session) → StandsFor H.view K.holds K.live ode session engine.old host.old → IsRunStatus (status_in result) }
+    ensures leaves { HostCalls (status_in result ≡ Status.DiskFault) (status_in result ≡ Status.WriteFault) (H.view host.old) (H.view host.new) }
+    ensures reads { status_in result ≢ Status.ReadFault }
 {
     match engine.finish(host) {
-        Ok(_) => { if refused { Status::Refused } else { Status::Ok } }
-        Err(error) => status_of_engine(error),
+        Ok(_) => {
+            if refused {
+                Ok(Status::Refused)
+            } else {
+                Ok(Status::Ok)
+            }
+        }
+        Err(error) => ended_by(error),
     }
 }
 
@@ -163,16 +169,16 @@ fn run_pieces<H: Host, K: Keep<H> + Drop, S: Source>(
     source: &mut S,
     host: &mut H,
     engine: &mut Engine<K>,
-) -> Status
+) -> Result<Status, Key>
     requires live { IsLive K.live engine.old }
     ensures ran { (session : Session) (script text : Items ℕ) → S.left source.old ≡ Some script → Serves H.view K.holds K.live session engine.old host.old text
-        → IsEnding result → RanAs K.means (pieces_items ode (pieces script) session) (ending_of (pieces script)) session.world text (S.left source.new) (H.view host.new) result }
+        → IsEnding (status_in result) → RanAs K.means (pieces_items ode (pieces script) session) (ending_of (pieces script)) session.world text (S.left source.new) (H.view host.new) (status_in result) }
     ensures any_moment { (session : Session) (script text : Items ℕ) → S.left source.old ≡ Some script → Serves H.view K.holds K.live session engine.old host.old text
         → LeavesOnly (H.view host.old) (H.view host.new) (IsAfterSome (HoldsBy ode K.means) (pieces_items ode (pieces script) session) session.world text) }
-    ensures statuses { IsRunStatus result ⊎ (result ≡ Status.BadFile) }
-    ensures answers { (session : Session) → StandsFor H.view K.holds K.live ode session engine.old host.old → IsRunStatus result }
-    ensures leaves { HostCalls (result ≡ Status.DiskFault) (result ≡ Status.WriteFault) (H.view host.old) (H.view host.new) }
-    ensures reads { RoseIf (result ≡ Status.ReadFault) (S.faults source.old) (S.faults source.new) }
+    ensures statuses { IsRunStatus (status_in result) ⊎ (status_in result ≡ Status.BadFile) }
+    ensures answers { (session : Session) → StandsFor H.view K.holds K.live ode session engine.old host.old → IsRunStatus (status_in result) }
+    ensures leaves { HostCalls (status_in result ≡ Status.DiskFault) (status_in result ≡ Status.WriteFault) (H.view host.old) (H.view host.new) }
+    ensures reads { RoseIf (status_in result ≡ Status.ReadFault) (S.faults source.old) (S.faults source.new) }
 {
     let mut reader = Reader::new(alloc);
     let mut refused = false;
@@ -180,42 +186,42 @@ fn run_pieces<H: Host, K: Keep<H> + Drop, S: Source>(
         let (text, line) = match reader.read_statement(source) {
             Ok(Piece::Statement { text, line }) => (text, line),
             Ok(Piece::End) => return end_script(host, engine, refused),
-            Err(error) => return status_of_script(error),
+            Err(error) => return Ok(status_of_script(error)),
         };
         match carry_out(alloc, host, engine, line, text.as_slice()) {
             Ok(again) => refused = refused || again,
-            Err(error) => return status_of_engine(error),
+            Err(error) => return ended_by(error),
         }
     }
 }
 
 /// Runs a script over an opened file: first the entries of the queue run, and then piece by piece, in whatever chunks the script comes.
-/// It is `BadFile` where the file has something else than what was written to it, and prints nothing then.
+/// It answers the key of a record where the file has something else than what was written to it, which no file that holds a world has.
 pub fn run_script<H: Host, K: Keep<H> + Drop, S: Source>(
     alloc: Global,
     source: &mut S,
     host: &mut H,
     opened: Opened<K>,
-) -> Status
+) -> Result<Status, Key>
     requires live { IsTrue (K.live opened.keeper) }
     requires fit { AreFit (resting_parts opened) }
     requires aligned { AreAligned (resting_parts opened) }
     // Where the run ends by itself, its status, its text and the world that the file then holds are the machine's.
     ensures ran { (w : ListWorld) (script text : Items ℕ) → S.left source.old ≡ Some script → Begins H.view K.holds K.live w opened host.old text
-        → IsEnding result → RanAs K.means (trace ode w script) (ending_of (pieces script)) w text (S.left source.new) (H.view host.new) result }
+        → IsEnding (status_in result) → RanAs K.means (trace ode w script) (ending_of (pieces script)) w text (S.left source.new) (H.view host.new) (status_in result) }
     // A stop leaves the world after some of the settled transactions, and a front of the text up to the next one.
     ensures any_moment { (w : ListWorld) (script text : Items ℕ) → S.left source.old ≡ Some script → Begins H.view K.holds K.live w opened host.old text
         → LeavesOnly (H.view host.old) (H.view host.new) (IsAfterSome (HoldsBy ode K.means) (trace ode w script) w text) }
-    ensures statuses { IsRunStatus result ⊎ (result ≡ Status.BadFile) }
+    ensures statuses { IsRunStatus (status_in result) ⊎ (status_in result ≡ Status.BadFile) }
     // Over a file that holds a world it ends as the machine does, by a fault, or for want of memory.
-    ensures answers { (w : ListWorld) → IsWell ode w → IsAtRest H.view K.holds K.live ode w opened host.old → IsRunStatus result }
+    ensures answers { (w : ListWorld) → IsWell ode w → IsAtRest H.view K.holds K.live ode w opened host.old → IsRunStatus (status_in result) }
     // A fault is told exactly where its count rose, whatever the file holds.
-    ensures leaves { HostCalls (result ≡ Status.DiskFault) (result ≡ Status.WriteFault) (H.view host.old) (H.view host.new) }
-    ensures reads { RoseIf (result ≡ Status.ReadFault) (S.faults source.old) (S.faults source.new) }
+    ensures leaves { HostCalls (status_in result ≡ Status.DiskFault) (status_in result ≡ Status.WriteFault) (H.view host.old) (H.view host.new) }
+    ensures reads { RoseIf (status_in result ≡ Status.ReadFault) (S.faults source.old) (S.faults source.new) }
 {
     let mut engine = Engine::start(alloc, opened);
     match engine.drain(host) {
         Ok(_) => run_pieces(alloc, source, host, &mut engine),
-        Err(error) => status_of_engine(error),
+        Err(error) => ended_by(error),
     }
 }

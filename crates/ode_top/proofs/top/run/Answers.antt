@@ -1,15 +1,15 @@
-use Rattle.std.proofs.Common.{Err, ap, inl, inr, refl}
+use Rattle.std.proofs.Common.{◌∙◌, Err, ap, refl}
 use Rattle.std.specs.Prelude.{codes}
 use Rattle.ode_host.specs.declared.status.Status.TheVariants as status
 use Rattle.ode_value.specs.Texts.{line}
 use Rattle.ode_open.specs.declared.error.OpenError.TheVariants.{BadFile, NewerFormat, NoDatabase}
-use Rattle.ode_top.proofs.Claiming.{none_absent, none_said, none_silent, opens_to, world_absent, world_found, world_opened, world_unopened}
-use Rattle.ode_top.proofs.Running.{aligned, holds_none, refused_to}
+use Rattle.ode_top.proofs.Claiming.{none_absent, none_said, none_silent, world_absent, world_opened, world_unopened}
+use Rattle.ode_top.proofs.Running.{aligned, breaks_none, none_broken, refused_to}
 use Rattle.ode_top.proofs.top.run.Goals as goal
 
--- a file that was opened, so it holds a world
+-- a file that was opened, so it breaks no rule
 pub run_opened-requires-clause-aligned : goal.run_opened-requires-clause-aligned
-run_opened-requires-clause-aligned g c = aligned c.in-Ok.opened c.in-Ok.ensures.tables c.in-Ok.ensures.maps
+run_opened-requires-clause-aligned g c = aligned c.in-Ok.opened c.in-Ok.ensures.aligned
 
 pub returns-in-Ok-clause-world : goal.returns-in-Ok-clause-world
 returns-in-Ok-clause-world g c =
@@ -20,60 +20,58 @@ returns-in-Ok-clause-world g c =
 
 pub returns-in-Ok-clause-no_world : goal.returns-in-Ok-clause-no_world
 returns-in-Ok-clause-no_world g c =
-    none_absent _ _ _ _
-    (λ image tells.
-    let found = world_found _ _ c.in-Ok.opened c.in-Ok.ensures.keeper c.mapped_records_fit.ensures.fits c.opened_records_hold_worlds.ensures c.in-Ok.ensures.bytes image tells in (
-      c.run_opened.ensures.answers image found.0 (opens_to _ _ c.in-Ok.opened c.in-Ok.ensures.keeper image found.0 tells found.1),
-      found.0,
-      found.1,
-    )) _
+    none_absent _ _ _ _ (none_broken c.files_of_worlds_are_opened.ensures.unbroken _)
+    (λ image tells. breaks_none image c.in-Ok.opened (λ found to. c.in-Ok.ensures.only image found tells to)) _
 
--- a file that holds none
+-- a file that breaks a rule
 pub returns-in-Err-NoDatabase-clause-world : goal.returns-in-Err-NoDatabase-clause-world
 returns-in-Err-NoDatabase-clause-world g c =
-    world_absent _ _ _ _ (λ image w tells holds.
-    holds_none image _ NoDatabase (ap Err c.in-Err-NoDatabase.field-0-is) (λ outside. outside) (c.files_of_worlds_are_opened.ensures image) (λ found. c.in-Err-NoDatabase.ensures.only image found tells) w holds) _
+    world_absent _ _ _ _ (none_broken c.files_of_worlds_are_opened.ensures.unbroken _)
+    (λ image tells. (NoDatabase, refused_to image _ NoDatabase (ap Err c.in-Err-NoDatabase.field-0-is) (λ outside. outside) (c.in-Err-NoDatabase.ensures.answer image tells))) _
 
 pub returns-in-Err-NoDatabase-clause-no_world : goal.returns-in-Err-NoDatabase-clause-no_world
 returns-in-Err-NoDatabase-clause-no_world g c =
-    none_said _ _ _ _ (line (codes "no database")) _ c.open_base.ensures.looks
-    (λ image tells.
-    inl (c.refusals_tell_of_slots.ensures.none image (refused_to image _ NoDatabase (ap Err c.in-Err-NoDatabase.field-0-is) (λ outside. outside) (c.in-Err-NoDatabase.ensures.answer image tells)), refl))
+    none_said _ _ _ _ (line (codes "no database")) _ (none_broken c.files_of_worlds_are_opened.ensures.unbroken _) c.open_base.ensures.looks
+    (λ image tells. (NoDatabase, refused_to image _ NoDatabase (ap Err c.in-Err-NoDatabase.field-0-is) (λ outside. outside) (c.in-Err-NoDatabase.ensures.answer image tells), refl))
     c.end_with.ensures.status c.end_with.ensures.prints c.end_with.ensures.cause c.end_with.ensures.printed c.end_with.ensures.cut
 
-pub returns-in-Err-NewerFormat-clause-world : goal.returns-in-Err-NewerFormat-clause-world
-returns-in-Err-NewerFormat-clause-world g c =
-    world_absent _ _ _ _ (λ image w tells holds.
-    holds_none image _ (NewerFormat c.in-Err-NewerFormat.field-0-0) (ap Err c.in-Err-NewerFormat.field-0-is) (λ outside. outside) (c.files_of_worlds_are_opened.ensures image) (λ found. c.in-Err-NewerFormat.ensures.only image found tells) w holds) _
+pub returns-in-Ok-format_line-clause-world : goal.returns-in-Ok-format_line-clause-world
+returns-in-Ok-format_line-clause-world g c =
+    world_absent _ _ _ _ (none_broken c.files_of_worlds_are_opened.ensures.unbroken _)
+    (λ image tells. (NewerFormat c.in-Err-NewerFormat.found, refused_to image _ (NewerFormat c.in-Err-NewerFormat.found) (ap Err c.in-Err-NewerFormat.field-0-is) (λ outside. outside) (c.in-Err-NewerFormat.ensures.answer image tells))) _
 
-pub returns-in-Err-NewerFormat-clause-no_world : goal.returns-in-Err-NewerFormat-clause-no_world
-returns-in-Err-NewerFormat-clause-no_world g c =
-    none_said _ _ _ _ (line (codes "bad file")) _ c.open_base.ensures.looks
-    (λ image tells.
-    inr (
-      c.refusals_tell_of_slots.ensures.some image (NewerFormat c.in-Err-NewerFormat.field-0-0)
-          (refused_to image _ (NewerFormat c.in-Err-NewerFormat.field-0-0) (ap Err c.in-Err-NewerFormat.field-0-is) (λ outside. outside) (c.in-Err-NewerFormat.ensures.answer image tells)) (λ is. cc (is)),
-      holds_none image _ (NewerFormat c.in-Err-NewerFormat.field-0-0) (ap Err c.in-Err-NewerFormat.field-0-is) (λ outside. outside) (c.files_of_worlds_are_opened.ensures image) (λ found. c.in-Err-NewerFormat.ensures.only image found tells),
-      refl,
-    ))
-    c.end_with-in-Err-NewerFormat.ensures.status c.end_with-in-Err-NewerFormat.ensures.prints c.end_with-in-Err-NewerFormat.ensures.cause c.end_with-in-Err-NewerFormat.ensures.printed c.end_with-in-Err-NewerFormat.ensures.cut
+pub returns-in-Ok-format_line-clause-no_world : goal.returns-in-Ok-format_line-clause-no_world
+returns-in-Ok-format_line-clause-no_world g c =
+    none_said _ _ _ _ _ _ (none_broken c.files_of_worlds_are_opened.ensures.unbroken _) c.open_base.ensures.looks
+    (λ image tells. (NewerFormat c.in-Err-NewerFormat.found, refused_to image _ (NewerFormat c.in-Err-NewerFormat.found) (ap Err c.in-Err-NewerFormat.field-0-is) (λ outside. outside) (c.in-Err-NewerFormat.ensures.answer image tells), c.as_bytes.ensures.value ∙ c.in-Ok-format_line.ensures))
+    c.end_with-in-Ok-format_line.ensures.status c.end_with-in-Ok-format_line.ensures.prints c.end_with-in-Ok-format_line.ensures.cause c.end_with-in-Ok-format_line.ensures.printed c.end_with-in-Ok-format_line.ensures.cut
 
-pub returns-in-Err-BadFile-clause-world : goal.returns-in-Err-BadFile-clause-world
-returns-in-Err-BadFile-clause-world g c =
-    world_absent _ _ _ _ (λ image w tells holds.
-    holds_none image _ (BadFile c.in-Err-BadFile.field-0-0) (ap Err c.in-Err-BadFile.field-0-is) (λ outside. outside) (c.files_of_worlds_are_opened.ensures image) (λ found. c.in-Err-BadFile.ensures.only image found tells) w holds) _
+pub returns-in-Err-clause-world : goal.returns-in-Err-clause-world
+returns-in-Err-clause-world g c =
+    world_absent _ _ _ status.Memory (none_broken c.files_of_worlds_are_opened.ensures.unbroken _)
+    (λ image tells. (NewerFormat c.in-Err-NewerFormat.found, refused_to image _ (NewerFormat c.in-Err-NewerFormat.found) (ap Err c.in-Err-NewerFormat.field-0-is) (λ outside. outside) (c.in-Err-NewerFormat.ensures.answer image tells))) _
 
-pub returns-in-Err-BadFile-clause-no_world : goal.returns-in-Err-BadFile-clause-no_world
-returns-in-Err-BadFile-clause-no_world g c =
-    none_said _ _ _ _ (line (codes "bad file")) _ c.open_base.ensures.looks
-    (λ image tells.
-    inr (
-      c.refusals_tell_of_slots.ensures.some image (BadFile c.in-Err-BadFile.field-0-0)
-          (refused_to image _ (BadFile c.in-Err-BadFile.field-0-0) (ap Err c.in-Err-BadFile.field-0-is) (λ outside. outside) (c.in-Err-BadFile.ensures.answer image tells)) (λ is. cc (is)),
-      holds_none image _ (BadFile c.in-Err-BadFile.field-0-0) (ap Err c.in-Err-BadFile.field-0-is) (λ outside. outside) (c.files_of_worlds_are_opened.ensures image) (λ found. c.in-Err-BadFile.ensures.only image found tells),
-      refl,
-    ))
-    c.end_with-in-Err-BadFile.ensures.status c.end_with-in-Err-BadFile.ensures.prints c.end_with-in-Err-BadFile.ensures.cause c.end_with-in-Err-BadFile.ensures.printed c.end_with-in-Err-BadFile.ensures.cut
+pub returns-in-Err-clause-no_world : goal.returns-in-Err-clause-no_world
+returns-in-Err-clause-no_world g c = none_silent _ _ _ status.Memory (none_broken c.files_of_worlds_are_opened.ensures.unbroken _) tt tt c.open_base.ensures.looks
+
+pub returns-in-Ok-cause_line-clause-world : goal.returns-in-Ok-cause_line-clause-world
+returns-in-Ok-cause_line-clause-world g c =
+    world_absent _ _ _ _ (none_broken c.files_of_worlds_are_opened.ensures.unbroken _)
+    (λ image tells. (BadFile c.in-Err-BadFile.cause, refused_to image _ (BadFile c.in-Err-BadFile.cause) (ap Err c.in-Err-BadFile.field-0-is) (λ outside. outside) (c.in-Err-BadFile.ensures.answer image tells))) _
+
+pub returns-in-Ok-cause_line-clause-no_world : goal.returns-in-Ok-cause_line-clause-no_world
+returns-in-Ok-cause_line-clause-no_world g c =
+    none_said _ _ _ _ _ _ (none_broken c.files_of_worlds_are_opened.ensures.unbroken _) c.open_base.ensures.looks
+    (λ image tells. (BadFile c.in-Err-BadFile.cause, refused_to image _ (BadFile c.in-Err-BadFile.cause) (ap Err c.in-Err-BadFile.field-0-is) (λ outside. outside) (c.in-Err-BadFile.ensures.answer image tells), c.as_bytes-in-Ok-cause_line.ensures.value ∙ c.in-Ok-cause_line.ensures))
+    c.end_with-in-Ok-cause_line.ensures.status c.end_with-in-Ok-cause_line.ensures.prints c.end_with-in-Ok-cause_line.ensures.cause c.end_with-in-Ok-cause_line.ensures.printed c.end_with-in-Ok-cause_line.ensures.cut
+
+pub returns-in-Err-cause_line-clause-world : goal.returns-in-Err-cause_line-clause-world
+returns-in-Err-cause_line-clause-world g c =
+    world_absent _ _ _ status.Memory (none_broken c.files_of_worlds_are_opened.ensures.unbroken _)
+    (λ image tells. (BadFile c.in-Err-BadFile.cause, refused_to image _ (BadFile c.in-Err-BadFile.cause) (ap Err c.in-Err-BadFile.field-0-is) (λ outside. outside) (c.in-Err-BadFile.ensures.answer image tells))) _
+
+pub returns-in-Err-cause_line-clause-no_world : goal.returns-in-Err-cause_line-clause-no_world
+returns-in-Err-cause_line-clause-no_world g c = none_silent _ _ _ status.Memory (none_broken c.files_of_worlds_are_opened.ensures.unbroken _) tt tt c.open_base.ensures.looks
 
 -- a file that wasn't opened
 pub returns-in-Err-DiskFault-clause-world : goal.returns-in-Err-DiskFault-clause-world
@@ -81,11 +79,11 @@ returns-in-Err-DiskFault-clause-world g c =
     world_unopened _ _ _ _ c.open_base.ensures.looks c.open_base.ensures.stops status.DiskFault (λ is. refl) (λ ending. ending) tt
 
 pub returns-in-Err-DiskFault-clause-no_world : goal.returns-in-Err-DiskFault-clause-no_world
-returns-in-Err-DiskFault-clause-no_world g c = none_silent _ _ _ status.DiskFault tt tt c.open_base.ensures.looks
+returns-in-Err-DiskFault-clause-no_world g c = none_silent _ _ _ status.DiskFault (none_broken c.files_of_worlds_are_opened.ensures.unbroken _) tt tt c.open_base.ensures.looks
 
 pub returns-in-Err-Memory-clause-world : goal.returns-in-Err-Memory-clause-world
 returns-in-Err-Memory-clause-world g c =
     world_unopened _ _ _ _ c.open_base.ensures.looks c.open_base.ensures.stops status.Memory (λ is. cc (is, c.in-Err-Memory.is, c.in-Err-Memory.field-0-is)) (λ ending. ending) tt
 
 pub returns-in-Err-Memory-clause-no_world : goal.returns-in-Err-Memory-clause-no_world
-returns-in-Err-Memory-clause-no_world g c = none_silent _ _ _ status.Memory tt tt c.open_base.ensures.looks
+returns-in-Err-Memory-clause-no_world g c = none_silent _ _ _ status.Memory (none_broken c.files_of_worlds_are_opened.ensures.unbroken _) tt tt c.open_base.ensures.looks

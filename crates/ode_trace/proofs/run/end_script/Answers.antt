@@ -7,7 +7,7 @@ use Rattle.ode_engine.specs.declared.engine.Done.{Done}
 use Rattle.ode_trace.specs.Statuses.{IsRunStatus}
 use Rattle.ode_trace.proofs.CallLaws.{damage_gives, error_stated}
 use Rattle.ode_trace.proofs.EngineLaws.{finished_ends, no_more}
-use Rattle.ode_trace.proofs.StatusLaws.{engine_answers}
+use Rattle.ode_trace.proofs.StatusLaws.{ended_is, engine_answers}
 use Rattle.ode_trace.proofs.run.end_script.Goals as goal
 
 pub returns-in-Ok-clause-ends : goal.returns-in-Ok-clause-ends
@@ -34,8 +34,8 @@ returns-clause-any_moment g c session text serves =
 
 pub returns-clause-answers : goal.returns-clause-answers
 returns-clause-answers g c session stands =
-    subst IsRunStatus (sym c.status_of_engine.ensures)
+    subst IsRunStatus (sym (ended_is c.ended_by.result c.in-Err.error c.ended_by.ensures))
     (engine_answers Done c.in-Err.error (damage_gives {R = Done} (Err c.in-Err.error) _ ⊥ (λ none. none session stands) c.in-Err.ensures.undamaged))
 
 pub returns-clause-leaves : goal.returns-clause-leaves
-returns-clause-leaves g c = rw c.status_of_engine.ensures (error_stated Done c.in-Err.error _ _ c.in-Err.ensures.leaves)
+returns-clause-leaves g c = rw (ended_is c.ended_by.result c.in-Err.error c.ended_by.ensures) (error_stated Done c.in-Err.error _ _ c.in-Err.ensures.leaves)

@@ -12,12 +12,12 @@ use Rattle.ode_script.specs.Cutting.{End, Then, ending_of, pieces}
 use Rattle.ode_script.specs.Left.{HasPieces}
 use Rattle.ode_transact.specs.Resting.{HoldsBy}
 use Rattle.ode_trace.specs.Running.{LeavesNothing, SoFar}
-use Rattle.ode_trace.specs.Statuses.{IsEnding, IsRunStatus, status_of_script}
+use Rattle.ode_trace.specs.Statuses.{IsEnding, IsRunStatus, status_in, status_of_script}
 use Rattle.ode_trace.proofs.CallLaws.{answer_quiet, error_stated, no_calls, told_behind}
 use Rattle.ode_trace.proofs.EngineLaws.{ends_now}
 use Rattle.ode_trace.proofs.MachineLaws.{pieces_then, pieces_ended}
 use Rattle.ode_trace.proofs.RunLaws.{ended_ran, error_ran, goes_further, same_at, same_next}
-use Rattle.ode_trace.proofs.StatusLaws.{end_leaves, engine_answers, engine_no_end, engine_no_read, script_no_disk, script_no_print, script_read, script_runs}
+use Rattle.ode_trace.proofs.StatusLaws.{ended_is, end_leaves, engine_answers, engine_no_end, engine_no_read, script_no_disk, script_no_print, script_read, script_runs}
 use Rattle.ode_trace.proofs.run.run_pieces.Goals as goal
 use Rattle.ode_trace.proofs.run.run_pieces.Goals.{then-refused, else-refused}
 
@@ -88,7 +88,7 @@ returns-in-Ok-End-clause-ran g c = λ session script text told serves is_ending.
     let ended = rw c.in-Ok-End.field-0-is at (c.in-Ok-End.ensures.piece so_far.0 so_far.3) in
     let stated = c.end_script.ensures.stated is_ending in
     let left = g.S.Source.left c.read_statement.new.source in
-    ended_ran (pieces_items ode (pieces script) session) (ending_of (pieces script)) session.world text so_far.0 so_far.1 so_far.2 c.pieces.refused so_far.5 g.K.Keep.means End left (g.H.Host.view c.end_script.new.host) c.end_script.result
+    ended_ran (pieces_items ode (pieces script) session) (ending_of (pieces script)) session.world text so_far.0 so_far.1 so_far.2 c.pieces.refused so_far.5 g.K.Keep.means End left (g.H.Host.view c.end_script.new.host) (status_in c.end_script.result)
     ended.0 stated (subst (λ (s : Status). LeavesNothing s left) (sym stated) (end_leaves c.pieces.refused left ended.1))
     (c.end_script.ensures.ends so_far.1 so_far.2 so_far.4 is_ending)
 
@@ -139,7 +139,7 @@ returns-in-Err-clause-reads g c =
 -- ---- a piece at which the engine doesn't answer
 
 pub returns-in-Err-carry_out-clause-ran : goal.returns-in-Err-carry_out-clause-ran
-returns-in-Err-carry_out-clause-ran g c session script text told serves is_ending = absurd (engine_no_end c.in-Err-carry_out.error (subst IsEnding c.status_of_engine.ensures is_ending))
+returns-in-Err-carry_out-clause-ran g c session script text told serves is_ending = absurd (engine_no_end c.in-Err-carry_out.error (subst IsEnding (ended_is c.ended_by.result c.in-Err-carry_out.error c.ended_by.ensures) is_ending))
 
 pub returns-in-Err-carry_out-clause-any_moment : goal.returns-in-Err-carry_out-clause-any_moment
 returns-in-Err-carry_out-clause-any_moment g c session script text told serves =
@@ -156,14 +156,14 @@ returns-in-Err-carry_out-clause-any_moment g c session script text told serves =
     ((c.in-Err-carry_out.ensures.carries now so_far.4.stands).any_moment so_far.2 (pieces_items ode rest stretch.0) so_far.4.printed))
 
 pub returns-in-Err-carry_out-clause-leaves : goal.returns-in-Err-carry_out-clause-leaves
-returns-in-Err-carry_out-clause-leaves g c = rw c.status_of_engine.ensures (told_behind _ _ _ _ _ c.pieces.invariant.leaves (error_stated Bool c.in-Err-carry_out.error _ _ c.in-Err-carry_out.ensures.leaves))
+returns-in-Err-carry_out-clause-leaves g c = rw (ended_is c.ended_by.result c.in-Err-carry_out.error c.ended_by.ensures) (told_behind _ _ _ _ _ c.pieces.invariant.leaves (error_stated Bool c.in-Err-carry_out.error _ _ c.in-Err-carry_out.ensures.leaves))
 
 pub returns-in-Err-carry_out-clause-answers : goal.returns-in-Err-carry_out-clause-answers
 returns-in-Err-carry_out-clause-answers g c session stands =
     let now = c.pieces.invariant.stands session stands in
-    subst IsRunStatus (sym c.status_of_engine.ensures) (engine_answers Bool c.in-Err-carry_out.error (c.in-Err-carry_out.ensures.carries now.0 now.1).sound)
+    subst IsRunStatus (sym (ended_is c.ended_by.result c.in-Err-carry_out.error c.ended_by.ensures)) (engine_answers Bool c.in-Err-carry_out.error (c.in-Err-carry_out.ensures.carries now.0 now.1).sound)
 
 pub returns-in-Err-carry_out-clause-reads : goal.returns-in-Err-carry_out-clause-reads
 returns-in-Err-carry_out-clause-reads g c =
     rose_on ⊥ _ _ _ _ (λ none. none) c.pieces.invariant.reads
-    (rose_as _ _ _ _ (λ is. cc (is)) (λ is. absurd (engine_no_read c.in-Err-carry_out.error (sym c.status_of_engine.ensures ∙ is))) c.in-Ok-Statement.ensures.cause)
+    (rose_as _ _ _ _ (λ is. cc (is)) (λ is. absurd (engine_no_read c.in-Err-carry_out.error (sym (ended_is c.ended_by.result c.in-Err-carry_out.error c.ended_by.ensures) ∙ is))) c.in-Ok-Statement.ensures.cause)

@@ -9,7 +9,7 @@ use Rattle.ode_trace.proofs.CallLaws.{answer_quiet, damage_gives, error_stated, 
 use Rattle.ode_trace.proofs.EngineLaws.{started_live, started_stands}
 use Rattle.ode_trace.proofs.MachineLaws.{texts_are}
 use Rattle.ode_trace.proofs.RunLaws.{opened_leaves, opened_ran}
-use Rattle.ode_trace.proofs.StatusLaws.{engine_answers, engine_no_end}
+use Rattle.ode_trace.proofs.StatusLaws.{ended_is, engine_answers, engine_no_end}
 use Rattle.ode_value.specs.Draining.{drain}
 use Rattle.ode_value.specs.Limits.{drain_limit}
 use Rattle.ode_value.specs.Pasts.{lists}
@@ -45,7 +45,7 @@ pub returns-in-Ok-clause-leaves : goal.returns-in-Ok-clause-leaves
 returns-in-Ok-clause-leaves g c = told_behind _ _ _ _ _ (answer_quiet c.in-Ok.field-0 _ _ c.in-Ok.ensures.leaves) c.run_pieces.ensures.leaves
 
 pub returns-clause-ran : goal.returns-clause-ran
-returns-clause-ran g c w script text told begins is_ending = absurd (engine_no_end c.in-Err.error (subst IsEnding c.status_of_engine.ensures is_ending))
+returns-clause-ran g c w script text told begins is_ending = absurd (engine_no_end c.in-Err.error (subst IsEnding (ended_is c.ended_by.result c.in-Err.error c.ended_by.ensures) is_ending))
 
 pub returns-clause-any_moment : goal.returns-clause-any_moment
 returns-clause-any_moment g c w script text told begins =
@@ -55,8 +55,8 @@ returns-clause-any_moment g c w script text told begins =
 pub returns-clause-answers : goal.returns-clause-answers
 returns-clause-answers g c w well rests =
     let stands = started_stands g.H.Host.view g.K.Keep.holds g.K.Keep.live g.K.Keep.means g.met.K.Keep.stands g.met.K.Keep.stays w c.args.opened c.start-engine.result c.args.host.now c.start-engine.ensures.rest well rests in
-    subst IsRunStatus (sym c.status_of_engine.ensures)
+    subst IsRunStatus (sym (ended_is c.ended_by.result c.in-Err.error c.ended_by.ensures))
     (engine_answers ℕ c.in-Err.error (damage_gives {R = ℕ} (Err c.in-Err.error) _ ⊥ (λ none. none (closed w) stands) c.in-Err.ensures.undamaged))
 
 pub returns-clause-leaves : goal.returns-clause-leaves
-returns-clause-leaves g c = rw c.status_of_engine.ensures (error_stated ℕ c.in-Err.error _ _ c.in-Err.ensures.leaves)
+returns-clause-leaves g c = rw (ended_is c.ended_by.result c.in-Err.error c.ended_by.ensures) (error_stated ℕ c.in-Err.error _ _ c.in-Err.ensures.leaves)
