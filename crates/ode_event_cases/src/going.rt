@@ -1,15 +1,11 @@
 //! Activations at points.
-ghost use Rattle.std.specs.Prelude.{◌≡◌, All, true};
-ghost use Rattle.ode_states.specs.Advance.{IsReady};
 
 use crate::making::after;
 use crate::watched::Watched;
-use ode_states::advance;
-use ode_symbols::Alphabet;
-use ode_table::Table;
+use ode_states::{Fired, advance};
 use ode_types::{Classes, Running};
 use ode_value::List;
-use std::alloc::Global;
+use std::alloc::{AllocError, Global};
 use std::io;
 
 fn number_in(words: &str, at: usize) -> u64 {
@@ -32,27 +28,40 @@ pub fn activation_of(alloc: Global, words: &str, on: bool) -> Running {
     }
 }
 
-fn is_ready(tables: &List<Table>, alphabets: &List<Alphabet>, a: &Running) -> bool
-    ensures { result ≡ true → IsReady tables.now alphabets.now a.now }
-{
-    let place = a.table as usize;
-    if place >= tables.len() || place >= alphabets.len() {
-        return false;
-    }
-    let table = &tables.as_slice()[place];
-    let alphabet = &alphabets.as_slice()[place];
-    a.state < table.states() && table.symbols() == alphabet.size()
+// Lets the activations go on by a call of this method, and gives those that fire.
+fn fired_by(
+    alloc: Global,
+    watched: &Watched,
+    acts: &mut List<Running>,
+    method: &str,
+) -> Result<List<Fired>, AllocError> {
+    let kind = after(alloc, method.as_bytes())?;
+    let classes = Classes::new(alloc);
+    advance(
+        alloc,
+        &watched.tables,
+        &watched.alphabets,
+        acts,
+        &classes,
+        &kind,
+        &[],
+        &[],
+    )
 }
 
-fn are_ready(tables: &List<Table>, alphabets: &List<Alphabet>, acts: &[Running]) -> bool
-    ensures { result ≡ true → All (IsReady tables.now alphabets.now) acts.now }
-{
-    for a in acts {
-        if !is_ready(tables, alphabets, a) {
-            return false;
-        }
+fn print_numbers<R: Print>(rt: &R, fired: &[Fired]) -> io::Result<()> {
+    for f in fired {
+        print!(rt; " {}", f.activation)?;
     }
-    true
+    Ok(())
+}
+
+fn print_states<R: Print>(rt: &R, acts: &[Running]) -> io::Result<()> {
+    print!(rt; "; states")?;
+    for a in acts {
+        print!(rt; " {}", a.state)?;
+    }
+    println!(rt)
 }
 
 /// Lets the activations go on by a call of this method, and prints the numbers of those that fire, and the states of all.
@@ -62,21 +71,8 @@ pub fn print_fired<R: Print + AllocGlobal>(
     acts: &mut List<Running>,
     method: &str,
 ) -> io::Result<()> {
-    let alloc = rt.alloc();
-    let (tables, alphabets) = (&watched.tables, &watched.alphabets);
-    if !are_ready(tables, alphabets, acts.as_slice()) {
-        return println!(rt; "not ready");
-    }
-    let classes = Classes::new(alloc);
-    let kind = after(alloc, method.as_bytes())?;
-    let fired = advance(alloc, tables, alphabets, acts, &classes, &kind, &[], &[])?;
     print!(rt; "{method} fires")?;
-    for f in fired.as_slice() {
-        print!(rt; " {}", f.activation)?;
-    }
-    print!(rt; "; states")?;
-    for a in acts.as_slice() {
-        print!(rt; " {}", a.state)?;
-    }
-    println!(rt)
+    let fired = fired_by(rt.alloc(), watched, acts, method)?;
+    print_numbers(rt, fired.as_slice())?;
+    print_states(rt, acts.as_slice())
 }

@@ -31,30 +31,64 @@ use std::io;
 use watched::{Stop, Watched, print_sizes, print_stop, watch};
 use words::print_words;
 
-// A class with these members and a trigger with this event.
-fn class_text(
-    alloc: Global,
-    members: &str,
-    params: &str,
-    event: &str,
-) -> Result<String, AllocError> {
-    format!(in alloc; "class C {{ {members} trigger t({params}): {event} ==> {{ }} }}")
+/// What the lines so far say.
+#[derive(Drop)]
+struct Lines {
+    members: String,
+    params: String,
+    words: String,
+    watched: Watched,
+    acts: List<Running>,
+    tables: List<Table>,
 }
 
-fn print_event<R: Print + AllocGlobal>(
-    rt: &R,
-    event: &str,
-    watched: &Result<Watched, Stop>,
-    words: &str,
-) -> io::Result<()> {
-    print!(rt; "{event}: ")?;
-    match watched {
-        Ok(watched) => {
-            print_sizes(rt, watched)?;
-            print_words(rt, watched, words)
+impl Lines {
+    fn new(alloc: Global) -> Lines {
+        Lines {
+            members: String::new(alloc),
+            params: String::new(alloc),
+            words: String::new(alloc),
+            watched: Watched::new(alloc),
+            acts: List::new(alloc),
+            tables: List::new(alloc),
         }
+    }
+
+    // A class with these members and a trigger with this event.
+    fn class_text(&self, alloc: Global, event: &str) -> Result<String, AllocError> {
+        let (members, params) = (self.members.as_str(), self.params.as_str());
+        format!(in alloc; "class C {{ {members} trigger t({params}): {event} ==> {{ }} }}")
+    }
+
+    fn watch(&mut self, alloc: Global, event: &str) -> Result<(), Stop> {
+        self.acts = List::new(alloc);
+        self.watched = Watched::new(alloc);
+        let text = self.class_text(alloc, event)?;
+        watch(alloc, text.as_str(), &mut self.watched)
+    }
+}
+
+fn print_watched<R: Print + AllocGlobal>(rt: &R, lines: &Lines) -> io::Result<()> {
+    print_sizes(rt, &lines.watched)?;
+    print_words(rt, &lines.watched, lines.words.as_str())
+}
+
+fn print_event<R: Print + AllocGlobal>(rt: &R, lines: &mut Lines, event: &str) -> io::Result<()> {
+    print!(rt; "{event}: ")?;
+    match lines.watch(rt.alloc(), event) {
+        Ok(()) => print_watched(rt, lines),
         Err(stop) => print_stop(rt, stop),
     }
+}
+
+fn add(alloc: Global, acts: &mut List<Running>, line: &str, on: bool) -> io::Result<()> {
+    acts.push(activation_of(alloc, line, on))?;
+    Ok(())
+}
+
+// The first word of a line, and what is behind it.
+fn split(line: &str) -> (&str, &str) {
+    line.split_once(' ').unwrap_or((line, ""))
 }
 
 // A line that speaks of the last event.
@@ -69,9 +103,18 @@ fn print_of_event<R: Print + AllocGlobal>(
         "point" => print_point(rt, watched, line),
         "marks" => print_marks(rt, watched),
         "call" => print_fired(rt, watched, acts, line),
-        "on" => Ok(acts.push(activation_of(rt.alloc(), line, true))?),
-        "off" => Ok(acts.push(activation_of(rt.alloc(), line, false))?),
+        "on" => add(rt.alloc(), acts, line, true),
+        "off" => add(rt.alloc(), acts, line, false),
         _ => println!(rt; "{sort} {line}: what?"),
+    }
+}
+
+fn print_of_last<R: Print + AllocGlobal>(rt: &R, lines: &mut Lines, line: &str) -> io::Result<()> {
+    let (sort, rest) = split(line);
+    if lines.watched.events.is_empty() {
+        println!(rt; "{line}: no event")
+    } else {
+        print_of_event(rt, &lines.watched, &mut lines.acts, sort, rest)
     }
 }
 
@@ -81,43 +124,46 @@ fn add_table<R: Print + AllocGlobal>(
     tables: &mut List<Table>,
     line: &str,
 ) -> io::Result<()> {
-    match table_of(rt.alloc(), line)? {
-        Some(table) => {
-            print_table(rt, line, &table)?;
-            Ok(tables.push(table)?)
-        }
-        None => println!(rt; "{line}: no table"),
+    let Some(table) = table_of(rt.alloc(), line)? else {
+        return println!(rt; "{line}: no table");
+    };
+    print_table(rt, line, &table)?;
+    tables.push(table)?;
+    Ok(())
+}
+
+fn keep(alloc: Global, text: &mut String, line: &str) -> io::Result<()> {
+    *text = line.to_string(alloc)?;
+    Ok(())
+}
+
+fn print_line<R: Print + AllocGlobal>(rt: &R, lines: &mut Lines, line: &str) -> io::Result<()> {
+    let (sort, rest) = split(line);
+    match sort {
+        "members" => keep(rt.alloc(), &mut lines.members, rest),
+        "params" => keep(rt.alloc(), &mut lines.params, rest),
+        "words" => keep(rt.alloc(), &mut lines.words, rest),
+        "event" => print_event(rt, lines, rest),
+        "table" => add_table(rt, &mut lines.tables, rest),
+        "relate" => print_relation(rt, lines.tables.as_slice()),
+        "==" | "" => println!(rt; "{line}"),
+        _ => print_of_last(rt, lines, line),
     }
 }
 
-fn main(rt: HostRuntime) -> io::Result<()> {
-    let alloc = rt.alloc();
-    let lines = io::read_to_string(alloc, rt.reader())?;
-    let mut members = "";
-    let mut params = "";
-    let mut words = "";
-    let mut watched = Err(Stop::Unread);
-    let mut acts = List::new(alloc);
-    let mut tables = List::new(alloc);
-    for line in lines.as_str().lines() {
-        let (sort, rest) = line.split_once(' ').unwrap_or((line, ""));
-        match sort {
-            "members" => members = rest,
-            "params" => params = rest,
-            "words" => words = rest,
-            "event" => {
-                watched = watch(alloc, class_text(alloc, members, params, rest)?.as_str());
-                acts = List::new(alloc);
-                print_event(&rt, rest, &watched, words)?;
-            }
-            "table" => add_table(&rt, &mut tables, rest)?,
-            "relate" => print_relation(&rt, tables.as_slice())?,
-            "==" | "" => println!(rt; "{line}")?,
-            _ => match &watched {
-                Ok(watched) => print_of_event(&rt, watched, &mut acts, sort, rest)?,
-                Err(_) => println!(rt; "{line}: no event")?,
-            },
-        }
+fn print_lines<R: Print + AllocGlobal>(rt: &R, lines: &mut Lines, text: &str) -> io::Result<()> {
+    for line in text.lines() {
+        print_line(rt, lines, line)?;
     }
     Ok(())
+}
+
+fn print_text<R: Print + AllocGlobal>(rt: &R, text: &str) -> io::Result<()> {
+    let mut lines = Lines::new(rt.alloc());
+    print_lines(rt, &mut lines, text)
+}
+
+fn main(rt: HostRuntime) -> io::Result<()> {
+    let text = io::read_to_string(rt.alloc(), rt.reader())?;
+    print_text(&rt, text.as_str())
 }

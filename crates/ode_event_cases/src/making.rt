@@ -37,17 +37,16 @@ pub fn keeps_numbers(e: &EventExpr) -> bool
     ensures { result ≡ has_numbers e.now }
 {
     match e {
-        EventExpr::Leaf(_, _) => true,
-        EventExpr::Any => true,
-        EventExpr::First => true,
+        EventExpr::Leaf(_, _) | EventExpr::Any | EventExpr::First => true,
         EventExpr::Not(e) => keeps_numbers(e.get()),
-        EventExpr::And(e, f) => keeps_numbers(e.get()) && keeps_numbers(f.get()),
-        EventExpr::Or(e, f) => keeps_numbers(e.get()) && keeps_numbers(f.get()),
-        EventExpr::Relative(e, f) => keeps_numbers(e.get()) && keeps_numbers(f.get()),
-        EventExpr::Prior(e, f) => keeps_numbers(e.get()) && keeps_numbers(f.get()),
-        EventExpr::Sequence(e, f) => keeps_numbers(e.get()) && keeps_numbers(f.get()),
-        EventExpr::Choose(n, e) => 1 <= *n && *n <= 65535 && keeps_numbers(e.get()),
-        EventExpr::Every(n, e) => 1 <= *n && *n <= 65535 && keeps_numbers(e.get()),
+        EventExpr::And(e, f)
+        | EventExpr::Or(e, f)
+        | EventExpr::Relative(e, f)
+        | EventExpr::Prior(e, f)
+        | EventExpr::Sequence(e, f) => keeps_numbers(e.get()) && keeps_numbers(f.get()),
+        EventExpr::Choose(n, e) | EventExpr::Every(n, e) => {
+            1 <= *n && *n <= 65535 && keeps_numbers(e.get())
+        }
         EventExpr::Fa(e, f, g) => {
             keeps_numbers(e.get()) && keeps_numbers(f.get()) && keeps_numbers(g.get())
         }

@@ -9,16 +9,27 @@ use ode_minimal::shrink;
 use ode_symbols::{Alphabet, AlphabetError};
 use ode_table::{BuildError, Table, build};
 use ode_types::{CheckStop, Classes, check_class};
-use ode_value::{Class, EventExpr, List, TriggerDecl};
+use ode_value::{Class, ClassDecl, EventExpr, List, TriggerDecl};
 use std::alloc::{AllocError, Global};
 use std::io;
 
-/// An event, and at place 0 its table and alphabet.
+/// An event, its table and its alphabet, each at place 0, if there are any.
 #[derive(Drop)]
 pub struct Watched {
-    pub event: EventExpr,
+    pub events: List<EventExpr>,
     pub tables: List<Table>,
     pub alphabets: List<Alphabet>,
+}
+
+impl Watched {
+    /// None.
+    pub fn new(alloc: Global) -> Watched {
+        Watched {
+            events: List::new(alloc),
+            tables: List::new(alloc),
+            alphabets: List::new(alloc),
+        }
+    }
 }
 
 /// Why there is none.
@@ -39,17 +50,39 @@ impl From<AllocError> for Stop {
     }
 }
 
+fn stop_of(stop: CheckStop) -> Stop {
+    match stop {
+        CheckStop::Memory => Stop::Memory,
+        CheckStop::Broken(_) => Stop::Broken,
+    }
+}
+
+fn checked_by(alloc: Global, classes: &Classes, class: &ClassDecl) -> Result<Class, Stop> {
+    match check_class(alloc, classes, class) {
+        Ok(checked) => Ok(checked),
+        Err(stop) => Err(stop_of(stop)),
+    }
+}
+
+fn checked(alloc: Global, class: &ClassDecl) -> Result<Class, Stop> {
+    let classes = Classes::new(alloc);
+    checked_by(alloc, &classes, class)
+}
+
 fn class_of(alloc: Global, text: &[u8]) -> Result<Class, Stop>
     requires { length text.now < 2 ^ 32 }
 {
     match parse_class(alloc, text) {
-        Ok(class) => match check_class(alloc, &Classes::new(alloc), &class) {
-            Ok(checked) => Ok(checked),
-            Err(CheckStop::Memory) => Err(Stop::Memory),
-            Err(CheckStop::Broken(_)) => Err(Stop::Broken),
-        },
+        Ok(class) => checked(alloc, &class),
         Err(SyntaxError::Memory) => Err(Stop::Memory),
         Err(_) => Err(Stop::Unread),
+    }
+}
+
+fn last_event(alloc: Global, triggers: &[TriggerDecl]) -> Result<EventExpr, Stop> {
+    match triggers.last() {
+        Some(trigger) => Ok(trigger.event.copy(alloc)?),
+        None => Err(Stop::Unread),
     }
 }
 
@@ -57,11 +90,8 @@ fn class_of(alloc: Global, text: &[u8]) -> Result<Class, Stop>
 fn event_of(alloc: Global, text: &[u8]) -> Result<EventExpr, Stop>
     requires { length text.now < 2 ^ 32 }
 {
-    let Class { triggers, .. } = class_of(alloc, text)?;
-    match triggers.into_vec().pop() {
-        Some(TriggerDecl { event, .. }) => Ok(event),
-        None => Err(Stop::Unread),
-    }
+    let class = class_of(alloc, text)?;
+    last_event(alloc, class.triggers.as_slice())
 }
 
 fn alphabet_of(alloc: Global, e: &EventExpr) -> Result<Alphabet, Stop> {
@@ -83,44 +113,52 @@ fn table_of(alloc: Global, e: &EventExpr, alphabet: &Alphabet) -> Result<Table, 
     }
 }
 
-/// The event of the last trigger of the class that a text has.
-pub fn watch(alloc: Global, text: &str) -> Result<Watched, Stop> {
+fn add_parts(alloc: Global, e: &EventExpr, watched: &mut Watched) -> Result<(), Stop> {
+    let alphabet = alphabet_of(alloc, e)?;
+    watched.tables.push(table_of(alloc, e, &alphabet)?)?;
+    watched.alphabets.push(alphabet)?;
+    Ok(())
+}
+
+/// Adds the event of the last trigger of the class that a text has.
+pub fn watch(alloc: Global, text: &str, watched: &mut Watched) -> Result<(), Stop> {
     let text = text.as_bytes();
     if text.len() >= 4_294_967_296 {
         return Err(Stop::Unread);
     }
     let event = event_of(alloc, text)?;
-    let alphabet = alphabet_of(alloc, &event)?;
-    let table = table_of(alloc, &event, &alphabet)?;
-    let mut tables = List::new(alloc);
-    tables.push(table)?;
-    let mut alphabets = List::new(alloc);
-    alphabets.push(alphabet)?;
-    Ok(Watched {
-        event,
-        tables,
-        alphabets,
-    })
+    add_parts(alloc, &event, watched)?;
+    watched.events.push(event)?;
+    Ok(())
+}
+
+fn print_size<R: Print + AllocGlobal>(rt: &R, table: &Table, small: &Table) -> io::Result<()> {
+    println!(rt; "{} states, {} at least", table.states(), small.states())?;
+    if is_least(rt.alloc(), table, small)? {
+        Ok(())
+    } else {
+        println!(rt; "differs")
+    }
+}
+
+fn print_states<R: Print + AllocGlobal>(rt: &R, table: &Table) -> io::Result<()> {
+    let small = shrink(rt.alloc(), table)?;
+    print_size(rt, table, &small)
 }
 
 /// Prints how many symbols and states there are.
 pub fn print_sizes<R: Print + AllocGlobal>(rt: &R, watched: &Watched) -> io::Result<()> {
-    let alloc = rt.alloc();
     for alphabet in watched.alphabets.as_slice() {
         print!(rt; "{} symbols, ", alphabet.size())?;
     }
     for table in watched.tables.as_slice() {
-        let small = shrink(alloc, table)?;
-        println!(rt; "{} states, {} at least", table.states(), small.states())?;
-        if !is_least(alloc, table, &small)? {
-            println!(rt; "differs")?;
-        }
+        print_states(rt, table)?;
     }
     Ok(())
 }
 
 /// Prints why there is no table.
-pub fn print_stop<R: Print>(rt: &R, stop: &Stop) -> io::Result<()> {
+pub fn print_stop<R: Print>(rt: &R, stop: Stop) -> io::Result<()> {
     match stop {
         Stop::Memory => println!(rt; "no memory"),
         Stop::Unread => println!(rt; "unread"),

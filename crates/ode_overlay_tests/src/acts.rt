@@ -1,18 +1,15 @@
 //! Acts on an overlay, and what each answers.
 use ode_areas::Areas;
 use ode_codec::Entry;
-use ode_heap::Heap;
+use ode_heap::{Heap, ObjectHead};
 use ode_host::MemHost;
-use ode_keep::Batch;
 use ode_overlay::{Overlay, OverlayError};
 use ode_types::{Classes, Running};
 use ode_value::{List, OdeText, Ref, Value};
+use ode_versions::VersionList;
 use std::alloc::{AllocError, Global};
-use std::process::Abort;
-use std::test::Fail;
 
 /// An act.
-#[derive(Clone, Copy)]
 pub enum Act {
     Create(i64),
     /// Many objects, up to the first that isn't made.
@@ -45,7 +42,7 @@ pub enum Act {
 }
 
 /// What it answers.
-#[derive(Clone, Copy, Debug, PartialEq, Eq)]
+#[derive(Debug, Drop, PartialEq)]
 pub enum Answer {
     Done,
     Number(u64),
@@ -95,9 +92,16 @@ fn value(answered: Result<Value, OverlayError>) -> Answer {
     }
 }
 
-fn one(alloc: Global, n: i64) -> Result<List<Value>, AllocError> {
+fn version(answered: Result<Ref, OverlayError>) -> Answer {
+    match answered {
+        Ok(version) => Answer::Version(version),
+        Err(error) => Answer::Fails(error),
+    }
+}
+
+fn one(alloc: Global, value: Value) -> Result<List<Value>, AllocError> {
     let mut fields = List::new(alloc);
-    fields.push(Value::Int(n))?;
+    fields.push(value)?;
     Ok(fields)
 }
 
@@ -117,114 +121,190 @@ fn maps(alloc: Global) -> Result<List<u32>, AllocError> {
     Ok(maps)
 }
 
-fn long_text(alloc: Global, count: usize) -> Result<Value, Fail> {
-    let bytes = vec![in alloc; 97; count]?;
+fn long_text(alloc: Global, length: usize) -> Result<Value, AllocError> {
+    let bytes = vec![in alloc; 97; length]?;
     match OdeText::new(alloc, bytes.as_slice()) {
         Ok(text) => Ok(Value::Text(text)),
-        Err(_) => Err(Fail::from("a text")),
+        Err(_) => Err(AllocError),
+    }
+}
+
+fn long_texts(alloc: Global, count: u32, length: usize) -> Result<List<Value>, AllocError> {
+    let mut texts = List::new(alloc);
+    for _ in 0..count {
+        texts.push(long_text(alloc, length)?)?;
+    }
+    Ok(texts)
+}
+
+// The activations with those that are on in the next state.
+fn next_states(alloc: Global, acts: List<Running>) -> Result<List<Running>, AllocError> {
+    let mut stepped = List::new(alloc);
+    for act in acts.into_vec() {
+        let state = act.state.wrapping_add(1);
+        stepped.push(Running { state, ..act })?;
+    }
+    Ok(stepped)
+}
+
+fn digits_of_acts(acts: &[Running]) -> u64 {
+    let mut digits: u64 = 0;
+    for act in acts {
+        let act = u64::from(act.state) * 10 + u64::from(act.on);
+        digits = digits.wrapping_mul(100).wrapping_add(act);
+    }
+    digits
+}
+
+fn digits_of_versions(list: &VersionList) -> u64 {
+    let mut digits: u64 = 0;
+    for version in list.versions.as_slice() {
+        digits = digits
+            .wrapping_mul(10)
+            .wrapping_add(u64::from(version.number));
+    }
+    digits.wrapping_mul(10).wrapping_add(u64::from(list.last))
+}
+
+fn object(found: Result<Option<ObjectHead>, OverlayError>) -> Answer {
+    match found {
+        Ok(None) => Answer::None,
+        Ok(Some(head)) => Answer::Number(digits_of_versions(&head.versions)),
+        Err(error) => Answer::Fails(error),
     }
 }
 
 impl Scene {
-    fn create_many(&mut self, count: u32) -> Result<Answer, Fail> {
-        let mut last = Answer::None;
+    fn create(&mut self, n: i64) -> Result<u64, OverlayError> {
+        let fields = one(self.alloc, Value::Int(n))?;
+        self.overlay
+            .create(&self.classes, &mut self.heap, &mut self.host, 1, fields)
+    }
+
+    fn create_many(&mut self, count: u32) -> Result<u64, OverlayError> {
+        let mut last = 0;
         for _ in 0..count {
-            let fields = one(self.alloc, 0)?;
-            last = number(
-                self.overlay
-                    .create(&self.classes, &mut self.heap, &mut self.host, 1, fields),
-            );
-            if let Answer::Fails(_) = last {
-                return Ok(last);
-            }
+            last = self.create(0)?;
         }
         Ok(last)
     }
 
-    fn collect_many(&mut self, count: u32) -> Result<Answer, Fail> {
-        let mut last = true;
-        for _ in 0..count {
-            last = self.overlay.collect(entry(self.alloc), true)?;
-        }
-        Ok(Answer::Truth(last))
+    fn create_long(&mut self, count: u32) -> Result<u64, OverlayError> {
+        let fields = long_texts(self.alloc, count, 1978)?;
+        self.overlay
+            .create(&self.classes, &mut self.heap, &mut self.host, 1, fields)
     }
 
-    fn step(&mut self, id: u64) -> Result<Answer, Fail> {
-        let maps = maps(self.alloc)?;
+    fn activate_with(
+        &mut self,
+        id: u64,
+        trigger: u16,
+        args: List<Value>,
+    ) -> Result<u64, OverlayError> {
         if !self.heap.live::<MemHost>() {
-            return Ok(Answer::None);
+            return Err(OverlayError::Memory);
         }
-        let acts = match self
-            .overlay
-            .acts(&self.classes, &mut self.heap, &mut self.host, id, &maps)
-        {
-            Ok(acts) => acts,
-            Err(error) => return Ok(Answer::Fails(error)),
-        };
-        let mut stepped = List::new(self.alloc);
-        for act in acts.into_vec() {
-            let state = act.state.wrapping_add(1);
-            stepped.push(Running { state, ..act })?;
+        self.overlay.activate(
+            &self.classes,
+            &mut self.heap,
+            &mut self.host,
+            id,
+            1,
+            trigger,
+            args,
+        )
+    }
+
+    fn activate_long(&mut self, id: u64, length: usize) -> Result<u64, OverlayError> {
+        let args = long_texts(self.alloc, 1, length)?;
+        self.activate_with(id, 0, args)
+    }
+
+    fn deactivate(&mut self, id: u64, n: u64) -> Answer {
+        if !self.heap.live::<MemHost>() {
+            return Answer::None;
         }
-        Ok(done(
+        done(
             self.overlay
-                .put_acts(&self.classes, &mut self.heap, &mut self.host, id, stepped),
-        ))
+                .deactivate(&self.classes, &mut self.heap, &mut self.host, id, n),
+        )
     }
 
-    fn acts(&mut self, id: u64) -> Result<Answer, Fail> {
+    fn activations(&mut self, id: u64) -> Result<List<Running>, OverlayError> {
         let maps = maps(self.alloc)?;
         if !self.heap.live::<MemHost>() {
-            return Ok(Answer::None);
+            return Err(OverlayError::Memory);
         }
-        let acts = match self
-            .overlay
+        self.overlay
             .acts(&self.classes, &mut self.heap, &mut self.host, id, &maps)
-        {
-            Ok(acts) => acts,
-            Err(error) => return Ok(Answer::Fails(error)),
-        };
-        let mut digits: u64 = 0;
-        for act in acts.as_slice() {
-            let act = u64::from(act.state) * 10 + u64::from(act.on);
-            digits = digits.wrapping_mul(100).wrapping_add(act);
+    }
+
+    fn put(&mut self, id: u64, acts: List<Running>) -> Result<(), OverlayError> {
+        if !self.heap.live::<MemHost>() {
+            return Err(OverlayError::Memory);
         }
-        Ok(Answer::Number(digits))
+        self.overlay
+            .put_acts(&self.classes, &mut self.heap, &mut self.host, id, acts)
+    }
+
+    fn step(&mut self, id: u64) -> Result<(), OverlayError> {
+        let acts = self.activations(id)?;
+        let stepped = next_states(self.alloc, acts)?;
+        self.put(id, stepped)
+    }
+
+    fn acts(&mut self, id: u64) -> Answer {
+        match self.activations(id) {
+            Ok(acts) => Answer::Number(digits_of_acts(acts.as_slice())),
+            Err(error) => Answer::Fails(error),
+        }
     }
 
     fn object(&mut self, id: u64) -> Answer {
         if !self.heap.live::<MemHost>() {
             return Answer::None;
         }
-        match self
-            .overlay
-            .object(&self.classes, &mut self.heap, &mut self.host, id)
-        {
-            Ok(None) => Answer::None,
-            Err(error) => Answer::Fails(error),
-            Ok(Some(head)) => {
-                let mut digits: u64 = 0;
-                for version in head.versions.versions.as_slice() {
-                    digits = digits
-                        .wrapping_mul(10)
-                        .wrapping_add(u64::from(version.number));
-                }
-                Answer::Number(
-                    digits
-                        .wrapping_mul(10)
-                        .wrapping_add(u64::from(head.versions.last)),
-                )
-            }
-        }
+        object(
+            self.overlay
+                .object(&self.classes, &mut self.heap, &mut self.host, id),
+        )
     }
 
-    fn write(&mut self, r: Ref, slot: u16, v: Value) -> Answer {
+    fn touch(&mut self, id: u64) -> Answer {
         if !self.heap.live::<MemHost>() {
             return Answer::None;
         }
+        truth(
+            self.overlay
+                .touch(&self.classes, &mut self.heap, &mut self.host, id),
+        )
+    }
+
+    fn touched(&self, at: usize) -> Answer {
+        match self.overlay.touched(at) {
+            Some(id) => Answer::Number(id),
+            None => Answer::None,
+        }
+    }
+
+    fn write(&mut self, r: Ref, slot: u16, n: i64) -> Answer {
+        if !self.heap.live::<MemHost>() {
+            return Answer::None;
+        }
+        let v = Value::Int(n);
         done(
             self.overlay
                 .write(&self.classes, &mut self.heap, &mut self.host, r, slot, v),
+        )
+    }
+
+    fn read(&mut self, r: Ref) -> Answer {
+        if !self.heap.live::<MemHost>() {
+            return Answer::None;
+        }
+        value(
+            self.overlay
+                .read(&self.classes, &mut self.heap, &mut self.host, r, 0),
         )
     }
 
@@ -232,13 +312,39 @@ impl Scene {
         if !self.heap.live::<MemHost>() {
             return Answer::None;
         }
-        match self
-            .overlay
-            .derive(&self.classes, &mut self.heap, &mut self.host, r)
-        {
-            Ok(r) => Answer::Version(r),
-            Err(error) => Answer::Fails(error),
+        version(
+            self.overlay
+                .derive(&self.classes, &mut self.heap, &mut self.host, r),
+        )
+    }
+
+    fn drop_version(&mut self, r: Ref) -> Answer {
+        if !self.heap.live::<MemHost>() {
+            return Answer::None;
         }
+        done(
+            self.overlay
+                .drop_version(&self.classes, &mut self.heap, &mut self.host, r),
+        )
+    }
+
+    fn remove(&mut self, id: u64) -> Answer {
+        if !self.heap.live::<MemHost>() {
+            return Answer::None;
+        }
+        done(
+            self.overlay
+                .remove(&self.classes, &mut self.heap, &mut self.host, id),
+        )
+    }
+
+    // Collects an entry so many times, and answers as the last time.
+    fn collect(&mut self, count: u32, keep: bool) -> Result<bool, OverlayError> {
+        let mut last = true;
+        for _ in 0..count {
+            last = self.overlay.collect(entry(self.alloc), keep)?;
+        }
+        Ok(last)
     }
 
     fn grown(&mut self) -> Answer {
@@ -251,108 +357,39 @@ impl Scene {
         }
     }
 
-    /// What an act answers.
-    pub fn act(&mut self, act: Act) -> Result<Answer, Fail> {
-        if !self.heap.live::<MemHost>() {
-            return Ok(Answer::None);
-        }
-        Ok(match act {
-            Act::Create(n) => {
-                let fields = one(self.alloc, n)?;
-                number(
-                    self.overlay
-                        .create(&self.classes, &mut self.heap, &mut self.host, 1, fields),
-                )
-            }
-            Act::CreateMany(count) => self.create_many(count)?,
-            Act::Touch(id) => truth(
-                self.overlay
-                    .touch(&self.classes, &mut self.heap, &mut self.host, id),
-            ),
-            Act::Write(r, n) => self.write(r, 0, Value::Int(n)),
-            Act::WriteSlot(r, slot) => self.write(r, slot, Value::Int(0)),
-            Act::CreateLong(count) => {
-                let mut fields = List::new(self.alloc);
-                for _ in 0..count {
-                    fields.push(long_text(self.alloc, 1978)?)?;
-                }
-                number(
-                    self.overlay
-                        .create(&self.classes, &mut self.heap, &mut self.host, 1, fields),
-                )
-            }
-            Act::ActivateLong(id, count) => {
-                let mut args = List::new(self.alloc);
-                args.push(long_text(self.alloc, count)?)?;
-                number(
-                    self.overlay.activate(
-                        &self.classes,
-                        &mut self.heap,
-                        &mut self.host,
-                        id,
-                        1,
-                        0,
-                        args,
-                    ),
-                )
-            }
-            Act::Read(r) => value(
-                self.overlay
-                    .read(&self.classes, &mut self.heap, &mut self.host, r, 0),
-            ),
-            Act::Derive(r) => self.derive(r),
-            Act::Drop(r) => done(
-                self.overlay
-                    .drop_version(&self.classes, &mut self.heap, &mut self.host, r),
-            ),
-            Act::Remove(id) => done(
-                self.overlay
-                    .remove(&self.classes, &mut self.heap, &mut self.host, id),
-            ),
-            Act::Activate(id, trigger) => {
-                let args = List::new(self.alloc);
-                number(
-                    self.overlay.activate(
-                        &self.classes,
-                        &mut self.heap,
-                        &mut self.host,
-                        id,
-                        1,
-                        trigger,
-                        args,
-                    ),
-                )
-            }
-            Act::Deactivate(id, n) => done(
-                self.overlay
-                    .deactivate(&self.classes, &mut self.heap, &mut self.host, id, n),
-            ),
-            Act::Step(id) => self.step(id)?,
-            Act::Acts(id) => self.acts(id)?,
-            Act::Object(id) => self.object(id),
-            Act::Collect(keep) => Answer::Truth(self.overlay.collect(entry(self.alloc), keep)?),
-            Act::CollectMany(count) => self.collect_many(count)?,
-            Act::Touched(at) => match self.overlay.touched(at) {
-                Some(id) => Answer::Number(id),
-                None => Answer::None,
-            },
-            Act::Grown => self.grown(),
-            Act::Rewind => done(
-                self.overlay
-                    .rewind(&self.classes, &mut self.heap, &mut self.host),
-            ),
-        })
+    fn rewind(&mut self) -> Answer {
+        done(
+            self.overlay
+                .rewind(&self.classes, &mut self.heap, &mut self.host),
+        )
     }
-}
 
-/// A record change: the kind and the numbers of its key, and the length of the value, if one is put.
-pub type Change = (u8, u64, u64, Option<usize>);
-
-/// A batch is these changes, in order.
-pub fn is_batch(rt: &impl Abort, batch: &Batch, changes: &[Change]) {
-    assert_eq!(rt; batch.len(), changes.len());
-    for ((key, value), change) in batch.iter().zip(changes) {
-        let length = value.as_ref().map(|bytes| bytes.len());
-        assert_eq!(rt; (key.kind, key.a, key.b, length), *change);
+    /// What an act answers.
+    pub fn act(&mut self, act: &Act) -> Answer {
+        match *act {
+            Act::Create(n) => number(self.create(n)),
+            Act::CreateMany(count) => number(self.create_many(count)),
+            Act::CreateLong(count) => number(self.create_long(count)),
+            Act::Touch(id) => self.touch(id),
+            Act::Touched(at) => self.touched(at),
+            Act::Write(r, n) => self.write(r, 0, n),
+            Act::WriteSlot(r, slot) => self.write(r, slot, 0),
+            Act::Read(r) => self.read(r),
+            Act::Derive(r) => self.derive(r),
+            Act::Drop(r) => self.drop_version(r),
+            Act::Remove(id) => self.remove(id),
+            Act::Object(id) => self.object(id),
+            Act::Activate(id, trigger) => {
+                number(self.activate_with(id, trigger, List::new(self.alloc)))
+            }
+            Act::ActivateLong(id, length) => number(self.activate_long(id, length)),
+            Act::Deactivate(id, n) => self.deactivate(id, n),
+            Act::Step(id) => done(self.step(id)),
+            Act::Acts(id) => self.acts(id),
+            Act::Collect(keep) => truth(self.collect(1, keep)),
+            Act::CollectMany(count) => truth(self.collect(count, true)),
+            Act::Grown => self.grown(),
+            Act::Rewind => self.rewind(),
+        }
     }
 }

@@ -7,7 +7,8 @@ ghost use Rattle.ode_codec.specs.Rules.{IsClock, IsKeptCounters};
 ghost use Rattle.ode_overlay.specs.Layers.{IsGeneration};
 ghost use Rattle.ode_overlay_tests.specs.Watched.{trigger_of, watched};
 
-use ode_areas::{Areas, StartError};
+use crate::acts::Scene;
+use ode_areas::Areas;
 use ode_codec::Counters;
 use ode_gate::read_header;
 use ode_heap::Heap;
@@ -38,8 +39,8 @@ fn patch(image: &mut [u8], at: usize, bytes: &[u8]) {
     }
 }
 
-/// A new database on a disk on which no call fails.
-pub fn new_disk(alloc: Global) -> Result<MemHost, AllocError> {
+// A new database on a disk on which no call fails.
+fn new_disk(alloc: Global) -> Result<MemHost, AllocError> {
     let mut image = vec![in alloc; 0; 4161]?;
     patch(&mut image, 0, SLOT);
     patch(&mut image, 4096, COUNTERS);
@@ -51,8 +52,8 @@ pub fn new_disk(alloc: Global) -> Result<MemHost, AllocError> {
     MemHost::new(alloc, image, plan)
 }
 
-/// The heap over what stands on a disk.
-pub fn start(alloc: Global, host: &mut MemHost) -> Result<Heap<Areas>, Fail> {
+// The heap over what stands on a disk.
+fn start(alloc: Global, host: &mut MemHost) -> Result<Heap<Areas>, Fail> {
     if host.sync().is_err() {
         return Err(Fail::from("a sync"));
     }
@@ -97,18 +98,34 @@ fn trigger(alloc: Global, called: &[u8], whole: bool) -> Result<TriggerDecl, All
     })
 }
 
+fn fields(alloc: Global) -> Result<List<Field>, AllocError>
+    ensures { IfOk result (λ fields. fields ≡ watched.fields) }
+{
+    let name = name(alloc, b"n")?;
+    let mut fields = List::new(alloc);
+    fields.push(Field {
+        name,
+        sort: Sort::Int,
+    })?;
+    Ok(fields)
+}
+
+fn triggers(alloc: Global) -> Result<List<TriggerDecl>, AllocError>
+    ensures { IfOk result (λ triggers. triggers ≡ watched.triggers) }
+{
+    let first = trigger(alloc, b"w", true)?;
+    let mut triggers = List::new(alloc);
+    triggers.push(first)?;
+    triggers.push(trigger(alloc, b"m", false)?)?;
+    Ok(triggers)
+}
+
 fn watched(alloc: Global) -> Result<Class, AllocError>
     ensures { IfOk result (λ class. class ≡ watched) }
 {
-    let mut fields = List::new(alloc);
-    fields.push(Field {
-        name: name(alloc, b"n")?,
-        sort: Sort::Int,
-    })?;
-    let mut triggers = List::new(alloc);
-    triggers.push(trigger(alloc, b"w", true)?)?;
-    triggers.push(trigger(alloc, b"m", false)?)?;
     let name = name(alloc, b"P")?;
+    let fields = fields(alloc)?;
+    let triggers = triggers(alloc)?;
     Ok(Class {
         number: 1,
         name,
@@ -121,8 +138,8 @@ fn watched(alloc: Global) -> Result<Class, AllocError>
     })
 }
 
-/// A class of one int field with two triggers, the first on whole histories.
-pub fn classes(alloc: Global) -> Result<Classes, AllocError> {
+// A class of one int field with two triggers, the first on whole histories.
+fn classes(alloc: Global) -> Result<Classes, AllocError> {
     let class = watched(alloc)?;
     let mut classes = Classes::new(alloc);
     classes.add(class)?;
@@ -190,9 +207,9 @@ fn is_generation(origin: Origin) -> bool
     }
 }
 
-/// A transaction over what the heap has.
+// A transaction over what the heap has.
 #[tactic(auto, unfolding(ode_value::specs::Limits::queue_limit))]
-pub fn begun(
+fn begun(
     alloc: Global,
     heap: &mut Heap<Areas>,
     host: &mut MemHost,
@@ -208,4 +225,30 @@ pub fn begun(
         Some(counters) => Ok(Overlay::begin(alloc, counters, 0, origin)),
         None => Err(Fail::from("counters")),
     }
+}
+
+fn opened(alloc: Global) -> Result<(Heap<Areas>, MemHost), Fail> {
+    let mut host = new_disk(alloc)?;
+    let heap = start(alloc, &mut host)?;
+    Ok((heap, host))
+}
+
+/// A new database and a transaction over it.
+pub fn scene(alloc: Global) -> Result<Scene, Fail> {
+    let classes = classes(alloc)?;
+    let (mut heap, mut host) = opened(alloc)?;
+    let overlay = begun(alloc, &mut heap, &mut host, Origin::Script)?;
+    Ok(Scene {
+        classes,
+        heap,
+        host,
+        overlay,
+        alloc,
+    })
+}
+
+/// Another transaction begins.
+pub fn begin(scene: &mut Scene, origin: Origin) -> Result<(), Fail> {
+    scene.overlay = begun(scene.alloc, &mut scene.heap, &mut scene.host, origin)?;
+    Ok(())
 }

@@ -6,4 +6,6 @@ mod acts;
 #[cfg(test)]
 mod base;
 #[cfg(test)]
+mod equal;
+#[cfg(test)]
 mod tables;

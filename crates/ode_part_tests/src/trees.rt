@@ -4,10 +4,10 @@ ghost use Rattle.ode_value.specs.Limits.{choose_limit};
 ghost use Rattle.ode_value.specs.Marks.{leaves};
 ghost use Rattle.ode_value.specs.Numbers.{has_numbers};
 
+use crate::equal::equal;
 use ode_trees::count_trees;
 use ode_value::{Boxed, EventExpr, Kind, List};
 use std::alloc::{AllocError, Global};
-use std::test::Fail;
 
 // `relative(after create, choose n (any))`
 #[tactic(auto, using(ode_value::proofs::LeafLaws::forms))]
@@ -23,24 +23,29 @@ fn relative(alloc: Global, n: u32) -> Result<EventExpr, AllocError>
     Ok(EventExpr::Relative(start, nth))
 }
 
-// How many trees it has over its two symbols.
-fn count(alloc: Global, n: u32) -> Result<Option<u32>, AllocError>
+// How many trees an expression of one leaf has over its two symbols.
+fn count(alloc: Global, e: &EventExpr) -> Result<Option<u32>, AllocError>
+    requires leaf { length (leaves e.now) ≡ 1 }
+    requires numbers { has_numbers e.now ≡ true }
+{
+    let without = List::from_slice(alloc, &[false])?;
+    let with = List::from_slice(alloc, &[true])?;
+    count_trees(alloc, e, &[without, with])
+}
+
+fn trees_of(alloc: Global, n: u32) -> Result<Option<u32>, AllocError>
     requires some { 0 < n }
     requires small { n ≤ choose_limit }
 {
-    let e = relative(alloc, n)?;
-    let marks = [
-        List::from_slice(alloc, &[false])?,
-        List::from_slice(alloc, &[true])?,
-    ];
-    count_trees(alloc, &e, &marks)
+    match relative(alloc, n) {
+        Ok(e) => count(alloc, &e),
+        Err(error) => Err(error),
+    }
 }
 
 #[test]
-fn trees_are_counted_up_to_512(rt: HostRuntime) -> Result<(), Fail> {
-    let alloc = rt.alloc();
-    assert_eq!(rt; count(alloc, 5)?, Some(128));
-    assert_eq!(rt; count(alloc, 7)?, Some(512));
-    assert_eq!(rt; count(alloc, 8)?, None);
-    Ok(())
+fn trees_are_counted_up_to_512(rt: HostRuntime) {
+    equal(&rt, &trees_of(rt.alloc(), 5), &Ok(Some(128)));
+    equal(&rt, &trees_of(rt.alloc(), 7), &Ok(Some(512)));
+    equal(&rt, &trees_of(rt.alloc(), 8), &Ok(None));
 }

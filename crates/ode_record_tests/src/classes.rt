@@ -1,5 +1,5 @@
 //! Classes for tests.
-ghost use Rattle.std.specs.Prelude.{◌≡◌, IfOk};
+ghost use Rattle.std.specs.Prelude.{◌≡◌, ◌∷◌, [], IfOk};
 ghost use Rattle.ode_record_tests.specs.Watched.{at_each_point, watched};
 
 use ode_types::Classes;
@@ -19,18 +19,36 @@ fn name(alloc: Global, bytes: &[u8]) -> Result<Name, AllocError>
     }
 }
 
-/// A class with fields of these sorts.
-pub fn with_fields(alloc: Global, sorts: &[Sort]) -> Result<Class, AllocError> {
-    let mut fields = List::new(alloc);
-    for sort in sorts {
-        fields.push(Field {
-            name: name(alloc, b"f")?,
-            sort: sort.copy(alloc)?,
-        })?;
+fn sort(letter: u8) -> Sort {
+    match letter {
+        b'i' => Sort::Int,
+        b't' => Sort::Text,
+        _ => Sort::Bool,
     }
+}
+
+fn field(alloc: Global, letter: u8) -> Result<Field, AllocError> {
+    Ok(Field {
+        name: name(alloc, b"f")?,
+        sort: sort(letter),
+    })
+}
+
+fn fields(alloc: Global, letters: &[u8]) -> Result<List<Field>, AllocError> {
+    let mut fields = List::new(alloc);
+    for letter in letters {
+        fields.push(field(alloc, *letter)?)?;
+    }
+    Ok(fields)
+}
+
+/// A class with fields whose sorts begin with these letters.
+pub fn with_fields(alloc: Global, letters: &[u8]) -> Result<Class, AllocError> {
+    let name = name(alloc, b"C")?;
+    let fields = fields(alloc, letters)?;
     Ok(Class {
         number: 1,
-        name: name(alloc, b"C")?,
+        name,
         parent: None,
         fields,
         methods: List::new(alloc),
@@ -57,13 +75,21 @@ fn trigger(alloc: Global) -> Result<TriggerDecl, AllocError>
     })
 }
 
+fn triggers(alloc: Global) -> Result<List<TriggerDecl>, AllocError>
+    ensures { IfOk result (λ triggers. triggers ≡ at_each_point ∷ []) }
+{
+    let trigger = trigger(alloc)?;
+    let mut triggers = List::new(alloc);
+    triggers.push(trigger)?;
+    Ok(triggers)
+}
+
 // A class with this trigger.
 fn watched(alloc: Global) -> Result<Class, AllocError>
     ensures { IfOk result (λ class. class ≡ watched) }
 {
     let name = name(alloc, b"C")?;
-    let mut triggers = List::new(alloc);
-    triggers.push(trigger(alloc)?)?;
+    let triggers = triggers(alloc)?;
     Ok(Class {
         number: 1,
         name,

@@ -2,8 +2,9 @@
 ghost use Rattle.std.specs.Prelude.{IfOk};
 ghost use Rattle.ode_keep.specs.ShortValues.{HasShortValues};
 
+use crate::classes::{one_class, with_fields};
 use ode_areas::{Areas, StartError};
-use ode_codec::{Activation, Counters, Entry};
+use ode_codec::{Activation, Entry};
 use ode_gate::read_header;
 use ode_heap::{Heap, HeapError, ObjectHead};
 use ode_host::{Host, MemHost, Plan};
@@ -13,37 +14,44 @@ use ode_value::{Class, Key, List, Value};
 use std::alloc::{AllocError, Global};
 
 /// A record as it is kept.
-#[derive(Clone, Copy)]
 pub struct Stored {
     pub key: Key,
     pub bytes: &'static [u8],
 }
 
-pub fn key(kind: u8, a: u64, b: u64) -> Key {
-    Key { kind, a, b }
-}
+const SLOT: &[u8] = b"\xA5ODEBASE1\0\0\0\x01\0\0\0\x01\0\0\0\0\0\0\0\x01\
+    \0\0\0\0\0\0\x10\0\0\0\0\0\0\0\0\x40\
+    \0\0\0\0\0\0\x10\x40\0\0\0\0\x02\0\x10\0";
 
-pub fn row(kind: u8, a: u64, b: u64, bytes: &'static [u8]) -> Stored {
-    Stored {
-        key: key(kind, a, b),
-        bytes,
+// The key of a record and the length of its value, 45.
+const HEAD: &[u8] = b"\x01\0\0\0\0\0\0\0\0\0\0\0\0\0\0\0\0\0\x2D";
+
+fn patch(image: &mut [u8], at: usize, bytes: &[u8]) {
+    for (i, byte) in bytes.iter().enumerate() {
+        if let Some(place) = image.get_mut(at.saturating_add(i)) {
+            *place = *byte;
+        }
     }
 }
 
 // A new file: one slot is open; the record of the counters is all zeros, and behind it stands a gate that is shut.
 fn new_file(alloc: Global) -> Result<Vec<u8>, AllocError> {
     let mut image = vec![in alloc; 0; 4161]?;
-    let slot = b"\xA5ODEBASE1\0\0\0\x01\0\0\0\x01\0\0\0\0\0\0\0\x01\
-        \0\0\0\0\0\0\x10\0\0\0\0\0\0\0\0\x40\
-        \0\0\0\0\0\0\x10\x40\0\0\0\0\x02\0\x10\0";
-    let head = b"\x01\0\0\0\0\0\0\0\0\0\0\0\0\0\0\0\0\0\x2D";
-    for (place, byte) in image.iter_mut().zip(slot) {
-        *place = *byte;
-    }
-    for (place, byte) in image.iter_mut().skip(4096).zip(head) {
-        *place = *byte;
-    }
+    patch(&mut image, 0, SLOT);
+    patch(&mut image, 4096, HEAD);
     Ok(image)
+}
+
+// A disk with a new file, whose calls of these numbers fail.
+fn disk(alloc: Global, failing: &[u64]) -> Result<MemHost, AllocError> {
+    let image = new_file(alloc)?;
+    let disk_fails = failing.to_vec(alloc)?;
+    let plan = Plan {
+        disk_fails,
+        print_fails: Vec::new(alloc),
+        stop: None,
+    };
+    MemHost::new(alloc, image, plan)
 }
 
 fn start(alloc: Global, host: &mut MemHost) -> Result<Areas, StartError> {
@@ -81,18 +89,15 @@ pub struct Database {
 impl Database {
     /// A new one, on a disk whose calls of these numbers fail.
     pub fn new(alloc: Global, failing: &[u64]) -> Result<Database, AllocError> {
-        let plan = Plan {
-            disk_fails: failing.to_vec(alloc)?,
-            print_fails: Vec::new(alloc),
-            stop: None,
-        };
-        let mut host = MemHost::new(alloc, new_file(alloc)?, plan)?;
-        let keeper = start(alloc, &mut host).map_err(|_| AllocError)?;
-        Ok(Database {
-            alloc,
-            heap: Heap::new(keeper),
-            host,
-        })
+        let mut host = disk(alloc, failing)?;
+        match start(alloc, &mut host) {
+            Ok(keeper) => Ok(Database {
+                alloc,
+                heap: Heap::new(keeper),
+                host,
+            }),
+            Err(_) => Err(AllocError),
+        }
     }
 
     /// Whether it may be used.
@@ -109,13 +114,20 @@ impl Database {
         self.heap.stage(&mut self.host, &batch)
     }
 
-    pub fn counters(&mut self) -> Result<Counters, HeapError> {
+    /// The next numbers of objects, transactions and entries.
+    pub fn counters(&mut self) -> Result<(u64, u64, u64), HeapError> {
         if !self.heap.live::<MemHost>() {
             return Err(HeapError::Memory);
         }
-        self.heap.counters(self.alloc, &mut self.host)
+        let counters = self.heap.counters(self.alloc, &mut self.host)?;
+        Ok((
+            counters.next_number,
+            counters.next_transaction,
+            counters.next_entry,
+        ))
     }
 
+    /// An object's class and its versions.
     pub fn object(&mut self, id: u64) -> Result<Option<ObjectHead>, HeapError> {
         if !self.heap.live::<MemHost>() {
             return Err(HeapError::Memory);
@@ -123,7 +135,7 @@ impl Database {
         self.heap.load_object(self.alloc, &mut self.host, id)
     }
 
-    pub fn version(
+    fn version_of(
         &mut self,
         id: u64,
         number: u32,
@@ -136,7 +148,25 @@ impl Database {
             .load_version(self.alloc, &mut self.host, id, number, class)
     }
 
-    pub fn activations(
+    /// The fields of a version of an object whose class has fields of these sorts.
+    pub fn version(
+        &mut self,
+        id: u64,
+        number: u32,
+        letters: &[u8],
+    ) -> Result<Option<List<Value>>, HeapError> {
+        let class = with_fields(self.alloc, letters)?;
+        self.version_of(id, number, &class)
+    }
+
+    /// An object's activations, by the one class that has a trigger.
+    pub fn activations(&mut self, id: u64) -> Result<List<Activation>, HeapError> {
+        let classes = one_class(self.alloc)?;
+        self.activations_by(id, &classes)
+    }
+
+    /// An object's activations, by these classes.
+    pub fn activations_by(
         &mut self,
         id: u64,
         classes: &Classes,
@@ -148,6 +178,7 @@ impl Database {
             .activations_of(self.alloc, &mut self.host, id, classes)
     }
 
+    /// The first object at or above a number.
     pub fn object_from(&mut self, id: u64) -> Result<Option<u64>, HeapError> {
         if !self.heap.live::<MemHost>() {
             return Err(HeapError::Memory);
@@ -155,6 +186,7 @@ impl Database {
         self.heap.object_from(&mut self.host, id)
     }
 
+    /// The first entry at or above a number.
     pub fn entry_from(&mut self, number: u64) -> Result<Option<(u64, Entry)>, HeapError> {
         if !self.heap.live::<MemHost>() {
             return Err(HeapError::Memory);
@@ -162,6 +194,7 @@ impl Database {
         self.heap.entry_from(self.alloc, &mut self.host, number)
     }
 
+    /// How many entries wait.
     pub fn queued(&mut self) -> Result<u32, HeapError> {
         if !self.heap.live::<MemHost>() {
             return Err(HeapError::Memory);

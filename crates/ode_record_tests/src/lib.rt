@@ -6,6 +6,8 @@ mod classes;
 #[cfg(test)]
 mod database;
 #[cfg(test)]
+mod equal;
+#[cfg(test)]
 mod heap;
 #[cfg(test)]
 mod records;

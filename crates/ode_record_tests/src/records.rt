@@ -1,9 +1,11 @@
 //! Records and their spelling.
+ghost use Rattle.ode_codec.specs.Rules.{IsCounted};
+
+use crate::equal::equal;
 use ode_codec::{Record, decode, encode};
 use ode_value::{Key, Value};
 use std::alloc::{AllocError, Global};
 use std::process::Abort;
-use std::test::Fail;
 
 const VECTOR: Key = Key {
     kind: 7,
@@ -11,250 +13,277 @@ const VECTOR: Key = Key {
     b: 2,
 };
 
-const BYTES: [u8; 20] = [
-    0, 0, 0, 1, 0, 2, 0, 0, 0, 0, 0, 0, 0, 0, 5, 2, 0, 2, 0x68, 0x69,
-];
+const BYTES: &[u8] = b"\0\0\0\x01\0\x02\0\0\0\0\0\0\0\0\x05\x02\0\x02hi";
+
+// Whether a record is spelled by this key and these bytes.
+fn is_spelled(alloc: Global, found: &Record, key: Key, bytes: &[u8]) -> Result<bool, AllocError>
+    requires { IsCounted found.now }
+{
+    let (again, value) = encode(alloc, found)?;
+    Ok(again == key && value.as_slice() == bytes)
+}
 
 // Whether the bytes are a record's, and spell it again.
+#[tactic(auto, using(crate::proofs::Counted::counted))]
 fn is_spelling(alloc: Global, key: Key, bytes: &[u8]) -> Result<bool, AllocError> {
     match decode(alloc, key, bytes)? {
+        Some(found) => is_spelled(alloc, &found, key, bytes),
         None => Ok(false),
-        Some(found) => {
-            let (again, value) = encode(alloc, &found)?;
-            Ok(again == key && value.as_slice() == bytes)
-        }
     }
 }
 
-#[test]
-fn a_version_of_two_fields(rt: HostRuntime) -> Result<(), Fail> {
-    let found = decode(rt.alloc(), VECTOR, &BYTES)?;
-    let Some(
+// The object, the number, the parent and how many fields a version has, and whether these are 5 and a text.
+type Parts = (u64, u32, u32, usize, bool);
+
+fn parts_of(found: &Record) -> Option<Parts> {
+    match found {
         Record::Version {
             object,
             number,
             parent,
             fields,
-        },
-    ) = found
-    else {
-        return Err(Fail::from("a version"));
-    };
-    assert_eq!(rt; object, 1);
-    assert_eq!(rt; number, 2);
-    assert_eq!(rt; parent, 1);
-    assert_eq!(rt; fields.len(), 2);
-    assert!(rt; matches!(fields.as_slice(), [Value::Int(5), Value::Text(_)]));
-    assert!(rt; is_spelling(rt.alloc(), VECTOR, &BYTES)?);
-    Ok(())
+        } => {
+            let fit = matches!(fields.as_slice(), [Value::Int(5), Value::Text(_)]);
+            Some((*object, *number, *parent, fields.len(), fit))
+        }
+        _ => None,
+    }
+}
+
+fn decoded_parts(alloc: Global, key: Key, bytes: &[u8]) -> Result<Option<Parts>, AllocError> {
+    match decode(alloc, key, bytes)? {
+        Some(found) => Ok(parts_of(&found)),
+        None => Ok(None),
+    }
 }
 
 #[test]
-fn a_byte_more_or_less(rt: HostRuntime) -> Result<(), Fail> {
-    let more = [
-        0, 0, 0, 1, 0, 2, 0, 0, 0, 0, 0, 0, 0, 0, 5, 2, 0, 2, 0x68, 0x69, 0,
-    ];
-    assert!(rt; !is_spelling(rt.alloc(), VECTOR, &more)?);
-    assert!(rt; !is_spelling(rt.alloc(), VECTOR, &more[..19])?);
-    Ok(())
+fn a_version_of_two_fields(rt: HostRuntime) {
+    let found = decoded_parts(rt.alloc(), VECTOR, BYTES);
+    equal(&rt, &found, &Ok(Some((1, 2, 1, 2, true))));
 }
 
 // A key with bytes, and whether they are a record's.
-#[derive(Clone, Copy)]
-struct Case {
-    key: Key,
-    bytes: &'static [u8],
-    is_record: bool,
-}
+type Case = (u8, u64, u64, &'static [u8], bool);
 
-fn inside(kind: u8, a: u64, b: u64, bytes: &'static [u8]) -> Case {
-    Case {
-        key: Key { kind, a, b },
-        bytes,
-        is_record: true,
+fn check_all(rt: &impl Abort, alloc: Global, cases: &[Case]) {
+    for (kind, a, b, bytes, is_record) in cases {
+        let key = Key {
+            kind: *kind,
+            a: *a,
+            b: *b,
+        };
+        let found = is_spelling(alloc, key, bytes);
+        equal(rt, &(key, found), &(key, Ok(*is_record)));
     }
 }
 
-fn outside(kind: u8, a: u64, b: u64, bytes: &'static [u8]) -> Case {
-    Case {
-        key: Key { kind, a, b },
-        bytes,
-        is_record: false,
-    }
-}
+// The bytes of that version, with a byte more and with a byte less.
+const VERSIONS: &[Case] = &[
+    (7, 1, 2, BYTES, true),
+    (
+        7,
+        1,
+        2,
+        b"\0\0\0\x01\0\x02\0\0\0\0\0\0\0\0\x05\x02\0\x02hi\0",
+        false,
+    ),
+    (
+        7,
+        1,
+        2,
+        b"\0\0\0\x01\0\x02\0\0\0\0\0\0\0\0\x05\x02\0\x02h",
+        false,
+    ),
+];
 
-fn check_all(rt: &impl Abort, alloc: Global, cases: &[Case]) -> Result<(), Fail> {
-    for case in cases {
-        assert_eq!(rt; is_spelling(alloc, case.key, case.bytes)?, case.is_record);
-    }
-    Ok(())
+#[test]
+fn a_byte_more_or_less(rt: HostRuntime) {
+    check_all(&rt, rt.alloc(), VERSIONS);
 }
 
 const MAX_U32: u64 = u32::MAX as u64;
 
 const MAX_U16: u64 = u16::MAX as u64;
 
-fn counters() -> [Case; 8] {
-    [
-        inside(
-            1,
-            0,
-            0,
-            b"\0\0\0\0\0\0\0\x01\0\0\0\0\0\0\0\x01\0\0\0\0\0\0\0\x01\0\0\0\0\0\0\0\0\0\0\0\0\0\0\0\0\0\0\0\0\0",
-        ),
-        inside(
-            1,
-            0,
-            0,
-            b"\x40\0\0\0\0\0\0\0\x40\0\0\0\0\x01\0\0\x40\0\0\0\0\0\0\0\x01\x7f\xff\xff\xff\xff\xff\xff\xff\xff\xff\xff\xff\xff\xff\xff\xff\xff\xff\xff\xff",
-        ),
-        outside(
-            1,
-            0,
-            0,
-            b"\0\0\0\0\0\0\0\0\0\0\0\0\0\0\0\x01\0\0\0\0\0\0\0\x01\0\0\0\0\0\0\0\0\0\0\0\0\0\0\0\0\0\0\0\0\0",
-        ),
-        outside(
-            1,
-            0,
-            0,
-            b"\x40\0\0\0\0\0\0\0\x40\0\0\0\0\x01\0\x01\x40\0\0\0\0\0\0\0\0\0\0\0\0\0\0\0\0\0\0\0\0\0\0\0\0\0\0\0\0",
-        ),
-        outside(
-            1,
-            0,
-            0,
-            b"\0\0\0\0\0\0\0\x01\0\0\0\0\0\0\0\x01\x40\0\0\0\0\0\0\x01\0\0\0\0\0\0\0\0\0\0\0\0\0\0\0\0\0\0\0\0\0",
-        ),
-        outside(
-            1,
-            0,
-            0,
-            b"\0\0\0\0\0\0\0\x01\0\0\0\0\0\0\0\x01\0\0\0\0\0\0\0\x01\0\0\0\0\0\0\0\0\0\0\0\0\0\0\0\0\0\0\0\0\x01",
-        ),
-        outside(
-            1,
-            0,
-            0,
-            b"\0\0\0\0\0\0\0\x01\0\0\0\0\0\0\0\x01\0\0\0\0\0\0\0\x01\x02\0\0\0\0\0\0\0\0\0\0\0\0\0\0\0\0\0\0\0\0",
-        ),
-        outside(
-            1,
-            0,
-            1,
-            b"\0\0\0\0\0\0\0\x01\0\0\0\0\0\0\0\x01\0\0\0\0\0\0\0\x01\0\0\0\0\0\0\0\0\0\0\0\0\0\0\0\0\0\0\0\0\0",
-        ),
-    ]
-}
+const COUNTERS: &[Case] = &[
+    (
+        1,
+        0,
+        0,
+        b"\0\0\0\0\0\0\0\x01\0\0\0\0\0\0\0\x01\0\0\0\0\0\0\0\x01\0\0\0\0\0\0\0\0\0\0\0\0\0\0\0\0\0\0\0\0\0",
+        true,
+    ),
+    (
+        1,
+        0,
+        0,
+        b"\x40\0\0\0\0\0\0\0\x40\0\0\0\0\x01\0\0\x40\0\0\0\0\0\0\0\x01\x7f\xff\xff\xff\xff\xff\xff\xff\xff\xff\xff\xff\xff\xff\xff\xff\xff\xff\xff\xff",
+        true,
+    ),
+    (
+        1,
+        0,
+        0,
+        b"\0\0\0\0\0\0\0\0\0\0\0\0\0\0\0\x01\0\0\0\0\0\0\0\x01\0\0\0\0\0\0\0\0\0\0\0\0\0\0\0\0\0\0\0\0\0",
+        false,
+    ),
+    (
+        1,
+        0,
+        0,
+        b"\x40\0\0\0\0\0\0\0\x40\0\0\0\0\x01\0\x01\x40\0\0\0\0\0\0\0\0\0\0\0\0\0\0\0\0\0\0\0\0\0\0\0\0\0\0\0\0",
+        false,
+    ),
+    (
+        1,
+        0,
+        0,
+        b"\0\0\0\0\0\0\0\x01\0\0\0\0\0\0\0\x01\x40\0\0\0\0\0\0\x01\0\0\0\0\0\0\0\0\0\0\0\0\0\0\0\0\0\0\0\0\0",
+        false,
+    ),
+    (
+        1,
+        0,
+        0,
+        b"\0\0\0\0\0\0\0\x01\0\0\0\0\0\0\0\x01\0\0\0\0\0\0\0\x01\0\0\0\0\0\0\0\0\0\0\0\0\0\0\0\0\0\0\0\0\x01",
+        false,
+    ),
+    (
+        1,
+        0,
+        0,
+        b"\0\0\0\0\0\0\0\x01\0\0\0\0\0\0\0\x01\0\0\0\0\0\0\0\x01\x02\0\0\0\0\0\0\0\0\0\0\0\0\0\0\0\0\0\0\0\0",
+        false,
+    ),
+    (
+        1,
+        0,
+        1,
+        b"\0\0\0\0\0\0\0\x01\0\0\0\0\0\0\0\x01\0\0\0\0\0\0\0\x01\0\0\0\0\0\0\0\0\0\0\0\0\0\0\0\0\0\0\0\0\0",
+        false,
+    ),
+];
 
-fn heads() -> [Case; 12] {
-    [
-        inside(2, 0, 0, b"\x01A\0\0\0\0\0\0\0\0\0\0"),
-        inside(
-            2,
-            MAX_U32,
-            0,
-            b"\x02_9\xff\xff\xff\xff\xff\xff\xff\xff\xff\xff",
-        ),
-        outside(2, MAX_U32 + 1, 0, b"\x01A\0\0\0\0\0\0\0\0\0\0"),
-        outside(2, 1, 1, b"\x01A\0\0\0\0\0\0\0\0\0\0"),
-        outside(2, 1, 0, b"\x00\0\0\0\0\0\0\0\0\0\0"),
-        outside(2, 1, 0, b"\x01-\0\0\0\0\0\0\0\0\0\0"),
-        inside(4, 0, 0, b"\0\0\0"),
-        inside(4, MAX_U32, MAX_U16, b"\xff\xff\xff"),
-        outside(4, MAX_U32 + 1, 0, b"\0\x02\x03"),
-        outside(4, 1, MAX_U16 + 1, b"\0\x02\x03"),
-        outside(4, 1, 0, b"\0\x02"),
-        outside(4, 1, 0, b"\0\x02\x03\0"),
-    ]
-}
+const HEADS: &[Case] = &[
+    (2, 0, 0, b"\x01A\0\0\0\0\0\0\0\0\0\0", true),
+    (
+        2,
+        MAX_U32,
+        0,
+        b"\x02_9\xff\xff\xff\xff\xff\xff\xff\xff\xff\xff",
+        true,
+    ),
+    (2, MAX_U32 + 1, 0, b"\x01A\0\0\0\0\0\0\0\0\0\0", false),
+    (2, 1, 1, b"\x01A\0\0\0\0\0\0\0\0\0\0", false),
+    (2, 1, 0, b"\x00\0\0\0\0\0\0\0\0\0\0", false),
+    (2, 1, 0, b"\x01-\0\0\0\0\0\0\0\0\0\0", false),
+    (4, 0, 0, b"\0\0\0", true),
+    (4, MAX_U32, MAX_U16, b"\xff\xff\xff", true),
+    (4, MAX_U32 + 1, 0, b"\0\x02\x03", false),
+    (4, 1, MAX_U16 + 1, b"\0\x02\x03", false),
+    (4, 1, 0, b"\0\x02", false),
+    (4, 1, 0, b"\0\x02\x03\0", false),
+];
 
-fn pieces() -> [Case; 9] {
-    [
-        inside(3, 0, 0, b"\0"),
-        inside(3, MAX_U32, MAX_U32, b"class"),
-        outside(3, MAX_U32 + 1, 0, b"class"),
-        outside(3, 1, MAX_U32 + 1, b"class"),
-        outside(3, 1, 0, b""),
-        inside(5, 0, 0, b"\xff"),
-        inside(5, MAX_U32, MAX_U32, b"\0\x01"),
-        outside(5, 1, MAX_U32 + 1, b"\0\x01"),
-        outside(5, 1, 0, b""),
-    ]
-}
+const PIECES: &[Case] = &[
+    (3, 0, 0, b"\0", true),
+    (3, MAX_U32, MAX_U32, b"class", true),
+    (3, MAX_U32 + 1, 0, b"class", false),
+    (3, 1, MAX_U32 + 1, b"class", false),
+    (3, 1, 0, b"", false),
+    (5, 0, 0, b"\xff", true),
+    (5, MAX_U32, MAX_U32, b"\0\x01", true),
+    (5, 1, MAX_U32 + 1, b"\0\x01", false),
+    (5, 1, 0, b"", false),
+];
 
-fn objects() -> [Case; 10] {
-    [
-        inside(6, 0, 0, b"\0\0\0\0\0\0\0\0"),
-        inside(6, u64::MAX, 0, b"\xff\xff\xff\xff\xff\xff\xff\xff"),
-        outside(6, 1, 1, b"\0\0\0\x01\0\0\0\x01"),
-        outside(6, 1, 0, b"\0\0\0\x01\0\0\0"),
-        inside(7, 0, 0, b"\0\0\0\0\0\0"),
-        inside(7, u64::MAX, MAX_U32, b"\xff\xff\xff\xff\0\0"),
-        outside(7, 1, MAX_U32 + 1, b"\0\0\0\0\0\0"),
-        outside(7, 1, 1, b"\0\0\0\0\0\x02\x01\x01"),
-        outside(0, 0, 0, b""),
-        outside(10, 0, 0, b""),
-    ]
-}
+const OBJECTS: &[Case] = &[
+    (6, 0, 0, b"\0\0\0\0\0\0\0\0", true),
+    (6, u64::MAX, 0, b"\xff\xff\xff\xff\xff\xff\xff\xff", true),
+    (6, 1, 1, b"\0\0\0\x01\0\0\0\x01", false),
+    (6, 1, 0, b"\0\0\0\x01\0\0\0", false),
+    (7, 0, 0, b"\0\0\0\0\0\0", true),
+    (7, u64::MAX, MAX_U32, b"\xff\xff\xff\xff\0\0", true),
+    (7, 1, MAX_U32 + 1, b"\0\0\0\0\0\0", false),
+    (7, 1, 1, b"\0\0\0\0\0\x02\x01\x01", false),
+    (0, 0, 0, b"", false),
+    (10, 0, 0, b"", false),
+];
 
-fn fields() -> [Case; 14] {
-    [
-        inside(7, 1, 1, b"\0\0\0\0\0\x01\0\x80\0\0\0\0\0\0\0"),
-        inside(7, 1, 1, b"\0\0\0\0\0\x01\0\x7f\xff\xff\xff\xff\xff\xff\xff"),
-        inside(7, 1, 1, b"\0\0\0\0\0\x02\x01\0\x01\x01"),
-        outside(7, 1, 1, b"\0\0\0\0\0\x01\x01\x02"),
-        inside(7, 1, 1, b"\0\0\0\0\0\x01\x02\0\x02 ~"),
-        outside(7, 1, 1, b"\0\0\0\0\0\x01\x02\0\x01\x1f"),
-        outside(7, 1, 1, b"\0\0\0\0\0\x01\x02\0\x01\x7f"),
-        outside(7, 1, 1, b"\0\0\0\0\0\x01\x02\0\x02a"),
-        inside(7, 1, 1, b"\0\0\0\0\0\x01\x03\0\0\0\0\0\0\0\0\0\0\0\0"),
-        inside(7, 1, 1, b"\0\0\0\0\0\x01\x03\0\0\0\0\0\0\0\x01\0\0\0\0"),
-        inside(
-            7,
-            1,
-            1,
-            b"\0\0\0\0\0\x01\x03\xff\xff\xff\xff\xff\xff\xff\xff\xff\xff\xff\xff",
-        ),
-        outside(7, 1, 1, b"\0\0\0\0\0\x01\x03\0\0\0\0\0\0\0\0\0\0\0\x01"),
-        outside(7, 1, 1, b"\0\0\0\0\0\x01\x04"),
-        outside(7, 1, 1, b"\0\0\0\0\0\0\x01\x01"),
-    ]
-}
+const FIELDS: &[Case] = &[
+    (7, 1, 1, b"\0\0\0\0\0\x01\0\x80\0\0\0\0\0\0\0", true),
+    (
+        7,
+        1,
+        1,
+        b"\0\0\0\0\0\x01\0\x7f\xff\xff\xff\xff\xff\xff\xff",
+        true,
+    ),
+    (7, 1, 1, b"\0\0\0\0\0\x02\x01\0\x01\x01", true),
+    (7, 1, 1, b"\0\0\0\0\0\x01\x01\x02", false),
+    (7, 1, 1, b"\0\0\0\0\0\x01\x02\0\x02 ~", true),
+    (7, 1, 1, b"\0\0\0\0\0\x01\x02\0\x01\x1f", false),
+    (7, 1, 1, b"\0\0\0\0\0\x01\x02\0\x01\x7f", false),
+    (7, 1, 1, b"\0\0\0\0\0\x01\x02\0\x02a", false),
+    (7, 1, 1, b"\0\0\0\0\0\x01\x03\0\0\0\0\0\0\0\0\0\0\0\0", true),
+    (
+        7,
+        1,
+        1,
+        b"\0\0\0\0\0\x01\x03\0\0\0\0\0\0\0\x01\0\0\0\0",
+        true,
+    ),
+    (
+        7,
+        1,
+        1,
+        b"\0\0\0\0\0\x01\x03\xff\xff\xff\xff\xff\xff\xff\xff\xff\xff\xff\xff",
+        true,
+    ),
+    (
+        7,
+        1,
+        1,
+        b"\0\0\0\0\0\x01\x03\0\0\0\0\0\0\0\0\0\0\0\x01",
+        false,
+    ),
+    (7, 1, 1, b"\0\0\0\0\0\x01\x04", false),
+    (7, 1, 1, b"\0\0\0\0\0\0\x01\x01", false),
+];
 
-fn activations_and_entries() -> [Case; 9] {
-    [
-        inside(8, 0, 0, b"\0\0\0\0\0\0\0\0\0"),
-        inside(
-            8,
-            u64::MAX,
-            u64::MAX,
-            b"\xff\xff\xff\xff\xff\xff\xff\xff\x01\x01\x01",
-        ),
-        outside(8, 1, 2, b"\0\0\0\x01\0\0\0\0"),
-        outside(8, 1, 2, b"\0\0\0\x01\0\0\0\0\x02\x01\x01"),
-        inside(9, 0, 0, b"\0\0\0\0\0\0\0\0\0\0\0\0\0\0\0\0"),
-        inside(
-            9,
-            u64::MAX,
-            0,
-            b"\xff\xff\xff\xff\xff\xff\xff\xff\xff\xff\xff\xff\xff\xff\xff\x01\x01\0",
-        ),
-        outside(9, 1, 1, b"\0\0\0\0\0\0\0\x01\0\0\0\x01\0\0\x01\0"),
-        outside(9, 1, 0, b"\0\0\0\0\0\0\0\x01\0\0\0\x01\0\0\x01"),
-        outside(9, 1, 0, b"\0\0\0\0\0\0\0\x01\0\0\0\x01\0\0\x01\0\0"),
-    ]
-}
+const ACTIVATIONS_AND_ENTRIES: &[Case] = &[
+    (8, 0, 0, b"\0\0\0\0\0\0\0\0\0", true),
+    (
+        8,
+        u64::MAX,
+        u64::MAX,
+        b"\xff\xff\xff\xff\xff\xff\xff\xff\x01\x01\x01",
+        true,
+    ),
+    (8, 1, 2, b"\0\0\0\x01\0\0\0\0", false),
+    (8, 1, 2, b"\0\0\0\x01\0\0\0\0\x02\x01\x01", false),
+    (9, 0, 0, b"\0\0\0\0\0\0\0\0\0\0\0\0\0\0\0\0", true),
+    (
+        9,
+        u64::MAX,
+        0,
+        b"\xff\xff\xff\xff\xff\xff\xff\xff\xff\xff\xff\xff\xff\xff\xff\x01\x01\0",
+        true,
+    ),
+    (9, 1, 1, b"\0\0\0\0\0\0\0\x01\0\0\0\x01\0\0\x01\0", false),
+    (9, 1, 0, b"\0\0\0\0\0\0\0\x01\0\0\0\x01\0\0\x01", false),
+    (9, 1, 0, b"\0\0\0\0\0\0\0\x01\0\0\0\x01\0\0\x01\0\0", false),
+];
 
 #[test]
-fn each_kind_at_the_ends_of_its_ranges(rt: HostRuntime) -> Result<(), Fail> {
-    let alloc = rt.alloc();
-    check_all(&rt, alloc, &counters())?;
-    check_all(&rt, alloc, &heads())?;
-    check_all(&rt, alloc, &pieces())?;
-    check_all(&rt, alloc, &objects())?;
-    check_all(&rt, alloc, &fields())?;
-    check_all(&rt, alloc, &activations_and_entries())
+fn each_kind_at_the_ends_of_its_ranges(rt: HostRuntime) {
+    check_all(&rt, rt.alloc(), COUNTERS);
+    check_all(&rt, rt.alloc(), HEADS);
+    check_all(&rt, rt.alloc(), PIECES);
+    check_all(&rt, rt.alloc(), OBJECTS);
+    check_all(&rt, rt.alloc(), FIELDS);
+    check_all(&rt, rt.alloc(), ACTIVATIONS_AND_ENTRIES);
 }
 
 // The bytes of a record: some at the front, and one byte many times behind them.
@@ -266,48 +295,104 @@ fn filled(alloc: Global, front: &[u8], byte: u8, count: usize) -> Result<Vec<u8>
     Ok(bytes)
 }
 
-// Names, texts, pieces and counts of the greatest length, and those longer by one.
-#[test]
-fn the_longest_of_each(rt: HostRuntime) -> Result<(), Fail> {
-    let alloc = rt.alloc();
-    let piece = Key {
-        kind: 3,
-        a: 1,
-        b: 0,
-    };
-    assert!(rt; is_spelling(alloc, piece, &filled(alloc, b"", b'c', 3_968)?)?);
-    assert!(rt; !is_spelling(alloc, piece, &filled(alloc, b"", b'c', 3_969)?)?);
-    let text = b"\0\0\0\0\0\x01\x02\x08\0";
-    assert!(rt; is_spelling(alloc, VECTOR, &filled(alloc, text, b'x', 2_048)?)?);
-    let text = b"\0\0\0\0\0\x01\x02\x08\x01";
-    assert!(rt; !is_spelling(alloc, VECTOR, &filled(alloc, text, b'x', 2_049)?)?);
-    let fields = b"\0\0\0\0\xff\xff";
-    assert!(rt; is_spelling(alloc, VECTOR, &filled(alloc, fields, 1, 131_070)?)?);
-    let activation = Key {
-        kind: 8,
-        a: 1,
-        b: 2,
-    };
-    let args = b"\0\0\0\x01\0\0\0\0\xff";
-    assert!(rt; is_spelling(alloc, activation, &filled(alloc, args, 1, 510)?)?);
-    Ok(())
+// Such bytes, and whether they are a record's.
+struct Long {
+    key: Key,
+    front: &'static [u8],
+    byte: u8,
+    count: usize,
+    is_record: bool,
 }
 
+fn is_long_spelling(alloc: Global, row: &Long) -> Result<bool, AllocError> {
+    let bytes = filled(alloc, row.front, row.byte, row.count)?;
+    is_spelling(alloc, row.key, &bytes)
+}
+
+const PIECE: Key = Key {
+    kind: 3,
+    a: 1,
+    b: 0,
+};
+
+const ACTIVATION: Key = Key {
+    kind: 8,
+    a: 1,
+    b: 2,
+};
+
+// Names, texts, pieces and counts of the greatest length, and those longer by one.
+const LONGEST: &[Long] = &[
+    Long {
+        key: PIECE,
+        front: b"",
+        byte: b'c',
+        count: 3_968,
+        is_record: true,
+    },
+    Long {
+        key: PIECE,
+        front: b"",
+        byte: b'c',
+        count: 3_969,
+        is_record: false,
+    },
+    Long {
+        key: VECTOR,
+        front: b"\0\0\0\0\0\x01\x02\x08\0",
+        byte: b'x',
+        count: 2_048,
+        is_record: true,
+    },
+    Long {
+        key: VECTOR,
+        front: b"\0\0\0\0\0\x01\x02\x08\x01",
+        byte: b'x',
+        count: 2_049,
+        is_record: false,
+    },
+    Long {
+        key: VECTOR,
+        front: b"\0\0\0\0\xff\xff",
+        byte: 1,
+        count: 131_070,
+        is_record: true,
+    },
+    Long {
+        key: ACTIVATION,
+        front: b"\0\0\0\x01\0\0\0\0\xff",
+        byte: 1,
+        count: 510,
+        is_record: true,
+    },
+];
+
 #[test]
-fn names_of_64_bytes(rt: HostRuntime) -> Result<(), Fail> {
-    let cases = [
-        inside(
-            2,
-            1,
-            0,
-            b"\x40aaaaaaaaaaaaaaaaaaaaaaaaaaaaaaaaaaaaaaaaaaaaaaaaaaaaaaaaaaaaaaaa\0\0\0\0\0\0\0\0\0\0",
-        ),
-        outside(
-            2,
-            1,
-            0,
-            b"\x41aaaaaaaaaaaaaaaaaaaaaaaaaaaaaaaaaaaaaaaaaaaaaaaaaaaaaaaaaaaaaaaaa\0\0\0\0\0\0\0\0\0\0",
-        ),
-    ];
-    check_all(&rt, rt.alloc(), &cases)
+fn the_longest_of_each(rt: HostRuntime) {
+    for row in LONGEST {
+        let found = is_long_spelling(rt.alloc(), row);
+        equal(&rt, &(row.count, found), &(row.count, Ok(row.is_record)));
+    }
+}
+
+const NAMES: &[Case] = &[
+    (
+        2,
+        1,
+        0,
+        b"\x40aaaaaaaaaaaaaaaaaaaaaaaaaaaaaaaaaaaaaaaaaaaaaaaaaaaaaaaaaaaaaaaa\0\0\0\0\0\0\0\0\0\0",
+        true,
+    ),
+    (
+        2,
+        1,
+        0,
+        b"\x41aaaaaaaaaaaaaaaaaaaaaaaaaaaaaaaaaaaaaaaaaaaaaaaaaaaaaaaaaaaaaaaaa\0\0\0\0\0\0\0\0\0\0",
+        false,
+    ),
+];
+
+#[test]
+fn names_of_64_bytes(rt: HostRuntime) {
+    check_all(&rt, rt.alloc(), NAMES);
 }

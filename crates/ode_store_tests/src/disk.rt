@@ -5,6 +5,11 @@ use std::alloc::{AllocError, Global};
 /// The ways in which a stop tears what is pending.
 pub const TEARS: [Torn; 4] = [Torn::Nothing, Torn::Whole, Torn::Front(1), Torn::Fill(0xA5)];
 
+// A disk with this image.
+fn planned(alloc: Global, image: &[u8], plan: Plan) -> Result<MemHost, AllocError> {
+    MemHost::new(alloc, image.to_vec(alloc)?, plan)
+}
+
 /// A disk with this image, on which no call fails.
 pub fn smooth(alloc: Global, image: &[u8]) -> Result<MemHost, AllocError> {
     failing(alloc, image, &[])
@@ -12,12 +17,13 @@ pub fn smooth(alloc: Global, image: &[u8]) -> Result<MemHost, AllocError> {
 
 /// A disk with this image, on which the calls of these numbers fail.
 pub fn failing(alloc: Global, image: &[u8], calls: &[u64]) -> Result<MemHost, AllocError> {
+    let disk_fails = calls.to_vec(alloc)?;
     let plan = Plan {
-        disk_fails: calls.to_vec(alloc)?,
+        disk_fails,
         print_fails: Vec::new(alloc),
         stop: None,
     };
-    MemHost::new(alloc, image.to_vec(alloc)?, plan)
+    planned(alloc, image, plan)
 }
 
 /// A disk with this image, which stops at a call.
@@ -27,7 +33,7 @@ pub fn stopping(alloc: Global, image: &[u8], at: u64, torn: Torn) -> Result<MemH
         print_fails: Vec::new(alloc),
         stop: Some((at, torn)),
     };
-    MemHost::new(alloc, image.to_vec(alloc)?, plan)
+    planned(alloc, image, plan)
 }
 
 /// The image with these bytes over those at a place, as far as it reaches.

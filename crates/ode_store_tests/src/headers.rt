@@ -1,12 +1,12 @@
 //! The header of a file is read and changed.
 use crate::disk::{TEARS, failing, patch, smooth, stopping};
+use crate::equal::equal;
 use ode_gate::{
     GateError, Header, SLOT_LEN, change_header, close_slot, fill_slot, open_slot, read_header,
 };
-use ode_host::MemHost;
+use ode_host::{MemHost, Torn};
 use std::alloc::{AllocError, Global};
 use std::process::Abort;
-use std::test::Fail;
 
 // The first slot of a new file: its gate, the name, format 1, layout 1 and generation 1; the body stands at 4,096 and has
 // 64 bytes; the journal begins at 4,160, and its area ends at 33,558,528.
@@ -57,19 +57,38 @@ fn two_slots(alloc: Global, bytes: &[(usize, u8)]) -> Result<Vec<u8>, AllocError
     Ok(image)
 }
 
+// A disk of two slots of which the calls of these numbers fail.
+fn slots_failing(
+    alloc: Global,
+    bytes: &[(usize, u8)],
+    calls: &[u64],
+) -> Result<MemHost, AllocError> {
+    failing(alloc, &two_slots(alloc, bytes)?, calls)
+}
+
+// Whether the bytes behind the slots are as they were.
+fn keeps_rest(host: &MemHost) -> bool {
+    let rest = host.image().get(4096..).unwrap_or_default();
+    for byte in rest {
+        if *byte != b'.' {
+            return false;
+        }
+    }
+    rest.len() == 904
+}
+
+type Read = Result<Header, GateError>;
+
+type Done = Result<(), GateError>;
+
 // Reads the header in a buffer that is full of other bytes.
-fn read(host: &mut MemHost) -> Result<Header, GateError> {
+fn read(host: &mut MemHost) -> Read {
     let mut buffer = [0xA5; SLOT_LEN];
     read_header(host, &mut buffer)
 }
 
-fn read_image(alloc: Global, image: &[u8]) -> Result<Result<Header, GateError>, AllocError> {
-    let mut host = smooth(alloc, image)?;
-    Ok(read(&mut host))
-}
-
 // Changes to a header of slot 0 or 1.
-fn change(host: &mut MemHost, h: &Header) -> Result<(), GateError> {
+fn change(host: &mut MemHost, h: &Header) -> Done {
     if h.slot > 1 {
         return Err(GateError::NoDatabase);
     }
@@ -77,127 +96,137 @@ fn change(host: &mut MemHost, h: &Header) -> Result<(), GateError> {
     change_header(host, h, &mut buffer)
 }
 
-fn bad(at: u64) -> Result<u64, GateError> {
-    Err(GateError::BadHeader { at })
-}
-
-fn newer(found: u32) -> Result<u64, GateError> {
-    Err(GateError::NewerFormat { found })
+fn read_image(alloc: Global, image: &[u8]) -> Result<Read, AllocError> {
+    let mut host = smooth(alloc, image)?;
+    Ok(read(&mut host))
 }
 
 #[test]
-fn an_empty_image_holds_no_database(rt: HostRuntime) -> Result<(), Fail> {
-    assert_eq!(rt; read_image(rt.alloc(), &[])?, Err(GateError::NoDatabase));
-    Ok(())
+fn an_empty_image_holds_no_database(rt: HostRuntime) {
+    let none = Err(GateError::NoDatabase);
+    equal(&rt, &read_image(rt.alloc(), &[]), &Ok(none));
 }
 
 #[test]
-fn the_header_of_a_new_file_is_read(rt: HostRuntime) -> Result<(), Fail> {
-    assert_eq!(rt; read_image(rt.alloc(), SLOT)?, Ok(header(0, 1)));
-    Ok(())
+fn the_header_of_a_new_file_is_read(rt: HostRuntime) {
+    equal(&rt, &read_image(rt.alloc(), SLOT), &Ok(Ok(header(0, 1))));
+}
+
+const NONE: Result<u64, GateError> = Err(GateError::NoDatabase);
+
+const BAD: Result<u64, GateError> = Err(GateError::BadHeader { at: 0 });
+
+const BAD_SECOND: Result<u64, GateError> = Err(GateError::BadHeader { at: 2048 });
+
+const NEWER: Result<u64, GateError> = Err(GateError::NewerFormat { found: 2 });
+
+fn generation(read: Read) -> Result<u64, GateError> {
+    match read {
+        Ok(h) => Ok(h.generation),
+        Err(error) => Err(error),
+    }
 }
 
 // How many bytes of a slot are there, a format, and what is read.
+type Cut = (usize, u8, Result<u64, GateError>);
+
+fn cut(alloc: Global, count: usize, format: u8) -> Result<Cut, AllocError> {
+    let mut image = SLOT.get(..count).unwrap_or_default().to_vec(alloc)?;
+    patch(&mut image, 12, &[format]);
+    Ok((count, format, generation(read_image(alloc, &image)?)))
+}
+
+const CUTS: &[Cut] = &[
+    (0, 1, NONE),
+    (1, 1, BAD),
+    (13, 1, BAD),
+    (56, 1, BAD),
+    (57, 1, Ok(1)),
+    (12, 2, BAD),
+    (13, 2, NEWER),
+    (57, 2, NEWER),
+];
+
 #[test]
-fn a_slot_that_is_cut_is_bad_or_newer(rt: HostRuntime) -> Result<(), Fail> {
-    let alloc = rt.alloc();
-    for (count, format, generation) in [
-        (0, 1, Err(GateError::NoDatabase)),
-        (1, 1, bad(0)),
-        (13, 1, bad(0)),
-        (56, 1, bad(0)),
-        (57, 1, Ok(1)),
-        (12, 2, bad(0)),
-        (13, 2, newer(2)),
-        (57, 2, newer(2)),
-    ] {
-        let mut image: Vec<u8> = SLOT.iter().copied().take(count).collect(alloc)?;
-        patch(&mut image, 12, &[format]);
-        let answer = read_image(alloc, &image)?.map(|h| h.generation);
-        assert_eq!(rt; answer, generation, "{count} bytes of format {format}");
+fn a_slot_that_is_cut_is_bad_or_newer(rt: HostRuntime) {
+    for row in CUTS {
+        equal(&rt, &cut(rt.alloc(), row.0, row.1), &Ok(*row));
     }
-    Ok(())
 }
 
 // Bytes over two open slots of generations 1 and 2, and the generation that counts.
-fn each_reads(
-    rt: &impl Abort,
-    alloc: Global,
-    cases: &[(&[(usize, u8)], Result<u64, GateError>)],
-) -> Result<(), AllocError> {
-    for (bytes, generation) in cases {
-        let image = two_slots(alloc, bytes)?;
-        let answer = read_image(alloc, &image)?.map(|h| h.generation);
-        assert_eq!(rt; answer, *generation, "with {bytes:?}");
+type Slots = (&'static [(usize, u8)], Result<u64, GateError>);
+
+fn slots(alloc: Global, bytes: &'static [(usize, u8)]) -> Result<Slots, AllocError> {
+    let mut host = slots_failing(alloc, bytes, &[])?;
+    Ok((bytes, generation(read(&mut host))))
+}
+
+fn each_reads(rt: &impl Abort, alloc: Global, cases: &[Slots]) {
+    for row in cases {
+        equal(rt, &slots(alloc, row.0), &Ok(*row));
     }
-    Ok(())
 }
 
-#[test]
-fn of_two_slots_the_later_one_counts(rt: HostRuntime) -> Result<(), Fail> {
-    each_reads(
-        &rt,
-        rt.alloc(),
-        &[
-            (&[], Ok(2)),
-            (&[(0, 0)], Ok(2)),
-            (&[(SECOND, 0)], Ok(1)),
-            (&[(SECOND, 0xA4)], Ok(1)),
-            (&[(0, 0), (SECOND, 0)], Err(GateError::NoDatabase)),
-            (&[(24, 3)], Ok(3)),
-            (&[(24, 3), (SECOND + 24, 1)], Ok(1)),
-            (&[(24, 1), (SECOND + 24, 3)], Ok(1)),
-            (&[(24, 2)], bad(0)),
-            (&[(SECOND + 24, 1)], bad(0)),
-        ],
-    )?;
-    Ok(())
-}
+const TWO: &[Slots] = &[
+    (&[], Ok(2)),
+    (&[(0, 0)], Ok(2)),
+    (&[(SECOND, 0)], Ok(1)),
+    (&[(SECOND, 0xA4)], Ok(1)),
+    (&[(0, 0), (SECOND, 0)], NONE),
+    (&[(24, 3)], Ok(3)),
+    (&[(24, 3), (SECOND + 24, 1)], Ok(1)),
+    (&[(24, 1), (SECOND + 24, 3)], Ok(1)),
+    (&[(24, 2)], BAD),
+    (&[(SECOND + 24, 1)], BAD),
+];
 
 #[test]
-fn a_newer_format_comes_before_a_broken_rule(rt: HostRuntime) -> Result<(), Fail> {
-    each_reads(
-        &rt,
-        rt.alloc(),
-        &[
-            (&[(12, 2)], newer(2)),
-            (&[(SECOND + 12, 2)], newer(2)),
-            (&[(12, 3), (SECOND + 12, 2)], newer(3)),
-            (&[(1, b'o'), (SECOND + 12, 2)], newer(2)),
-            (&[(SECOND, 0), (SECOND + 12, 2)], Ok(1)),
-        ],
-    )?;
-    Ok(())
+fn of_two_slots_the_later_one_counts(rt: HostRuntime) {
+    each_reads(&rt, rt.alloc(), TWO);
 }
 
+const NEW: &[Slots] = &[
+    (&[(12, 2)], NEWER),
+    (&[(SECOND + 12, 2)], NEWER),
+    (
+        &[(12, 3), (SECOND + 12, 2)],
+        Err(GateError::NewerFormat { found: 3 }),
+    ),
+    (&[(1, b'o'), (SECOND + 12, 2)], NEWER),
+    (&[(SECOND, 0), (SECOND + 12, 2)], Ok(1)),
+];
+
 #[test]
-fn a_broken_rule_is_a_bad_header_at_its_slot(rt: HostRuntime) -> Result<(), Fail> {
-    each_reads(
-        &rt,
-        rt.alloc(),
-        &[
-            (&[(1, b'o')], bad(0)),
-            (&[(SECOND + 1, b'o')], bad(2048)),
-            (&[(1, b'o'), (SECOND + 1, b'o')], bad(0)),
-            (&[(0, 0), (1, b'o')], Ok(2)),
-            (&[(12, 0)], bad(0)),
-            (&[(16, 0)], bad(0)),
-            (&[(16, 2)], bad(0)),
-            (&[(16, 3)], bad(0)),
-            (&[(24, 0)], bad(0)),
-            (&[(24, 4)], bad(0)),
-            (&[(SECOND + 24, 0)], bad(2048)),
-            (&[(32, 1)], bad(0)),
-            (&[(40, 0x41)], bad(0)),
-            (&[(48, 0x41)], bad(0)),
-            (&[(56, 1)], bad(0)),
-        ],
-    )?;
-    Ok(())
+fn a_newer_format_comes_before_a_broken_rule(rt: HostRuntime) {
+    each_reads(&rt, rt.alloc(), NEW);
+}
+
+const BROKEN: &[Slots] = &[
+    (&[(1, b'o')], BAD),
+    (&[(SECOND + 1, b'o')], BAD_SECOND),
+    (&[(1, b'o'), (SECOND + 1, b'o')], BAD),
+    (&[(0, 0), (1, b'o')], Ok(2)),
+    (&[(12, 0)], BAD),
+    (&[(16, 0)], BAD),
+    (&[(16, 2)], BAD),
+    (&[(16, 3)], BAD),
+    (&[(24, 0)], BAD),
+    (&[(24, 4)], BAD),
+    (&[(SECOND + 24, 0)], BAD_SECOND),
+    (&[(32, 1)], BAD),
+    (&[(40, 0x41)], BAD),
+    (&[(48, 0x41)], BAD),
+    (&[(56, 1)], BAD),
+];
+
+#[test]
+fn a_broken_rule_is_a_bad_header_at_its_slot(rt: HostRuntime) {
+    each_reads(&rt, rt.alloc(), BROKEN);
 }
 
 // Writes a header into slot 0 or 1, whatever it says, and reads it.
-fn write_and_read(host: &mut MemHost, h: &Header) -> Result<Header, GateError> {
+fn write_and_read(host: &mut MemHost, h: &Header) -> Read {
     if h.slot > 1 {
         return Err(GateError::NoDatabase);
     }
@@ -207,22 +236,19 @@ fn write_and_read(host: &mut MemHost, h: &Header) -> Result<Header, GateError> {
     read_header(host, &mut buffer)
 }
 
-fn written(alloc: Global, h: &Header) -> Result<Result<Header, GateError>, AllocError> {
+fn written(alloc: Global, h: &Header) -> Result<Read, AllocError> {
     let mut host = smooth(alloc, &[])?;
     Ok(write_and_read(&mut host, h))
 }
 
-// Closes slot 0 or 1.
-fn close(host: &mut MemHost, slot: u8) -> Result<(), GateError> {
-    if slot > 1 {
-        return Err(GateError::NoDatabase);
+fn each_is_read_back(rt: &impl Abort, alloc: Global, headers: &[Header]) {
+    for h in headers {
+        equal(rt, &written(alloc, h), &Ok(Ok(*h)));
     }
-    close_slot(host, slot)
 }
 
 #[test]
-fn a_header_that_keeps_the_rules_is_read_back(rt: HostRuntime) -> Result<(), Fail> {
-    let alloc = rt.alloc();
+fn a_header_that_keeps_the_rules_is_read_back(rt: HostRuntime) {
     let last = Header {
         body_at: 33_558_528,
         body_len: 33_554_431,
@@ -230,21 +256,29 @@ fn a_header_that_keeps_the_rules_is_read_back(rt: HostRuntime) -> Result<(), Fai
         journal_end: 67_112_960,
         ..header(1, 3)
     };
-    for h in [
+    let headers = [
         header(0, 1),
         header(1, 3),
         last,
         of_pages(0, 0, 0),
         of_pages(1, 1, 4_294_967_295),
-    ] {
-        assert_eq!(rt; written(alloc, &h)?, Ok(h));
+    ];
+    each_is_read_back(&rt, rt.alloc(), &headers);
+}
+
+fn each_is_bad(rt: &impl Abort, alloc: Global, headers: &[Header]) {
+    for h in headers {
+        let at = u64::from(h.slot) * 2048;
+        equal(
+            rt,
+            &written(alloc, h),
+            &Ok(Err(GateError::BadHeader { at })),
+        );
     }
-    Ok(())
 }
 
 #[test]
-fn a_header_past_a_limit_is_bad(rt: HostRuntime) -> Result<(), Fail> {
-    let alloc = rt.alloc();
+fn a_header_past_a_limit_is_bad(rt: HostRuntime) {
     let full = Header {
         body_len: 33_554_432,
         journal_at: 33_558_528,
@@ -254,105 +288,198 @@ fn a_header_past_a_limit_is_bad(rt: HostRuntime) -> Result<(), Fail> {
         journal_end: 33_558_528,
         ..of_pages(1, 0, 1)
     };
-    for h in [full, between, of_pages(1, 0, 4_294_967_296)] {
-        let at = u64::from(h.slot) * 2048;
-        assert_eq!(rt; written(alloc, &h)?, Err(GateError::BadHeader { at }));
+    let headers = [full, between, of_pages(1, 0, 4_294_967_296)];
+    each_is_bad(&rt, rt.alloc(), &headers);
+}
+
+// Closes slot 0 or 1.
+fn close(host: &mut MemHost, slot: u8) -> Done {
+    if slot > 1 {
+        return Err(GateError::NoDatabase);
     }
-    Ok(())
+    close_slot(host, slot)
+}
+
+// A slot, the byte of its gate, and what its closing answers.
+type Closed = (u8, u8, Done);
+
+// On a disk of whose three calls the first reads the gate, and the others fail.
+fn closed(alloc: Global, slot: u8, gate: u8) -> Result<Closed, AllocError> {
+    let gates = [(usize::from(slot) * SECOND, gate)];
+    let mut host = slots_failing(alloc, &gates, &[1, 2])?;
+    Ok((slot, gate, close(&mut host, slot)))
+}
+
+const CLOSED: &[Closed] = &[
+    (0, 0, Ok(())),
+    (1, 0, Ok(())),
+    (0, 0xA4, Ok(())),
+    (1, 0xA4, Ok(())),
+    (0, 0xA5, Err(GateError::DiskFault)),
+    (1, 0xA5, Err(GateError::DiskFault)),
+];
+
+#[test]
+fn a_closed_slot_is_not_written(rt: HostRuntime) {
+    for row in CLOSED {
+        equal(&rt, &closed(rt.alloc(), row.0, row.1), &Ok(*row));
+    }
+}
+
+// Closes a slot that isn't there: what is answered, and whether the image stays.
+fn closed_behind(alloc: Global) -> Result<(Done, bool), AllocError> {
+    let mut host = failing(alloc, SLOT, &[1, 2])?;
+    let done = close(&mut host, 1);
+    Ok((done, host.image() == SLOT.as_slice()))
 }
 
 #[test]
-fn a_closed_slot_is_not_written(rt: HostRuntime) -> Result<(), Fail> {
-    let alloc = rt.alloc();
-    // Of three calls the first reads the gate; the others fail.
-    for (gate, done) in [
-        (0, Ok(())),
-        (0xA4, Ok(())),
-        (0xA5, Err(GateError::DiskFault)),
-    ] {
-        for slot in [0, 1] {
-            let image = two_slots(alloc, &[(usize::from(slot) * SECOND, gate)])?;
-            let mut host = failing(alloc, &image, &[1, 2])?;
-            assert_eq!(rt; close(&mut host, slot), done, "a gate {gate}");
+fn a_slot_that_is_not_there_is_closed(rt: HostRuntime) {
+    equal(&rt, &closed_behind(rt.alloc()), &Ok((Ok(()), true)));
+}
+
+// The bytes over two slots, and the change that may be made then: the old header's slot and generation, and the new one's.
+struct Case {
+    bytes: &'static [(usize, u8)],
+    old: (u8, u64),
+    new: (u8, u64),
+    /// Whether the new header is one of pages.
+    pages: bool,
+}
+
+const CHANGES: &[Case] = &[
+    Case {
+        bytes: &[(0, 0xA5), (SECOND, 0)],
+        old: (0, 1),
+        new: (1, 2),
+        pages: false,
+    },
+    Case {
+        bytes: &[(0, 0), (SECOND, 0xA5)],
+        old: (1, 2),
+        new: (0, 3),
+        pages: true,
+    },
+    Case {
+        bytes: &[(24, 3), (SECOND + 24, 2)],
+        old: (0, 3),
+        new: (1, 1),
+        pages: false,
+    },
+    Case {
+        bytes: &[(24, 1), (SECOND + 24, 2)],
+        old: (1, 2),
+        new: (0, 3),
+        pages: false,
+    },
+];
+
+impl Case {
+    fn old(&self) -> Header {
+        let (slot, generation) = self.old;
+        header(slot, generation)
+    }
+
+    fn new(&self) -> Header {
+        let (slot, generation) = self.new;
+        if self.pages {
+            Header {
+                generation,
+                ..of_pages(slot, 1, 9)
+            }
+        } else {
+            header(slot, generation)
         }
     }
-    Ok(())
+}
+
+// Makes a change: what is read before it, what it answers, what is read behind it, and whether all behind the slots stays.
+fn changed(
+    alloc: Global,
+    bytes: &[(usize, u8)],
+    new: &Header,
+) -> Result<(Read, Done, Read, bool), AllocError> {
+    let mut host = slots_failing(alloc, bytes, &[])?;
+    let before = read(&mut host);
+    let done = change(&mut host, new);
+    let after = read(&mut host);
+    Ok((before, done, after, keeps_rest(&host)))
 }
 
 #[test]
-fn a_slot_that_is_not_there_is_closed(rt: HostRuntime) -> Result<(), Fail> {
-    let alloc = rt.alloc();
-    let mut host = failing(alloc, SLOT, &[1, 2])?;
-    assert_eq!(rt; close(&mut host, 1), Ok(()));
-    assert_eq!(rt; host.image(), SLOT.as_slice());
-    Ok(())
-}
-
-// The bytes over two slots, and the change that may be made then: the old header, and the new one.
-fn changes() -> [(&'static [(usize, u8)], Header, Header); 4] {
-    let pages = Header {
-        generation: 3,
-        ..of_pages(0, 1, 9)
-    };
-    [
-        (&[(0, 0xA5), (SECOND, 0)], header(0, 1), header(1, 2)),
-        (&[(0, 0), (SECOND, 0xA5)], header(1, 2), pages),
-        (&[(24, 3), (SECOND + 24, 2)], header(0, 3), header(1, 1)),
-        (&[(24, 1), (SECOND + 24, 2)], header(1, 2), header(0, 3)),
-    ]
-}
-
-#[test]
-fn a_change_leaves_the_new_header_and_all_behind_the_slots(rt: HostRuntime) -> Result<(), Fail> {
-    let alloc = rt.alloc();
-    for (bytes, old, new) in changes() {
-        let image = two_slots(alloc, bytes)?;
-        let mut host = smooth(alloc, &image)?;
-        assert_eq!(rt; read(&mut host), Ok(old));
-        assert_eq!(rt; change(&mut host, &new), Ok(()));
-        assert_eq!(rt; read(&mut host), Ok(new));
-        assert_eq!(rt; host.image().get(4096..), image.get(4096..));
+fn a_change_leaves_the_new_header_and_all_behind_the_slots(rt: HostRuntime) {
+    for row in CHANGES {
+        let (old, new) = (row.old(), row.new());
+        let found = changed(rt.alloc(), row.bytes, &new);
+        equal(&rt, &found, &Ok((Ok(old), Ok(()), Ok(new), true)));
     }
-    Ok(())
+}
+
+// A change that stops at a call: what it answers, what is read behind it, and whether all behind the slots stays.
+fn stopped(
+    alloc: Global,
+    row: &Case,
+    at: u64,
+    torn: Torn,
+) -> Result<(Done, Read, bool), AllocError> {
+    let image = two_slots(alloc, row.bytes)?;
+    let mut host = stopping(alloc, &image, at, torn)?;
+    let done = change(&mut host, &row.new());
+    let mut left = host.after_stop()?;
+    let counts = read(&mut left);
+    Ok((done, counts, keeps_rest(&left)))
+}
+
+// Whether such a stop leaves the new header, or else the old one where the change isn't answered.
+fn stops_well(alloc: Global, row: &Case, at: u64, torn: Torn) -> Result<bool, AllocError> {
+    let (done, counts, stays) = stopped(alloc, row, at, torn)?;
+    let is_new = counts == Ok(row.new());
+    let is_old = done.is_err() && counts == Ok(row.old());
+    Ok(stays && (is_new || is_old))
+}
+
+fn each_stops_well(rt: &impl Abort, alloc: Global, row: &Case, at: u64) {
+    for torn in &TEARS {
+        let found = stops_well(alloc, row, at, *torn);
+        equal(rt, &(at, *torn, found), &(at, *torn, Ok(true)));
+    }
 }
 
 // A change has seven calls at most: a read of the gate, and three writes with their syncs.
 #[test]
-fn a_stop_leaves_the_old_header_or_the_new(rt: HostRuntime) -> Result<(), Fail> {
-    let alloc = rt.alloc();
-    for (bytes, old, new) in changes() {
-        let image = two_slots(alloc, bytes)?;
+fn a_stop_leaves_the_old_header_or_the_new(rt: HostRuntime) {
+    for row in CHANGES {
         for at in 0..8 {
-            for torn in TEARS {
-                let mut host = stopping(alloc, &image, at, torn)?;
-                let done = change(&mut host, &new);
-                let mut left = host.after_stop()?;
-                let counts = read(&mut left);
-                assert!(rt;
-                    counts == Ok(new) || counts == Ok(old) && done.is_err(),
-                    "a stop at {at}, {torn:?}, leaves {counts:?}"
-                );
-                assert_eq!(rt; left.image().get(4096..), image.get(4096..));
-            }
+            each_stops_well(&rt, rt.alloc(), row, at);
         }
     }
-    Ok(())
+}
+
+// A change, and a read, on a disk of which the call of this number fails.
+fn change_failing(alloc: Global, number: u64) -> Result<Done, AllocError> {
+    let mut host = slots_failing(alloc, &[], &[number])?;
+    Ok(change(&mut host, &header(0, 3)))
+}
+
+fn read_failing(alloc: Global, number: u64) -> Result<Read, AllocError> {
+    let mut host = slots_failing(alloc, &[], &[number])?;
+    Ok(read(&mut host))
 }
 
 #[test]
-fn each_failing_call_is_a_disk_fault(rt: HostRuntime) -> Result<(), Fail> {
-    let alloc = rt.alloc();
-    let image = two_slots(alloc, &[])?;
+fn each_failing_call_of_a_change_is_a_disk_fault(rt: HostRuntime) {
+    let fault = Err(GateError::DiskFault);
     for number in 0..9 {
-        let mut host = failing(alloc, &image, &[number])?;
-        let done = change(&mut host, &header(0, 3));
-        let is_made = done == Ok(());
-        assert!(rt; is_made == (number >= 7), "with call {number}: {done:?}");
-        assert!(rt; is_made || done == Err(GateError::DiskFault), "{done:?}");
+        let expected = if number >= 7 { Ok(()) } else { fault };
+        let done = change_failing(rt.alloc(), number);
+        equal(&rt, &(number, done), &(number, Ok(expected)));
     }
-    let mut host = failing(alloc, &image, &[0])?;
-    assert_eq!(rt; read(&mut host), Err(GateError::DiskFault));
-    let mut host = failing(alloc, &image, &[1])?;
-    assert_eq!(rt; read(&mut host), Err(GateError::DiskFault));
-    Ok(())
+}
+
+#[test]
+fn each_failing_read_is_a_disk_fault(rt: HostRuntime) {
+    for number in 0..2 {
+        let counts = read_failing(rt.alloc(), number);
+        equal(&rt, &counts, &Ok(Err(GateError::DiskFault)));
+    }
 }

@@ -3,9 +3,10 @@ ghost use Rattle.std.specs.Prelude.{◌≤◌, IfOk};
 ghost use Rattle.ode_keep.specs.ShortValues.{HasShortValues};
 
 use crate::disk::{TEARS, failing, smooth, stopping};
+use crate::equal::equal;
 use ode_areas::{Areas, StartError};
 use ode_gate::{SLOT_LEN, read_header};
-use ode_host::{Host, MemHost};
+use ode_host::{Host, MemHost, Torn};
 use ode_keep::{Batch, Keep, KeepError, MAX_CHANGES, MAX_VALUE};
 use ode_value::{Key, List};
 use std::alloc::{AllocError, Global};
@@ -32,24 +33,13 @@ fn key(kind: u8, a: u64) -> Key {
     Key { kind, a, b: 0 }
 }
 
-// The keeper of what stands on a disk, after a sync.
-fn start(alloc: Global, host: &mut MemHost) -> Result<Areas, StartError> {
-    host.sync()?;
-    let Ok(header) = read_header(host, &mut [0; SLOT_LEN]) else {
-        return Err(StartError::DiskFault);
-    };
-    if header.layout != 1 {
-        return Err(StartError::DiskFault);
-    }
-    Areas::start(alloc, host, &header)
-}
-
 // A batch that puts one byte under a key.
 fn putting(alloc: Global, key: Key, byte: u8) -> Result<Batch, AllocError>
     ensures { IfOk result (λ batch. HasShortValues batch) }
 {
+    let value = List::from_slice(alloc, &[byte])?;
     let mut batch = Batch::new(alloc);
-    batch.put(key, List::from_slice(alloc, &[byte])?)?;
+    batch.put(key, value)?;
     Ok(batch)
 }
 
@@ -75,98 +65,169 @@ fn putting_many(alloc: Global, count: u64, size: usize, byte: u8) -> Result<Batc
     Ok(batch)
 }
 
-// Commits a batch, where the keeper may be used and the batch has few enough changes.
-fn commit(keeper: &mut Areas, host: &mut MemHost, batch: &Batch) -> Result<(), KeepError>
-    requires { HasShortValues batch.now }
-{
-    if !Keep::<MemHost>::live(keeper) || batch.len() > 1_024 {
-        return Err(KeepError::DiskFault);
+// The keeper of what stands on a disk, after a sync.
+fn start(alloc: Global, host: &mut MemHost) -> Result<Areas, StartError> {
+    host.sync()?;
+    let Ok(header) = read_header(host, &mut [0; SLOT_LEN]) else {
+        return Err(StartError::DiskFault);
+    };
+    if header.layout != 1 {
+        return Err(StartError::DiskFault);
     }
-    keeper.commit(host, batch)
+    Areas::start(alloc, host, &header)
 }
 
-fn put(
+// A disk and the keeper of what stands on it.
+#[derive(Drop)]
+struct Store {
     alloc: Global,
-    keeper: &mut Areas,
-    host: &mut MemHost,
-    key: Key,
-    byte: u8,
-) -> Result<(), KeepError> {
-    let batch = putting(alloc, key, byte)?;
-    commit(keeper, host, &batch)
+    keeper: Areas,
+    host: MemHost,
 }
 
-fn remove(
-    alloc: Global,
-    keeper: &mut Areas,
-    host: &mut MemHost,
-    key: Key,
-) -> Result<(), KeepError> {
-    let batch = removing(alloc, key)?;
-    commit(keeper, host, &batch)
-}
-
-fn put_many(
-    alloc: Global,
-    keeper: &mut Areas,
-    host: &mut MemHost,
-    byte: u8,
-) -> Result<(), KeepError> {
-    let batch = putting_many(alloc, MAX_CHANGES as u64, MAX_VALUE, byte)?;
-    commit(keeper, host, &batch)
-}
-
-// The first byte of what stands under a key.
-fn first_byte(keeper: &mut Areas, host: &mut MemHost, key: Key) -> Result<Option<u8>, KeepError> {
-    if !Keep::<MemHost>::live(keeper) {
-        return Err(KeepError::DiskFault);
+impl Store {
+    fn on(alloc: Global, mut host: MemHost) -> Result<Store, AllocError> {
+        match start(alloc, &mut host) {
+            Ok(keeper) => Ok(Store {
+                alloc,
+                keeper,
+                host,
+            }),
+            Err(_) => Err(AllocError),
+        }
     }
-    let found = keeper.get(host, key)?;
-    Ok(found.and_then(|value| value.as_slice().first().copied()))
+
+    // A new file, on which no call fails.
+    fn new(alloc: Global) -> Result<Store, AllocError> {
+        Store::on(alloc, smooth(alloc, &new_file(alloc)?)?)
+    }
+
+    // Whether the same file is opened again.
+    fn reopens(&mut self) -> bool {
+        let Ok(host) = smooth(self.alloc, self.host.image()) else {
+            return false;
+        };
+        let Ok(store) = Store::on(self.alloc, host) else {
+            return false;
+        };
+        *self = store;
+        true
+    }
+
+    fn is_live(&self) -> bool {
+        Keep::<MemHost>::live(&self.keeper)
+    }
+
+    // Commits a batch, where the keeper may be used and the batch has few enough changes.
+    fn commit(&mut self, batch: &Batch) -> Result<(), KeepError>
+        requires { HasShortValues batch.now }
+    {
+        if !Keep::<MemHost>::live(&self.keeper) || batch.len() > 1_024 {
+            return Err(KeepError::DiskFault);
+        }
+        self.keeper.commit(&mut self.host, batch)
+    }
+
+    fn put(&mut self, a: u64, byte: u8) -> Result<(), KeepError> {
+        let batch = putting(self.alloc, key(9, a), byte)?;
+        self.commit(&batch)
+    }
+
+    fn remove(&mut self, a: u64) -> Result<(), KeepError> {
+        let batch = removing(self.alloc, key(9, a))?;
+        self.commit(&batch)
+    }
+
+    // 1,024 values of 3,968 bytes.
+    fn put_many(&mut self, byte: u8) -> Result<(), KeepError> {
+        let batch = putting_many(self.alloc, MAX_CHANGES as u64, MAX_VALUE, byte)?;
+        self.commit(&batch)
+    }
+
+    // The first byte of what stands under a key.
+    fn first_byte(&mut self, a: u64) -> Result<Option<u8>, KeepError> {
+        if !Keep::<MemHost>::live(&self.keeper) {
+            return Err(KeepError::DiskFault);
+        }
+        let found = self.keeper.get(&mut self.host, key(9, a))?;
+        Ok(found.and_then(|value| value.as_slice().first().copied()))
+    }
+
+    fn least_from(&mut self, kind: u8, a: u64) -> Result<Option<Key>, KeepError> {
+        if !Keep::<MemHost>::live(&self.keeper) {
+            return Err(KeepError::DiskFault);
+        }
+        self.keeper.keys_from(&mut self.host, key(kind, a))
+    }
+
+    // The first byte of the first value at or above a key.
+    fn first_byte_from(&mut self, kind: u8, a: u64) -> Result<Option<u8>, KeepError> {
+        if !Keep::<MemHost>::live(&self.keeper) {
+            return Err(KeepError::DiskFault);
+        }
+        let found = self.keeper.record_from(&mut self.host, key(kind, a))?;
+        Ok(found.and_then(|record| record.1.as_slice().first().copied()))
+    }
+
+    // The slot and the generation of the header that counts, and where its area starts.
+    fn counting(&mut self) -> Option<(u8, u64, u64)> {
+        match read_header(&mut self.host, &mut [0; SLOT_LEN]) {
+            Ok(header) => Some((header.slot, header.generation, header.body_at)),
+            Err(_) => None,
+        }
+    }
+
+    // Commits batches of many values, whose bytes count up from a number, and says which header counts then.
+    fn filled(&mut self, bytes: Range<u8>) -> Option<(u8, u64, u64)> {
+        for byte in bytes {
+            if self.put_many(byte).is_err() {
+                return None;
+            }
+        }
+        self.counting()
+    }
+
+    // What stands under the first key after its stop, once the file is opened again.
+    fn first_left(self) -> Result<Option<u8>, AllocError> {
+        let Store { alloc, host, .. } = self;
+        first_of(alloc, host.after_stop()?)
+    }
 }
 
-fn least_from(keeper: &mut Areas, host: &mut MemHost, key: Key) -> Result<Option<Key>, KeepError> {
-    if !Keep::<MemHost>::live(keeper) {
-        return Err(KeepError::DiskFault);
+fn first_of(alloc: Global, host: MemHost) -> Result<Option<u8>, AllocError> {
+    let mut store = Store::on(alloc, host)?;
+    match store.first_byte(0) {
+        Ok(found) => Ok(found),
+        Err(_) => Err(AllocError),
     }
-    keeper.keys_from(host, key)
 }
 
 #[test]
 fn a_value_is_put_found_and_removed(rt: HostRuntime) -> Result<(), Fail> {
-    let alloc = rt.alloc();
-    let mut host = smooth(alloc, &new_file(alloc)?)?;
-    let mut keeper = start(alloc, &mut host).map_err(|_| AllocError)?;
-    assert_eq!(rt; first_byte(&mut keeper, &mut host, key(9, 1)), Ok(None));
-    assert_eq!(rt; put(alloc, &mut keeper, &mut host, key(9, 1), 7), Ok(()));
-    assert_eq!(rt; first_byte(&mut keeper, &mut host, key(9, 1)), Ok(Some(7)));
-    assert_eq!(rt;
-        least_from(&mut keeper, &mut host, key(2, 0)),
-        Ok(Some(key(9, 1)))
-    );
-    assert_eq!(rt; least_from(&mut keeper, &mut host, key(9, 2)), Ok(None));
-    assert_eq!(rt; put(alloc, &mut keeper, &mut host, key(9, 1), 8), Ok(()));
-
-    // The same keeper opened again.
-    let mut host = smooth(alloc, host.image())?;
-    let mut keeper = start(alloc, &mut host).map_err(|_| AllocError)?;
-    assert_eq!(rt; first_byte(&mut keeper, &mut host, key(9, 1)), Ok(Some(8)));
-    assert_eq!(rt; remove(alloc, &mut keeper, &mut host, key(9, 1)), Ok(()));
-    assert_eq!(rt; first_byte(&mut keeper, &mut host, key(9, 1)), Ok(None));
-    assert_eq!(rt; least_from(&mut keeper, &mut host, key(2, 0)), Ok(None));
-    assert_eq!(rt;
-        least_from(&mut keeper, &mut host, key(0, 0)),
-        Ok(Some(key(1, 0)))
-    );
-    assert_eq!(rt; host.refused(), 0);
+    let mut store = Store::new(rt.alloc())?;
+    equal(&rt, &store.first_byte(1), &Ok(None));
+    equal(&rt, &store.put(1, 7), &Ok(()));
+    equal(&rt, &store.first_byte(1), &Ok(Some(7)));
+    equal(&rt, &store.least_from(2, 0), &Ok(Some(key(9, 1))));
+    equal(&rt, &store.least_from(9, 2), &Ok(None));
+    equal(&rt, &store.first_byte_from(2, 0), &Ok(Some(7)));
+    equal(&rt, &store.first_byte_from(9, 2), &Ok(None));
     Ok(())
 }
 
-// What stands under a key after a stop, once the file is opened again.
-fn after_stop(alloc: Global, host: MemHost, key: Key) -> Result<Option<u8>, AllocError> {
-    let mut host = host.after_stop()?;
-    let mut keeper = start(alloc, &mut host).map_err(|_| AllocError)?;
-    first_byte(&mut keeper, &mut host, key).map_err(|_| AllocError)
+#[test]
+fn what_is_put_stands_when_the_file_is_opened_again(rt: HostRuntime) -> Result<(), Fail> {
+    let mut store = Store::new(rt.alloc())?;
+    equal(&rt, &store.put(1, 7), &Ok(()));
+    equal(&rt, &store.put(1, 8), &Ok(()));
+    equal(&rt, &store.reopens(), &true);
+    equal(&rt, &store.first_byte(1), &Ok(Some(8)));
+    equal(&rt, &store.remove(1), &Ok(()));
+    equal(&rt, &store.first_byte(1), &Ok(None));
+    equal(&rt, &store.least_from(2, 0), &Ok(None));
+    equal(&rt, &store.least_from(0, 0), &Ok(Some(key(1, 0))));
+    equal(&rt, &store.host.refused(), &0);
+    Ok(())
 }
 
 // What a commit does to an image: the byte that it leaves under the first key.
@@ -183,21 +244,67 @@ impl Step {
         }
     }
 
-    fn commit(
-        &self,
-        alloc: Global,
-        keeper: &mut Areas,
-        host: &mut MemHost,
-    ) -> Result<(), KeepError> {
+    fn commit(&self, store: &mut Store) -> Result<(), KeepError> {
         match self {
-            Step::One(byte) => put(alloc, keeper, host, key(9, 0), *byte),
-            Step::Many(byte) => put_many(alloc, keeper, host, *byte),
+            Step::One(byte) => store.put(0, *byte),
+            Step::Many(byte) => store.put_many(*byte),
         }
     }
 }
 
-// Makes a step on this image with a stop at each of its calls, torn in each way, and answers how many calls it has. Opened
-// again the file has what stood there before, or what the step put.
+// Where a stop comes: before a step begins, at one of its calls, or behind it.
+enum Place {
+    Before,
+    During,
+    Behind,
+}
+
+// A step on this image that stops at a call: what it answers, if it begins, and what stands under the first key behind it.
+fn step_stopped(
+    alloc: Global,
+    image: &[u8],
+    step: Step,
+    at: u64,
+    torn: Torn,
+) -> Result<Option<(Result<(), KeepError>, Option<u8>)>, AllocError> {
+    let host = stopping(alloc, image, at, torn)?;
+    let Ok(mut store) = Store::on(alloc, host) else {
+        return Ok(None);
+    };
+    let answer = step.commit(&mut store);
+    Ok(Some((answer, store.first_left()?)))
+}
+
+// Makes a step on this image with a stop at a call, torn in each way. Opened again the file has what stood there before, or what
+// the step put.
+fn stop_at(
+    rt: &impl Abort,
+    alloc: Global,
+    image: &[u8],
+    step: Step,
+    before: Option<u8>,
+    at: u64,
+) -> Result<Place, AllocError> {
+    let after = Some(step.byte());
+    for torn in &TEARS {
+        let Some((answer, found)) = step_stopped(alloc, image, step, at, *torn)? else {
+            return Ok(Place::Before);
+        };
+        if answer.is_ok() {
+            equal(rt, &(at, found), &(at, after));
+            return Ok(Place::Behind);
+        }
+        let expected = if found == before { before } else { after };
+        equal(
+            rt,
+            &(at, answer, found),
+            &(at, Err(KeepError::DiskFault), expected),
+        );
+    }
+    Ok(Place::During)
+}
+
+// Makes a step with a stop at each of its calls, and answers how many it has.
 fn stop_everywhere(
     rt: &impl Abort,
     alloc: Global,
@@ -206,32 +313,11 @@ fn stop_everywhere(
     before: Option<u8>,
 ) -> Result<u64, AllocError> {
     let mut calls = 0_u64;
-    for at in 0..100_u64 {
-        let mut has_begun = false;
-        for torn in TEARS {
-            let mut host = stopping(alloc, image, at, torn)?;
-            let Ok(mut keeper) = start(alloc, &mut host) else {
-                break;
-            };
-            has_begun = true;
-            let answer = step.commit(alloc, &mut keeper, &mut host);
-            let found = after_stop(alloc, host, key(9, 0))?;
-            if answer.is_ok() {
-                assert_eq!(rt;
-                    found,
-                    Some(step.byte()),
-                    "a stop at {at}, after the commit"
-                );
-                return Ok(calls);
-            }
-            assert_eq!(rt; answer, Err(KeepError::DiskFault), "a stop at {at}");
-            assert!(rt;
-                found == before || found == Some(step.byte()),
-                "a stop at {at}"
-            );
-        }
-        if has_begun {
-            calls = calls.saturating_add(1);
+    for at in 0..100 {
+        match stop_at(rt, alloc, image, step, before, at)? {
+            Place::Before => {}
+            Place::During => calls = calls.saturating_add(1),
+            Place::Behind => return Ok(calls),
         }
     }
     Ok(0)
@@ -240,73 +326,44 @@ fn stop_everywhere(
 // A write and a sync of the frame, a write and a sync of its gate.
 #[test]
 fn a_commit_makes_four_calls_and_outlives_a_stop_at_each(rt: HostRuntime) -> Result<(), Fail> {
-    let alloc = rt.alloc();
-    let calls = stop_everywhere(&rt, alloc, &new_file(alloc)?, Step::One(7), None)?;
-    assert_eq!(rt; calls, 4);
+    let image = new_file(rt.alloc())?;
+    let calls = stop_everywhere(&rt, rt.alloc(), &image, Step::One(7), None);
+    equal(&rt, &calls, &Ok(4));
     Ok(())
+}
+
+// Whether a keeper may be used behind a put, on a disk of which this call fails, just where the put is made.
+fn put_failing(alloc: Global, call: u64) -> Result<bool, AllocError> {
+    let image = new_file(alloc)?;
+    let host = failing(alloc, &image, &[call])?;
+    match Store::on(alloc, host) {
+        Ok(mut store) => Ok(store.put(1, 7).is_ok() == store.is_live()),
+        Err(_) => Ok(true),
+    }
 }
 
 #[test]
-fn a_fault_ends_the_use_of_a_keeper(rt: HostRuntime) -> Result<(), Fail> {
-    let alloc = rt.alloc();
-    let image = new_file(alloc)?;
+fn a_fault_ends_the_use_of_a_keeper(rt: HostRuntime) {
     for call in 0..20_u64 {
-        let mut host = failing(alloc, &image, &[call])?;
-        let Ok(mut keeper) = start(alloc, &mut host) else {
-            continue;
-        };
-        let answer = put(alloc, &mut keeper, &mut host, key(9, 1), 7);
-        let is_live = Keep::<MemHost>::live(&keeper);
-        assert_eq!(rt; is_live, answer.is_ok(), "after a fault at {call}");
-    }
-    Ok(())
-}
-
-// Commits batches of 1,024 values of 3,968 bytes, whose bytes count up from a number.
-fn fill(
-    alloc: Global,
-    keeper: &mut Areas,
-    host: &mut MemHost,
-    bytes: Range<u8>,
-) -> Result<(), AllocError> {
-    for byte in bytes {
-        put_many(alloc, keeper, host, byte).map_err(|_| AllocError)?;
-    }
-    Ok(())
-}
-
-// The slot and the generation of the header that counts, and where its area starts.
-fn counting(host: &mut MemHost) -> Option<(u8, u64, u64)> {
-    match read_header(host, &mut [0; SLOT_LEN]) {
-        Ok(header) => Some((header.slot, header.generation, header.body_at)),
-        Err(_) => None,
+        equal(
+            &rt,
+            &(call, put_failing(rt.alloc(), call)),
+            &(call, Ok(true)),
+        );
     }
 }
 
-// Eight such frames fit the first area. Behind the snapshot in the second one seven do.
+// Eight frames of many values fit the first area. Behind the snapshot in the second one seven do.
 #[test]
 fn records_go_over_to_the_other_area_and_back(rt: HostRuntime) -> Result<(), Fail> {
-    let alloc = rt.alloc();
-    let mut host = smooth(alloc, &new_file(alloc)?)?;
-    let mut keeper = start(alloc, &mut host).map_err(|_| AllocError)?;
-    fill(alloc, &mut keeper, &mut host, 0..8)?;
-    assert_eq!(rt; counting(&mut host), Some((0, 1, 4096)));
-    fill(alloc, &mut keeper, &mut host, 8..15)?;
-    assert_eq!(rt; counting(&mut host), Some((1, 2, 33_558_528)));
-    fill(alloc, &mut keeper, &mut host, 15..17)?;
-    assert_eq!(rt; counting(&mut host), Some((0, 3, 4096)));
-
-    let mut host = smooth(alloc, host.image())?;
-    let mut keeper = start(alloc, &mut host).map_err(|_| AllocError)?;
-    assert_eq!(rt;
-        first_byte(&mut keeper, &mut host, key(9, 1023)),
-        Ok(Some(16))
-    );
-    assert_eq!(rt; least_from(&mut keeper, &mut host, key(9, 1024)), Ok(None));
-    assert_eq!(rt;
-        least_from(&mut keeper, &mut host, key(0, 0)),
-        Ok(Some(key(1, 0)))
-    );
+    let mut store = Store::new(rt.alloc())?;
+    equal(&rt, &store.filled(0..8), &Some((0, 1, 4096)));
+    equal(&rt, &store.filled(8..15), &Some((1, 2, 33_558_528)));
+    equal(&rt, &store.filled(15..17), &Some((0, 3, 4096)));
+    equal(&rt, &store.reopens(), &true);
+    equal(&rt, &store.first_byte(1023), &Ok(Some(16)));
+    equal(&rt, &store.least_from(9, 1024), &Ok(None));
+    equal(&rt, &store.least_from(0, 0), &Ok(Some(key(1, 0))));
     Ok(())
 }
 
@@ -314,11 +371,10 @@ fn records_go_over_to_the_other_area_and_back(rt: HostRuntime) -> Result<(), Fai
 // adds the frame by four calls more.
 #[test]
 fn a_checkpoint_outlives_a_stop_at_each_call(rt: HostRuntime) -> Result<(), Fail> {
-    let alloc = rt.alloc();
-    let mut host = smooth(alloc, &new_file(alloc)?)?;
-    let mut keeper = start(alloc, &mut host).map_err(|_| AllocError)?;
-    fill(alloc, &mut keeper, &mut host, 0..8)?;
-    let calls = stop_everywhere(&rt, alloc, host.image(), Step::Many(8), Some(7))?;
-    assert_eq!(rt; calls, 11);
+    let mut store = Store::new(rt.alloc())?;
+    equal(&rt, &store.filled(0..8), &Some((0, 1, 4096)));
+    let image = store.host.image();
+    let calls = stop_everywhere(&rt, rt.alloc(), image, Step::Many(8), Some(7));
+    equal(&rt, &calls, &Ok(11));
     Ok(())
 }

@@ -4,6 +4,8 @@
 #[cfg(test)]
 mod disk;
 #[cfg(test)]
+mod equal;
+#[cfg(test)]
 mod headers;
 #[cfg(test)]
 mod journals;

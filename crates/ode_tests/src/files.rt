@@ -1,4 +1,4 @@
-//! Files that hold no database of the built forms.
+//! Files that break a rule, and what is said of them.
 use crate::images::{class_file, first_file, patched, three_frames, turned};
 use crate::trial::{FIRST, FIRST_TEXT, new_file, run};
 use ode_host::Status;
@@ -20,6 +20,19 @@ fn is_refused(
     Ok(())
 }
 
+// A run on this image says which rule it breaks, ends as on a bad file, and writes nothing.
+fn is_bad(rt: &impl Abort, alloc: Global, image: &[u8], name: &str) -> Result<(), AllocError> {
+    let ran = run(alloc, image, FIRST)?;
+    assert_eq!(rt; ran.status, Status::BadFile, "the status of {name}");
+    let said = ran.host.text();
+    assert!(rt;
+        said.starts_with(b"bad file ") || said.starts_with(b"newer format "),
+        "what is said of {name}"
+    );
+    assert_eq!(rt; ran.host.image(), image, "what {name} leaves");
+    Ok(())
+}
+
 // Where these bits are turned, the file is refused.
 fn are_bad(
     rt: &impl Abort,
@@ -31,8 +44,37 @@ fn are_bad(
     for place in places {
         let image = turned(alloc, file, *place, bits)?;
         let name = format!(in alloc; "a file with the bits {bits} turned at {place}")?;
-        is_refused(rt, alloc, &image, "bad file\n", name.as_str())?;
+        is_bad(rt, alloc, &image, name.as_str())?;
     }
+    Ok(())
+}
+
+// One change of a new file, and what is then said of it.
+const BROKEN: [(usize, &[u8], &str); 6] = [
+    (0, b"\0", "no database\n"),
+    (1, b"\0", "bad file header 0\n"),
+    (12, b"\x09", "newer format 9\n"),
+    (16, b"\x03", "bad file header 0\n"),
+    (4096, b"\0", "bad file record 0 0 0\n"),
+    (4156, b"\x02", "bad file record 1 0 0\n"),
+];
+
+#[test]
+fn a_refused_file_says_which_rule_it_breaks(rt: HostRuntime) -> Result<(), Fail> {
+    let alloc = rt.alloc();
+    let file = new_file(alloc)?;
+    for (at, bytes, line) in BROKEN {
+        let image = patched(alloc, &file, at, bytes)?;
+        is_refused(&rt, alloc, &image, line, line)?;
+    }
+    let front = file.get(..4100).ok_or("a front")?;
+    is_refused(
+        &rt,
+        alloc,
+        front,
+        "bad file journal 4096\n",
+        "a snapshot that is cut short",
+    )?;
     Ok(())
 }
 
@@ -103,29 +145,30 @@ fn records_with_a_wrong_byte_are_bad(rt: HostRuntime) -> Result<(), Fail> {
     Ok(())
 }
 
-// Texts of a class `P` that is kept with them: the first is right, and of the others one isn't as it is printed, one is no
-// class, one isn't accepted, one has another name, and two aren't built.
-const CLASSES: [&str; 7] = [
-    "class P { int n; }",
+// Texts of a class `P` that is kept with them: two are right, and of the others one isn't as it is printed, one is no class, one
+// isn't accepted, one has another name, one has a trigger that its head doesn't tell, and two aren't built.
+const RIGHT: [&str; 2] = ["class P { int n; }", "class P { event after create; }"];
+
+const WRONG: [&str; 7] = [
     "class P {int n;}",
     "class P { int n }",
     "class P { ref Q n; }",
     "class Q { int n; }",
-    "class P { event after create; }",
+    "class P { trigger t(): after create ==> { } }",
+    "class P { event time every 60; }",
     "class P : P { int n; }",
 ];
 
 #[test]
 fn a_class_whose_text_is_wrong_is_bad(rt: HostRuntime) -> Result<(), Fail> {
     let alloc = rt.alloc();
-    for (number, text) in CLASSES.iter().enumerate() {
+    for text in RIGHT {
+        let ran = run(alloc, &class_file(alloc, text)?, "pnew P();")?;
+        ran.is(&rt, "new #1\ntx 2 committed\n", Status::Ok, text);
+    }
+    for text in WRONG {
         let image = class_file(alloc, text)?;
-        if number == 0 {
-            let ran = run(alloc, &image, "pnew P();")?;
-            ran.is(&rt, "new #1\ntx 2 committed\n", Status::Ok, "a right class");
-        } else {
-            is_refused(&rt, alloc, &image, "bad file\n", text)?;
-        }
+        is_refused(&rt, alloc, &image, "bad file class 1\n", text)?;
     }
     Ok(())
 }
@@ -148,13 +191,7 @@ fn a_journal_that_is_cut_short_is_bad(rt: HostRuntime) -> Result<(), Fail> {
     assert_eq!(rt; file.len(), 4516);
     for length in 4161..4516usize {
         let front = file.get(..length).ok_or("a front")?;
-        is_refused(
-            &rt,
-            alloc,
-            front,
-            "bad file\n",
-            "a journal that is cut short",
-        )?;
+        is_bad(&rt, alloc, front, "a journal that is cut short")?;
     }
     Ok(())
 }
@@ -165,7 +202,7 @@ fn a_file_that_is_cut_short_is_bad(rt: HostRuntime) -> Result<(), Fail> {
     let file = new_file(alloc)?;
     for length in [1, 9, 56, 57, 4095, 4096, 4097, 4159, 4160usize] {
         let front = file.get(..length).ok_or("a front")?;
-        is_refused(&rt, alloc, front, "bad file\n", "a file that is cut short")?;
+        is_bad(&rt, alloc, front, "a file that is cut short")?;
     }
     Ok(())
 }
@@ -177,7 +214,7 @@ fn an_open_gate_behind_the_snapshot_is_bad_and_any_other_is_shut(
     let alloc = rt.alloc();
     let file = new_file(alloc)?;
     let image = patched(alloc, &file, 4160, &[0xA5])?;
-    is_refused(&rt, alloc, &image, "bad file\n", "a file with an open gate")?;
+    is_bad(&rt, alloc, &image, "a file with an open gate")?;
     for gate in [0x01, 0x25, 0xA4, 0xFF] {
         let image = patched(alloc, &file, 4160, &[gate])?;
         let ran = run(alloc, &image, FIRST)?;
@@ -211,13 +248,7 @@ fn of_two_open_slots_one_comes_after_the_other(rt: HostRuntime) -> Result<(), Fa
     }
     for generation in [1, 2, 3] {
         let image = with_slots(alloc, generation, Some(generation))?;
-        is_refused(
-            &rt,
-            alloc,
-            &image,
-            "bad file\n",
-            "two slots of one generation",
-        )?;
+        is_bad(&rt, alloc, &image, "two slots of one generation")?;
     }
     Ok(())
 }
@@ -226,20 +257,8 @@ fn of_two_open_slots_one_comes_after_the_other(rt: HostRuntime) -> Result<(), Fa
 fn a_broken_slot_is_bad_beside_a_good_one(rt: HostRuntime) -> Result<(), Fail> {
     let alloc = rt.alloc();
     let image = patched(alloc, &with_slots(alloc, 1, None)?, 2048, &[0xA5])?;
-    is_refused(
-        &rt,
-        alloc,
-        &image,
-        "bad file\n",
-        "a second slot that is broken",
-    )?;
+    is_bad(&rt, alloc, &image, "a second slot that is broken")?;
     let image = patched(alloc, &with_slots(alloc, 1, Some(2))?, 1, b"o")?;
-    is_refused(
-        &rt,
-        alloc,
-        &image,
-        "bad file\n",
-        "a first slot that is broken",
-    )?;
+    is_bad(&rt, alloc, &image, "a first slot that is broken")?;
     Ok(())
 }

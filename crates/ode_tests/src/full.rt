@@ -84,6 +84,11 @@ fn a_file_with_an_object_too_much_is_bad(rt: HostRuntime) -> Result<(), Fail> {
         "a full database",
     );
     let over = run(alloc, &filled(alloc, MOST + 1)?, "show #2092.a;")?;
-    over.is(&rt, "bad file\n", Status::BadFile, "an object too much");
+    over.is(
+        &rt,
+        "bad file size 8389055\n",
+        Status::BadFile,
+        "an object too much",
+    );
     Ok(())
 }

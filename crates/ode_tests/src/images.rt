@@ -8,13 +8,15 @@ use std::alloc::{AllocError, Global};
 pub struct Numbers {
     pub object: u64,
     pub transaction: u64,
+    pub entry: u64,
 }
 
-/// These numbers come next.
+/// These numbers come next, and nothing was ever queued.
 pub fn next_numbers(object: u64, transaction: u64) -> Numbers {
     Numbers {
         object,
         transaction,
+        entry: 1,
     }
 }
 
@@ -30,7 +32,7 @@ fn put_counters(to: &mut Vec<u8>, next: Numbers) -> Result<(), AllocError> {
     put_key(to, 1, 0, 0, 45)?;
     put_u64(to, next.object)?;
     put_u64(to, next.transaction)?;
-    put_u64(to, 1)?;
+    put_u64(to, next.entry)?;
     to.extend_from_slice(&[0; 21])
 }
 
@@ -181,6 +183,34 @@ fn put_frame(file: &mut Vec<u8>, payload: &[u8]) -> Result<(), AllocError> {
     file.extend_from_slice(payload)?;
     file.push(0)?;
     Ok(())
+}
+
+// The changes that queue an entry of this number: for the first object, and the first trigger of the first class.
+fn queueing(alloc: Global, number: u64) -> Result<Vec<u8>, AllocError> {
+    let mut payload = b"\0\0\0\x01\x01".to_vec(alloc)?;
+    put_key(&mut payload, 9, number, 0, 16)?;
+    put_u64(&mut payload, 1)?;
+    put_u32(&mut payload, 1)?;
+    put_u16(&mut payload, 0)?;
+    // the first generation, and no arguments
+    put_u8(&mut payload, 1)?;
+    put_u8(&mut payload, 0)?;
+    Ok(payload)
+}
+
+/// A file with these counters and so many entries more, numbered from 1 on, each in a frame of its own.
+pub fn queued(
+    alloc: Global,
+    file: &[u8],
+    entries: u64,
+    next: Numbers,
+) -> Result<Vec<u8>, AllocError> {
+    let mut file = file.to_vec(alloc)?;
+    put_frame(&mut file, &counting(alloc, next)?)?;
+    for number in 0..entries {
+        put_frame(&mut file, &queueing(alloc, number + 1)?)?;
+    }
+    Ok(file)
 }
 
 /// A new file with the three frames of the first script.

@@ -5,9 +5,15 @@
 #[cfg(test)]
 mod faults;
 #[cfg(test)]
+mod fields;
+#[cfg(test)]
 mod files;
 #[cfg(test)]
 mod full;
+#[cfg(test)]
+mod full_queue;
+#[cfg(test)]
+mod gates;
 #[cfg(test)]
 mod images;
 #[cfg(test)]
@@ -19,7 +25,11 @@ mod new_files;
 #[cfg(test)]
 mod pickups;
 #[cfg(test)]
+mod queues;
+#[cfg(test)]
 mod stops;
+#[cfg(test)]
+mod stored_triggers;
 #[cfg(test)]
 mod trial;
 #[cfg(test)]

@@ -128,3 +128,101 @@ fn a_transaction_prints_so_much_and_no_more(rt: HostRuntime) -> Result<(), Fail>
     assert_eq!(rt; ran.status, Status::Refused);
     Ok(())
 }
+
+// The place of the next entry's number in a new file, and the last one that an entry may have.
+const NEXT_ENTRY: usize = 4131;
+
+const LAST_ENTRY: [u8; 8] = [0x3F, 0xFF, 0xFF, 0xFF, 0xFF, 0xFF, 0xFF, 0xFF];
+
+// An abort takes the entry of the dependent firing back, so its number is there for the one behind the abort.
+const LAST_DEPENDENT: &str =
+    "class P { void a() { } event after a, after tabort; trigger perpetual dependent d(): after a ==> { } trigger perpetual whole w(): after tabort ==> { } };
+begin; pnew P(); activate #1.d(); activate #1.w(); commit;
+begin; #1.a(); #1.a(); abort;
+begin; #1.a(); abort;
+#1.a();
+";
+
+const LAST_DEPENDENT_TEXT: &str = "class P
+tx 1 committed
+new #1
+active 2
+active 3
+tx 2 committed
+dropped d on #1
+tx 3 aborted asked
+fired w on #1
+tx 4 committed
+dropped d on #1
+dropped w on #1
+tx 5 aborted asked
+dropped d on #1
+tx 6 committed
+";
+
+// The entry of an independent firing stays.
+const LAST_INDEPENDENT: &str =
+    "class P { void a() { } event after a, after tabort; trigger perpetual independent i(): after a ==> { } trigger perpetual whole w(): after tabort ==> { } };
+begin; pnew P(); activate #1.i(); activate #1.w(); commit;
+begin; #1.a(); abort;
+";
+
+const LAST_INDEPENDENT_TEXT: &str = "class P
+tx 1 committed
+new #1
+active 2
+active 3
+tx 2 committed
+dropped w on #1
+tx 3 aborted asked
+fired i on #1
+tx 4 committed
+";
+
+#[test]
+fn a_firing_without_a_number_is_dropped(rt: HostRuntime) -> Result<(), Fail> {
+    let alloc = rt.alloc();
+    let image = patched(alloc, &new_file(alloc)?, NEXT_ENTRY, &LAST_ENTRY)?;
+    for (script, text) in [
+        (LAST_DEPENDENT, LAST_DEPENDENT_TEXT),
+        (LAST_INDEPENDENT, LAST_INDEPENDENT_TEXT),
+    ] {
+        let ran = run(alloc, &image, script)?;
+        ran.is(&rt, text, Status::Ok, "the last entry");
+    }
+    Ok(())
+}
+
+// A transaction with 4,097 firings.
+const FIRES: &str =
+    "class P { void a() { } void ten() { a(); a(); a(); a(); a(); a(); a(); a(); a(); a(); } void hundred() { ten(); ten(); ten(); ten(); ten(); ten(); ten(); ten(); ten(); ten(); } void thousand() { hundred(); hundred(); hundred(); hundred(); hundred(); hundred(); hundred(); hundred(); hundred(); hundred(); } event after a; trigger perpetual dependent t(): after a ==> { } };
+begin; pnew P(); activate #1.t(); commit;
+begin; #1.thousand(); #1.thousand(); #1.thousand(); #1.thousand(); #1.ten(); #1.ten(); #1.ten(); #1.ten(); #1.ten(); #1.ten(); #1.ten(); #1.ten(); #1.ten(); #1.a(); #1.a(); #1.a(); #1.a(); #1.a(); #1.a(); #1.a(); commit;
+";
+
+const FIRINGS: u64 = 4097;
+
+// Of its 1,024 keys the counters have one, and so has the activation.
+const QUEUED: u64 = 1022;
+
+#[test]
+fn of_4097_firings_of_a_transaction_1022_are_queued(rt: HostRuntime) -> Result<(), Fail> {
+    let alloc = rt.alloc();
+    let mut expected = String::from_str(
+        alloc,
+        "class P\ntx 1 committed\nnew #1\nactive 2\ntx 2 committed\n",
+    )?;
+    for _ in QUEUED..FIRINGS {
+        expected.push_str("dropped t on #1\n")?;
+    }
+    expected.push_str("tx 3 committed\n")?;
+    for at in 0..QUEUED {
+        let number = at.saturating_add(4);
+        let line = format!(in alloc; "fired t on #1\ntx {number} committed\n")?;
+        expected.push_str(line.as_str())?;
+    }
+    let ran = run(alloc, &new_file(alloc)?, FIRES)?;
+    assert!(rt; ran.host.text() == expected.as_bytes(), "the text");
+    assert_eq!(rt; ran.status, Status::Ok);
+    Ok(())
+}

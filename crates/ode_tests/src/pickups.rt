@@ -45,6 +45,21 @@ const VERSIONS: &[Step] = &[
     ("show #2.old;\n", "value null\ntx 11 committed\n"),
 ];
 
+const TRIGGERS: &[Step] = &[
+    (
+        "class P { int n; void a() { n = n + 1; } event after a; trigger perpetual whole w(): every 3 (after a) ==> { say \"w\"; } trigger perpetual m(): every 3 (after a) ==> { say \"m\"; } };\n",
+        "class P\ntx 1 committed\n",
+    ),
+    (
+        "begin; pnew P(); activate #1.w(); activate #1.m(); commit;\n",
+        "new #1\nactive 2\nactive 3\ntx 2 committed\n",
+    ),
+    ("begin; #1.a(); #1.a(); abort;\n", "tx 3 aborted asked\n"),
+    ("#1.a();\n", "fired w on #1\nsaid w\ntx 4 committed\n"),
+    ("#1.a();\n", "tx 5 committed\n"),
+    ("#1.a();\n", "fired m on #1\nsaid m\ntx 6 committed\n"),
+];
+
 // The script of these steps.
 fn script_of(alloc: Global, steps: &[Step]) -> Result<String, AllocError> {
     let mut script = String::new(alloc);
@@ -237,6 +252,11 @@ fn transactions_that_are_stopped_anywhere_are_picked_up(rt: HostRuntime) -> Resu
 #[test]
 fn versions_that_are_stopped_anywhere_are_picked_up(rt: HostRuntime) -> Result<(), Fail> {
     stops_are_picked_up(&rt, rt.alloc(), VERSIONS)
+}
+
+#[test]
+fn triggers_that_are_stopped_anywhere_are_picked_up(rt: HostRuntime) -> Result<(), Fail> {
+    stops_are_picked_up(&rt, rt.alloc(), TRIGGERS)
 }
 
 #[test]
