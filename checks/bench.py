@@ -3,7 +3,8 @@
 
 2,000 method calls, each a transaction, on a real file in the folder; beside them the bare protocol, which does nothing but what each
 transaction has to: append a frame, sync, write one byte, sync; and SQLite, where Python has it, in WAL mode with full sync. They take
-turns, and the middle one of five rounds counts.
+turns, and the middle one of five rounds counts. Then the same calls with two triggers on, one of which fires at every third call; and
+with one that queues a firing at each call, which is one more transaction a call.
 
 Then what 100,000 objects cost: the opening of their file, beside SQLite's quick check of as many rows, its memory, and a method call on
 one of them beside one of 100. These files are in memory where they can be, so that syncs don't hide the rest.
@@ -23,6 +24,20 @@ OBJECTS = 100_000
 CLASS = "class Counter { int n; void add(int k) { n = n + k; } };\npnew Counter();\n"
 SCRIPT = "#1.add(1);\n" * CALLS
 
+# Calls with triggers: the class, what begins their watch, and how many transactions a call comes to.
+WATCHED = {
+    "two triggers": (
+        "class Counter { int n; void add(int k) { n = n + k; } event after add; trigger perpetual third(): every 3 (after add) ==> { }"
+        " trigger never(): after add && n < 0 ==> { } };\npnew Counter();\nactivate #1.third();\nactivate #1.never();\n",
+        1,
+    ),
+    "a queued firing": (
+        "class Counter { int n; void add(int k) { n = n + k; } event after add; trigger perpetual dependent each(): after add ==> { } };\n"
+        "pnew Counter();\nactivate #1.each();\n",
+        2,
+    ),
+}
+
 program, folder = os.path.abspath(sys.argv[1]), sys.argv[2]
 os.makedirs(folder, exist_ok=True)
 os.chdir(folder)
@@ -35,22 +50,22 @@ def ode(*words, script=""):
     return ran.stdout.decode()
 
 
-def new_file():
+def new_file(declared=CLASS):
     if os.path.exists("bench.db"):
         os.remove("bench.db")
     ode("init", "bench.db")
-    ode("run", "bench.db", script=CLASS)
+    ode("run", "bench.db", script=declared)
 
 
-def calls():
-    """The program, with its start and the opening of the file."""
-    new_file()
+def calls(declared=CLASS, each=1):
+    """The program, with its start and the opening of the file, for so many transactions a call."""
+    new_file(declared)
     began = time.perf_counter()
     text = ode("run", "bench.db", script=SCRIPT)
     taken = time.perf_counter() - began
-    if text.count("committed") != CALLS:
+    if text.count("committed") != CALLS * each:
         sys.exit("a call was not committed")
-    return taken
+    return taken / each
 
 
 def frame_length():
@@ -154,6 +169,8 @@ def main():
     ways = {"ode": calls, "the bare protocol": lambda: bare(length)}
     if sqlite3:
         ways["SQLite"] = lambda: sqlite(sqlite3)
+    for name, (declared, each) in WATCHED.items():
+        ways[f"ode with {name}"] = lambda declared=declared, each=each: calls(declared, each)
     times = {name: [] for name in ways}
     for _ in range(ROUNDS):
         for name, way in ways.items():
@@ -163,6 +180,8 @@ def main():
     for name, rate in speed.items():
         print(f"  {name}: {rate:,.0f} transactions a second")
     print(f"  ode to the bare protocol: {speed['ode'] / speed['the bare protocol']:.2f} (0.95 is the aim)")
+    for name in WATCHED:
+        print(f"  with {name} to the bare protocol: {speed[f'ode with {name}'] / speed['the bare protocol']:.2f} (0.95 is the aim)")
     if sqlite3:
         print(f"  ode to SQLite: {speed['ode'] / speed['SQLite']:.2f}")
         print("SQLite syncs once a transaction and ode twice, so on a slow disk SQLite is ahead.")

@@ -1,8 +1,9 @@
 #!/usr/bin/env python3
 """Looks whether the documents still say what is there: checks/documents.py
 
-Each name in docs/GLOSSARY.md and docs/MACHINE.md stands in its file, each clause or claim in docs/PROVED.md in its crate, each crate
-of crates.txt in docs/ARCHITECTURE.md, and the README has at most 1,000 words. Prints what doesn't; the status is then 1.
+Each name in docs/GLOSSARY.md and docs/MACHINE.md stands in its file, each clause or claim in docs/PROVED.md in its crate and, where
+a line there begins with a function, at one that it names; each crate of crates.txt stands in docs/ARCHITECTURE.md with the crates that
+it stands on, and the README has at most 1,000 words. Prints what doesn't; the status is then 1.
 """
 
 import glob
@@ -79,6 +80,17 @@ def machine():
             look("docs/MACHINE.md", number, "ode_value", files, quoted(cells[1]))
 
 
+def clauses_in(text):
+    """The clauses of each function of some source, by its name."""
+    found, at = {}, set()
+    for line in text.split("\n"):
+        if start := re.match(r"\s*(?:pub(?:\([a-z]+\))? )?(?:const )?fn (\w+)", line):
+            at = found.setdefault(start[1], set())
+        elif clause := re.match(r"\s*ensures\*? (\w+) \{", line):
+            at.add(clause[1])
+    return found
+
+
 def proved():
     crate = ""
     for number, line in enumerate(document("PROVED"), 1):
@@ -89,18 +101,26 @@ def proved():
         text = read(*glob.glob(f"{TOP}/crates/{crate}/src/**/*.rt", recursive=True)) if crate else ""
         claims = f"{TOP}/crates/{crate}/specs/Claims.antt"
         fields = read(claims) if os.path.isfile(claims) else ""
+        functions = clauses_in(text)
+        named = [name.split("::")[-1] for name in quoted(re.sub(r"\[[^\]]*`[^\]]*\]", "", line))]
+        if not re.match(r"- `", line) or named[0] not in functions:
+            named = functions
+        own = set().union(*(functions.get(name, ()) for name in named), re.findall(r"pub (\w+) :", fields))
         for clauses in re.findall(r"\[([^\]]*`[^\]]*)\]", line):
             for name in quoted(clauses):
-                if not re.search(rf"ensures\*? {name} \{{", text) and not re.search(rf"pub {name} :", fields):
-                    faults.append(f"docs/PROVED.md:{number}: {crate} has no clause {name}")
+                if name not in own:
+                    faults.append(f"docs/PROVED.md:{number}: {crate} has no clause {name} there")
 
 
 def crates():
-    text = "\n".join(document("ARCHITECTURE"))
+    stands = {cells[0]: set(re.findall(r"\w+", cells[1])) for _, cells in rows(document("ARCHITECTURE")) if len(cells) == 3}
     for line in read(f"{TOP}/crates.txt").split("\n"):
-        name = line.split(":")[0].split(" ")[0]
-        if name and not name.startswith("#") and f"| {name} |" not in text:
+        name, _, below = line.partition("#")[0].partition(":")
+        name = name.split(" ")[0]
+        if name and name not in stands:
             faults.append(f"docs/ARCHITECTURE.md: {name} isn't there")
+        elif name and stands[name] - {"and", "the", "kit", "s"} != {it.removeprefix("ode_") for it in below.split()}:
+            faults.append(f"docs/ARCHITECTURE.md: {name} stands on other crates")
 
 
 def readme():

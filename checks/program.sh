@@ -158,6 +158,24 @@ run init long.db < /dev/null
 said 'init refuses a file of 8,193 bytes' 3 $'file exists\n'
 is 'the long file is as it was' cmp long.db <(zeros 8193)
 
+# --- a clock that is set
+
+# the same file, but for the clock: it is set, and stands at second 2, object 3 and place 4
+{
+    cat slot
+    zeros $((4096 - 57))
+    head -c 43 counters
+    printf '\1\0\0\0\0\0\0\0\2\0\0\0\0\0\0\0\3\0\0\0\4'
+    zeros 1
+} > set.db
+cp set.db set.before
+run run set.db < /dev/null
+said 'a file whose clock is set is opened' 0 ''
+is 'it is left as it was' cmp set.db set.before
+run run set.db < declare.ode
+run run set.db < declare.ode
+said 'a class is declared in it' 1 $'refused 1 duplicate P\n'
+
 # --- the examples
 
 # example NAME FILE: the script on this file prints NAME.out; the status is 1 where a statement of it was refused.
@@ -191,13 +209,14 @@ is 'the file of text is as it was' cmp script.db "$examples/first.ode"
 { head -c 12 new.db; printf '\2'; tail -c +14 new.db; } > format.db
 cp format.db format.before
 run run format.db < "$examples/first.ode"
-said 'a broken header is refused' 3 $'bad file\n'
-is 'the file with a broken header is as it was' cmp format.db format.before
+said 'a newer format is refused' 3 $'newer format 2\n'
+is 'the file of a newer format is as it was' cmp format.db format.before
 
 head -c 4160 new.db > cut.db
 cp cut.db cut.before
 run run cut.db < "$examples/first.ode"
-said 'a file that is cut short is refused' 3 $'bad file\n'
+ended 'a file that is cut short is refused' 3
+is 'its journal is told' grep -q '^bad file journal [0-9]*$' text
 is 'the file that is cut short is as it was' cmp cut.db cut.before
 
 # --- wrong words
@@ -357,7 +376,8 @@ if [ -d /dev/shm ] && [ -w /dev/shm ]; then
     printf '\x2C' | dd of=damaged.db bs=1 seek=$((4096 + 18)) conv=notrunc 2> errors
     cp damaged.db damaged.before
     run run damaged.db < declare.ode
-    said 'a damaged record is no want of memory' 3 $'bad file\n'
+    ended 'a damaged record is no want of memory' 3
+    is 'the damaged place is told' grep -q '^bad file journal [0-9]*$' text
     is 'the damaged file is as it was' cmp damaged.db damaged.before
 else
     skip 'a large file: there is no /dev/shm'
@@ -407,8 +427,9 @@ END
     rm -f piece.ode
 
     is '200 random scripts, whole and in two halves' python3 "$here/checks/scripts.py" "$folder/ode" 200
+    is 'the cases, whole and opened again behind each transaction' python3 "$here/checks/cases.py" "$folder/ode"
 else
-    skip 'random scripts: there is no python3'
+    skip 'random scripts, and the cases: there is no python3'
 fi
 
 # --- the calls that the system sees
@@ -434,7 +455,7 @@ in_order() {
         wanted+='pwrite64 fdatasync pwrite64 fdatasync write '
     done
     if [ "$(calls)" != "$wanted" ]; then
-        echo "  $(calls)"
+        echo "  $(calls | head -c 400)"
         return 1
     fi
 }
@@ -463,6 +484,23 @@ if command -v strace > strace.path && strace -o trace true 2> errors; then
         traced "$large/classes.db" -e "$watched" < /dev/null
         is 'a journal of 5,000 transactions is read in blocks' reads_most 24
     fi
+
+    # 4,096 queued actions, of which 2,048 wait at a time, run in as many transactions, each with its two syncs, and in no more.
+    fresh queue.db
+    cat > queue.ode << 'END'
+class P {
+    int n;
+    void a() { }
+    event after a;
+    trigger perpetual dependent t(): after a ==> { if (n < 2047) { n = n + 1; a(); a(); } }
+};
+begin; pnew P(); activate #1.t(); commit;
+begin; #1.a(); #1.a(); commit;
+END
+    traced queue.db -e "$watched" < queue.ode
+    ended 'a run that queues 4,096 actions' 0
+    is 'they run in 4,096 transactions, and in no more' [ "$(tail -n 1 text)" = 'tx 4099 committed' ]
+    is 'two syncs for each of these' in_order 4099
 
     # Behind a sync that failed the next one answers that all is well, so it is never made.
     for number in 1 2 3; do

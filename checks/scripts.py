@@ -15,7 +15,16 @@ CLASSES = """class Item { int n; text name; ref Item next; constraint small: n <
     void add(int k) { n = n + k; } void twice() { add(n); } void link(ref Item to) { next = to; }
     void both(int k) { add(k); next.add(k); } void copy() { let v = newversion this; v.add(2); show v; }
     int sum(int depth) { if (depth <= 0) { return n; } let rest = this.sum(depth - 1); return rest + n; }
-    void check(int k) { if (n > k) { say "too many in " + name; tabort; } else { say "fine"; } } };
+    void check(int k) { if (n > k) { say "too many in " + name; tabort; } else { say "fine"; } }
+    event after add, before twice, after link, after create, before delete, after tbegin, before tcomplete, after tcommit, after tabort;
+    trigger perpetual low(int k): after add && n < k ==> { say "low"; show n; }
+    trigger third(): choose 3 (after add) ==> { twice(); }
+    trigger perpetual whole often(): every 4 (after add or before twice) ==> { say "often"; }
+    trigger perpetual deferred pair(): sequence(after add, after add) ==> { show this; }
+    trigger perpetual dependent later(int k): after add && k > n ==> { say "later"; add(2); }
+    trigger perpetual whole independent kept(ref Item log): prior(before twice, after tabort) ==> { log.add(2); }
+    trigger perpetual gap(): fa(after tbegin, after link, after add) and !before delete ==> { say "linked first"; }
+    trigger once loop(): relative(before twice, after add) ==> { add(-2); } };
 class Bag { bool open; ref Item item; ref Bag outer; void set(ref Item i) { item = i; open = !open; } void fill() { let i = pnew Item(n = 4); item = i; }
     void empty() { pdelete item; item = null; } bool full() { return item != null && item.n > 10; } };
 """
@@ -50,6 +59,12 @@ class Writer:
             return self.new(self.bags, self.random.choice([f"pnew Bag(item = {item});", "pnew Bag();"]))
         if self.random.random() < 0.05:
             return self.new(self.items, f"{bag}.fill();")
+        if self.random.random() < 0.12:
+            self.drawn += 1
+            trigger = self.random.choice(["low(20)", "third()", "often()", "pair()", "later(30)", f"kept({other})", "gap()", "loop()", "low(true)", "none()"])
+            return f"activate {item}.{trigger};"
+        if self.random.random() < 0.04:
+            return f"deactivate {item}, {self.random.randint(1, self.drawn + 2)};"
         return self.random.choice([
             f"{item}.add({n});", f"{item}.add({n});", f"{item}.twice();", f"{item}.link({other});", f"{item}.both({n});", f"{item}.copy();",
             f"show {item}.sum(3);", f"{item}.check({n});", f"{bag}.set({item});", f"{bag}.empty();", f"show {bag}.full();",
