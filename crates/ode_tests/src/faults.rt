@@ -1,48 +1,64 @@
 //! Lines that can't be printed. Runs that the disk, the source or the output cuts are in `pickups`.
-use crate::trial::{FIRST, call, failing, new_file, source};
+use crate::trial::{FIRST, Trial, equal, failing, new_file, run_by};
 use ode_host::Status;
-use std::test::Fail;
+use std::alloc::Global;
+use std::process::Abort;
 
-#[test]
-fn a_refusal_that_cannot_be_printed_is_a_write_fault(rt: HostRuntime) -> Result<(), Fail> {
-    let alloc = rt.alloc();
-    let file = new_file(alloc)?;
-    let mut cut = 0;
-    for number in 0..16 {
-        let script = source(alloc, "x; y;", &[], 4096)?;
-        let plan = failing(alloc, &[], &[number])?;
-        let ran = call(alloc, &["run", "f"], script, &file, plan)?;
-        if ran.status != Status::Refused {
-            let text = ["", "refused 1 syntax 1\n"]
-                .get(cut)
-                .copied()
-                .ok_or("a third print")?;
-            ran.is(
-                &rt,
-                text,
-                Status::WriteFault,
-                "a refusal that cannot be printed",
-            );
-            cut += 1;
-        }
-    }
-    assert_eq!(rt; cut, 2);
-    Ok(())
+// What is run, how it ends where all is printed, and what is printed before each print that fails.
+struct Unprinted {
+    name: &'static str,
+    script: &'static str,
+    whole: Status,
+    texts: &'static [&'static str],
 }
 
-#[test]
-fn a_bad_file_whose_line_cannot_be_printed_is_a_write_fault(rt: HostRuntime) -> Result<(), Fail> {
-    let alloc = rt.alloc();
-    let mut cut = 0u32;
-    for number in 0..16 {
-        let script = source(alloc, FIRST, &[], 4096)?;
-        let plan = failing(alloc, &[], &[number])?;
-        let ran = call(alloc, &["run", "f"], script, &[], plan)?;
-        if ran.status != Status::BadFile {
-            ran.is(&rt, "", Status::WriteFault, "a line that cannot be printed");
+// A run whose print of this number fails.
+fn run_unprinted(
+    rt: &impl Abort,
+    alloc: Global,
+    file: &[u8],
+    row: &Unprinted,
+    number: u64,
+) -> Trial {
+    let plan = failing(rt, alloc, &[], &[number]);
+    run_by(rt, alloc, file, row.script, plan)
+}
+
+// Each print that fails cuts the run.
+fn each_print_cuts(rt: &impl Abort, alloc: Global, file: &[u8], row: &Unprinted) {
+    let mut cut = 0usize;
+    for number in 0..16u64 {
+        let ran = run_unprinted(rt, alloc, file, row, number);
+        if ran.status != row.whole {
+            let text = row.texts.get(cut).copied().unwrap_or("a print more");
+            ran.is(rt, text, Status::WriteFault, row.name);
             cut = cut.saturating_add(1);
         }
     }
-    assert_eq!(rt; cut, 1);
-    Ok(())
+    equal(rt, cut, row.texts.len(), row.name);
+}
+
+static REFUSALS: Unprinted = Unprinted {
+    name: "a refusal that cannot be printed",
+    script: "x; y;",
+    whole: Status::Refused,
+    texts: &["", "refused 1 syntax 1\n"],
+};
+
+#[test]
+fn a_refusal_that_cannot_be_printed_is_a_write_fault(rt: HostRuntime) {
+    let file = new_file(&rt, rt.alloc());
+    each_print_cuts(&rt, rt.alloc(), &file, &REFUSALS);
+}
+
+static BAD_FILE: Unprinted = Unprinted {
+    name: "a line that cannot be printed",
+    script: FIRST,
+    whole: Status::BadFile,
+    texts: &[""],
+};
+
+#[test]
+fn a_bad_file_whose_line_cannot_be_printed_is_a_write_fault(rt: HostRuntime) {
+    each_print_cuts(&rt, rt.alloc(), &[], &BAD_FILE);
 }

@@ -1,56 +1,57 @@
 //! Files that break a rule, and what is said of them.
-use crate::images::{class_file, first_file, patched, three_frames, turned};
-use crate::trial::{FIRST, FIRST_TEXT, new_file, run};
+use crate::images::{class_file, first_file, front, patched, three_frames, turned};
+use crate::trial::{Case, FIRST, FIRST_TEXT, MEMORY, equal, holds, new_file, run, run_case, stays};
 use ode_host::Status;
-use std::alloc::{AllocError, Global};
+use std::alloc::Global;
 use std::process::Abort;
-use std::test::Fail;
 
 // A run on this image prints this line, ends as on a bad file, and writes nothing.
-fn is_refused(
-    rt: &impl Abort,
-    alloc: Global,
-    image: &[u8],
-    line: &str,
-    name: &str,
-) -> Result<(), AllocError> {
-    let ran = run(alloc, image, FIRST)?;
-    ran.is(rt, line, Status::BadFile, name);
-    assert_eq!(rt; ran.host.image(), image, "what {name} leaves");
-    Ok(())
+fn is_refused(rt: &impl Abort, alloc: Global, image: &[u8], line: &str, name: &str) {
+    let case = Case {
+        name,
+        script: FIRST,
+        text: line,
+        status: Status::BadFile,
+    };
+    stays(rt, alloc, image, &case);
+}
+
+// The line of a file that breaks a rule.
+fn is_bad_line(rt: &impl Abort, line: &str, name: &str) {
+    let is_bad = line.starts_with("bad file ") || line.starts_with("newer format ");
+    holds(rt, is_bad, name);
 }
 
 // A run on this image says which rule it breaks, ends as on a bad file, and writes nothing.
-fn is_bad(rt: &impl Abort, alloc: Global, image: &[u8], name: &str) -> Result<(), AllocError> {
-    let ran = run(alloc, image, FIRST)?;
-    assert_eq!(rt; ran.status, Status::BadFile, "the status of {name}");
-    let said = ran.host.text();
-    assert!(rt;
-        said.starts_with(b"bad file ") || said.starts_with(b"newer format "),
-        "what is said of {name}"
-    );
-    assert_eq!(rt; ran.host.image(), image, "what {name} leaves");
-    Ok(())
+fn is_bad(rt: &impl Abort, alloc: Global, image: &[u8], name: &str) {
+    let ran = run(rt, alloc, image, FIRST);
+    is_bad_line(rt, ran.text(), name);
+    equal(rt, ran.status, Status::BadFile, name);
+    ran.leaves(rt, image, name);
 }
 
-// Where these bits are turned, the file is refused.
-fn are_bad(
-    rt: &impl Abort,
-    alloc: Global,
-    file: &[u8],
-    places: &[usize],
-    bits: u8,
-) -> Result<(), AllocError> {
-    for place in places {
-        let image = turned(alloc, file, *place, bits)?;
-        let name = format!(in alloc; "a file with the bits {bits} turned at {place}")?;
-        is_bad(rt, alloc, &image, name.as_str())?;
+// The first and the last of some places, and bits of a byte.
+type Turned = (usize, usize, u8);
+
+fn turned_is_bad(rt: &impl Abort, alloc: Global, file: &[u8], place: usize, bits: u8) {
+    let image = turned(rt, alloc, file, place, bits);
+    let name = format!(in alloc; "a file with the bits {bits} turned at {place}");
+    is_bad(rt, alloc, &image, name.expect(rt, MEMORY).as_str());
+}
+
+// Where these bits are turned at one of these places, the file is refused.
+fn are_bad(rt: &impl Abort, alloc: Global, file: &[u8], rows: &[Turned]) {
+    for (first, last, bits) in rows {
+        for place in *first..=*last {
+            turned_is_bad(rt, alloc, file, place, *bits);
+        }
     }
-    Ok(())
 }
 
 // One change of a new file, and what is then said of it.
-const BROKEN: [(usize, &[u8], &str); 6] = [
+type Broken = (usize, &'static [u8], &'static str);
+
+const BROKEN: [Broken; 6] = [
     (0, b"\0", "no database\n"),
     (1, b"\0", "bad file header 0\n"),
     (12, b"\x09", "newer format 9\n"),
@@ -60,89 +61,86 @@ const BROKEN: [(usize, &[u8], &str); 6] = [
 ];
 
 #[test]
-fn a_refused_file_says_which_rule_it_breaks(rt: HostRuntime) -> Result<(), Fail> {
-    let alloc = rt.alloc();
-    let file = new_file(alloc)?;
-    for (at, bytes, line) in BROKEN {
-        let image = patched(alloc, &file, at, bytes)?;
-        is_refused(&rt, alloc, &image, line, line)?;
+fn a_refused_file_says_which_rule_it_breaks(rt: HostRuntime) {
+    let file = new_file(&rt, rt.alloc());
+    for (at, bytes, line) in &BROKEN {
+        let image = patched(&rt, rt.alloc(), &file, *at, bytes);
+        is_refused(&rt, rt.alloc(), &image, line, line);
     }
-    let front = file.get(..4100).ok_or("a front")?;
-    is_refused(
-        &rt,
-        alloc,
-        front,
-        "bad file journal 4096\n",
-        "a snapshot that is cut short",
-    )?;
-    Ok(())
+    let line = "bad file journal 4096\n";
+    is_refused(&rt, rt.alloc(), front(&file, 4100), line, line);
+}
+
+// A file that holds no database.
+fn is_none(rt: &impl Abort, alloc: Global, image: &[u8], name: &str) {
+    is_refused(rt, alloc, image, "no database\n", name);
 }
 
 #[test]
-fn a_file_without_an_open_slot_holds_no_database(rt: HostRuntime) -> Result<(), Fail> {
-    let alloc = rt.alloc();
-    is_refused(&rt, alloc, &[], "no database\n", "an empty file")?;
-    let zeros = vec![in alloc; 0; 5000]?;
-    is_refused(&rt, alloc, &zeros, "no database\n", "a file of zeros")?;
-    let shut = turned(alloc, &new_file(alloc)?, 0, 0x80)?;
-    is_refused(
-        &rt,
-        alloc,
-        &shut,
-        "no database\n",
-        "a file whose slot is shut",
-    )?;
-    Ok(())
+fn a_file_without_an_open_slot_holds_no_database(rt: HostRuntime) {
+    is_none(&rt, rt.alloc(), &[], "an empty file");
+    let zeros = vec![in rt.alloc(); 0; 5000].expect(&rt, MEMORY);
+    is_none(&rt, rt.alloc(), &zeros, "a file of zeros");
+    let file = new_file(&rt, rt.alloc());
+    let shut = turned(&rt, rt.alloc(), &file, 0, 0x80);
+    is_none(&rt, rt.alloc(), &shut, "a file whose slot is shut");
 }
 
+const HEADER: [Turned; 11] = [
+    (1, 56, 0x80),
+    (1, 1, 0x01),
+    (8, 8, 0x01),
+    (12, 12, 0x01),
+    (16, 16, 0x01),
+    (24, 24, 0x01),
+    (31, 31, 0x01),
+    (32, 32, 0x01),
+    (40, 40, 0x01),
+    (48, 48, 0x01),
+    (56, 56, 0x01),
+];
+
 #[test]
-fn a_header_with_a_wrong_byte_is_bad(rt: HostRuntime) -> Result<(), Fail> {
-    let alloc = rt.alloc();
-    let file = new_file(alloc)?;
-    let places: Vec<usize> = (1..57usize).collect(alloc)?;
-    are_bad(&rt, alloc, &file, &places, 0x80)?;
-    are_bad(
-        &rt,
-        alloc,
-        &file,
-        &[1, 8, 12, 16, 24, 31, 32, 40, 48, 56],
-        0x01,
-    )?;
-    Ok(())
+fn a_header_with_a_wrong_byte_is_bad(rt: HostRuntime) {
+    let file = new_file(&rt, rt.alloc());
+    are_bad(&rt, rt.alloc(), &file, &HEADER);
 }
 
-// Of the counters' record all but the lower bytes of the three numbers.
+// Of the counters' record all but the lower bytes of the three numbers. Behind the first two rows are numbers above their
+// limits, and numbers that are 0.
+const COUNTERS: [Turned; 8] = [
+    (4096, 4115, 0x80),
+    (4139, 4159, 0x80),
+    (4115, 4115, 0x80),
+    (4123, 4123, 0x80),
+    (4131, 4131, 0x80),
+    (4122, 4122, 0x01),
+    (4130, 4130, 0x01),
+    (4138, 4138, 0x01),
+];
+
 #[test]
-fn counters_with_a_wrong_byte_are_bad(rt: HostRuntime) -> Result<(), Fail> {
-    let alloc = rt.alloc();
-    let file = new_file(alloc)?;
-    let front: Vec<usize> = (4096..4116usize).collect(alloc)?;
-    are_bad(&rt, alloc, &file, &front, 0x80)?;
-    let back: Vec<usize> = (4139..4160usize).collect(alloc)?;
-    are_bad(&rt, alloc, &file, &back, 0x80)?;
-    // numbers above their limits, and numbers that are 0
-    are_bad(&rt, alloc, &file, &[4115, 4123, 4131], 0x80)?;
-    are_bad(&rt, alloc, &file, &[4122, 4130, 4138], 0x01)?;
-    Ok(())
+fn counters_with_a_wrong_byte_are_bad(rt: HostRuntime) {
+    let file = new_file(&rt, rt.alloc());
+    are_bad(&rt, rt.alloc(), &file, &COUNTERS);
 }
 
 // The head, the text, the object and the version, up to the number that the version holds. An object's last version number
-// may be greater than the versions that are there.
+// may be greater than the versions that are there. The rows with the lowest bit leave out the field's name in the text, which
+// no other record has, and make the last number 0.
+const RECORDS: [Turned; 5] = [
+    (4160, 4250, 0x80),
+    (4255, 4280, 0x80),
+    (4160, 4223, 0x01),
+    (4225, 4250, 0x01),
+    (4254, 4280, 0x01),
+];
+
 #[test]
-fn records_with_a_wrong_byte_are_bad(rt: HostRuntime) -> Result<(), Fail> {
-    let alloc = rt.alloc();
-    let file = first_file(alloc)?;
-    assert_eq!(rt; file.len(), 4290);
-    let places: Vec<usize> = (4160..4281usize)
-        .filter(|at| *at < 4251 || *at > 4254)
-        .collect(alloc)?;
-    are_bad(&rt, alloc, &file, &places, 0x80)?;
-    // the same, but for the field's name in the text, which no other record has; and the last number as 0
-    let places: Vec<usize> = (4160..4281usize)
-        .filter(|at| *at != 4224 && (*at < 4251 || *at > 4253))
-        .collect(alloc)?;
-    are_bad(&rt, alloc, &file, &places, 0x01)?;
-    Ok(())
+fn records_with_a_wrong_byte_are_bad(rt: HostRuntime) {
+    let file = first_file(&rt, rt.alloc());
+    equal(&rt, file.len(), 4290, "the first script's file");
+    are_bad(&rt, rt.alloc(), &file, &RECORDS);
 }
 
 // Texts of a class `P` that is kept with them: two are right, and of the others one isn't as it is printed, one is no class, one
@@ -159,106 +157,123 @@ const WRONG: [&str; 7] = [
     "class P : P { int n; }",
 ];
 
+fn is_right(rt: &impl Abort, alloc: Global, class: &str) {
+    let case = Case {
+        name: class,
+        script: "pnew P();",
+        text: "new #1\ntx 2 committed\n",
+        status: Status::Ok,
+    };
+    run_case(rt, alloc, &class_file(rt, alloc, class), &case);
+}
+
 #[test]
-fn a_class_whose_text_is_wrong_is_bad(rt: HostRuntime) -> Result<(), Fail> {
-    let alloc = rt.alloc();
-    for text in RIGHT {
-        let ran = run(alloc, &class_file(alloc, text)?, "pnew P();")?;
-        ran.is(&rt, "new #1\ntx 2 committed\n", Status::Ok, text);
+fn a_class_whose_text_is_wrong_is_bad(rt: HostRuntime) {
+    for class in &RIGHT {
+        is_right(&rt, rt.alloc(), class);
     }
-    for text in WRONG {
-        let image = class_file(alloc, text)?;
-        is_refused(&rt, alloc, &image, "bad file class 1\n", text)?;
+    for class in &WRONG {
+        let image = class_file(&rt, rt.alloc(), class);
+        is_refused(&rt, rt.alloc(), &image, "bad file class 1\n", class);
     }
-    Ok(())
 }
 
 // The length, the number of changes, and the first change up to the counters that it puts, which the next frame puts anew.
-#[test]
-fn a_frame_with_a_wrong_byte_is_bad(rt: HostRuntime) -> Result<(), Fail> {
-    let alloc = rt.alloc();
-    let file = three_frames(alloc)?;
-    let places: Vec<usize> = (4161..4189usize).collect(alloc)?;
-    are_bad(&rt, alloc, &file, &places, 0x80)?;
-    are_bad(&rt, alloc, &file, &places, 0x01)?;
-    Ok(())
-}
+const FRAME: [Turned; 2] = [(4161, 4188, 0x80), (4161, 4188, 0x01)];
 
 #[test]
-fn a_journal_that_is_cut_short_is_bad(rt: HostRuntime) -> Result<(), Fail> {
-    let alloc = rt.alloc();
-    let file = three_frames(alloc)?;
-    assert_eq!(rt; file.len(), 4516);
-    for length in 4161..4516usize {
-        let front = file.get(..length).ok_or("a front")?;
-        is_bad(&rt, alloc, front, "a journal that is cut short")?;
-    }
-    Ok(())
+fn a_frame_with_a_wrong_byte_is_bad(rt: HostRuntime) {
+    let file = three_frames(&rt, rt.alloc());
+    are_bad(&rt, rt.alloc(), &file, &FRAME);
 }
 
-#[test]
-fn a_file_that_is_cut_short_is_bad(rt: HostRuntime) -> Result<(), Fail> {
-    let alloc = rt.alloc();
-    let file = new_file(alloc)?;
-    for length in [1, 9, 56, 57, 4095, 4096, 4097, 4159, 4160usize] {
-        let front = file.get(..length).ok_or("a front")?;
-        is_bad(&rt, alloc, front, "a file that is cut short")?;
-    }
-    Ok(())
-}
-
-#[test]
-fn an_open_gate_behind_the_snapshot_is_bad_and_any_other_is_shut(
-    rt: HostRuntime,
-) -> Result<(), Fail> {
-    let alloc = rt.alloc();
-    let file = new_file(alloc)?;
-    let image = patched(alloc, &file, 4160, &[0xA5])?;
-    is_bad(&rt, alloc, &image, "a file with an open gate")?;
-    for gate in [0x01, 0x25, 0xA4, 0xFF] {
-        let image = patched(alloc, &file, 4160, &[gate])?;
-        let ran = run(alloc, &image, FIRST)?;
-        ran.is(&rt, FIRST_TEXT, Status::Ok, "a file with another gate");
-    }
-    Ok(())
-}
-
-// A file of 5,000 bytes with this generation in slot 0, and slot 1 open with the other, or shut.
-fn with_slots(alloc: Global, first: u8, second: Option<u8>) -> Result<Vec<u8>, AllocError> {
-    let mut file = new_file(alloc)?;
-    file.resize(5000, 0)?;
-    let file = patched(alloc, &file, 24, &[first])?;
-    match second {
-        Some(second) => {
-            let slot: Vec<u8> = file.iter().copied().take(57).collect(alloc)?;
-            let file = patched(alloc, &file, 2048, &slot)?;
-            patched(alloc, &file, 2048 + 24, &[second])
+// Cut short to one of these lengths, from the first to the last, the file is refused.
+fn cuts_are_bad(rt: &impl Abort, alloc: Global, file: &[u8], lengths: &[(usize, usize)]) {
+    for (first, last) in lengths {
+        for length in *first..=*last {
+            is_bad(rt, alloc, front(file, length), "a file that is cut short");
         }
-        None => Ok(file),
     }
 }
 
 #[test]
-fn of_two_open_slots_one_comes_after_the_other(rt: HostRuntime) -> Result<(), Fail> {
-    let alloc = rt.alloc();
-    for (first, second) in [(1, 2), (2, 1), (2, 3), (3, 2), (3, 1), (1, 3)] {
-        let image = with_slots(alloc, first, Some(second))?;
-        let ran = run(alloc, &image, FIRST)?;
-        ran.is(&rt, FIRST_TEXT, Status::Ok, "a file with two open slots");
-    }
-    for generation in [1, 2, 3] {
-        let image = with_slots(alloc, generation, Some(generation))?;
-        is_bad(&rt, alloc, &image, "two slots of one generation")?;
-    }
-    Ok(())
+fn a_journal_that_is_cut_short_is_bad(rt: HostRuntime) {
+    let file = three_frames(&rt, rt.alloc());
+    equal(&rt, file.len(), 4516, "the file");
+    cuts_are_bad(&rt, rt.alloc(), &file, &[(4161, 4515)]);
+}
+
+const LENGTHS: [(usize, usize); 5] = [(1, 1), (9, 9), (56, 57), (4095, 4097), (4159, 4160)];
+
+#[test]
+fn a_file_that_is_cut_short_is_bad(rt: HostRuntime) {
+    let file = new_file(&rt, rt.alloc());
+    cuts_are_bad(&rt, rt.alloc(), &file, &LENGTHS);
+}
+
+// A file that the first script runs on.
+fn is_good(rt: &impl Abort, alloc: Global, image: &[u8], name: &str) {
+    let case = Case {
+        name,
+        script: FIRST,
+        text: FIRST_TEXT,
+        status: Status::Ok,
+    };
+    run_case(rt, alloc, image, &case);
+}
+
+// A new file whose gate behind the snapshot reads so.
+fn with_gate(rt: &impl Abort, alloc: Global, gate: u8) -> Vec<u8> {
+    patched(rt, alloc, &new_file(rt, alloc), 4160, &[gate])
 }
 
 #[test]
-fn a_broken_slot_is_bad_beside_a_good_one(rt: HostRuntime) -> Result<(), Fail> {
-    let alloc = rt.alloc();
-    let image = patched(alloc, &with_slots(alloc, 1, None)?, 2048, &[0xA5])?;
-    is_bad(&rt, alloc, &image, "a second slot that is broken")?;
-    let image = patched(alloc, &with_slots(alloc, 1, Some(2))?, 1, b"o")?;
-    is_bad(&rt, alloc, &image, "a first slot that is broken")?;
-    Ok(())
+fn an_open_gate_behind_the_snapshot_is_bad_and_any_other_is_shut(rt: HostRuntime) {
+    let open = with_gate(&rt, rt.alloc(), 0xA5);
+    is_bad(&rt, rt.alloc(), &open, "a file with an open gate");
+    for gate in &[0x01, 0x25, 0xA4, 0xFF] {
+        let shut = with_gate(&rt, rt.alloc(), *gate);
+        is_good(&rt, rt.alloc(), &shut, "a file with another gate");
+    }
+}
+
+// A file of 5,000 bytes with this generation in slot 0. Slot 1 is shut.
+fn one_slot(rt: &impl Abort, alloc: Global, generation: u8) -> Vec<u8> {
+    let mut file = new_file(rt, alloc);
+    file.resize(5000, 0).expect(rt, MEMORY);
+    patched(rt, alloc, &file, 24, &[generation])
+}
+
+// The same, and slot 1 is open with the other generation.
+fn two_slots(rt: &impl Abort, alloc: Global, first: u8, second: u8) -> Vec<u8> {
+    let slot = one_slot(rt, alloc, second);
+    patched(
+        rt,
+        alloc,
+        &one_slot(rt, alloc, first),
+        2048,
+        front(&slot, 57),
+    )
+}
+
+#[test]
+fn of_two_open_slots_one_comes_after_the_other(rt: HostRuntime) {
+    for (first, second) in &[(1, 2), (2, 1), (2, 3), (3, 2), (3, 1), (1, 3)] {
+        let image = two_slots(&rt, rt.alloc(), *first, *second);
+        is_good(&rt, rt.alloc(), &image, "a file with two open slots");
+    }
+    for generation in &[1, 2, 3] {
+        let image = two_slots(&rt, rt.alloc(), *generation, *generation);
+        is_bad(&rt, rt.alloc(), &image, "two slots of one generation");
+    }
+}
+
+#[test]
+fn a_broken_slot_is_bad_beside_a_good_one(rt: HostRuntime) {
+    let one = one_slot(&rt, rt.alloc(), 1);
+    let second = patched(&rt, rt.alloc(), &one, 2048, &[0xA5]);
+    is_bad(&rt, rt.alloc(), &second, "a second slot that is broken");
+    let two = two_slots(&rt, rt.alloc(), 1, 2);
+    let first = patched(&rt, rt.alloc(), &two, 1, b"o");
+    is_bad(&rt, rt.alloc(), &first, "a first slot that is broken");
 }

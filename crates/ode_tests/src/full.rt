@@ -1,28 +1,22 @@
 //! A database that is full.
 use crate::images::filled;
-use crate::trial::run;
+use crate::long::times;
+use crate::trial::{Case, MEMORY, run_case};
 use ode_host::Status;
-use std::alloc::{AllocError, Global};
-use std::test::Fail;
+use std::alloc::Global;
+use std::process::Abort;
 
 // So many objects of 4,010 bytes have room beside the counters, which count 62, and the class, which counts 73. 3,563 bytes are left
 // then of the 8,388,608, and an object with texts of 2,048 and 1,461 bytes takes them.
 const MOST: u64 = 2091;
 
-const LEFT: u32 = 1461;
+const LEFT: u64 = 1461;
 
-// `pnew P` with texts of so many blanks.
-fn making(alloc: Global, first: u32, second: u32) -> Result<String, AllocError> {
-    let mut script = String::from_str(alloc, "pnew P(a = \"")?;
-    for _ in 0..first {
-        script.push_str(" ")?;
-    }
-    script.push_str("\", b = \"")?;
-    for _ in 0..second {
-        script.push_str(" ")?;
-    }
-    script.push_str("\");\n")?;
-    Ok(script)
+// `pnew P` with texts of 2,048 and so many blanks.
+fn making(rt: &impl Abort, alloc: Global, second: u64) -> String {
+    let a = times(rt, alloc, " ", 2048);
+    let b = times(rt, alloc, " ", second);
+    format!(in alloc; "pnew P(a = \"{a}\", b = \"{b}\");\n").expect(rt, MEMORY)
 }
 
 const LAST: &str = "pnew P();
@@ -49,46 +43,52 @@ new #2095
 tx 8 committed
 ";
 
-#[test]
-fn what_has_no_room_aborts(rt: HostRuntime) -> Result<(), Fail> {
-    let alloc = rt.alloc();
-    let file = filled(alloc, MOST)?;
-    let mut script = making(alloc, 2048, LEFT + 1)?;
-    script.push_str(making(alloc, 2048, LEFT)?.as_str())?;
-    script.push_str(LAST)?;
-    let ran = run(alloc, &file, script.as_str())?;
-    ran.is(
-        &rt,
-        LAST_TEXT,
-        Status::Refused,
-        "the last object that has room",
-    );
-    let ran = run(alloc, ran.host.image(), "pnew P(); show #2095.b;")?;
-    ran.is(
-        &rt,
-        "new #2096\ntx 9 committed\nvalue \"b\"\ntx 10 committed\n",
-        Status::Ok,
-        "a run on a full database",
-    );
-    Ok(())
+// An object that is a byte too long, one that has room, and what goes on behind them.
+fn filling(rt: &impl Abort, alloc: Global) -> String {
+    let long = making(rt, alloc, LEFT + 1);
+    let last = making(rt, alloc, LEFT);
+    format!(in alloc; "{long}{last}{LAST}").expect(rt, MEMORY)
 }
 
+static LATER: Case = Case {
+    name: "a run on a full database",
+    script: "pnew P(); show #2095.b;",
+    text: "new #2096\ntx 9 committed\nvalue \"b\"\ntx 10 committed\n",
+    status: Status::Ok,
+};
+
 #[test]
-fn a_file_with_an_object_too_much_is_bad(rt: HostRuntime) -> Result<(), Fail> {
-    let alloc = rt.alloc();
-    let full = run(alloc, &filled(alloc, MOST)?, "show #2091.a == #1.a;")?;
-    full.is(
-        &rt,
-        "value true\ntx 2 committed\n",
-        Status::Ok,
-        "a full database",
-    );
-    let over = run(alloc, &filled(alloc, MOST + 1)?, "show #2092.a;")?;
-    over.is(
-        &rt,
-        "bad file size 8389055\n",
-        Status::BadFile,
-        "an object too much",
-    );
-    Ok(())
+fn what_has_no_room_aborts(rt: HostRuntime) {
+    let script = filling(&rt, rt.alloc());
+    let case = Case {
+        name: "the last object that has room",
+        script: script.as_str(),
+        text: LAST_TEXT,
+        status: Status::Refused,
+    };
+    let file = filled(&rt, rt.alloc(), MOST);
+    let ran = run_case(&rt, rt.alloc(), &file, &case);
+    run_case(&rt, rt.alloc(), ran.host.image(), &LATER);
+}
+
+static FULL: Case = Case {
+    name: "a full database",
+    script: "show #2091.a == #1.a;",
+    text: "value true\ntx 2 committed\n",
+    status: Status::Ok,
+};
+
+static OVER: Case = Case {
+    name: "an object too much",
+    script: "show #2092.a;",
+    text: "bad file size 8389055\n",
+    status: Status::BadFile,
+};
+
+#[test]
+fn a_file_with_an_object_too_much_is_bad(rt: HostRuntime) {
+    let full = filled(&rt, rt.alloc(), MOST);
+    run_case(&rt, rt.alloc(), &full, &FULL);
+    let over = filled(&rt, rt.alloc(), MOST + 1);
+    run_case(&rt, rt.alloc(), &over, &OVER);
 }

@@ -1,9 +1,8 @@
 //! A stop within the write of a gate: what the gate reads then says whether the transaction is there.
-use crate::trial::{calls_of, new_file, run, run_stopped};
+use crate::trial::{Case, calls_of, equal, new_file, run_case, run_stopped, stopped_image};
 use ode_host::{Status, Torn};
-use std::alloc::{AllocError, Global};
+use std::alloc::Global;
 use std::process::Abort;
-use std::test::Fail;
 
 // What an open gate reads.
 const OPEN: u8 = 0xA5;
@@ -24,49 +23,48 @@ const CALLS: u64 = 5;
 
 const GATE_AND_BEHIND: u64 = 3;
 
-// A script that is stopped within its last transaction, and what it printed before. A script behind the stop, and what that
-// prints where the gate is open, and where it is shut.
+// A script that is stopped within its last transaction. A run behind the stop where the gate is open, and one where it is shut.
 struct Stopped {
-    script: &'static str,
-    before: &'static str,
-    later: &'static str,
-    open: &'static str,
-    shut: &'static str,
+    stop: Case<'static>,
+    open: Case<'static>,
+    shut: Case<'static>,
 }
 
 // Where the gate stands: it is the last byte of what there is before the transaction.
-fn gate_of(alloc: Global, file: &[u8], script: &str, calls: u64) -> Result<usize, AllocError> {
+fn gate_of(rt: &impl Abort, alloc: Global, file: &[u8], script: &str, calls: u64) -> usize {
     let at = calls.saturating_sub(CALLS);
-    let ran = run_stopped(alloc, file, script, at, Torn::Nothing)?;
-    let after = ran.host.after_stop()?;
-    Ok(after.image().len().saturating_sub(1))
+    let before = run_stopped(rt, alloc, file, script, at, Torn::Nothing).after_stop(rt, alloc);
+    before.len().saturating_sub(1)
 }
 
-fn is_there_where_its_gate_is_open(
-    rt: &impl Abort,
-    alloc: Global,
-    file: &[u8],
-    stopped: &Stopped,
-) -> Result<(), AllocError> {
-    let calls = calls_of(alloc, file, stopped.script)?;
-    let gate = gate_of(alloc, file, stopped.script, calls)?;
+static IDLE: Case = Case {
+    name: "a further opening",
+    script: "",
+    text: "",
+    status: Status::Ok,
+};
+
+// The run behind the stop goes on as the gate says, and leaves nothing to be done.
+fn goes_on(rt: &impl Abort, alloc: Global, image: &[u8], stopped: &Stopped, gate: u8) {
+    let later = if gate == OPEN {
+        &stopped.open
+    } else {
+        &stopped.shut
+    };
+    let opened = run_case(rt, alloc, image, later);
+    run_case(rt, alloc, opened.host.image(), &IDLE);
+}
+
+fn is_there_where_its_gate_is_open(rt: &impl Abort, alloc: Global, file: &[u8], stopped: &Stopped) {
+    let calls = calls_of(rt, alloc, file, stopped.stop.script);
+    let place = gate_of(rt, alloc, file, stopped.stop.script, calls);
     let at = calls.saturating_sub(GATE_AND_BEHIND);
-    for (torn, byte) in WAYS {
-        let ran = run_stopped(alloc, file, stopped.script, at, torn)?;
-        ran.is(rt, stopped.before, Status::DiskFault, "a stop");
-        let after = ran.host.after_stop()?;
-        assert_eq!(rt; after.image().get(gate).copied(), Some(byte), "{torn:?}");
-        let opened = run(alloc, after.image(), stopped.later)?;
-        let text = if byte == OPEN {
-            stopped.open
-        } else {
-            stopped.shut
-        };
-        opened.is(rt, text, Status::Ok, "the run behind the stop");
-        let again = run(alloc, opened.host.image(), "")?;
-        again.is(rt, "", Status::Ok, "a further opening");
+    for (torn, gate) in &WAYS {
+        let image = stopped_image(rt, alloc, file, &stopped.stop, at, *torn);
+        let found = image.get(place).copied();
+        equal(rt, (*torn, found), (*torn, Some(*gate)), "the gate");
+        goes_on(rt, alloc, &image, stopped, *gate);
     }
-    Ok(())
 }
 
 const ACCOUNT: &str =
@@ -74,40 +72,67 @@ const ACCOUNT: &str =
 begin; pnew Account(owner = \"Ann\"); activate #1.low(100); #1.deposit(150); #1.withdraw(60); commit;
 ";
 
-const ACCOUNT_TEXT: &str =
-    "class Account\ntx 1 committed\nnew #1\nactive 2\nfired low on #1\nsaid low\nvalue 90\ntx 2 committed\n";
+static ACCOUNT_RUN: Case = Case {
+    name: "the account's run",
+    script: ACCOUNT,
+    text: "class Account\ntx 1 committed\nnew #1\nactive 2\nfired low on #1\nsaid low\nvalue 90\ntx 2 committed\n",
+    status: Status::Ok,
+};
 
-const WITHDRAWAL: Stopped = Stopped {
-    script: "#1.withdraw(10);",
-    before: "",
-    later: "show #1.balance;",
-    open: "value 80\ntx 4 committed\n",
-    shut: "value 90\ntx 3 committed\n",
+static WITHDRAWAL: Stopped = Stopped {
+    stop: Case {
+        name: "a stop in a withdrawal",
+        script: "#1.withdraw(10);",
+        text: "",
+        status: Status::DiskFault,
+    },
+    open: Case {
+        name: "the account behind the withdrawal",
+        script: "show #1.balance;",
+        text: "value 80\ntx 4 committed\n",
+        status: Status::Ok,
+    },
+    shut: Case {
+        name: "the account without the withdrawal",
+        script: "show #1.balance;",
+        text: "value 90\ntx 3 committed\n",
+        status: Status::Ok,
+    },
 };
 
 #[test]
-fn a_withdrawal_is_there_where_its_gate_is_open(rt: HostRuntime) -> Result<(), Fail> {
-    let alloc = rt.alloc();
-    let ran = run(alloc, &new_file(alloc)?, ACCOUNT)?;
-    ran.is(&rt, ACCOUNT_TEXT, Status::Ok, "the account's run");
-    is_there_where_its_gate_is_open(&rt, alloc, ran.host.image(), &WITHDRAWAL)?;
-    Ok(())
+fn a_withdrawal_is_there_where_its_gate_is_open(rt: HostRuntime) {
+    let file = new_file(&rt, rt.alloc());
+    let ran = run_case(&rt, rt.alloc(), &file, &ACCOUNT_RUN);
+    is_there_where_its_gate_is_open(&rt, rt.alloc(), ran.host.image(), &WITHDRAWAL);
 }
 
 // The last transaction is the queued action's own.
-const ENTRY: Stopped = Stopped {
-    script: "class P { int n; void a() { n = n + 1; } event after a; trigger dependent d(): after a ==> { say \"d\"; } };
+static ENTRY: Stopped = Stopped {
+    stop: Case {
+        name: "a stop in a queued action",
+        script: "class P { int n; void a() { n = n + 1; } event after a; trigger dependent d(): after a ==> { say \"d\"; } };
 begin; pnew P(); activate #1.d(); commit; #1.a();
 ",
-    before: "class P\ntx 1 committed\nnew #1\nactive 2\ntx 2 committed\ntx 3 committed\n",
-    later: "",
-    open: "",
-    shut: "fired d on #1\nsaid d\ntx 4 committed\n",
+        text: "class P\ntx 1 committed\nnew #1\nactive 2\ntx 2 committed\ntx 3 committed\n",
+        status: Status::DiskFault,
+    },
+    open: Case {
+        name: "an opening behind the queued action",
+        script: "",
+        text: "",
+        status: Status::Ok,
+    },
+    shut: Case {
+        name: "an opening in front of the queued action",
+        script: "",
+        text: "fired d on #1\nsaid d\ntx 4 committed\n",
+        status: Status::Ok,
+    },
 };
 
 #[test]
-fn a_queued_action_runs_again_where_its_gate_is_shut(rt: HostRuntime) -> Result<(), Fail> {
-    let alloc = rt.alloc();
-    is_there_where_its_gate_is_open(&rt, alloc, &new_file(alloc)?, &ENTRY)?;
-    Ok(())
+fn a_queued_action_runs_again_where_its_gate_is_shut(rt: HostRuntime) {
+    let file = new_file(&rt, rt.alloc());
+    is_there_where_its_gate_is_open(&rt, rt.alloc(), &file, &ENTRY);
 }

@@ -1,7 +1,7 @@
 //! Images of files, made by hand.
-use crate::trial::new_file;
-use ode_host::{put_i64, put_u8, put_u16, put_u32, put_u64};
-use std::alloc::{AllocError, Global};
+use crate::trial::{MEMORY, bytes_of, new_file};
+use std::alloc::Global;
+use std::process::Abort;
 
 /// The numbers that come next.
 #[derive(Clone, Copy)]
@@ -20,229 +20,267 @@ pub fn next_numbers(object: u64, transaction: u64) -> Numbers {
     }
 }
 
-// A record's key, and the length of its value.
-fn put_key(to: &mut Vec<u8>, kind: u8, a: u64, b: u64, length: u16) -> Result<(), AllocError> {
-    put_u8(to, kind)?;
-    put_u64(to, a)?;
-    put_u64(to, b)?;
-    put_u16(to, length)
+/// A record of a file. All objects are of the first class.
+#[derive(Clone, Copy)]
+pub enum Record<'a> {
+    /// The counters.
+    Counters(Numbers),
+    /// The head of a class `P` with this text, of less than 256 bytes.
+    Head(&'a str),
+    /// The text.
+    Text(&'a str),
+    /// An object.
+    Object(u64),
+    /// Its first version, which holds 5.
+    Version(u64),
+    /// Its first version, whose value is as long as one may be: of 3,968 bytes, with texts of 2,048 and 1,908 blanks.
+    Longest(u64),
+    /// A queued entry of this number: for the first object, and the first trigger of the first class. It is of the first
+    /// generation, and has no arguments.
+    Entry(u64),
 }
 
-fn put_counters(to: &mut Vec<u8>, next: Numbers) -> Result<(), AllocError> {
-    put_key(to, 1, 0, 0, 45)?;
-    put_u64(to, next.object)?;
-    put_u64(to, next.transaction)?;
-    put_u64(to, next.entry)?;
-    to.extend_from_slice(&[0; 21])
+// In how many bytes a number stands, at most eight, and the number.
+type Number = (usize, u64);
+
+// Appends these numbers, each with its highest byte first.
+fn put_numbers(rt: &impl Abort, to: &mut Vec<u8>, numbers: &[Number]) {
+    for (width, number) in numbers {
+        let bytes = number.to_be_bytes();
+        let lower = bytes.get(8usize.saturating_sub(*width)..).unwrap_or(&[]);
+        to.extend_from_slice(lower).expect(rt, MEMORY);
+    }
+}
+
+// A record's key, and the length of its value.
+fn put_key(rt: &impl Abort, to: &mut Vec<u8>, kind: u64, a: u64, b: u64, length: u64) {
+    put_numbers(rt, to, &[(1, kind), (8, a), (8, b), (2, length)]);
+}
+
+fn put_counters(rt: &impl Abort, to: &mut Vec<u8>, next: &Numbers) {
+    put_key(rt, to, 1, 0, 0, 45);
+    let Numbers {
+        object,
+        transaction,
+        entry,
+    } = *next;
+    put_numbers(
+        rt,
+        to,
+        &[
+            (8, object),
+            (8, transaction),
+            (8, entry),
+            (8, 0),
+            (8, 0),
+            (5, 0),
+        ],
+    );
+}
+
+fn put_text(rt: &impl Abort, to: &mut Vec<u8>, text: &str) {
+    put_key(rt, to, 3, 1, 0, text.len() as u64);
+    to.extend_from_slice(text.as_bytes()).expect(rt, MEMORY);
+}
+
+// A field that holds a text of so many blanks.
+fn put_blanks(rt: &impl Abort, to: &mut Vec<u8>, count: u16) {
+    put_numbers(rt, to, &[(1, 2), (2, u64::from(count))]);
+    let length = to.len().saturating_add(usize::from(count));
+    to.resize(length, b' ').expect(rt, MEMORY);
+}
+
+fn put_longest(rt: &impl Abort, to: &mut Vec<u8>, id: u64) {
+    put_key(rt, to, 7, id, 1, 3968);
+    put_numbers(rt, to, &[(4, 0), (2, 2)]);
+    put_blanks(rt, to, 2048);
+    put_blanks(rt, to, 1908);
+}
+
+// The name of the class is one byte.
+fn put_record(rt: &impl Abort, to: &mut Vec<u8>, record: &Record) {
+    match record {
+        Record::Counters(next) => put_counters(rt, to, next),
+        Record::Head(text) => {
+            put_key(rt, to, 2, 1, 0, 12);
+            let name = u64::from(b'P');
+            put_numbers(
+                rt,
+                to,
+                &[(1, 1), (1, name), (7, 0), (1, text.len() as u64), (2, 0)],
+            );
+        }
+        Record::Text(text) => put_text(rt, to, text),
+        Record::Object(id) => {
+            put_key(rt, to, 6, *id, 0, 8);
+            put_numbers(rt, to, &[(4, 1), (4, 1)]);
+        }
+        Record::Version(id) => {
+            put_key(rt, to, 7, *id, 1, 15);
+            put_numbers(rt, to, &[(4, 0), (2, 1), (1, 0), (8, 5)]);
+        }
+        Record::Longest(id) => put_longest(rt, to, *id),
+        Record::Entry(number) => {
+            put_key(rt, to, 9, *number, 0, 16);
+            put_numbers(rt, to, &[(8, 1), (4, 1), (2, 0), (1, 1), (1, 0)]);
+        }
+    }
+}
+
+// The records of a snapshot.
+fn body_of(rt: &impl Abort, alloc: Global, records: &[Record]) -> Vec<u8> {
+    let mut body = Vec::new(alloc);
+    for record in records {
+        put_record(rt, &mut body, record);
+    }
+    body
+}
+
+// A file with this snapshot in its first area, and an empty journal. The numbers of the snapshot and of the areas stand behind
+// the first 33 bytes.
+fn file_of(rt: &impl Abort, alloc: Global, body: &[u8]) -> Vec<u8> {
+    let mut file = new_file(rt, alloc);
+    file.truncate(33);
+    let length = body.len() as u64;
+    put_numbers(
+        rt,
+        &mut file,
+        &[
+            (8, length),
+            (8, length.saturating_add(4096)),
+            (8, 33_558_528),
+        ],
+    );
+    file.resize(4096, 0).expect(rt, MEMORY);
+    file.extend_from_slice(body).expect(rt, MEMORY);
+    file.push(0).expect(rt, MEMORY);
+    file
 }
 
 // The text of the first script's class.
 const CLASS: &str = "class P { int n; }";
 
-// The head of a class `P` with this text, of less than 256 bytes.
-fn put_head(to: &mut Vec<u8>, text: &str) -> Result<(), AllocError> {
-    put_key(to, 2, 1, 0, 12)?;
-    to.extend_from_slice(b"\x01P\0\0\0\0\0\0\0")?;
-    put_u8(to, text.len().min(255) as u8)?;
-    put_u16(to, 0)
-}
-
-// The text.
-fn put_text(to: &mut Vec<u8>, text: &str) -> Result<(), AllocError> {
-    put_key(to, 3, 1, 0, text.len().min(255) as u16)?;
-    to.extend_from_slice(text.as_bytes())
-}
-
-// An object of the first class.
-fn put_object(to: &mut Vec<u8>, id: u64) -> Result<(), AllocError> {
-    put_key(to, 6, id, 0, 8)?;
-    put_u32(to, 1)?;
-    put_u32(to, 1)
-}
-
-// Its first version, which holds 5.
-fn put_version(to: &mut Vec<u8>, id: u64) -> Result<(), AllocError> {
-    put_key(to, 7, id, 1, 15)?;
-    put_u32(to, 0)?;
-    put_u16(to, 1)?;
-    put_u8(to, 0)?;
-    put_i64(to, 5)
-}
-
-// The snapshot of the first script's class and one object of it.
-fn snapshot(alloc: Global, next: Numbers) -> Result<Vec<u8>, AllocError> {
-    let mut body = Vec::new(alloc);
-    put_counters(&mut body, next)?;
-    put_head(&mut body, CLASS)?;
-    put_text(&mut body, CLASS)?;
-    put_object(&mut body, 1)?;
-    put_version(&mut body, 1)?;
-    Ok(body)
-}
-
-// A file with this snapshot in its first area, and an empty journal.
-fn file_of(alloc: Global, body: &[u8]) -> Result<Vec<u8>, AllocError> {
-    let length = body.len() as u64;
-    let mut file: Vec<u8> = new_file(alloc)?.iter().copied().take(33).collect(alloc)?;
-    put_u64(&mut file, length)?;
-    put_u64(&mut file, length.saturating_add(4096))?;
-    put_u64(&mut file, 33_558_528)?;
-    file.resize(4096, 0)?;
-    file.extend_from_slice(body)?;
-    file.push(0)?;
-    Ok(file)
-}
-
 /// A file whose snapshot has the first script's class, one object of it, and these counters. Its journal is empty.
-pub fn file_with(alloc: Global, next: Numbers) -> Result<Vec<u8>, AllocError> {
-    file_of(alloc, &snapshot(alloc, next)?)
+pub fn file_with(rt: &impl Abort, alloc: Global, next: Numbers) -> Vec<u8> {
+    let records = [
+        Record::Counters(next),
+        Record::Head(CLASS),
+        Record::Text(CLASS),
+        Record::Object(1),
+        Record::Version(1),
+    ];
+    file_of(rt, alloc, &body_of(rt, alloc, &records))
+}
+
+/// A file whose snapshot has what the first script leaves.
+pub fn first_file(rt: &impl Abort, alloc: Global) -> Vec<u8> {
+    file_with(rt, alloc, next_numbers(2, 4))
 }
 
 /// A file whose snapshot has a class `P` with this text.
-pub fn class_file(alloc: Global, text: &str) -> Result<Vec<u8>, AllocError> {
-    let mut body = Vec::new(alloc);
-    put_counters(&mut body, next_numbers(1, 2))?;
-    put_head(&mut body, text)?;
-    put_text(&mut body, text)?;
-    file_of(alloc, &body)
+pub fn class_file(rt: &impl Abort, alloc: Global, text: &str) -> Vec<u8> {
+    let counters = Record::Counters(next_numbers(1, 2));
+    let body = body_of(
+        rt,
+        alloc,
+        &[counters, Record::Head(text), Record::Text(text)],
+    );
+    file_of(rt, alloc, &body)
 }
 
 // A class of two texts.
 const TEXTS: &str = "class P { text a; text b; }";
 
-// A version whose value is as long as one may be: of 3,968 bytes, with texts of 2,048 and 1,908 blanks.
-fn put_longest(to: &mut Vec<u8>, id: u64) -> Result<(), AllocError> {
-    put_key(to, 7, id, 1, 3968)?;
-    put_u32(to, 0)?;
-    put_u16(to, 2)?;
-    put_u8(to, 2)?;
-    put_u16(to, 2048)?;
-    to.extend_from_slice(&[b' '; 2048])?;
-    put_u8(to, 2)?;
-    put_u16(to, 1908)?;
-    to.extend_from_slice(&[b' '; 1908])
-}
-
 /// A file whose snapshot has a class of two texts, and so many of its longest objects, behind one transaction.
-pub fn filled(alloc: Global, objects: u64) -> Result<Vec<u8>, AllocError> {
-    let mut body = Vec::new(alloc);
-    put_counters(&mut body, next_numbers(objects.saturating_add(1), 2))?;
-    put_head(&mut body, TEXTS)?;
-    put_text(&mut body, TEXTS)?;
-    for id in 0..objects {
-        put_object(&mut body, id + 1)?;
+pub fn filled(rt: &impl Abort, alloc: Global, objects: u64) -> Vec<u8> {
+    let counters = Record::Counters(next_numbers(objects.saturating_add(1), 2));
+    let mut body = body_of(
+        rt,
+        alloc,
+        &[counters, Record::Head(TEXTS), Record::Text(TEXTS)],
+    );
+    for at in 0..objects {
+        put_record(rt, &mut body, &Record::Object(at + 1));
     }
-    for id in 0..objects {
-        put_longest(&mut body, id + 1)?;
+    for at in 0..objects {
+        put_record(rt, &mut body, &Record::Longest(at + 1));
     }
-    file_of(alloc, &body)
+    file_of(rt, alloc, &body)
 }
 
-/// A file whose snapshot has what the first script leaves.
-pub fn first_file(alloc: Global) -> Result<Vec<u8>, AllocError> {
-    file_with(alloc, next_numbers(2, 4))
+// The changes of a transaction that puts these records.
+fn payload_of(rt: &impl Abort, alloc: Global, records: &[Record]) -> Vec<u8> {
+    let mut payload = Vec::new(alloc);
+    put_numbers(rt, &mut payload, &[(4, records.len() as u64)]);
+    for record in records {
+        put_numbers(rt, &mut payload, &[(1, 1)]);
+        put_record(rt, &mut payload, record);
+    }
+    payload
 }
 
-// What each change that puts a record begins with.
-const PUT: u8 = 1;
-
-// The changes of a transaction that declares the class.
-fn declaring(alloc: Global, next: Numbers) -> Result<Vec<u8>, AllocError> {
-    let mut payload = b"\0\0\0\x03\x01".to_vec(alloc)?;
-    put_counters(&mut payload, next)?;
-    payload.push(PUT)?;
-    put_head(&mut payload, CLASS)?;
-    payload.push(PUT)?;
-    put_text(&mut payload, CLASS)?;
-    Ok(payload)
-}
-
-// The changes of a transaction that makes this object.
-fn making(alloc: Global, id: u64, next: Numbers) -> Result<Vec<u8>, AllocError> {
-    let mut payload = b"\0\0\0\x03\x01".to_vec(alloc)?;
-    put_counters(&mut payload, next)?;
-    payload.push(PUT)?;
-    put_object(&mut payload, id)?;
-    payload.push(PUT)?;
-    put_version(&mut payload, id)?;
-    Ok(payload)
-}
-
-// The changes of a transaction that draws its number alone.
-fn counting(alloc: Global, next: Numbers) -> Result<Vec<u8>, AllocError> {
-    let mut payload = b"\0\0\0\x01\x01".to_vec(alloc)?;
-    put_counters(&mut payload, next)?;
-    Ok(payload)
-}
-
-// The file with a frame more, behind the gate that ends it. The payload has at most 65,535 bytes.
-fn put_frame(file: &mut Vec<u8>, payload: &[u8]) -> Result<(), AllocError> {
+// The file with a frame more, which puts these records, behind the gate that ends the file.
+fn put_frame(rt: &impl Abort, alloc: Global, file: &mut Vec<u8>, records: &[Record]) {
+    let payload = payload_of(rt, alloc, records);
     let _ = file.pop();
-    file.push(0xA5)?;
-    put_u32(file, payload.len().min(65_535) as u32)?;
-    file.extend_from_slice(payload)?;
-    file.push(0)?;
-    Ok(())
-}
-
-// The changes that queue an entry of this number: for the first object, and the first trigger of the first class.
-fn queueing(alloc: Global, number: u64) -> Result<Vec<u8>, AllocError> {
-    let mut payload = b"\0\0\0\x01\x01".to_vec(alloc)?;
-    put_key(&mut payload, 9, number, 0, 16)?;
-    put_u64(&mut payload, 1)?;
-    put_u32(&mut payload, 1)?;
-    put_u16(&mut payload, 0)?;
-    // the first generation, and no arguments
-    put_u8(&mut payload, 1)?;
-    put_u8(&mut payload, 0)?;
-    Ok(payload)
+    put_numbers(rt, file, &[(1, 0xA5), (4, payload.len() as u64)]);
+    file.extend_from_slice(&payload).expect(rt, MEMORY);
+    put_numbers(rt, file, &[(1, 0)]);
 }
 
 /// A file with these counters and so many entries more, numbered from 1 on, each in a frame of its own.
-pub fn queued(
-    alloc: Global,
-    file: &[u8],
-    entries: u64,
-    next: Numbers,
-) -> Result<Vec<u8>, AllocError> {
-    let mut file = file.to_vec(alloc)?;
-    put_frame(&mut file, &counting(alloc, next)?)?;
-    for number in 0..entries {
-        put_frame(&mut file, &queueing(alloc, number + 1)?)?;
+pub fn queued(rt: &impl Abort, alloc: Global, file: &[u8], entries: u64, next: Numbers) -> Vec<u8> {
+    let mut file = bytes_of(rt, alloc, file);
+    put_frame(rt, alloc, &mut file, &[Record::Counters(next)]);
+    for at in 0..entries {
+        put_frame(rt, alloc, &mut file, &[Record::Entry(at + 1)]);
     }
-    Ok(file)
+    file
 }
 
-/// A new file with the three frames of the first script.
-pub fn three_frames(alloc: Global) -> Result<Vec<u8>, AllocError> {
-    let mut file = new_file(alloc)?;
-    put_frame(&mut file, &declaring(alloc, next_numbers(1, 2))?)?;
-    put_frame(&mut file, &making(alloc, 1, next_numbers(2, 3))?)?;
-    put_frame(&mut file, &counting(alloc, next_numbers(2, 4))?)?;
-    Ok(file)
+/// A new file with the three frames of the first script: one declares the class, one makes an object, and one draws its number
+/// alone.
+pub fn three_frames(rt: &impl Abort, alloc: Global) -> Vec<u8> {
+    let mut file = new_file(rt, alloc);
+    let counters = Record::Counters(next_numbers(1, 2));
+    let class = [counters, Record::Head(CLASS), Record::Text(CLASS)];
+    put_frame(rt, alloc, &mut file, &class);
+    let counters = Record::Counters(next_numbers(2, 3));
+    let object = [counters, Record::Object(1), Record::Version(1)];
+    put_frame(rt, alloc, &mut file, &object);
+    let counters = Record::Counters(next_numbers(2, 4));
+    put_frame(rt, alloc, &mut file, &[counters]);
+    file
 }
 
 /// The image with some bits of one byte turned.
-pub fn turned(alloc: Global, image: &[u8], at: usize, bits: u8) -> Result<Vec<u8>, AllocError> {
-    let mut image = image.to_vec(alloc)?;
+pub fn turned(rt: &impl Abort, alloc: Global, image: &[u8], at: usize, bits: u8) -> Vec<u8> {
+    let mut image = bytes_of(rt, alloc, image);
     if let Some(byte) = image.get_mut(at) {
         *byte ^= bits;
     }
-    Ok(image)
+    image
+}
+
+/// Writes these bytes at a place, as far as there are bytes.
+pub fn put_at(image: &mut [u8], at: usize, bytes: &[u8]) {
+    let mut next = at;
+    for byte in bytes {
+        if let Some(place) = image.get_mut(next) {
+            *place = *byte;
+        }
+        next = next.saturating_add(1);
+    }
 }
 
 /// The image with these bytes at a place.
-pub fn patched(
-    alloc: Global,
-    image: &[u8],
-    at: usize,
-    bytes: &[u8],
-) -> Result<Vec<u8>, AllocError> {
-    let mut image = image.to_vec(alloc)?;
-    for (i, byte) in bytes.iter().enumerate() {
-        if let Some(place) = image.get_mut(at.saturating_add(i)) {
-            *place = *byte;
-        }
-    }
-    Ok(image)
+pub fn patched(rt: &impl Abort, alloc: Global, image: &[u8], at: usize, bytes: &[u8]) -> Vec<u8> {
+    let mut image = bytes_of(rt, alloc, image);
+    put_at(&mut image, at, bytes);
+    image
+}
+
+/// As many bytes of the image's front, and none where it has fewer.
+pub fn front(image: &[u8], length: usize) -> &[u8] {
+    image.get(..length).unwrap_or(&[])
 }

@@ -1,115 +1,137 @@
 //! What a run writes behind the snapshot, and in which calls.
-use crate::images::{first_file, patched, three_frames};
-use crate::trial::{FIRST, Trial, calls_of, new_file, run, run_stopped};
+use crate::images::{first_file, front, patched, three_frames};
+use crate::trial::{
+    Case, FIRST, FIRST_TEXT, Trial, calls_of, equal, new_file, run_case, run_stopped, stopped_image,
+};
 use ode_host::{Status, Torn};
-use std::alloc::{AllocError, Global};
+use std::alloc::Global;
 use std::process::Abort;
-use std::test::Fail;
+
+static FIRST_RUN: Case = Case {
+    name: "the first script",
+    script: FIRST,
+    text: FIRST_TEXT,
+    status: Status::Ok,
+};
 
 #[test]
-fn each_transaction_adds_a_frame_and_nothing_else_changes(rt: HostRuntime) -> Result<(), Fail> {
-    let alloc = rt.alloc();
-    let ran = run(alloc, &new_file(alloc)?, FIRST)?;
-    assert_eq!(rt; ran.host.image(), three_frames(alloc)?.as_slice());
-    Ok(())
+fn each_transaction_adds_a_frame_and_nothing_else_changes(rt: HostRuntime) {
+    let file = new_file(&rt, rt.alloc());
+    let ran = run_case(&rt, rt.alloc(), &file, &FIRST_RUN);
+    ran.leaves(&rt, &three_frames(&rt, rt.alloc()), FIRST_RUN.name);
 }
 
-const MORE: &str = "show #1.n; pnew P(n = 6);";
+static MORE: Case = Case {
+    name: "an object more",
+    script: "show #1.n; pnew P(n = 6);",
+    text: "value 5\ntx 4 committed\nnew #2\ntx 5 committed\n",
+    status: Status::Ok,
+};
 
-const MORE_TEXT: &str = "value 5\ntx 4 committed\nnew #2\ntx 5 committed\n";
+static SHOWN: Case = Case {
+    name: "a run behind it",
+    script: "show #2.n;",
+    text: "value 6\ntx 6 committed\n",
+    status: Status::Ok,
+};
 
 // Where the journal of a file with one object begins.
 const JOURNAL: usize = 4289;
 
-// Two runs on a file with one object leave what stands before its journal.
-fn goes_on(rt: &impl Abort, alloc: Global, file: &[u8], name: &str) -> Result<(), AllocError> {
-    let ran = run(alloc, file, MORE)?;
-    ran.is(rt, MORE_TEXT, Status::Ok, name);
-    let ran = run(alloc, ran.host.image(), "show #2.n;")?;
-    ran.is(rt, "value 6\ntx 6 committed\n", Status::Ok, name);
-    assert_eq!(rt;
-        ran.host.image().get(..JOURNAL),
-        file.get(..JOURNAL),
-        "of {name}"
+// Two runs.
+fn goes_on(rt: &impl Abort, alloc: Global, file: &[u8]) -> Trial {
+    let more = run_case(rt, alloc, file, &MORE);
+    run_case(rt, alloc, more.host.image(), &SHOWN)
+}
+
+// They leave what stands before the journal.
+fn stands(rt: &impl Abort, generation: u8, image: &[u8], file: &[u8]) {
+    let found = front(image, JOURNAL);
+    equal(
+        rt,
+        (generation, found),
+        (generation, front(file, JOURNAL)),
+        "what is before",
     );
-    assert_eq!(rt;
-        ran.host.image().get(JOURNAL).copied(),
-        Some(0xA5),
-        "of {name}"
+    let gate = image.get(JOURNAL).copied();
+    equal(
+        rt,
+        (generation, gate),
+        (generation, Some(0xA5)),
+        "the first gate",
     );
-    Ok(())
 }
 
 // Whatever the generation of the slot that is open.
 #[test]
-fn a_file_with_a_snapshot_goes_on_as_it_is(rt: HostRuntime) -> Result<(), Fail> {
-    let alloc = rt.alloc();
-    let file = first_file(alloc)?;
-    for generation in [1, 2, 3u8] {
-        let name = format!(in alloc; "a file of generation {generation}")?;
-        let file = patched(alloc, &file, 24, &[generation])?;
-        goes_on(&rt, alloc, &file, name.as_str())?;
+fn a_file_with_a_snapshot_goes_on_as_it_is(rt: HostRuntime) {
+    let file = first_file(&rt, rt.alloc());
+    for generation in &[1, 2, 3u8] {
+        let file = patched(&rt, rt.alloc(), &file, 24, &[*generation]);
+        let ran = goes_on(&rt, rt.alloc(), &file);
+        stands(&rt, *generation, ran.host.image(), &file);
     }
-    Ok(())
 }
 
 // Where the gate of the first script's second transaction stands. Each transaction makes five calls of the host, and none
 // follows those of the third, which is the last.
 const GATE: usize = 4304;
 
-const CALLS: u64 = 5;
+// A stop at so many calls before the end of the first script, the file's length then, and what the gate reads.
+type Stop = (u64, Torn, usize, u8);
 
-// The first script, stopped at so many calls before its end.
-fn stopped_before_end(
-    alloc: Global,
-    file: &[u8],
-    back: u64,
-    torn: Torn,
-) -> Result<Trial, AllocError> {
-    let calls = calls_of(alloc, file, FIRST)?;
-    run_stopped(alloc, file, FIRST, calls.saturating_sub(back), torn)
-}
-
-// The second transaction's five calls: a write, a sync, a write, a sync and a print. Of a stop at each: the file's length
-// and the gate where nothing of what is pending is left, and where all is.
-const LEFT: [[(usize, u8); 2]; 5] = [
-    [(4305, 0), (4442, 0)],
-    [(4305, 0), (4442, 0)],
-    [(4442, 0), (4442, 0xA5)],
-    [(4442, 0), (4442, 0xA5)],
-    [(4442, 0xA5), (4442, 0xA5)],
+// The second transaction's five calls: a write, a sync, a write, a sync and a print. Of a stop at each there is one where
+// nothing of what is pending is left, and one where all is.
+const STOPS: [Stop; 10] = [
+    (10, Torn::Nothing, 4305, 0),
+    (10, Torn::Whole, 4442, 0),
+    (9, Torn::Nothing, 4305, 0),
+    (9, Torn::Whole, 4442, 0),
+    (8, Torn::Nothing, 4442, 0),
+    (8, Torn::Whole, 4442, 0xA5),
+    (7, Torn::Nothing, 4442, 0),
+    (7, Torn::Whole, 4442, 0xA5),
+    (6, Torn::Nothing, 4442, 0xA5),
+    (6, Torn::Whole, 4442, 0xA5),
 ];
 
+fn is_left(rt: &impl Abort, alloc: Global, file: &[u8], calls: u64, row: &Stop) {
+    let (back, torn, _, _) = *row;
+    let at = calls.saturating_sub(back);
+    let image = run_stopped(rt, alloc, file, FIRST, at, torn).after_stop(rt, alloc);
+    let gate = image.get(GATE).copied().unwrap_or(1);
+    equal(
+        rt,
+        (back, torn, image.len(), gate),
+        *row,
+        "what a stop leaves",
+    );
+}
+
 #[test]
-fn a_transaction_makes_two_writes_two_syncs_and_a_print(rt: HostRuntime) -> Result<(), Fail> {
-    let alloc = rt.alloc();
-    let file = new_file(alloc)?;
-    for (number, ways) in LEFT.iter().enumerate() {
-        for (torn, (length, gate)) in [Torn::Nothing, Torn::Whole].into_iter().zip(ways) {
-            let back = (2 * CALLS).saturating_sub(number as u64);
-            let ran = stopped_before_end(alloc, &file, back, torn)?;
-            let after = ran.host.after_stop()?;
-            assert_eq!(rt;
-                after.image().len(),
-                *length,
-                "a stop at {number}, {torn:?}"
-            );
-            assert_eq!(rt;
-                after.image().get(GATE),
-                Some(gate),
-                "a stop at {number}, {torn:?}"
-            );
-        }
+fn a_transaction_makes_two_writes_two_syncs_and_a_print(rt: HostRuntime) {
+    let file = new_file(&rt, rt.alloc());
+    let calls = calls_of(&rt, rt.alloc(), &file, FIRST);
+    for row in &STOPS {
+        is_left(&rt, rt.alloc(), &file, calls, row);
     }
-    Ok(())
 }
 
 const KEPT: &str = "new #2\ntx 3 committed\n";
 
 const LOST: &str = "new #1\ntx 2 committed\n";
 
+static STOP: Case = Case {
+    name: "a stop",
+    script: FIRST,
+    text: "class P\ntx 1 committed\n",
+    status: Status::DiskFault,
+};
+
 // How the write of the gate is torn, what the gate reads then, and what an object more prints.
-const GATES: [(Torn, u8, &str); 7] = [
+type TornGate = (Torn, u8, &'static str);
+
+const GATES: [TornGate; 7] = [
     (Torn::Fill(0xA5), 0xA5, KEPT),
     (Torn::Whole, 0xA5, KEPT),
     (Torn::Front(1), 0xA5, KEPT),
@@ -120,22 +142,28 @@ const GATES: [(Torn, u8, &str); 7] = [
 ];
 
 // The write of the gate is the third call of the second transaction.
+const GATE_AND_BEHIND: u64 = 8;
+
+fn is_there(rt: &impl Abort, alloc: Global, image: &[u8], row: &TornGate) {
+    let (torn, gate, text) = *row;
+    let found = image.get(GATE).copied();
+    equal(rt, (torn, found), (torn, Some(gate)), "the gate");
+    let more = Case {
+        name: "an object more",
+        script: "pnew P();",
+        text,
+        status: Status::Ok,
+    };
+    run_case(rt, alloc, image, &more);
+}
+
 #[test]
-fn a_transaction_is_there_where_its_gate_is_open(rt: HostRuntime) -> Result<(), Fail> {
-    let alloc = rt.alloc();
-    let file = new_file(alloc)?;
-    for (torn, gate, text) in GATES {
-        let ran = stopped_before_end(alloc, &file, 2 * CALLS - 2, torn)?;
-        ran.is(
-            &rt,
-            "class P\ntx 1 committed\n",
-            Status::DiskFault,
-            "a stop",
-        );
-        let after = ran.host.after_stop()?;
-        assert_eq!(rt; after.image().get(GATE).copied(), Some(gate), "{torn:?}");
-        let again = run(alloc, after.image(), "pnew P();")?;
-        again.is(&rt, text, Status::Ok, "an object more");
+fn a_transaction_is_there_where_its_gate_is_open(rt: HostRuntime) {
+    let file = new_file(&rt, rt.alloc());
+    let calls = calls_of(&rt, rt.alloc(), &file, FIRST);
+    let at = calls.saturating_sub(GATE_AND_BEHIND);
+    for row in &GATES {
+        let image = stopped_image(&rt, rt.alloc(), &file, &STOP, at, row.0);
+        is_there(&rt, rt.alloc(), &image, row);
     }
-    Ok(())
 }

@@ -21,6 +21,8 @@ mod journal;
 #[cfg(test)]
 mod limits;
 #[cfg(test)]
+mod long;
+#[cfg(test)]
 mod new_files;
 #[cfg(test)]
 mod pickups;

@@ -1,118 +1,133 @@
 //! The file that `init` makes.
-use crate::trial::{failing, init, new_file, smooth};
+use crate::images::put_at;
+use crate::trial::{MEMORY, Trial, equal, failing, holds, init, smooth};
 use ode_host::Status;
-use std::alloc::{AllocError, Global};
-use std::test::Fail;
+use std::alloc::Global;
+use std::process::Abort;
 
 // The first slot: its gate, the name, format 1, layout 1 and generation 1; the snapshot stands at 4,096 and has 64 bytes;
 // the journal begins at 4,160, and its area ends at 33,558,528.
-const SLOT: &[u8; 57] = b"\xA5ODEBASE1\0\0\0\x01\0\0\0\x01\0\0\0\0\0\0\0\x01\
+const SLOT: &[u8] = b"\xA5ODEBASE1\0\0\0\x01\0\0\0\x01\0\0\0\0\0\0\0\x01\
     \0\0\0\0\0\0\x10\0\0\0\0\0\0\0\0\x40\
     \0\0\0\0\0\0\x10\x40\0\0\0\0\x02\0\x10\0";
 
 // The counters' record: its key, the length 45, three numbers that are 1, and 21 zeros.
-const COUNTERS: &[u8; 64] = b"\x01\0\0\0\0\0\0\0\0\0\0\0\0\0\0\0\0\0\x2D\
+const COUNTERS: &[u8] = b"\x01\0\0\0\0\0\0\0\0\0\0\0\0\0\0\0\0\0\x2D\
     \0\0\0\0\0\0\0\x01\0\0\0\0\0\0\0\x01\0\0\0\0\0\0\0\x01\
     \0\0\0\0\0\0\0\0\0\0\0\0\0\0\0\0\0\0\0\0\0";
 
 // So many bytes of a kind.
-fn fill(alloc: Global, byte: u8, count: usize) -> Result<Vec<u8>, AllocError> {
-    vec![in alloc; byte; count]
+fn fill(rt: &impl Abort, alloc: Global, byte: u8, count: usize) -> Vec<u8> {
+    vec![in alloc; byte; count].expect(rt, MEMORY)
 }
 
-// A new file in which the bytes that nothing says of are `rest`, with so many of them behind it.
-fn expected(alloc: Global, rest: u8, behind: usize) -> Result<Vec<u8>, AllocError> {
-    let mut file = SLOT.to_vec(alloc)?;
-    file.resize(2048, rest)?;
-    file.push(0)?;
-    file.resize(4096, rest)?;
-    file.extend_from_slice(COUNTERS)?;
-    file.push(0)?;
-    file.extend_from_slice(&fill(alloc, rest, behind)?)?;
-    Ok(file)
-}
+// What a new file of at least 4,161 bytes has at which places.
+const PIECES: [(usize, &[u8]); 4] = [(0, SLOT), (2048, b"\0"), (4096, COUNTERS), (4160, b"\0")];
 
-#[test]
-fn a_new_file_has_its_header_its_counters_and_shut_gates(rt: HostRuntime) -> Result<(), Fail> {
-    let alloc = rt.alloc();
-    let made = init(alloc, &[], smooth(alloc))?;
-    made.is(&rt, "ready\n", Status::Ok, "init");
-    let image = made.host.image();
-    assert_eq!(rt; image.len(), 4161);
-    assert_eq!(rt; image, expected(alloc, 0, 0)?.as_slice());
-    Ok(())
-}
-
-#[test]
-fn other_bytes_of_a_short_file_stay(rt: HostRuntime) -> Result<(), Fail> {
-    let alloc = rt.alloc();
-    for length in [4161, 4162, 5000, 8192usize] {
-        let old = fill(alloc, b'x', length)?;
-        let made = init(alloc, &old, smooth(alloc))?;
-        made.is(&rt, "ready\n", Status::Ok, "init of a short file");
-        let expected = expected(alloc, b'x', length - 4161)?;
-        assert_eq!(rt; made.host.image(), expected.as_slice(), "of {length} bytes");
+// A new file of so many bytes, in which those that nothing says of are `rest`.
+fn expected(rt: &impl Abort, alloc: Global, rest: u8, length: usize) -> Vec<u8> {
+    let mut file = fill(rt, alloc, rest, length);
+    for (at, bytes) in &PIECES {
+        put_at(&mut file, *at, bytes);
     }
-    Ok(())
+    file
+}
+
+// `init` on a file of these bytes makes a new one of the same length.
+fn is_made(rt: &impl Abort, alloc: Global, old: &[u8], length: usize, name: &str) {
+    let made = init(rt, alloc, old, smooth(alloc));
+    made.is(rt, "ready\n", Status::Ok, name);
+    let rest = old.first().copied().unwrap_or(0);
+    made.leaves(rt, &expected(rt, alloc, rest, length), name);
 }
 
 #[test]
-fn a_long_file_is_not_made_anew(rt: HostRuntime) -> Result<(), Fail> {
-    let alloc = rt.alloc();
-    let long = fill(alloc, 0, 8193)?;
-    let made = init(alloc, &long, smooth(alloc))?;
-    made.is(&rt, "file exists\n", Status::BadFile, "init of a long file");
-    assert_eq!(rt; made.host.image(), long.as_slice());
-    Ok(())
+fn a_new_file_has_its_header_its_counters_and_shut_gates(rt: HostRuntime) {
+    is_made(&rt, rt.alloc(), &[], 4161, "init");
 }
 
 #[test]
-fn a_file_with_an_open_slot_is_not_made_anew(rt: HostRuntime) -> Result<(), Fail> {
-    let alloc = rt.alloc();
-    for place in [0, 2048usize] {
-        let mut old = fill(alloc, 0, place)?;
-        old.push(0xA5)?;
-        let made = init(alloc, &old, smooth(alloc))?;
-        made.is(
-            &rt,
-            "file exists\n",
-            Status::BadFile,
-            "init of a file with an open slot",
-        );
-        assert_eq!(rt; made.host.image(), old.as_slice(), "the slot at {place}");
+fn other_bytes_of_a_short_file_stay(rt: HostRuntime) {
+    for length in &[4161, 4162, 5000, 8192usize] {
+        let old = fill(&rt, rt.alloc(), b'x', *length);
+        is_made(&rt, rt.alloc(), &old, *length, "init of a short file");
     }
-    Ok(())
+}
+
+// `init` leaves this file as it is.
+fn stays(rt: &impl Abort, alloc: Global, old: &[u8], name: &str) {
+    let made = init(rt, alloc, old, smooth(alloc));
+    made.is(rt, "file exists\n", Status::BadFile, name);
+    made.leaves(rt, old, name);
 }
 
 #[test]
-fn a_fault_in_init_is_told(rt: HostRuntime) -> Result<(), Fail> {
-    let alloc = rt.alloc();
+fn a_long_file_is_not_made_anew(rt: HostRuntime) {
+    let long = fill(&rt, rt.alloc(), 0, 8193);
+    stays(&rt, rt.alloc(), &long, "init of a long file");
+}
+
+// A file that ends with an open gate at this place stays.
+fn open_stays(rt: &impl Abort, alloc: Global, place: usize) {
+    let mut old = fill(rt, alloc, 0, place);
+    old.push(0xA5).expect(rt, MEMORY);
+    stays(rt, alloc, &old, "init of a file with an open slot");
+}
+
+#[test]
+fn a_file_with_an_open_slot_is_not_made_anew(rt: HostRuntime) {
+    open_stays(&rt, rt.alloc(), 0);
+    open_stays(&rt, rt.alloc(), 2048);
+}
+
+// Whether the disk call that was to fail is one of `init`'s, whose failing is told then.
+fn is_cut(rt: &impl Abort, made: &Trial) -> bool {
+    let is_cut = made.status != Status::Ok;
+    if is_cut {
+        made.is(rt, "", Status::DiskFault, "a cut init");
+    } else {
+        made.is(rt, "ready\n", Status::Ok, "init");
+    }
+    is_cut
+}
+
+#[test]
+fn a_fault_in_init_is_told(rt: HostRuntime) {
     let mut cut = 0u32;
     for number in 0..32 {
-        let made = init(alloc, &[], failing(alloc, &[number], &[])?)?;
-        if made.status == Status::Ok {
-            made.is(&rt, "ready\n", Status::Ok, "init");
-        } else {
-            made.is(&rt, "", Status::DiskFault, "a cut init");
+        let plan = failing(&rt, rt.alloc(), &[number], &[]);
+        if is_cut(&rt, &init(&rt, rt.alloc(), &[], plan)) {
             cut = cut.saturating_add(1);
         }
     }
-    assert!(rt; cut >= 6, "only {cut} disk calls");
-    Ok(())
+    holds(&rt, cut >= 6, "six disk calls of init");
+}
+
+// Whether the print that was to fail is one of `init`'s, whose failing is told then.
+fn is_unprinted(rt: &impl Abort, made: &Trial) -> bool {
+    let is_cut = made.status != Status::Ok;
+    if is_cut {
+        made.is(rt, "", Status::WriteFault, "an init that prints nothing");
+    }
+    is_cut
+}
+
+// How many prints of `init` fail. The file is there all the same.
+fn unprinted(rt: &impl Abort, alloc: Global, file: &[u8]) -> u32 {
+    let mut cut = 0u32;
+    for number in 0..32 {
+        let made = init(rt, alloc, &[], failing(rt, alloc, &[], &[number]));
+        made.leaves(rt, file, "an init whose print may fail");
+        if is_unprinted(rt, &made) {
+            cut = cut.saturating_add(1);
+        }
+    }
+    cut
 }
 
 #[test]
-fn a_file_whose_ready_is_not_printed_is_whole(rt: HostRuntime) -> Result<(), Fail> {
-    let alloc = rt.alloc();
-    let mut cut = 0u32;
-    for number in 0..32 {
-        let made = init(alloc, &[], failing(alloc, &[], &[number])?)?;
-        if made.status != Status::Ok {
-            made.is(&rt, "", Status::WriteFault, "an init that prints nothing");
-            cut = cut.saturating_add(1);
-        }
-        assert_eq!(rt; made.host.image(), expected(alloc, 0, 0)?.as_slice());
-    }
-    assert_eq!(rt; cut, 1);
-    Ok(())
+fn a_file_whose_ready_is_not_printed_is_whole(rt: HostRuntime) {
+    let file = expected(&rt, rt.alloc(), 0, 4161);
+    let cut = unprinted(&rt, rt.alloc(), &file);
+    equal(&rt, cut, 1, "the prints of init");
 }

@@ -1,9 +1,11 @@
 //! A run that is cut is picked up by the next one.
-use crate::trial::{Trial, call, calls_of, init, new_file, run, smooth, source};
+use crate::trial::{
+    Case, MEMORY, Trial, call, calls_of, equal, failing, holds, init, new_file, run, run_case,
+    source, stopping,
+};
 use ode_host::{Plan, Status, Torn};
-use std::alloc::{AllocError, Global};
+use std::alloc::Global;
 use std::process::Abort;
-use std::test::Fail;
 
 // Statements that settle one transaction, and what they print.
 type Step = (&'static str, &'static str);
@@ -60,245 +62,266 @@ const TRIGGERS: &[Step] = &[
     ("#1.a();\n", "fired m on #1\nsaid m\ntx 6 committed\n"),
 ];
 
-// The script of these steps.
-fn script_of(alloc: Global, steps: &[Step]) -> Result<String, AllocError> {
-    let mut script = String::new(alloc);
-    for (statements, _) in steps {
-        script.push_str(statements)?;
-    }
-    Ok(script)
+// Their script, and what it prints.
+#[derive(Drop)]
+struct Joined {
+    script: String,
+    text: String,
 }
 
-// What they print.
-fn text_of(alloc: Global, steps: &[Step]) -> Result<String, AllocError> {
+fn join(rt: &impl Abort, alloc: Global, steps: &[Step]) -> Joined {
+    let mut script = String::new(alloc);
     let mut text = String::new(alloc);
-    for (_, printed) in steps {
-        text.push_str(printed)?;
+    for step in steps {
+        script.push_str(step.0).expect(rt, MEMORY);
+        text.push_str(step.1).expect(rt, MEMORY);
     }
-    Ok(text)
+    Joined { script, text }
 }
 
 // How many steps have printed this text.
-fn printed(steps: &[Step], text: &[u8]) -> Option<usize> {
-    let mut rest = str::from_utf8(text).ok()?;
+fn printed(steps: &[Step], text: &str) -> Option<usize> {
+    let mut rest = text;
     let mut count = 0usize;
-    for (_, printed) in steps {
-        match rest.strip_prefix(*printed) {
-            Some(more) => {
-                rest = more;
-                count = count.saturating_add(1);
-            }
+    for step in steps {
+        match rest.strip_prefix(step.1) {
+            Some(more) => rest = more,
             None => break,
         }
+        count = count.saturating_add(1);
     }
     if rest.is_empty() { Some(count) } else { None }
 }
 
+// Steps, and the image that a whole run of them on a new file leaves.
+#[derive(Drop)]
+struct Course {
+    steps: &'static [Step],
+    script: String,
+    file: Vec<u8>,
+    whole: Vec<u8>,
+}
+
+fn course_of(rt: &impl Abort, alloc: Global, steps: &'static [Step]) -> Course {
+    let Joined { script, text } = join(rt, alloc, steps);
+    let file = new_file(rt, alloc);
+    let case = Case {
+        name: "a whole run",
+        script: script.as_str(),
+        text: text.as_str(),
+        status: Status::Ok,
+    };
+    let whole = run_case(rt, alloc, &file, &case).image(rt, alloc);
+    Course {
+        steps,
+        script,
+        file,
+        whole,
+    }
+}
+
+// It printed this text, ended with `Ok`, and left this image.
+fn is_whole(ran: &Trial, text: &str, image: &[u8]) -> bool {
+    ran.status == Status::Ok && ran.text() == text && ran.host.image() == image
+}
+
 // Whether the steps behind so many make a file what it is without a cut.
-fn goes_on(
-    alloc: Global,
-    image: &[u8],
-    steps: &[Step],
-    count: usize,
-    whole: &[u8],
-) -> Result<bool, AllocError> {
-    let left = steps.get(count..).unwrap_or(&[]);
-    let ran = run(alloc, image, script_of(alloc, left)?.as_str())?;
-    let text = text_of(alloc, left)?;
-    Ok(ran.status == Status::Ok && ran.host.text() == text.as_bytes() && ran.host.image() == whole)
+fn goes_on(rt: &impl Abort, alloc: Global, course: &Course, image: &[u8], count: usize) -> bool {
+    let rest = join(rt, alloc, course.steps.get(count..).unwrap_or(&[]));
+    let ran = run(rt, alloc, image, rest.script.as_str());
+    is_whole(&ran, rest.text.as_str(), &course.whole)
 }
 
 // A cut run printed what some first steps print. Its file holds these, and at most one more, and goes on behind them.
-fn is_picked_up(
-    rt: &impl Abort,
-    alloc: Global,
-    ran: Trial,
-    steps: &[Step],
-    whole: &[u8],
-    name: &str,
-) -> Result<(), Fail> {
-    assert_eq!(rt;
-        ran.host.refused(),
-        0,
-        "the calls of {name} that found no memory"
-    );
-    let count = printed(steps, ran.host.text()).ok_or("a text that is no front")?;
-    let after = ran.host.after_stop()?;
-    let image = after.image();
-    let kept = goes_on(alloc, image, steps, count, whole)?
-        || goes_on(alloc, image, steps, count.saturating_add(1), whole)?;
-    assert!(rt; kept, "{name} isn't picked up behind {count} transactions");
-    Ok(())
+fn is_picked_up(rt: &impl Abort, alloc: Global, ran: Trial, course: &Course, name: &str) {
+    equal(rt, ran.host.refused(), 0, name);
+    let count = printed(course.steps, ran.text()).expect(rt, name);
+    let image = ran.after_stop(rt, alloc);
+    let is_kept = goes_on(rt, alloc, course, &image, count)
+        || goes_on(rt, alloc, course, &image, count.saturating_add(1));
+    holds(rt, is_kept, name);
 }
 
-// What cuts a run.
-#[derive(Clone, Copy, Debug)]
-enum Cut {
-    Stop,
+// What fails: the host as a whole, its disk, its output, or the reads of the script.
+#[derive(Clone, Copy, Debug, PartialEq)]
+enum Part {
+    Host,
     Disk,
-    Print,
-    Read,
+    Output,
+    Script,
+}
+
+// The call of this number fails, and a stop, there or later, tears what is pending.
+#[derive(Clone, Copy, Debug)]
+struct Cut {
+    part: Part,
+    number: u64,
+    torn: Torn,
 }
 
 // A number behind all calls.
 const LATE: u64 = 1000;
 
 impl Cut {
-    // The call of this number is cut, and a stop, there or later, tears what is pending.
-    fn plan(&self, alloc: Global, number: u64, torn: Torn) -> Result<Plan, AllocError> {
-        let mut plan = smooth(alloc);
-        plan.stop = Some((LATE, torn));
-        match self {
-            Cut::Stop => plan.stop = Some((number, torn)),
-            Cut::Disk => plan.disk_fails.push(number)?,
-            Cut::Print => plan.print_fails.push(number)?,
-            Cut::Read => {}
-        }
-        Ok(plan)
+    // The number of the call of this part that fails.
+    fn number_of(&self, part: Part) -> u64 {
+        if part == self.part { self.number } else { LATE }
     }
 
-    // The reads of the script that fail.
-    fn reads(&self, alloc: Global, number: u64) -> Result<Vec<u64>, AllocError> {
-        let mut fails = Vec::new(alloc);
-        if let Cut::Read = self {
-            fails.push(number)?;
-        }
-        Ok(fails)
+    fn plan(&self, rt: &impl Abort, alloc: Global) -> Plan {
+        let disk = self.number_of(Part::Disk);
+        let output = self.number_of(Part::Output);
+        let mut plan = failing(rt, alloc, &[disk], &[output]);
+        plan.stop = Some((self.number_of(Part::Host), self.torn));
+        plan
     }
 
-    // A script on an image, in chunks of 16 bytes, and cut at this number.
-    fn run(
-        &self,
-        alloc: Global,
-        image: &[u8],
-        script: &str,
-        number: u64,
-        torn: Torn,
-    ) -> Result<Trial, AllocError> {
-        let reads = self.reads(alloc, number)?;
-        let script = source(alloc, script, &reads, 16)?;
-        let plan = self.plan(alloc, number, torn)?;
-        call(alloc, &["run", "f"], script, image, plan)
+    // A script on an image, in chunks of 16 bytes, and cut so.
+    fn run(&self, rt: &impl Abort, alloc: Global, image: &[u8], script: &str) -> Trial {
+        let script = source(rt, alloc, script, &[self.number_of(Part::Script)], 16);
+        call(
+            rt,
+            alloc,
+            &["run", "f"],
+            script,
+            image,
+            self.plan(rt, alloc),
+        )
     }
 
     // The run may end so.
     fn ends(&self, status: Status) -> bool {
-        match self {
-            Cut::Stop => matches!(status, Status::DiskFault | Status::WriteFault),
-            Cut::Disk => status == Status::DiskFault,
-            Cut::Print => status == Status::WriteFault,
-            Cut::Read => status == Status::ReadFault,
+        match self.part {
+            Part::Host => matches!(status, Status::DiskFault | Status::WriteFault),
+            Part::Disk => status == Status::DiskFault,
+            Part::Output => status == Status::WriteFault,
+            Part::Script => status == Status::ReadFault,
         }
     }
+}
+
+// A run that is cut so is picked up. Whether it was cut, and did not come to its end before.
+fn cut_is_picked_up(rt: &impl Abort, alloc: Global, course: &Course, cut: Cut) -> bool {
+    let ran = cut.run(rt, alloc, &course.file, course.script.as_str());
+    let name = format!(in alloc; "{cut:?}").expect(rt, MEMORY);
+    let is_cut = ran.status != Status::Ok;
+    holds(rt, !is_cut || cut.ends(ran.status), name.as_str());
+    is_picked_up(rt, alloc, ran, course, name.as_str());
+    is_cut
 }
 
 // However a run of these steps is cut below this number, it is picked up: how many were cut.
 fn are_picked_up(
     rt: &impl Abort,
     alloc: Global,
-    steps: &[Step],
-    cut: Cut,
+    course: &Course,
+    part: Part,
     torn: Torn,
     below: u64,
-) -> Result<u64, Fail> {
-    let file = new_file(alloc)?;
-    let script = script_of(alloc, steps)?;
-    let whole = run(alloc, &file, script.as_str())?;
-    whole.is(
-        rt,
-        text_of(alloc, steps)?.as_str(),
-        Status::Ok,
-        "a whole run",
-    );
+) -> u64 {
     let mut cuts = 0u64;
     for number in 0..below {
-        let ran = cut.run(alloc, &file, script.as_str(), number, torn)?;
-        let name = format!(in alloc; "{cut:?} at {number}, {torn:?}")?;
-        if ran.status != Status::Ok {
-            assert!(rt; cut.ends(ran.status), "{name}: {:?}", ran.status);
+        let cut = Cut { part, number, torn };
+        if cut_is_picked_up(rt, alloc, course, cut) {
             cuts = cuts.saturating_add(1);
         }
-        is_picked_up(rt, alloc, ran, steps, whole.host.image(), name.as_str())?;
     }
-    Ok(cuts)
+    cuts
 }
 
 // The ways in which a stop tears what is pending.
 const TEARS: [Torn; 4] = [Torn::Nothing, Torn::Whole, Torn::Front(9), Torn::Fill(0xA5)];
 
 // How many calls a run of these steps makes: at least a sync at the opening, and five a step.
-fn calls(rt: &impl Abort, alloc: Global, steps: &[Step]) -> Result<u64, AllocError> {
-    let script = script_of(alloc, steps)?;
-    let calls = calls_of(alloc, &new_file(alloc)?, script.as_str())?;
-    assert!(rt; calls / 5 >= steps.len() as u64, "only {calls} calls");
-    Ok(calls)
+fn calls(rt: &impl Abort, alloc: Global, course: &Course) -> u64 {
+    let calls = calls_of(rt, alloc, &course.file, course.script.as_str());
+    holds(
+        rt,
+        calls / 5 >= course.steps.len() as u64,
+        "five calls a step",
+    );
+    calls
 }
 
 // However a run of these steps is stopped, it is picked up.
-fn stops_are_picked_up(rt: &impl Abort, alloc: Global, steps: &[Step]) -> Result<(), Fail> {
-    let calls = calls(rt, alloc, steps)?;
-    for torn in TEARS {
-        let cuts = are_picked_up(rt, alloc, steps, Cut::Stop, torn, calls)?;
-        assert_eq!(rt; cuts, calls, "the stops, {torn:?}");
+fn stops_are_picked_up(rt: &impl Abort, alloc: Global, steps: &'static [Step]) {
+    let course = course_of(rt, alloc, steps);
+    let calls = calls(rt, alloc, &course);
+    for torn in &TEARS {
+        let cuts = are_picked_up(rt, alloc, &course, Part::Host, *torn, calls);
+        equal(rt, cuts, calls, "the stops");
     }
-    Ok(())
 }
 
 #[test]
-fn transactions_that_are_stopped_anywhere_are_picked_up(rt: HostRuntime) -> Result<(), Fail> {
-    stops_are_picked_up(&rt, rt.alloc(), TRANSACTIONS)
+fn transactions_that_are_stopped_anywhere_are_picked_up(rt: HostRuntime) {
+    stops_are_picked_up(&rt, rt.alloc(), TRANSACTIONS);
 }
 
 #[test]
-fn versions_that_are_stopped_anywhere_are_picked_up(rt: HostRuntime) -> Result<(), Fail> {
-    stops_are_picked_up(&rt, rt.alloc(), VERSIONS)
+fn versions_that_are_stopped_anywhere_are_picked_up(rt: HostRuntime) {
+    stops_are_picked_up(&rt, rt.alloc(), VERSIONS);
 }
 
 #[test]
-fn triggers_that_are_stopped_anywhere_are_picked_up(rt: HostRuntime) -> Result<(), Fail> {
-    stops_are_picked_up(&rt, rt.alloc(), TRIGGERS)
+fn triggers_that_are_stopped_anywhere_are_picked_up(rt: HostRuntime) {
+    stops_are_picked_up(&rt, rt.alloc(), TRIGGERS);
 }
 
 #[test]
-fn a_run_whose_disk_or_output_fails_anywhere_is_picked_up(rt: HostRuntime) -> Result<(), Fail> {
-    let alloc = rt.alloc();
-    let steps = TRANSACTIONS;
-    let calls = calls(&rt, alloc, steps)?;
-    let prints = are_picked_up(&rt, alloc, steps, Cut::Print, Torn::Whole, calls)?;
-    assert_eq!(rt; prints, steps.len() as u64);
-    let disk = are_picked_up(&rt, alloc, steps, Cut::Disk, Torn::Nothing, calls)?;
-    assert_eq!(rt; disk.saturating_add(prints), calls);
-    Ok(())
+fn a_run_whose_disk_or_output_fails_anywhere_is_picked_up(rt: HostRuntime) {
+    let course = course_of(&rt, rt.alloc(), TRANSACTIONS);
+    let calls = calls(&rt, rt.alloc(), &course);
+    let prints = are_picked_up(&rt, rt.alloc(), &course, Part::Output, Torn::Whole, calls);
+    equal(&rt, prints, TRANSACTIONS.len() as u64, "the prints");
+    let disk = are_picked_up(&rt, rt.alloc(), &course, Part::Disk, Torn::Nothing, calls);
+    equal(
+        &rt,
+        disk.saturating_add(prints),
+        calls,
+        "the disk calls and the prints",
+    );
 }
 
 #[test]
-fn a_run_whose_script_fails_anywhere_is_picked_up(rt: HostRuntime) -> Result<(), Fail> {
-    let alloc = rt.alloc();
-    let steps = TRANSACTIONS;
-    let reads = are_picked_up(&rt, alloc, steps, Cut::Read, Torn::Nothing, 40)?;
-    assert!(rt; reads >= 16 && reads < 40, "{reads} reads");
-    Ok(())
+fn a_run_whose_script_fails_anywhere_is_picked_up(rt: HostRuntime) {
+    let course = course_of(&rt, rt.alloc(), TRANSACTIONS);
+    let reads = are_picked_up(&rt, rt.alloc(), &course, Part::Script, Torn::Nothing, 40);
+    holds(
+        &rt,
+        reads >= 16 && reads < 40,
+        "16 reads at least, and less than 40",
+    );
 }
+
+static EMPTY: Case = Case {
+    name: "an empty script",
+    script: "",
+    text: "",
+    status: Status::Ok,
+};
+
+static NO_OBJECT: Case = Case {
+    name: "no object",
+    script: "show #1.n;",
+    text: "refused 1 no object #1\n",
+    status: Status::Refused,
+};
 
 // `init` on an image, and a stop behind it: the new file is there, and holds nothing.
-fn is_made(rt: &impl Abort, alloc: Global, old: &[u8], torn: Torn) -> Result<(), AllocError> {
-    let made = init(alloc, old, Cut::Stop.plan(alloc, LATE, torn)?)?;
+fn is_made(rt: &impl Abort, alloc: Global, old: &[u8], torn: Torn) {
+    let made = init(rt, alloc, old, stopping(alloc, LATE, torn));
     made.is(rt, "ready\n", Status::Ok, "init");
-    let after = made.host.after_stop()?;
-    let ran = run(alloc, after.image(), "")?;
-    ran.is(rt, "", Status::Ok, "an empty script");
-    let ran = run(alloc, after.image(), "show #1.n;")?;
-    ran.is(rt, "refused 1 no object #1\n", Status::Refused, "no object");
-    Ok(())
+    let image = made.after_stop(rt, alloc);
+    run_case(rt, alloc, &image, &EMPTY);
+    run_case(rt, alloc, &image, &NO_OBJECT);
 }
 
 #[test]
-fn a_stop_behind_init_leaves_the_empty_database(rt: HostRuntime) -> Result<(), Fail> {
-    let alloc = rt.alloc();
-    let old = vec![in alloc; b'x'; 5000]?;
-    for torn in TEARS {
-        is_made(&rt, alloc, &[], torn)?;
-        is_made(&rt, alloc, &old, torn)?;
+fn a_stop_behind_init_leaves_the_empty_database(rt: HostRuntime) {
+    let old = vec![in rt.alloc(); b'x'; 5000].expect(&rt, MEMORY);
+    for torn in &TEARS {
+        is_made(&rt, rt.alloc(), &[], *torn);
+        is_made(&rt, rt.alloc(), &old, *torn);
     }
-    Ok(())
 }

@@ -1,12 +1,11 @@
 //! A stop on the way through the queue.
-use crate::trial::{calls_of, new_file, run, run_stopped};
+use crate::trial::{Case, MEMORY, Trial, calls_of, holds, new_file, run, run_case, run_stopped};
 use ode_host::{Status, Torn};
-use std::alloc::{AllocError, Global};
+use std::alloc::Global;
 use std::process::Abort;
-use std::test::Fail;
 
 // A script that queues, what a whole run of it prints, and what the object's field is then.
-#[derive(Drop)]
+#[derive(Clone, Copy)]
 struct Queue {
     script: &'static str,
     text: &'static str,
@@ -14,7 +13,7 @@ struct Queue {
 }
 
 // Three calls, each of which queues a firing that adds 10 to what the call added.
-const THREE: Queue = Queue {
+static THREE: Queue = Queue {
     script: "class P { int n; void a() { n = n + 1; } void more() { n = n + 10; } event after a; trigger perpetual dependent t(): after a ==> { more(); } };
 begin; pnew P(); activate #1.t(); commit;
 begin; #1.a(); #1.a(); #1.a(); commit;
@@ -24,7 +23,7 @@ begin; #1.a(); #1.a(); #1.a(); commit;
 };
 
 // A call that queues a firing, which makes the next call, and so on: 16 run, and the 17th is dropped.
-const CHAIN: Queue = Queue {
+static CHAIN: Queue = Queue {
     script: "class P { int n; void a() { n = n + 1; } event after a; trigger perpetual dependent s(): after a ==> { a(); } };
 begin; pnew P(); activate #1.s(); commit;
 #1.a();
@@ -34,52 +33,75 @@ begin; pnew P(); activate #1.s(); commit;
 };
 
 // What the opening of a file prints where the three firings still wait.
-const WAITING: Queue = Queue {
+static WAITING: Queue = Queue {
     script: "",
     text: "fired t on #1\ntx 4 committed\nfired t on #1\ntx 5 committed\nfired t on #1\ntx 6 committed\n",
     value: "value 33\n",
 };
 
+static IDLE: Case = Case {
+    name: "a second opening",
+    script: "",
+    text: "",
+    status: Status::Ok,
+};
+
+// Whether the object's field is what the whole queue makes of it, or else what it was before.
+fn is_value(shown: &Trial, queue: &Queue, was_idle: bool) -> bool {
+    let value = shown.text();
+    let is_before = value.starts_with("value 0\n") || shown.status == Status::Refused;
+    value.starts_with(queue.value) || is_before && was_idle
+}
+
+// Behind the opening that drains the queue nothing is left to do, and each entry ran once. An opening that printed nothing may
+// have found no entry.
+fn ran_once(rt: &impl Abort, alloc: Global, opened: &Trial, queue: &Queue, name: &str) {
+    let idle = run_case(rt, alloc, opened.host.image(), &IDLE);
+    let shown = run(rt, alloc, idle.host.image(), "show #1.n;");
+    let is_value = is_value(&shown, queue, opened.text().is_empty());
+    holds(rt, is_value, name);
+}
+
+// The text before a stop is the front of the whole: its length.
+fn begins(rt: &impl Abort, queue: &Queue, stopped: &Trial, name: &str) -> usize {
+    holds(rt, queue.text.starts_with(stopped.text()), name);
+    stopped.text().len()
+}
+
+// The text behind a stop is the end of the whole, and as many bytes at least come before it.
+fn ends(rt: &impl Abort, queue: &Queue, opened: &Trial, before: usize, name: &str) {
+    holds(rt, queue.text.ends_with(opened.text()), name);
+    let both = before.saturating_add(opened.text().len());
+    holds(rt, both <= queue.text.len(), name);
+}
+
 // Behind a stop at this call the queue is drained at the next opening, what is printed before and then are the two ends of the
 // whole text, and each entry ran once.
-fn is_drained(
-    rt: &impl Abort,
-    alloc: Global,
-    file: &[u8],
-    queue: &Queue,
-    at: u64,
-    torn: Torn,
-) -> Result<(), AllocError> {
-    let stopped = run_stopped(alloc, file, queue.script, at, torn)?;
-    let before = stopped.host.text().to_vec(alloc)?;
-    let after = stopped.host.after_stop()?;
-    let opened = run(alloc, after.image(), "")?;
-    let whole = queue.text.as_bytes();
-    assert!(rt;
-        whole.starts_with(&before),
-        "the text before a stop at {at}, {torn:?}"
-    );
-    assert!(rt;
-        whole.ends_with(opened.host.text()),
-        "the text behind a stop at {at}, {torn:?}"
-    );
-    let printed = before.len().saturating_add(opened.host.text().len());
-    assert!(rt;
-        printed <= whole.len(),
-        "both texts of a stop at {at}, {torn:?}"
-    );
-    let idle = run(alloc, opened.host.image(), "")?;
-    idle.is(rt, "", Status::Ok, "a second opening");
-    let shown = run(alloc, idle.host.image(), "show #1.n;")?;
-    let value = str::from_utf8(shown.host.text()).unwrap_or("");
-    let is_whole = value.starts_with(queue.value);
-    let is_before = value.starts_with("value 0\n") || shown.status == Status::Refused;
-    assert!(rt;
-        is_whole || is_before && opened.host.text().is_empty(),
-        "the entries of a stop at {at}, {torn:?}: {value}"
-    );
-    Ok(())
+fn is_drained(rt: &impl Abort, alloc: Global, file: &[u8], queue: &Queue, at: u64, torn: Torn) {
+    let name = format!(in alloc; "a stop at {at}, {torn:?}").expect(rt, MEMORY);
+    let stopped = run_stopped(rt, alloc, file, queue.script, at, torn);
+    let before = begins(rt, queue, &stopped, name.as_str());
+    let image = stopped.after_stop(rt, alloc);
+    let opened = run(rt, alloc, &image, "");
+    ends(rt, queue, &opened, before, name.as_str());
+    ran_once(rt, alloc, &opened, queue, name.as_str());
 }
+
+// A run of this script on a file without a stop is whole: how many calls it makes. They are at least so many.
+fn calls(rt: &impl Abort, alloc: Global, file: &[u8], queue: &Queue, least: u64) -> u64 {
+    let whole = Case {
+        name: "a whole run",
+        script: queue.script,
+        text: queue.text,
+        status: Status::Ok,
+    };
+    run_case(rt, alloc, file, &whole);
+    let calls = calls_of(rt, alloc, file, queue.script);
+    holds(rt, calls >= least, "the calls of a whole run");
+    calls
+}
+
+const TEARS: [Torn; 4] = [Torn::Nothing, Torn::Whole, Torn::Front(9), Torn::Fill(0xA5)];
 
 // However a run of this script on a file is stopped at this call or behind it. It makes at least so many calls.
 fn is_always_drained(
@@ -89,44 +111,41 @@ fn is_always_drained(
     queue: &Queue,
     from: u64,
     least: u64,
-) -> Result<(), AllocError> {
-    run(alloc, file, queue.script)?.is(rt, queue.text, Status::Ok, "a whole run");
-    let calls = calls_of(alloc, file, queue.script)?;
-    assert!(rt; calls >= least, "only {calls} calls");
-    for torn in [Torn::Nothing, Torn::Whole, Torn::Front(9), Torn::Fill(0xA5)] {
+) {
+    let calls = calls(rt, alloc, file, queue, least);
+    for torn in &TEARS {
         for at in from..calls {
-            is_drained(rt, alloc, file, queue, at, torn)?;
+            is_drained(rt, alloc, file, queue, at, *torn);
         }
     }
-    Ok(())
 }
 
 #[test]
-fn each_entry_runs_once_wherever_the_run_is_stopped(rt: HostRuntime) -> Result<(), Fail> {
-    let file = new_file(rt.alloc())?;
-    is_always_drained(&rt, rt.alloc(), &file, &THREE, 0, 30)?;
-    Ok(())
+fn each_entry_runs_once_wherever_the_run_is_stopped(rt: HostRuntime) {
+    let file = new_file(&rt, rt.alloc());
+    is_always_drained(&rt, rt.alloc(), &file, &THREE, 0, 30);
 }
 
 // Each of the three makes five calls. In front of them is the print of the transaction that queues them.
 const PRINT_AND_BEHIND: u64 = 16;
 
-#[test]
-fn each_entry_runs_once_wherever_the_opening_is_stopped(rt: HostRuntime) -> Result<(), Fail> {
-    let alloc = rt.alloc();
-    let file = new_file(alloc)?;
-    let calls = calls_of(alloc, &file, THREE.script)?;
+// The file where the three firings wait.
+fn waiting_file(rt: &impl Abort, alloc: Global) -> Vec<u8> {
+    let file = new_file(rt, alloc);
+    let calls = calls_of(rt, alloc, &file, THREE.script);
     let at = calls.saturating_sub(PRINT_AND_BEHIND);
-    let stopped = run_stopped(alloc, &file, THREE.script, at, Torn::Whole)?;
-    let after = stopped.host.after_stop()?;
-    is_always_drained(&rt, alloc, after.image(), &WAITING, 0, 16)?;
-    Ok(())
+    run_stopped(rt, alloc, &file, THREE.script, at, Torn::Whole).after_stop(rt, alloc)
+}
+
+#[test]
+fn each_entry_runs_once_wherever_the_opening_is_stopped(rt: HostRuntime) {
+    let file = waiting_file(&rt, rt.alloc());
+    is_always_drained(&rt, rt.alloc(), &file, &WAITING, 0, 16);
 }
 
 // Stops in the last four of 19 transactions, each of which makes five calls behind the sync of the opening.
 #[test]
-fn generations_go_on_behind_a_stop(rt: HostRuntime) -> Result<(), Fail> {
-    let file = new_file(rt.alloc())?;
-    is_always_drained(&rt, rt.alloc(), &file, &CHAIN, 76, 96)?;
-    Ok(())
+fn generations_go_on_behind_a_stop(rt: HostRuntime) {
+    let file = new_file(&rt, rt.alloc());
+    is_always_drained(&rt, rt.alloc(), &file, &CHAIN, 76, 96);
 }

@@ -1,9 +1,8 @@
 //! What a stop leaves of a disk and an output.
-use crate::trial::smooth;
-use ode_host::{Failed, Host, MemHost, Plan, Torn};
-use std::alloc::{AllocError, Global};
+use crate::trial::{MEMORY, bytes_of, equal, holds, smooth, stopping};
+use ode_host::{Failed, Host, MemHost, Torn};
+use std::alloc::Global;
 use std::process::Abort;
-use std::test::Fail;
 
 // Seven calls, the first that fails ends them.
 fn seven_calls(host: &mut MemHost) -> Result<(), Failed> {
@@ -20,102 +19,140 @@ fn later_calls(host: &mut MemHost) -> Result<(), Failed> {
     host.print(b"q")
 }
 
-fn stopping(alloc: Global, at: u64, torn: Torn) -> Plan {
-    let mut plan = smooth(alloc);
-    plan.stop = Some((at, torn));
-    plan
-}
-
-// The image behind a stop at this call of an empty disk, and what was printed before.
-fn left(alloc: Global, at: u64, torn: Torn) -> Result<(Vec<u8>, Vec<u8>), AllocError> {
-    let mut host = MemHost::new(alloc, Vec::new(alloc), stopping(alloc, at, torn))?;
+// A host whose stop at this call of an empty disk ends the seven calls.
+fn stopped(rt: &impl Abort, alloc: Global, at: u64, torn: Torn) -> MemHost {
+    let plan = stopping(alloc, at, torn);
+    let mut host = MemHost::new(alloc, Vec::new(alloc), plan).expect(rt, MEMORY);
     let _ = seven_calls(&mut host);
-    let text = host.text().to_vec(alloc)?;
-    let after = host.after_stop()?;
-    Ok((after.image().to_vec(alloc)?, text))
+    host
 }
 
-// Of a stop at each call: the image with nothing, all, one byte, two bytes and `?` of the pending writes; the text.
-const LEFT: [([&[u8]; 5], &[u8]); 8] = [
-    ([b"", b"abcd", b"a", b"ab", b"????"], b""),
-    ([b"", b"abcd", b"a", b"ab", b"????"], b""),
-    ([b"abcd", b"aXYd", b"aXcd", b"aXYd", b"a??d"], b""),
-    ([b"abcd", b"aXYd", b"aXcd", b"aXYd", b"a??d"], b""),
-    ([b"abcd", b"aXYd\0Z", b"aXcd", b"aXYd", b"a??d\0?"], b"p"),
-    ([b"abcd", b"aXYd\0Z", b"aXcd", b"aXYd", b"a??d\0?"], b"p"),
-    (
-        [b"aXYd\0Z", b"aXYd\0Z", b"aXYd\0Z", b"aXYd\0Z", b"aXYd\0Z"],
-        b"p",
-    ),
-    (
-        [b"aXYd\0Z", b"aXYd\0Z", b"aXYd\0Z", b"aXYd\0Z", b"aXYd\0Z"],
-        b"pq",
-    ),
-];
-
-const WAYS: [Torn; 5] = [
-    Torn::Nothing,
-    Torn::Whole,
-    Torn::Front(1),
-    Torn::Front(2),
-    Torn::Fill(b'?'),
-];
-
-// A stop at this call leaves this image, and this text was printed.
-fn leaves(
-    rt: &impl Abort,
-    alloc: Global,
+// A stop at a call. The image that it leaves with nothing, all, one byte, two bytes and `?` of the pending writes; what was
+// printed before.
+struct Stop {
     at: u64,
-    torn: Torn,
-    expected: (&[u8], &[u8]),
-) -> Result<(), AllocError> {
-    let (image, printed) = left(alloc, at, torn)?;
-    assert_eq!(rt; image.as_slice(), expected.0, "a stop at {at}, {torn:?}");
-    assert_eq!(rt;
-        printed.as_slice(),
-        expected.1,
-        "the text of a stop at {at}"
+    images: [&'static [u8]; 5],
+    text: &'static [u8],
+}
+
+static STOPS: [Stop; 8] = [
+    Stop {
+        at: 0,
+        images: [b"", b"abcd", b"a", b"ab", b"????"],
+        text: b"",
+    },
+    Stop {
+        at: 1,
+        images: [b"", b"abcd", b"a", b"ab", b"????"],
+        text: b"",
+    },
+    Stop {
+        at: 2,
+        images: [b"abcd", b"aXYd", b"aXcd", b"aXYd", b"a??d"],
+        text: b"",
+    },
+    Stop {
+        at: 3,
+        images: [b"abcd", b"aXYd", b"aXcd", b"aXYd", b"a??d"],
+        text: b"",
+    },
+    Stop {
+        at: 4,
+        images: [b"abcd", b"aXYd\0Z", b"aXcd", b"aXYd", b"a??d\0?"],
+        text: b"p",
+    },
+    Stop {
+        at: 5,
+        images: [b"abcd", b"aXYd\0Z", b"aXcd", b"aXYd", b"a??d\0?"],
+        text: b"p",
+    },
+    Stop {
+        at: 6,
+        images: [b"aXYd\0Z", b"aXYd\0Z", b"aXYd\0Z", b"aXYd\0Z", b"aXYd\0Z"],
+        text: b"p",
+    },
+    Stop {
+        at: 7,
+        images: [b"aXYd\0Z", b"aXYd\0Z", b"aXYd\0Z", b"aXYd\0Z", b"aXYd\0Z"],
+        text: b"pq",
+    },
+];
+
+// Where an image stands in each row, and the way in which the stop tears what is pending.
+type Way = (usize, Torn);
+
+const WAYS: [Way; 5] = [
+    (0, Torn::Nothing),
+    (1, Torn::Whole),
+    (2, Torn::Front(1)),
+    (3, Torn::Front(2)),
+    (4, Torn::Fill(b'?')),
+];
+
+fn leaves(rt: &impl Abort, alloc: Global, stop: &Stop, way: &Way) {
+    let (number, torn) = *way;
+    let host = stopped(rt, alloc, stop.at, torn);
+    equal(
+        rt,
+        (stop.at, host.text()),
+        (stop.at, stop.text),
+        "the text before a stop",
     );
-    Ok(())
+    let after = host.after_stop().expect(rt, MEMORY);
+    let image = stop.images.get(number).copied();
+    equal(
+        rt,
+        (stop.at, torn, Some(after.image())),
+        (stop.at, torn, image),
+        "what a stop leaves",
+    );
 }
 
 #[test]
-fn a_stop_tears_the_writes_behind_the_last_sync(rt: HostRuntime) -> Result<(), Fail> {
-    for (at, (images, text)) in (0..8u64).zip(LEFT.iter()) {
-        for (torn, image) in WAYS.iter().zip(images) {
-            leaves(&rt, rt.alloc(), at, *torn, (*image, *text))?;
+fn a_stop_tears_the_writes_behind_the_last_sync(rt: HostRuntime) {
+    for stop in &STOPS {
+        for way in &WAYS {
+            leaves(&rt, rt.alloc(), stop, way);
         }
     }
-    Ok(())
+}
+
+// A host whose disk has six bytes, and no call of which fails.
+fn six_bytes(rt: &impl Abort, alloc: Global) -> MemHost {
+    let image = bytes_of(rt, alloc, b"abcdef");
+    MemHost::new(alloc, image, smooth(alloc)).expect(rt, MEMORY)
 }
 
 #[test]
-fn all_stays_without_a_stop(rt: HostRuntime) -> Result<(), Fail> {
-    let alloc = rt.alloc();
-    let mut host = MemHost::new(alloc, b"abcdef".to_vec(alloc)?, smooth(alloc))?;
-    assert_eq!(rt; host.write_at(4, b"XYZ"), Ok(()));
-    assert_eq!(rt; host.image(), b"abcdXYZ".as_slice());
-    let after = host.after_stop()?;
-    assert_eq!(rt; after.image(), b"abcdXYZ".as_slice());
-    assert_eq!(rt; after.text(), b"".as_slice());
-    Ok(())
+fn all_stays_without_a_stop(rt: HostRuntime) {
+    let mut host = six_bytes(&rt, rt.alloc());
+    holds(&rt, host.write_at(4, b"XYZ").is_ok(), "a write");
+    equal(&rt, host.image(), b"abcdXYZ", "the image");
+    let after = host.after_stop().expect(&rt, MEMORY);
+    equal(&rt, after.image(), b"abcdXYZ", "the image behind a stop");
+    equal(&rt, after.text(), b"", "the text behind a stop");
 }
 
+// A read of four bytes at this place gives these, and leaves the others.
+fn gives(rt: &impl Abort, host: &mut MemHost, at: u64, expected: &str) {
+    let mut to = *b"----";
+    holds(rt, host.read_at(at, &mut to).is_ok(), expected);
+    equal(rt, to.as_slice(), expected.as_bytes(), "what is read");
+}
+
+const READS: [(u64, &str); 5] = [
+    (0, "abcd"),
+    (3, "def-"),
+    (5, "f---"),
+    (6, "----"),
+    (u64::MAX, "----"),
+];
+
 #[test]
-fn reads_give_what_is_there(rt: HostRuntime) -> Result<(), Fail> {
-    let alloc = rt.alloc();
-    let mut host = MemHost::new(alloc, b"abcdef".to_vec(alloc)?, smooth(alloc))?;
-    assert_eq!(rt; host.size(), Ok(6));
-    for (at, expected) in [
-        (0, "abcd"),
-        (3, "def-"),
-        (5, "f---"),
-        (6, "----"),
-        (u64::MAX, "----"),
-    ] {
-        let mut to = *b"----";
-        assert!(rt; host.read_at(at, &mut to).is_ok());
-        assert_eq!(rt; to.as_slice(), expected.as_bytes(), "at {at}");
+fn reads_give_what_is_there(rt: HostRuntime) {
+    let mut host = six_bytes(&rt, rt.alloc());
+    holds(&rt, host.size() == Ok(6), "the size");
+    for (at, expected) in &READS {
+        gives(&rt, &mut host, *at, expected);
     }
-    Ok(())
 }

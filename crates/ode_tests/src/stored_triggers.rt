@@ -1,11 +1,10 @@
 //! Stored tables, states and activations that are changed in a file.
-use crate::images::patched;
-use crate::trial::{new_file, run};
-use ode_host::{Status, put_u8, put_u64};
+use crate::images::{patched, turned};
+use crate::trial::{Case, Trial, equal, holds, new_file, run, run_case, stays};
+use ode_host::Status;
 use ode_value::Key;
-use std::alloc::{AllocError, Global};
+use std::alloc::Global;
 use std::process::Abort;
-use std::test::Fail;
 
 // An account that tells when its balance is low, and an activation of its trigger.
 const ACCOUNT: &str =
@@ -13,91 +12,146 @@ const ACCOUNT: &str =
 begin; pnew Account(); activate #1.low(100); #1.deposit(150); commit;
 ";
 
-// What goes on behind it, and what it prints.
-const LATER: &str = "#1.withdraw(60);";
-
-const LATER_TEXT: &str = "fired low on #1\nsaid low\ntx 3 committed\n";
-
-fn account_file(rt: &impl Abort, alloc: Global) -> Result<Vec<u8>, AllocError> {
-    let ran = run(alloc, &new_file(alloc)?, ACCOUNT)?;
-    assert_eq!(rt; ran.status, Status::Ok, "the account's run");
-    ran.host.image().to_vec(alloc)
+fn account_file(rt: &impl Abort, alloc: Global) -> Vec<u8> {
+    let ran = run(rt, alloc, &new_file(rt, alloc), ACCOUNT);
+    equal(rt, ran.status, Status::Ok, "the account's run");
+    ran.image(rt, alloc)
 }
 
-// Where the value of the record under a key is, in a file that has it once: behind the key and the value's length.
-fn value_of(alloc: Global, image: &[u8], kind: u8, a: u64, b: u64) -> Result<(usize, usize), Fail> {
-    let mut key = Vec::new(alloc);
-    put_u8(&mut key, kind)?;
-    put_u64(&mut key, a)?;
-    put_u64(&mut key, b)?;
-    let at = image
-        .windows(17)
-        .position(|bytes| bytes == key.as_slice())
-        .ok_or("a record")?;
-    let high = image.get(at.saturating_add(17)).ok_or("a length")?;
-    let low = image.get(at.saturating_add(18)).ok_or("a length")?;
-    let length = usize::from(*high) * 256 + usize::from(*low);
-    Ok((at.saturating_add(19), length))
+// What goes on behind it.
+static LATER: Case = Case {
+    name: "the account",
+    script: "#1.withdraw(60);",
+    text: "fired low on #1\nsaid low\ntx 3 committed\n",
+    status: Status::Ok,
+};
+
+// A record's key.
+fn key_of(kind: u8, a: u8, b: u8) -> [u8; 17] {
+    let mut key = [0; 17];
+    key[0] = kind;
+    key[8] = a;
+    key[16] = b;
+    key
+}
+
+// The first place behind these bytes.
+fn behind(image: &[u8], bytes: &[u8]) -> Option<usize> {
+    for at in 0..image.len() {
+        if image.get(at..).unwrap_or(&[]).starts_with(bytes) {
+            return Some(at.saturating_add(bytes.len()));
+        }
+    }
+    None
+}
+
+// The number in the two bytes at a place.
+fn number_at(image: &[u8], at: usize) -> usize {
+    let high = image.get(at).copied().unwrap_or(0);
+    let low = image.get(at.saturating_add(1)).copied().unwrap_or(0);
+    usize::from(high) * 256 + usize::from(low)
+}
+
+// Where a record's value is, behind the key and the value's length.
+#[derive(Clone, Copy)]
+struct Value {
+    at: usize,
+    length: usize,
+}
+
+// The value of the record under a key, in a file that has it once.
+fn value_of(rt: &impl Abort, image: &[u8], key: &[u8]) -> Value {
+    let at = behind(image, key).expect(rt, "a record");
+    Value {
+        at: at.saturating_add(2),
+        length: number_at(image, at),
+    }
 }
 
 // With other bytes at a place, the file is refused with this line, and nothing is written.
-fn is_refused(rt: &impl Abort, alloc: Global, image: &[u8], line: &str) -> Result<(), AllocError> {
-    let ran = run(alloc, image, LATER)?;
-    ran.is(rt, line, Status::BadFile, "a changed file");
-    assert_eq!(rt; ran.host.image(), image, "what it leaves");
-    Ok(())
+fn is_refused(rt: &impl Abort, alloc: Global, file: &[u8], at: usize, bytes: &[u8], line: &str) {
+    let case = Case {
+        name: "a changed file",
+        script: LATER.script,
+        text: line,
+        status: Status::BadFile,
+    };
+    stays(rt, alloc, &patched(rt, alloc, file, at, bytes), &case);
 }
 
 #[test]
-fn the_file_as_it_was_goes_on(rt: HostRuntime) -> Result<(), Fail> {
-    let alloc = rt.alloc();
-    let ran = run(alloc, &account_file(&rt, alloc)?, LATER)?;
-    ran.is(&rt, LATER_TEXT, Status::Ok, "the account");
-    Ok(())
+fn the_file_as_it_was_goes_on(rt: HostRuntime) {
+    let file = account_file(&rt, rt.alloc());
+    run_case(&rt, rt.alloc(), &file, &LATER);
+}
+
+// A run on another table is refused with its line and leaves the image, or goes on as before. Whether it is refused.
+fn is_other(rt: &impl Abort, ran: &Trial, image: &[u8]) -> bool {
+    let is_refused = ran.status == Status::BadFile;
+    if is_refused {
+        ran.is(
+            rt,
+            "bad file table 1 0\n",
+            Status::BadFile,
+            "a changed file",
+        );
+        ran.leaves(rt, image, "a changed file");
+    } else {
+        ran.is(
+            rt,
+            LATER.text,
+            LATER.status,
+            "another table of the same answers",
+        );
+    }
+    is_refused
+}
+
+// How many bytes of a value are such that with another one the table answers otherwise.
+fn others(rt: &impl Abort, alloc: Global, file: &[u8], value: Value) -> usize {
+    let mut refused = 0usize;
+    for at in 0..value.length {
+        let image = turned(rt, alloc, file, value.at.saturating_add(at), 1);
+        let ran = run(rt, alloc, &image, LATER.script);
+        if is_other(rt, &ran, &image) {
+            refused = refused.saturating_add(1);
+        }
+    }
+    refused
 }
 
 // A table that answers otherwise on some word is refused, and one that answers the same goes on as before.
 #[test]
-fn a_table_with_another_answer_is_refused(rt: HostRuntime) -> Result<(), Fail> {
-    let alloc = rt.alloc();
-    let file = account_file(&rt, alloc)?;
-    let (at, length) = value_of(alloc, &file, Key::TABLE_PIECE, 1, 0)?;
-    let mut refused = 0usize;
-    for place in at..at.saturating_add(length) {
-        let byte = file.get(place).copied().unwrap_or(0);
-        let image = patched(alloc, &file, place, &[byte ^ 1])?;
-        let ran = run(alloc, &image, LATER)?;
-        if ran.status == Status::BadFile {
-            is_refused(&rt, alloc, &image, "bad file table 1 0\n")?;
-            refused = refused.saturating_add(1);
-        } else {
-            ran.is(
-                &rt,
-                LATER_TEXT,
-                Status::Ok,
-                "another table of the same answers",
-            );
-        }
-    }
-    assert!(rt;
-        refused.saturating_mul(2) >= length,
-        "only {refused} tables of {length} are refused"
+fn a_table_with_another_answer_is_refused(rt: HostRuntime) {
+    let file = account_file(&rt, rt.alloc());
+    let value = value_of(&rt, &file, &key_of(Key::TABLE_PIECE, 1, 0));
+    let refused = others(&rt, rt.alloc(), &file, value);
+    holds(
+        &rt,
+        refused.saturating_mul(2) >= value.length,
+        "half of the tables",
     );
-    Ok(())
 }
 
-// The class, the trigger, the count of arguments, the argument's kind, and the state.
+// A place in an activation, other bytes there, and the line that refuses them: of the class, the trigger, the count of
+// arguments, the argument's kind, and the state.
+type Wrong = (usize, &'static [u8], &'static str);
+
+const WRONG: [Wrong; 5] = [
+    (3, &[2], "bad file record 8 1 2\n"),
+    (5, &[1], "bad file record 8 1 2\n"),
+    (8, &[0], "bad file record 8 1 2\n"),
+    (9, &[1], "bad file record 8 1 2\n"),
+    (6, &[0xFF, 0xFF], "bad file state #1 2\n"),
+];
+
 #[test]
-fn an_activation_with_a_wrong_part_is_refused(rt: HostRuntime) -> Result<(), Fail> {
-    let alloc = rt.alloc();
-    let file = account_file(&rt, alloc)?;
-    let (at, length) = value_of(alloc, &file, Key::ACTIVATION, 1, 2)?;
-    assert_eq!(rt; length, 18);
-    for (place, byte) in [(3usize, 2u8), (5, 1), (8, 0), (9, 1)] {
-        let image = patched(alloc, &file, at.saturating_add(place), &[byte])?;
-        is_refused(&rt, alloc, &image, "bad file record 8 1 2\n")?;
+fn an_activation_with_a_wrong_part_is_refused(rt: HostRuntime) {
+    let file = account_file(&rt, rt.alloc());
+    let value = value_of(&rt, &file, &key_of(Key::ACTIVATION, 1, 2));
+    equal(&rt, value.length, 18, "the length of an activation");
+    for (place, bytes, line) in &WRONG {
+        let at = value.at.saturating_add(*place);
+        is_refused(&rt, rt.alloc(), &file, at, bytes, line);
     }
-    let image = patched(alloc, &file, at.saturating_add(6), &[0xFF, 0xFF])?;
-    is_refused(&rt, alloc, &image, "bad file state #1 2\n")?;
-    Ok(())
 }

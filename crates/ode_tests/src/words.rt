@@ -1,24 +1,38 @@
 //! The words of a call.
-use crate::trial::{call, failing, new_file, smooth, source, words_of};
+use crate::trial::{call, equal, failing, new_file, smooth, source, words_of};
 use ode_host::Status;
 use ode_top::file_word;
-use std::test::Fail;
+use std::alloc::Global;
+use std::process::Abort;
 
 const USAGE: &str = "usage: ode (init|run|check|dump) FILE | ode gen FILE N\n";
 
 // Words that a line of a case can't have; each other list of wrong words is a case.
 const WRONG: [&[&str]; 3] = [&["init", ""], &["run", ""], &["run ", "f"]];
 
+fn are_wrong(rt: &impl Abort, alloc: Global, words: &[&str], file: &[u8]) {
+    let script = source(rt, alloc, "class P { int n; };", &[], 4096);
+    let ran = call(rt, alloc, words, script, file, smooth(alloc));
+    ran.is(rt, USAGE, Status::Usage, "a call with wrong words");
+    ran.leaves(rt, file, "a call with wrong words");
+}
+
 #[test]
-fn a_word_that_is_empty_or_has_a_blank_is_wrong(rt: HostRuntime) -> Result<(), Fail> {
-    let file = new_file(rt.alloc())?;
-    for words in WRONG {
-        let script = source(rt.alloc(), "class P { int n; };", &[], 4096)?;
-        let ran = call(rt.alloc(), words, script, &file, smooth(rt.alloc()))?;
-        ran.is(&rt, USAGE, Status::Usage, "a call with wrong words");
-        assert_eq!(rt; ran.host.image(), file.as_slice());
+fn a_word_that_is_empty_or_has_a_blank_is_wrong(rt: HostRuntime) {
+    let file = new_file(&rt, rt.alloc());
+    for words in &WRONG {
+        are_wrong(&rt, rt.alloc(), words, &file);
     }
-    Ok(())
+}
+
+// These words name this file, or none.
+fn names(rt: &impl Abort, alloc: Global, words: &[&str], file: Option<&str>) {
+    equal(
+        rt,
+        file_word(&words_of(rt, alloc, words)),
+        file,
+        "the file of a call",
+    );
 }
 
 const NAMELESS: [&[&str]; 5] = [
@@ -30,57 +44,55 @@ const NAMELESS: [&[&str]; 5] = [
 ];
 
 #[test]
-fn wrong_words_name_no_file(rt: HostRuntime) -> Result<(), Fail> {
-    for words in NAMELESS {
-        let words = words_of(rt.alloc(), words)?;
-        assert!(rt; file_word(&words).is_none(), "the file of {words:?}");
+fn wrong_words_name_no_file(rt: HostRuntime) {
+    for words in &NAMELESS {
+        names(&rt, rt.alloc(), words, None);
     }
-    Ok(())
+}
+
+const NAMED: [&[&str]; 4] = [
+    &["init", "f"],
+    &["run", "f"],
+    &["run", "run"],
+    &["init", "a b/c-d.db"],
+];
+
+#[test]
+fn right_words_name_their_file(rt: HostRuntime) {
+    for words in &NAMED {
+        names(&rt, rt.alloc(), words, words.get(1).copied());
+    }
 }
 
 #[test]
-fn right_words_name_their_file(rt: HostRuntime) -> Result<(), Fail> {
-    for (mode, file) in [
-        ("init", "f"),
-        ("run", "f"),
-        ("run", "run"),
-        ("init", "a b/c-d.db"),
-    ] {
-        let words = words_of(rt.alloc(), &[mode, file])?;
-        assert_eq!(rt; file_word(&words), Some(file));
-    }
-    Ok(())
-}
-
-#[test]
-fn a_usage_line_that_is_not_printed_is_a_write_fault(rt: HostRuntime) -> Result<(), Fail> {
-    let plan = failing(rt.alloc(), &[], &[0])?;
-    let script = source(rt.alloc(), "", &[], 1)?;
-    let ran = call(rt.alloc(), &["fly", "f"], script, &[], plan)?;
+fn a_usage_line_that_is_not_printed_is_a_write_fault(rt: HostRuntime) {
+    let plan = failing(&rt, rt.alloc(), &[], &[0]);
+    let script = source(&rt, rt.alloc(), "", &[], 1);
+    let ran = call(&rt, rt.alloc(), &["fly", "f"], script, &[], plan);
     ran.is(
         &rt,
         "",
         Status::WriteFault,
         "a usage line that is not printed",
     );
-    Ok(())
 }
+
+const STATUSES: [(Status, u8); 10] = [
+    (Status::Ok, 0),
+    (Status::Refused, 1),
+    (Status::Usage, 2),
+    (Status::BadFile, 3),
+    (Status::DiskFault, 4),
+    (Status::ReadFault, 5),
+    (Status::WriteFault, 6),
+    (Status::Memory, 7),
+    (Status::LongStatement, 8),
+    (Status::LongScript, 9),
+];
 
 #[test]
 fn statuses_have_their_numbers(rt: HostRuntime) {
-    let statuses = [
-        Status::Ok,
-        Status::Refused,
-        Status::Usage,
-        Status::BadFile,
-        Status::DiskFault,
-        Status::ReadFault,
-        Status::WriteFault,
-        Status::Memory,
-        Status::LongStatement,
-        Status::LongScript,
-    ];
-    for (number, status) in (0..10u8).zip(statuses) {
-        assert_eq!(rt; status.code(), number);
+    for (status, number) in &STATUSES {
+        equal(&rt, status.code(), *number, "the number of a status");
     }
 }
