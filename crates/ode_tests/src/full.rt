@@ -1,4 +1,5 @@
 //! A database that is full.
+use crate::acts::{Act, Made, play};
 use crate::images::filled;
 use crate::long::times;
 use crate::trial::{Case, MEMORY, run_case};
@@ -71,24 +72,28 @@ fn what_has_no_room_aborts(rt: HostRuntime) {
     run_case(&rt, rt.alloc(), ran.host.image(), &LATER);
 }
 
-static FULL: Case = Case {
+const FULL: Case = Case {
     name: "a full database",
     script: "show #2091.a == #1.a;",
     text: "value true\ntx 2 committed\n",
     status: Status::Ok,
 };
 
-static OVER: Case = Case {
+const OVER: Case = Case {
     name: "an object too much",
     script: "show #2092.a;",
     text: "bad file size 8389055\n",
     status: Status::BadFile,
 };
 
+const FULL_AND_OVER: &[Act] = &[
+    Act::Make(Made::Filled(MOST)),
+    Act::Case(FULL),
+    Act::Make(Made::Filled(MOST + 1)),
+    Act::Case(OVER),
+];
+
 #[test]
 fn a_file_with_an_object_too_much_is_bad(rt: HostRuntime) {
-    let full = filled(&rt, rt.alloc(), MOST);
-    run_case(&rt, rt.alloc(), &full, &FULL);
-    let over = filled(&rt, rt.alloc(), MOST + 1);
-    run_case(&rt, rt.alloc(), &over, &OVER);
+    play(&rt, rt.alloc(), FULL_AND_OVER);
 }

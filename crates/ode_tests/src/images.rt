@@ -228,14 +228,12 @@ fn put_frame(rt: &impl Abort, alloc: Global, file: &mut Vec<u8>, records: &[Reco
     put_numbers(rt, file, &[(1, 0)]);
 }
 
-/// A file with these counters and so many entries more, numbered from 1 on, each in a frame of its own.
-pub fn queued(rt: &impl Abort, alloc: Global, file: &[u8], entries: u64, next: Numbers) -> Vec<u8> {
-    let mut file = bytes_of(rt, alloc, file);
-    put_frame(rt, alloc, &mut file, &[Record::Counters(next)]);
+/// The file with these counters and so many entries more, numbered from 1 on, each in a frame of its own.
+pub fn put_queue(rt: &impl Abort, alloc: Global, file: &mut Vec<u8>, entries: u64, next: Numbers) {
+    put_frame(rt, alloc, file, &[Record::Counters(next)]);
     for at in 0..entries {
-        put_frame(rt, alloc, &mut file, &[Record::Entry(at + 1)]);
+        put_frame(rt, alloc, file, &[Record::Entry(at + 1)]);
     }
-    file
 }
 
 /// A new file with the three frames of the first script: one declares the class, one makes an object, and one draws its number
@@ -283,4 +281,20 @@ pub fn patched(rt: &impl Abort, alloc: Global, image: &[u8], at: usize, bytes: &
 /// As many bytes of the image's front, and none where it has fewer.
 pub fn front(image: &[u8], length: usize) -> &[u8] {
     image.get(..length).unwrap_or(&[])
+}
+
+// A file of 5,000 bytes with this generation in slot 0. Slot 1 is shut.
+fn one_slot(rt: &impl Abort, alloc: Global, generation: u8) -> Vec<u8> {
+    let mut file = new_file(rt, alloc);
+    file.resize(5000, 0).expect(rt, MEMORY);
+    put_at(&mut file, 24, &[generation]);
+    file
+}
+
+/// The same, and slot 1 is open with the other generation.
+pub fn two_slots(rt: &impl Abort, alloc: Global, first: u8, second: u8) -> Vec<u8> {
+    let mut file = one_slot(rt, alloc, first);
+    let other = one_slot(rt, alloc, second);
+    put_at(&mut file, 2048, front(&other, 57));
+    file
 }

@@ -1,18 +1,12 @@
 //! Limits of numbers and of what a transaction prints.
-use crate::images::{file_with, first_file, next_numbers, patched};
+use crate::acts::{Act, Made, play};
 use crate::long::{push_firings, times};
-use crate::trial::{Case, MEMORY, new_file, run, run_case};
+use crate::trial::{Case, MEMORY, new_file, run};
 use ode_host::Status;
 use std::alloc::Global;
 use std::process::Abort;
 
-// A run on a file with an object, whose counters have this next object and this next transaction.
-fn counts(rt: &impl Abort, alloc: Global, object: u64, transaction: u64, case: &Case) {
-    let image = file_with(rt, alloc, next_numbers(object, transaction));
-    run_case(rt, alloc, &image, case);
-}
-
-static LAST_OBJECT: Case = Case {
+const LAST_OBJECT: Case = Case {
     name: "the last object",
     script: "pnew P(n = 7);
 pnew P();
@@ -31,12 +25,17 @@ refused 5 no object #4611686018427387904
     status: Status::Refused,
 };
 
+const OBJECTS: &[Act] = &[
+    Act::Make(Made::Counters((1 << 62) - 1, 4)),
+    Act::Case(LAST_OBJECT),
+];
+
 #[test]
 fn an_object_without_a_number_aborts(rt: HostRuntime) {
-    counts(&rt, rt.alloc(), (1 << 62) - 1, 4, &LAST_OBJECT);
+    play(&rt, rt.alloc(), OBJECTS);
 }
 
-static LAST_TRANSACTION: Case = Case {
+const LAST_TRANSACTION: Case = Case {
     name: "the last transaction",
     script: "show #1.n;
 show #1.n;
@@ -63,26 +62,35 @@ refused 10 syntax 7
     status: Status::Refused,
 };
 
+const TRANSACTIONS: &[Act] = &[
+    Act::Make(Made::Counters(2, (1 << 62) - 1)),
+    Act::Case(LAST_TRANSACTION),
+];
+
 #[test]
 fn no_transaction_is_begun_without_a_number(rt: HostRuntime) {
-    counts(&rt, rt.alloc(), 2, (1 << 62) - 1, &LAST_TRANSACTION);
+    play(&rt, rt.alloc(), TRANSACTIONS);
 }
 
 // The place of an object's last version number in the first script's file.
 const LAST: usize = 4251;
 
-static LAST_VERSION: Case = Case {
+const LAST_VERSION: Case = Case {
     name: "the last version",
     script: "newversion #1; newversion #1; show #1.n;",
     text: "version #1@4294967295\ntx 4 committed\ntx 5 aborted space\nvalue 5\ntx 6 committed\n",
     status: Status::Ok,
 };
 
+const VERSIONS: &[Act] = &[
+    Act::Make(Made::First),
+    Act::Put(LAST, b"\xFF\xFF\xFF\xFE"),
+    Act::Case(LAST_VERSION),
+];
+
 #[test]
 fn a_version_without_a_number_aborts(rt: HostRuntime) {
-    let file = first_file(&rt, rt.alloc());
-    let file = patched(&rt, rt.alloc(), &file, LAST, &[255, 255, 255, 254]);
-    run_case(&rt, rt.alloc(), &file, &LAST_VERSION);
+    play(&rt, rt.alloc(), VERSIONS);
 }
 
 const SAYS: &str =
@@ -134,10 +142,10 @@ fn a_transaction_prints_so_much_and_no_more(rt: HostRuntime) {
 // The place of the next entry's number in a new file, and the last one that an entry may have.
 const NEXT_ENTRY: usize = 4131;
 
-const LAST_ENTRY: [u8; 8] = [0x3F, 0xFF, 0xFF, 0xFF, 0xFF, 0xFF, 0xFF, 0xFF];
+const LAST_ENTRY: &[u8] = b"\x3F\xFF\xFF\xFF\xFF\xFF\xFF\xFF";
 
 // An abort takes the entry of the dependent firing back, so its number is there for the one behind the abort.
-static LAST_DEPENDENT: Case = Case {
+const LAST_DEPENDENT: Case = Case {
     name: "the last dependent entry",
     script: "class P { void a() { } event after a, after tabort; trigger perpetual dependent d(): after a ==> { } trigger perpetual whole w(): after tabort ==> { } };
 begin; pnew P(); activate #1.d(); activate #1.w(); commit;
@@ -165,7 +173,7 @@ tx 6 committed
 };
 
 // The entry of an independent firing stays.
-static LAST_INDEPENDENT: Case = Case {
+const LAST_INDEPENDENT: Case = Case {
     name: "the last independent entry",
     script: "class P { void a() { } event after a, after tabort; trigger perpetual independent i(): after a ==> { } trigger perpetual whole w(): after tabort ==> { } };
 begin; pnew P(); activate #1.i(); activate #1.w(); commit;
@@ -185,12 +193,18 @@ tx 4 committed
     status: Status::Ok,
 };
 
+const ENTRIES: &[Act] = &[
+    Act::Make(Made::New),
+    Act::Put(NEXT_ENTRY, LAST_ENTRY),
+    Act::Case(LAST_DEPENDENT),
+    Act::Make(Made::New),
+    Act::Put(NEXT_ENTRY, LAST_ENTRY),
+    Act::Case(LAST_INDEPENDENT),
+];
+
 #[test]
 fn a_firing_without_a_number_is_dropped(rt: HostRuntime) {
-    let file = new_file(&rt, rt.alloc());
-    let file = patched(&rt, rt.alloc(), &file, NEXT_ENTRY, &LAST_ENTRY);
-    run_case(&rt, rt.alloc(), &file, &LAST_DEPENDENT);
-    run_case(&rt, rt.alloc(), &file, &LAST_INDEPENDENT);
+    play(&rt, rt.alloc(), ENTRIES);
 }
 
 // A transaction with 4,097 firings.

@@ -1,6 +1,7 @@
 //! Stored tables, states and activations that are changed in a file.
+use crate::acts::{Act, Made, file_behind, play};
 use crate::images::{patched, turned};
-use crate::trial::{Case, Trial, equal, holds, new_file, run, run_case, stays};
+use crate::trial::{Case, Trial, equal, holds, run, stays};
 use ode_host::Status;
 use ode_value::Key;
 use std::alloc::Global;
@@ -12,19 +13,12 @@ const ACCOUNT: &str =
 begin; pnew Account(); activate #1.low(100); #1.deposit(150); commit;
 ";
 
-fn account_file(rt: &impl Abort, alloc: Global) -> Vec<u8> {
-    let ran = run(rt, alloc, &new_file(rt, alloc), ACCOUNT);
-    equal(rt, ran.status, Status::Ok, "the account's run");
-    ran.image(rt, alloc)
-}
+const ACCOUNT_FILE: &[Act] = &[Act::Make(Made::New), Act::Run(ACCOUNT)];
 
-// What goes on behind it.
-static LATER: Case = Case {
-    name: "the account",
-    script: "#1.withdraw(60);",
-    text: "fired low on #1\nsaid low\ntx 3 committed\n",
-    status: Status::Ok,
-};
+// What goes on behind it, and what it prints.
+const LATER: &str = "#1.withdraw(60);";
+
+const LATER_TEXT: &str = "fired low on #1\nsaid low\ntx 3 committed\n";
 
 // A record's key.
 fn key_of(kind: u8, a: u8, b: u8) -> [u8; 17] {
@@ -72,17 +66,27 @@ fn value_of(rt: &impl Abort, image: &[u8], key: &[u8]) -> Value {
 fn is_refused(rt: &impl Abort, alloc: Global, file: &[u8], at: usize, bytes: &[u8], line: &str) {
     let case = Case {
         name: "a changed file",
-        script: LATER.script,
+        script: LATER,
         text: line,
         status: Status::BadFile,
     };
     stays(rt, alloc, &patched(rt, alloc, file, at, bytes), &case);
 }
 
+const GOES_ON: &[Act] = &[
+    Act::Make(Made::New),
+    Act::Run(ACCOUNT),
+    Act::Case(Case {
+        name: "the account",
+        script: LATER,
+        text: LATER_TEXT,
+        status: Status::Ok,
+    }),
+];
+
 #[test]
 fn the_file_as_it_was_goes_on(rt: HostRuntime) {
-    let file = account_file(&rt, rt.alloc());
-    run_case(&rt, rt.alloc(), &file, &LATER);
+    play(&rt, rt.alloc(), GOES_ON);
 }
 
 // A run on another table is refused with its line and leaves the image, or goes on as before. Whether it is refused.
@@ -99,8 +103,8 @@ fn is_other(rt: &impl Abort, ran: &Trial, image: &[u8]) -> bool {
     } else {
         ran.is(
             rt,
-            LATER.text,
-            LATER.status,
+            LATER_TEXT,
+            Status::Ok,
             "another table of the same answers",
         );
     }
@@ -112,7 +116,7 @@ fn others(rt: &impl Abort, alloc: Global, file: &[u8], value: Value) -> usize {
     let mut refused = 0usize;
     for at in 0..value.length {
         let image = turned(rt, alloc, file, value.at.saturating_add(at), 1);
-        let ran = run(rt, alloc, &image, LATER.script);
+        let ran = run(rt, alloc, &image, LATER);
         if is_other(rt, &ran, &image) {
             refused = refused.saturating_add(1);
         }
@@ -123,7 +127,7 @@ fn others(rt: &impl Abort, alloc: Global, file: &[u8], value: Value) -> usize {
 // A table that answers otherwise on some word is refused, and one that answers the same goes on as before.
 #[test]
 fn a_table_with_another_answer_is_refused(rt: HostRuntime) {
-    let file = account_file(&rt, rt.alloc());
+    let file = file_behind(&rt, rt.alloc(), ACCOUNT_FILE);
     let value = value_of(&rt, &file, &key_of(Key::TABLE_PIECE, 1, 0));
     let refused = others(&rt, rt.alloc(), &file, value);
     holds(
@@ -147,7 +151,7 @@ const WRONG: [Wrong; 5] = [
 
 #[test]
 fn an_activation_with_a_wrong_part_is_refused(rt: HostRuntime) {
-    let file = account_file(&rt, rt.alloc());
+    let file = file_behind(&rt, rt.alloc(), ACCOUNT_FILE);
     let value = value_of(&rt, &file, &key_of(Key::ACTIVATION, 1, 2));
     equal(&rt, value.length, 18, "the length of an activation");
     for (place, bytes, line) in &WRONG {

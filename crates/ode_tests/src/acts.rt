@@ -1,0 +1,179 @@
+//! What a test does with a file, act by act.
+use crate::images::{
+    Numbers, class_file, file_with, filled, first_file, front, next_numbers, put_at, put_queue,
+    three_frames, turned, two_slots,
+};
+use crate::trial::{Case, FIRST, MEMORY, equal, holds, new_file, run, run_case, stays};
+use ode_host::Status;
+use std::alloc::Global;
+use std::process::Abort;
+
+/// A file that is made.
+pub enum Made {
+    /// The one that `init` makes.
+    New,
+    /// One whose snapshot has what the first script leaves.
+    First,
+    /// A new one with the three frames of the first script.
+    Frames,
+    /// One whose snapshot has a class `P` with this text.
+    Class(&'static str),
+    /// One whose snapshot has a class of two texts, and so many of its longest objects.
+    Filled(u64),
+    /// One whose snapshot has the first script's class and object, and this next object and this next transaction.
+    Counters(u64, u64),
+    /// One of 5,000 bytes with these generations in its two slots.
+    Slots(u8, u8),
+}
+
+fn file_of(rt: &impl Abort, alloc: Global, made: &Made) -> Vec<u8> {
+    match made {
+        Made::New => new_file(rt, alloc),
+        Made::First => first_file(rt, alloc),
+        Made::Frames => three_frames(rt, alloc),
+        Made::Class(text) => class_file(rt, alloc, text),
+        Made::Filled(objects) => filled(rt, alloc, *objects),
+        Made::Counters(object, next) => file_with(rt, alloc, next_numbers(*object, *next)),
+        Made::Slots(first, second) => two_slots(rt, alloc, *first, *second),
+    }
+}
+
+/// The first and the last of some places, and bits of a byte.
+pub type Turned = (usize, usize, u8);
+
+/// What is done with a file.
+pub enum Act {
+    /// This file takes its place.
+    Make(Made),
+    /// It is cut to this length, or filled up to it with zeros.
+    Length(usize),
+    /// These bytes are put at a place.
+    Put(usize, &'static [u8]),
+    /// A script runs on it and ends with `Ok`.
+    Run(&'static str),
+    /// So many entries more wait for the first object's first trigger, and this is the next transaction.
+    Queue(u64, u64),
+    /// A run is as the case says.
+    Case(Case<'static>),
+    /// The same, and the file stays as it was.
+    Stays(Case<'static>),
+    /// A run of the first script on a file of this name prints this line, ends as on a bad file, and leaves it as it was.
+    Refused(&'static str, &'static str),
+    /// The same with any line that says which rule the file breaks.
+    Bad(&'static str),
+    /// The same where these bits are turned at one of these places.
+    BadTurned(&'static [Turned]),
+    /// The same where it is cut short to one of these lengths, from the first to the last.
+    BadCut(&'static [(usize, usize)]),
+    /// It has so many bytes.
+    HasLength(usize),
+}
+
+// A run of the first script prints this line, ends as on a bad file, and writes nothing.
+fn is_refused(rt: &impl Abort, alloc: Global, image: &[u8], name: &str, line: &str) {
+    let case = Case {
+        name,
+        script: FIRST,
+        text: line,
+        status: Status::BadFile,
+    };
+    stays(rt, alloc, image, &case);
+}
+
+// A run of the first script says which rule the file breaks, ends as on a bad file, and writes nothing.
+fn is_bad(rt: &impl Abort, alloc: Global, image: &[u8], name: &str) {
+    let ran = run(rt, alloc, image, FIRST);
+    let line = ran.text();
+    let is_bad = line.starts_with("bad file ") || line.starts_with("newer format ");
+    holds(rt, is_bad, name);
+    equal(rt, ran.status, Status::BadFile, name);
+    ran.leaves(rt, image, name);
+}
+
+fn turned_is_bad(rt: &impl Abort, alloc: Global, file: &[u8], place: usize, bits: u8) {
+    let image = turned(rt, alloc, file, place, bits);
+    let name = format!(in alloc; "a file with the bits {bits} turned at {place}");
+    is_bad(rt, alloc, &image, name.expect(rt, MEMORY).as_str());
+}
+
+fn turned_are_bad(rt: &impl Abort, alloc: Global, file: &[u8], rows: &[Turned]) {
+    for (first, last, bits) in rows {
+        for place in *first..=*last {
+            turned_is_bad(rt, alloc, file, place, *bits);
+        }
+    }
+}
+
+fn cut_are_bad(rt: &impl Abort, alloc: Global, file: &[u8], lengths: &[(usize, usize)]) {
+    for (first, last) in lengths {
+        for length in *first..=*last {
+            is_bad(rt, alloc, front(file, length), "a file that is cut short");
+        }
+    }
+}
+
+// A run of a script, which ends with `Ok`: what it leaves.
+fn left(rt: &impl Abort, alloc: Global, image: &[u8], script: &str) -> Vec<u8> {
+    let ran = run(rt, alloc, image, script);
+    equal(rt, ran.status, Status::Ok, script);
+    ran.image(rt, alloc)
+}
+
+fn queue(rt: &impl Abort, alloc: Global, file: &mut Vec<u8>, entries: u64, transaction: u64) {
+    let next = Numbers {
+        object: 3,
+        transaction,
+        entry: entries.saturating_add(1),
+    };
+    put_queue(rt, alloc, file, entries, next);
+}
+
+// One of the acts that change a file.
+fn change(rt: &impl Abort, alloc: Global, file: &mut Vec<u8>, act: &Act) {
+    match act {
+        Act::Make(made) => *file = file_of(rt, alloc, made),
+        Act::Length(length) => file.resize(*length, 0).expect(rt, MEMORY),
+        Act::Put(at, bytes) => put_at(file, *at, bytes),
+        Act::Run(script) => *file = left(rt, alloc, file, script),
+        Act::Queue(entries, next) => queue(rt, alloc, file, *entries, *next),
+        Act::Case(case) => *file = run_case(rt, alloc, file, case).image(rt, alloc),
+        Act::Stays(_)
+        | Act::Refused(_, _)
+        | Act::Bad(_)
+        | Act::BadTurned(_)
+        | Act::BadCut(_)
+        | Act::HasLength(_) => check(rt, alloc, file, act),
+    }
+}
+
+// One of the acts that leave a file as it is.
+fn check(rt: &impl Abort, alloc: Global, file: &[u8], act: &Act) {
+    match act {
+        Act::Stays(case) => stays(rt, alloc, file, case),
+        Act::Refused(name, line) => is_refused(rt, alloc, file, name, line),
+        Act::Bad(name) => is_bad(rt, alloc, file, name),
+        Act::BadTurned(rows) => turned_are_bad(rt, alloc, file, rows),
+        Act::BadCut(lengths) => cut_are_bad(rt, alloc, file, lengths),
+        Act::HasLength(length) => equal(rt, file.len(), *length, "the length of a file"),
+        Act::Make(_)
+        | Act::Length(_)
+        | Act::Put(_, _)
+        | Act::Run(_)
+        | Act::Queue(_, _)
+        | Act::Case(_) => {}
+    }
+}
+
+/// The file behind these acts, which begin with an empty one.
+pub fn file_behind(rt: &impl Abort, alloc: Global, acts: &[Act]) -> Vec<u8> {
+    let mut file = Vec::new(alloc);
+    for act in acts {
+        change(rt, alloc, &mut file, act);
+    }
+    file
+}
+
+/// Does these acts, beginning with an empty file.
+pub fn play(rt: &impl Abort, alloc: Global, acts: &[Act]) {
+    let _ = file_behind(rt, alloc, acts);
+}
