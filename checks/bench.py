@@ -21,6 +21,7 @@ import time
 CALLS = 2000
 ROUNDS = 5
 OBJECTS = 100_000
+MEMORY = "/dev/shm" if os.access("/dev/shm", os.W_OK) else None
 CLASS = "class Counter { int n; void add(int k) { n = n + k; } };\npnew Counter();\n"
 SCRIPT = "#1.add(1);\n" * CALLS
 
@@ -57,14 +58,28 @@ def new_file(declared=CLASS):
     ode("run", "bench.db", script=declared)
 
 
+def timed(file, script, text=os.devnull):
+    """How long a run takes, which reads a file and prints to one, and the most memory that it has, in KiB."""
+    with open("script.ode", "w") as to:
+        to.write(script)
+    with open("script.ode") as source, open(text, "w") as to:
+        began = time.perf_counter()
+        ran = subprocess.Popen([program, "run", file], stdin=source, stdout=to)
+        _, status, used = os.wait4(ran.pid, 0)
+        taken = time.perf_counter() - began
+    if status != 0:
+        sys.exit(f"run {file}: status {status}")
+    return taken, used.ru_maxrss
+
+
 def calls(declared=CLASS, each=1):
-    """The program, with its start and the opening of the file, for so many transactions a call."""
+    """The program, with its start and the opening of the file, for so many transactions a call. Its text is kept in memory where it can be,
+    so that no sync waits for it."""
     new_file(declared)
-    began = time.perf_counter()
-    text = ode("run", "bench.db", script=SCRIPT)
-    taken = time.perf_counter() - began
-    if text.count("committed") != CALLS * each:
-        sys.exit("a call was not committed")
+    with tempfile.NamedTemporaryFile("r", dir=MEMORY) as text:
+        taken, _ = timed("bench.db", SCRIPT, text.name)
+        if text.read().count("committed") != CALLS * each:
+            sys.exit("a call was not committed")
     return taken / each
 
 
@@ -109,19 +124,6 @@ def sqlite(module):
     return taken
 
 
-def timed(file, script):
-    """How long a run takes, and the most memory that it has, in KiB."""
-    with open("script.ode", "w") as to:
-        to.write(script)
-    began = time.perf_counter()
-    with open("script.ode") as source:
-        ran = subprocess.Popen([program, "run", file], stdin=source, stdout=subprocess.DEVNULL)
-        _, status, used = os.wait4(ran.pid, 0)
-    if status != 0:
-        sys.exit(f"run {file}: status {status}")
-    return time.perf_counter() - began, used.ru_maxrss
-
-
 def crowd(folder, count):
     """Of a file with so many objects: how long it takes to open, the memory of that, and how long 2,000 calls on one take."""
     file = f"{folder}/crowd{count}.db"
@@ -150,7 +152,7 @@ def quick_check(module, folder, count):
 
 
 def crowds(module):
-    with tempfile.TemporaryDirectory(dir="/dev/shm" if os.access("/dev/shm", os.W_OK) else None) as folder:
+    with tempfile.TemporaryDirectory(dir=MEMORY) as folder:
         opened, memory, many = crowd(folder, OBJECTS)
         _, _, few = crowd(folder, 100)
         print(f"{OBJECTS:,} objects: opened in {opened:.3f} s, with at most {memory / 1024:.1f} MiB")
