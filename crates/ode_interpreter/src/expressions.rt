@@ -2,11 +2,11 @@
 ghost use Rattle.std.specs.Prelude.{◌≡◌, List as Items, IfOk};
 ghost use Rattle.std.specs.Option.{unwrap_or};
 ghost use Rattle.ode_value.specs.Classes.{default_of};
-ghost use Rattle.ode_value.specs.Executing.{Goes, sets};
+ghost use Rattle.ode_value.specs.Executing.{sets};
 ghost use Rattle.ode_value.specs.Expressions.{evaluates_all, holds, is_true, receiver, ref_in, reference, text_in};
 ghost use Rattle.ode_value.specs.Worlds.{Declared};
 ghost use Rattle.ode_interpreter.specs.Calling.{tells};
-ghost use Rattle.ode_interpreter.specs.Seen.{Ends, EndsBy, Leaves, scene, with_classes};
+ghost use Rattle.ode_interpreter.specs.Seen.{Ends, EndsBy, Leaves, flow_of, scene, with_classes};
 
 use crate::acts::Acts;
 use crate::scene::{Scene, null, set_at};
@@ -101,13 +101,14 @@ pub(crate) fn say<S: Schema, T: Acts<S>>(
     tx: &mut T,
     on: &Scene,
     e: &Expr,
-) -> Result<(), Stop>
-    ensures acts { (classes : Items Declared) (g : T.Known) → S.declares schema.now classes → T.knows tx.old schema.now g → EndsBy (λ _. Goes (scene on.now)) result (with_classes classes (T.view tx.new g)) (tells e.now (scene on.now) (with_classes classes (T.view tx.old g))) }
+) -> Result<Option<Value>, Stop>
+    ensures acts { (classes : Items Declared) (g : T.Known) → S.declares schema.now classes → T.knows tx.old schema.now g → EndsBy (flow_of (scene on.now)) result (with_classes classes (T.view tx.new g)) (tells e.now (scene on.now) (with_classes classes (T.view tx.old g))) }
     ensures kept { (g : T.Known) → T.knows tx.old schema.now g → Leaves result (T.knows tx.new schema.now g) (T.failed tx.new g) }
     ensures faults { (b : T.Base) → T.usable tx.old b → Leaves result (T.usable tx.new b) (T.ended tx.new b) }
 {
     let v = tx.evaluate(schema, on, e)?;
-    tx.say(schema, &v)
+    tx.say(schema, &v)?;
+    Ok(None)
 }
 
 /// What a `let` makes or a statement sets.
@@ -117,18 +118,21 @@ pub(crate) fn set<S: Schema, T: Acts<S>>(
     on: &mut Scene,
     var: &Var,
     v: Value,
-) -> Result<(), Stop>
-    ensures acts { (classes : Items Declared) (g : T.Known) → S.declares schema.now classes → T.knows tx.old schema.now g → EndsBy (λ _. Goes (scene on.new)) result (with_classes classes (T.view tx.new g)) (sets var.now v (scene on.old) (with_classes classes (T.view tx.old g))) }
+) -> Result<Option<Value>, Stop>
+    ensures acts { (classes : Items Declared) (g : T.Known) → S.declares schema.now classes → T.knows tx.old schema.now g → EndsBy (flow_of (scene on.new)) result (with_classes classes (T.view tx.new g)) (sets var.now v (scene on.old) (with_classes classes (T.view tx.old g))) }
     ensures kept { (g : T.Known) → T.knows tx.old schema.now g → Leaves result (T.knows tx.new schema.now g) (T.failed tx.new g) }
     ensures faults { (b : T.Base) → T.usable tx.old b → Leaves result (T.usable tx.new b) (T.ended tx.new b) }
 {
     match var {
         Var::Local(place) => {
             set_at(&mut on.locals, *place, v)?;
-            Ok(())
+            Ok(None)
         }
-        Var::Own(place) => tx.set_field(schema, on.this, *place, v),
-        Var::Name(_) => Ok(()),
+        Var::Own(place) => {
+            tx.set_field(schema, on.this, *place, v)?;
+            Ok(None)
+        }
+        Var::Name(_) => Ok(None),
     }
 }
 

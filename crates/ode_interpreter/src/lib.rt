@@ -4,6 +4,7 @@
 mod acts;
 mod completing;
 mod creating;
+mod ends;
 mod expressions;
 mod firing;
 mod outermost;

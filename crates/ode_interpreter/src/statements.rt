@@ -1,8 +1,9 @@
 //! Statements, calls and points.
-ghost use Rattle.std.specs.Prelude.{◌≡◌, List as Items, map, true};
+ghost use Rattle.std.specs.Prelude.{◌≡◌, List as Items, cond, map, true};
 ghost use Rattle.std.specs.List.{All};
-ghost use Rattle.ode_value.specs.Acts.{each};
-ghost use Rattle.ode_value.specs.Executing.{Goes, actions_of, deeper, execute, executes, in_turn, level, right};
+ghost use Rattle.ode_value.specs.Acts.{each, gives, go_on};
+ghost use Rattle.ode_value.specs.Executing.{Goes, actions_of, deeper, execute, executes, goes, in_turn, level, right};
+ghost use Rattle.ode_value.specs.Expressions.{holds};
 ghost use Rattle.ode_value.specs.Pasts.{numbers};
 ghost use Rattle.ode_value.specs.Posting.{enters, is_touched, posts, runs, touches, treats};
 ghost use Rattle.ode_value.specs.Statements.{activates, calls_behind, calls_deeper, calls_inside, copies, creates, deactivates, deletes, drops_version};
@@ -12,6 +13,7 @@ ghost use Rattle.ode_interpreter.specs.Seen.{Ends, EndsBy, IsShort, Leaves, firi
 
 use crate::acts::Acts;
 use crate::creating::make_named;
+use crate::ends::{derived, dropped, removed, returned, shown, switched_off, switched_on};
 use crate::expressions::{evaluate_all, given, holds, receiver, reference, say, set};
 use crate::firing::Firing;
 use crate::scene::{Scene, null};
@@ -82,49 +84,59 @@ pub(crate) fn exec<S: Schema, T: Acts<S>>(
 {
     tx.count(schema)?;
     match s {
-        Stmt::Let(var, rhs) => {
-            bind(alloc, schema, tx, levels, on, var, rhs)?;
-            Ok(None)
-        }
-        Stmt::Set(var, rhs) => {
-            bind(alloc, schema, tx, levels, on, var, rhs)?;
-            Ok(None)
-        }
-        Stmt::Do(rhs) => {
-            right(alloc, schema, tx, levels, on, rhs)?;
-            Ok(None)
-        }
-        Stmt::If(test, first, second) => {
-            if holds(schema, tx, on, test)? {
-                exec_all(alloc, schema, tx, on, levels, first.as_slice())
-            } else {
-                exec_all(alloc, schema, tx, on, levels, second.as_slice())
-            }
-        }
-        Stmt::Return(Some(e)) => Ok(Some(tx.evaluate(schema, on, e)?)),
+        Stmt::Let(var, rhs) | Stmt::Set(var, rhs) => bind(alloc, schema, tx, levels, on, var, rhs),
+        Stmt::Do(rhs) => perform(alloc, schema, tx, levels, on, rhs),
+        Stmt::If(test, first, second) => choose(alloc, schema, tx, on, levels, test, first, second),
+        Stmt::Return(Some(e)) => returned(schema, tx, on, e),
         Stmt::Return(None) => Ok(Some(null())),
-        Stmt::Delete(e) => {
-            delete(alloc, schema, tx, levels, on, e)?;
-            Ok(None)
-        }
-        Stmt::DropVersion(e) => {
-            drop_version(alloc, schema, tx, levels, on, e)?;
-            Ok(None)
-        }
-        Stmt::Deactivate(e, number) => {
-            deactivate(alloc, schema, tx, levels, on, e, number)?;
-            Ok(None)
-        }
-        Stmt::Show(rhs) => {
-            show(alloc, schema, tx, levels, on, rhs)?;
-            Ok(None)
-        }
-        Stmt::Say(e) => {
-            say(schema, tx, on, e)?;
-            Ok(None)
-        }
+        Stmt::Delete(e) => delete(alloc, schema, tx, levels, on, e),
+        Stmt::DropVersion(e) => drop_version(alloc, schema, tx, levels, on, e),
+        Stmt::Deactivate(e, number) => deactivate(alloc, schema, tx, levels, on, e, number),
+        Stmt::Show(rhs) => show(alloc, schema, tx, levels, on, rhs),
+        Stmt::Say(e) => say(schema, tx, on, e),
         Stmt::TAbort => Err(Stop::Abort(Reason::Asked)),
     }
+}
+
+/// One of two bodies, by a test.
+#[cycle(go)]
+pub(crate) fn choose<S: Schema, T: Acts<S>>(
+    alloc: Global,
+    schema: &S,
+    tx: &mut T,
+    on: &mut Scene,
+    levels: u8,
+    test: &Expr,
+    first: &List<Stmt>,
+    second: &List<Stmt>,
+) -> Result<Option<Value>, Stop>
+    ensures acts { (classes : Items Declared) (g : T.Known) → S.declares schema.now classes → T.knows tx.old schema.now g → EndsBy (flow_of (scene on.new)) result (with_classes classes (T.view tx.new g)) (go_on (holds test.now (scene on.old) (with_classes classes (T.view tx.old g))) (λ b. cond b (in_turn (map (execute (numbers (S.tables schema.now)) (deeper (numbers (S.tables schema.now)) levels)) first.now) (scene on.old)) (in_turn (map (execute (numbers (S.tables schema.now)) (deeper (numbers (S.tables schema.now)) levels)) second.now) (scene on.old)))) }
+    ensures kept { (g : T.Known) → T.knows tx.old schema.now g → Leaves result (T.knows tx.new schema.now g) (T.failed tx.new g) }
+    ensures faults { (b : T.Base) → T.usable tx.old b → Leaves result (T.usable tx.new b) (T.ended tx.new b) }
+{
+    if holds(schema, tx, on, test)? {
+        exec_all(alloc, schema, tx, on, levels, first.as_slice())
+    } else {
+        exec_all(alloc, schema, tx, on, levels, second.as_slice())
+    }
+}
+
+/// A right side whose value isn't asked for.
+#[cycle(go)]
+pub(crate) fn perform<S: Schema, T: Acts<S>>(
+    alloc: Global,
+    schema: &S,
+    tx: &mut T,
+    levels: u8,
+    on: &Scene,
+    rhs: &Rhs,
+) -> Result<Option<Value>, Stop>
+    ensures acts { (classes : Items Declared) (g : T.Known) → S.declares schema.now classes → T.knows tx.old schema.now g → EndsBy (flow_of (scene on.now)) result (with_classes classes (T.view tx.new g)) (go_on (right (numbers (S.tables schema.now)) (deeper (numbers (S.tables schema.now)) levels) rhs.now (scene on.now) (with_classes classes (T.view tx.old g))) (λ _. gives (Goes (scene on.now)))) }
+    ensures kept { (g : T.Known) → T.knows tx.old schema.now g → Leaves result (T.knows tx.new schema.now g) (T.failed tx.new g) }
+    ensures faults { (b : T.Base) → T.usable tx.old b → Leaves result (T.usable tx.new b) (T.ended tx.new b) }
+{
+    right(alloc, schema, tx, levels, on, rhs)?;
+    Ok(None)
 }
 
 /// What a `let` or a statement makes of a right side.
@@ -137,8 +149,8 @@ pub(crate) fn bind<S: Schema, T: Acts<S>>(
     on: &mut Scene,
     var: &Var,
     rhs: &Rhs,
-) -> Result<(), Stop>
-    ensures acts { (classes : Items Declared) (g : T.Known) → S.declares schema.now classes → T.knows tx.old schema.now g → EndsBy (λ _. Goes (scene on.new)) result (with_classes classes (T.view tx.new g)) (binds (numbers (S.tables schema.now)) (deeper (numbers (S.tables schema.now)) levels) var.now rhs.now (scene on.old) (with_classes classes (T.view tx.old g))) }
+) -> Result<Option<Value>, Stop>
+    ensures acts { (classes : Items Declared) (g : T.Known) → S.declares schema.now classes → T.knows tx.old schema.now g → EndsBy (flow_of (scene on.new)) result (with_classes classes (T.view tx.new g)) (binds (numbers (S.tables schema.now)) (deeper (numbers (S.tables schema.now)) levels) var.now rhs.now (scene on.old) (with_classes classes (T.view tx.old g))) }
     ensures kept { (g : T.Known) → T.knows tx.old schema.now g → Leaves result (T.knows tx.new schema.now g) (T.failed tx.new g) }
     ensures faults { (b : T.Base) → T.usable tx.old b → Leaves result (T.usable tx.new b) (T.ended tx.new b) }
 {
@@ -155,13 +167,13 @@ pub(crate) fn show<S: Schema, T: Acts<S>>(
     levels: u8,
     on: &Scene,
     rhs: &Rhs,
-) -> Result<(), Stop>
-    ensures acts { (classes : Items Declared) (g : T.Known) → S.declares schema.now classes → T.knows tx.old schema.now g → EndsBy (λ _. Goes (scene on.now)) result (with_classes classes (T.view tx.new g)) (shows (numbers (S.tables schema.now)) (deeper (numbers (S.tables schema.now)) levels) rhs.now (scene on.now) (with_classes classes (T.view tx.old g))) }
+) -> Result<Option<Value>, Stop>
+    ensures acts { (classes : Items Declared) (g : T.Known) → S.declares schema.now classes → T.knows tx.old schema.now g → EndsBy (flow_of (scene on.now)) result (with_classes classes (T.view tx.new g)) (shows (numbers (S.tables schema.now)) (deeper (numbers (S.tables schema.now)) levels) rhs.now (scene on.now) (with_classes classes (T.view tx.old g))) }
     ensures kept { (g : T.Known) → T.knows tx.old schema.now g → Leaves result (T.knows tx.new schema.now g) (T.failed tx.new g) }
     ensures faults { (b : T.Base) → T.usable tx.old b → Leaves result (T.usable tx.new b) (T.ended tx.new b) }
 {
     let v = right(alloc, schema, tx, levels, on, rhs)?;
-    tx.show(schema, &v)
+    shown(schema, tx, on, &v)
 }
 
 /// A right side.
@@ -245,8 +257,8 @@ pub(crate) fn delete<S: Schema, T: Acts<S>>(
     levels: u8,
     on: &Scene,
     e: &Expr,
-) -> Result<(), Stop>
-    ensures acts { (classes : Items Declared) (g : T.Known) → S.declares schema.now classes → T.knows tx.old schema.now g → Ends result (with_classes classes (T.view tx.new g)) (deletes (numbers (S.tables schema.now)) (actions_of (deeper (numbers (S.tables schema.now)) levels)) e.now (scene on.now) (with_classes classes (T.view tx.old g))) }
+) -> Result<Option<Value>, Stop>
+    ensures acts { (classes : Items Declared) (g : T.Known) → S.declares schema.now classes → T.knows tx.old schema.now g → EndsBy (flow_of (scene on.now)) result (with_classes classes (T.view tx.new g)) (goes (deletes (numbers (S.tables schema.now)) (actions_of (deeper (numbers (S.tables schema.now)) levels)) e.now (scene on.now)) (scene on.now) (with_classes classes (T.view tx.old g))) }
     ensures kept { (g : T.Known) → T.knows tx.old schema.now g → Leaves result (T.knows tx.new schema.now g) (T.failed tx.new g) }
     ensures faults { (b : T.Base) → T.usable tx.old b → Leaves result (T.usable tx.new b) (T.ended tx.new b) }
 {
@@ -254,8 +266,7 @@ pub(crate) fn delete<S: Schema, T: Acts<S>>(
     touch(alloc, schema, tx, levels, r.object)?;
     tx.stand(schema, r)?;
     post(alloc, schema, tx, levels, r.object, &Kind::Delete, &[])?;
-    tx.live(schema, r.object)?;
-    tx.remove(schema, r.object)
+    removed(schema, tx, on, r.object)
 }
 
 /// A new version of an object.
@@ -274,8 +285,7 @@ pub(crate) fn new_version<S: Schema, T: Acts<S>>(
 {
     let r = reference(schema, tx, on, e)?;
     touch(alloc, schema, tx, levels, r.object)?;
-    let new = tx.derive(schema, r)?;
-    Ok(Value::Reference(new))
+    derived(schema, tx, r)
 }
 
 /// A version is removed.
@@ -287,14 +297,14 @@ pub(crate) fn drop_version<S: Schema, T: Acts<S>>(
     levels: u8,
     on: &Scene,
     e: &Expr,
-) -> Result<(), Stop>
-    ensures acts { (classes : Items Declared) (g : T.Known) → S.declares schema.now classes → T.knows tx.old schema.now g → Ends result (with_classes classes (T.view tx.new g)) (drops_version (numbers (S.tables schema.now)) (actions_of (deeper (numbers (S.tables schema.now)) levels)) e.now (scene on.now) (with_classes classes (T.view tx.old g))) }
+) -> Result<Option<Value>, Stop>
+    ensures acts { (classes : Items Declared) (g : T.Known) → S.declares schema.now classes → T.knows tx.old schema.now g → EndsBy (flow_of (scene on.now)) result (with_classes classes (T.view tx.new g)) (goes (drops_version (numbers (S.tables schema.now)) (actions_of (deeper (numbers (S.tables schema.now)) levels)) e.now (scene on.now)) (scene on.now) (with_classes classes (T.view tx.old g))) }
     ensures kept { (g : T.Known) → T.knows tx.old schema.now g → Leaves result (T.knows tx.new schema.now g) (T.failed tx.new g) }
     ensures faults { (b : T.Base) → T.usable tx.old b → Leaves result (T.usable tx.new b) (T.ended tx.new b) }
 {
     let r = reference(schema, tx, on, e)?;
     touch(alloc, schema, tx, levels, r.object)?;
-    tx.drop_version(schema, r)
+    dropped(schema, tx, on, r)
 }
 
 /// A new activation.
@@ -316,8 +326,7 @@ pub(crate) fn activate<S: Schema, T: Acts<S>>(
     let r = reference(schema, tx, on, of)?;
     let args = evaluate_all(alloc, schema, tx, on, args)?;
     touch(alloc, schema, tx, levels, r.object)?;
-    tx.stand(schema, r)?;
-    tx.activate(schema, r, trigger, args)
+    switched_on(schema, tx, r, trigger, args)
 }
 
 /// An activation goes off.
@@ -331,16 +340,15 @@ pub(crate) fn deactivate<S: Schema, T: Acts<S>>(
     on: &Scene,
     e: &Expr,
     number: &Expr,
-) -> Result<(), Stop>
-    ensures acts { (classes : Items Declared) (g : T.Known) → S.declares schema.now classes → T.knows tx.old schema.now g → Ends result (with_classes classes (T.view tx.new g)) (deactivates (numbers (S.tables schema.now)) (actions_of (deeper (numbers (S.tables schema.now)) levels)) e.now number.now (scene on.now) (with_classes classes (T.view tx.old g))) }
+) -> Result<Option<Value>, Stop>
+    ensures acts { (classes : Items Declared) (g : T.Known) → S.declares schema.now classes → T.knows tx.old schema.now g → EndsBy (flow_of (scene on.now)) result (with_classes classes (T.view tx.new g)) (goes (deactivates (numbers (S.tables schema.now)) (actions_of (deeper (numbers (S.tables schema.now)) levels)) e.now number.now (scene on.now)) (scene on.now) (with_classes classes (T.view tx.old g))) }
     ensures kept { (g : T.Known) → T.knows tx.old schema.now g → Leaves result (T.knows tx.new schema.now g) (T.failed tx.new g) }
     ensures faults { (b : T.Base) → T.usable tx.old b → Leaves result (T.usable tx.new b) (T.ended tx.new b) }
 {
     let r = reference(schema, tx, on, e)?;
     let v = tx.evaluate(schema, on, number)?;
     touch(alloc, schema, tx, levels, r.object)?;
-    tx.stand(schema, r)?;
-    tx.deactivate(schema, r, &v)
+    switched_off(schema, tx, on, r, &v)
 }
 
 /// A call.

@@ -7,21 +7,11 @@ use Rattle.ode_interpreter.proofs.Stays.{body_stays, class_stays, denotes_stays,
 use Rattle.ode_interpreter.proofs.Touches.{touched_anew}
 use Rattle.ode_interpreter.proofs.statements.+go.Goals as goal
 
-pub exec-returns-then-branch-clause-acts : goal.exec-returns-then-branch-clause-acts
-exec-returns-then-branch-clause-acts g t c = λ classes k d known.
-    let l = c.as_slice.ensures in
+pub exec-returns-in-If-clause-acts : goal.exec-returns-in-If-clause-acts
+exec-returns-in-If-clause-acts g t c = λ classes k d known.
     let counted = c.in_ok-count.ensures.kept k known in
-    let tested = c.in_ok-holds-in-If.ensures.kept k counted in
-    rw (c.in-If.is, execute_if, c.in_ok-count.ensures.acts classes k d known, c.in_ok-holds-in-If.ensures.acts classes k d counted, c.if-branch.true, ← l)
-    (c.exec_all.ensures.acts classes k d tested)
-
-pub exec-returns-else-branch-clause-acts : goal.exec-returns-else-branch-clause-acts
-exec-returns-else-branch-clause-acts g t c = λ classes k d known.
-    let l = c.as_slice-else-branch.ensures in
-    let counted = c.in_ok-count.ensures.kept k known in
-    let tested = c.in_ok-holds-in-If.ensures.kept k counted in
-    rw (c.in-If.is, execute_if, c.in_ok-count.ensures.acts classes k d known, c.in_ok-holds-in-If.ensures.acts classes k d counted, c.if-branch.false, ← l)
-    (c.exec_all-else-branch.ensures.acts classes k d tested)
+    rw (c.in-If.is, execute_if, c.in_ok-count.ensures.acts classes k d known)
+    (c.choose.ensures.acts classes k d counted)
 
 pub touch-returns-then-branch-clause-acts : goal.touch-returns-then-branch-clause-acts
 touch-returns-then-branch-clause-acts g t c = λ classes k d known.
@@ -75,25 +65,6 @@ delete-returns-in_err-post-clause-acts g t c = λ classes k d known.
     let e = c.in_err-post.ensures.acts classes k d k3 t3 in
     first_of (search rules, grind (arith, common_steps))
 
-pub delete-returns-in_err-live-clause-acts : goal.delete-returns-in_err-live-clause-acts
-unfolding deletes
-delete-returns-in_err-live-clause-acts g t c = λ classes k d known.
-    let r = c.in_ok-r.r in
-    let a1 = c.in_ok-r.ensures.acts classes k d known in
-    let k1 = c.in_ok-r.ensures.kept k known in
-    let a2 = c.in_ok-touch.ensures.acts classes k d k1 in
-    let x2 = with_classes classes (g.T.Acts.view c.touch.new.tx k) in
-    let t2 = touches_touch _ _ _ _ _ a2 in
-    let k2 = c.in_ok-touch.ensures.kept k k1 in
-    let a3 = c.in_ok-stand.ensures.acts classes k d k2 in
-    let x3 = with_classes classes (g.T.Acts.view c.stand.new.self k) in
-    let t3 = stand_stays r.object r x2 x3 a3 t2 in
-    let k3 = c.in_ok-stand.ensures.kept k k2 in
-    let a4 = c.in_ok-post.ensures.acts classes k d k3 t3 in
-    let k4 = c.in_ok-post.ensures.kept k k3 in
-    let e = c.in_err-live.ensures.acts classes k d k4 in
-    first_of (search rules, grind (arith, common_steps))
-
 pub delete-returns-clause-acts : goal.delete-returns-clause-acts
 unfolding deletes
 delete-returns-clause-acts g t c = λ classes k d known.
@@ -110,9 +81,7 @@ delete-returns-clause-acts g t c = λ classes k d known.
     let k3 = c.in_ok-stand.ensures.kept k k2 in
     let a4 = c.in_ok-post.ensures.acts classes k d k3 t3 in
     let k4 = c.in_ok-post.ensures.kept k k3 in
-    let a5 = c.in_ok-live.ensures.acts classes k d k4 in
-    let k5 = c.in_ok-live.ensures.kept k k4 in
-    let e = c.remove.ensures.acts classes k d k5 in
+    let e = c.removed.ensures.acts classes k d k4 in
     first_of (search rules, grind (arith, common_steps))
 
 pub call_inside-returns-in_err-post_before-clause-acts : goal.call_inside-returns-in_err-post_before-clause-acts
