@@ -1,4 +1,5 @@
 mod Creates
+mod Fronts
 mod Levels
 mod Locals
 mod Rounds

@@ -13,13 +13,14 @@ use Rattle.ode_value.specs.declared.class.Class.{Class}
 use Rattle.ode_value.specs.declared.event.Kind.{Kind}
 use Rattle.ode_value.specs.declared.event.Kind.TheVariants.{TBegin}
 use Rattle.ode_value.specs.declared.key.Key.{Key}
+use Rattle.ode_value.specs.declared.member.Method.{Method}
 use Rattle.ode_value.specs.declared.statement.Expr.{Expr}
 use Rattle.ode_value.specs.declared.statement.Stmt.{Stmt}
 use Rattle.ode_value.specs.declared.value.Ref.{Ref}
 use Rattle.ode_value.specs.declared.value.Value.{Value}
 use Rattle.ode_value.specs.Acts.{Act, Outcome, Done, Aborted, go_on, ◌>>=◌, ◌>>◌, does, each, finds, found, gives, nothing, prints, reads, sees, turns, when}
 use Rattle.ode_value.specs.Changes.{activation_keys, alters_object, changes, class_of, draws_none, has_number, is_live, lives, object}
-use Rattle.ode_value.specs.Classes.{Trigger, initial_triggers}
+use Rattle.ode_value.specs.Classes.{Trigger, initial_triggers, method_named}
 use Rattle.ode_value.specs.Constraints.{tests_hard}
 use Rattle.ode_value.specs.Denoting.{denotes, object_at}
 use Rattle.ode_value.specs.Evaluation.{Frame}
@@ -37,6 +38,7 @@ use Rattle.ode_value.specs.Tables.{Table}
 use Rattle.ode_value.specs.Texts.{new_line}
 use Rattle.ode_value.specs.Transactions.{Firing, Tx, touching}
 use Rattle.ode_value.specs.Worlds.{Declared, Object, class_named}
+use Rattle.ode_interpreter.proofs.Fronts.{found_method}
 use Rattle.ode_interpreter.proofs.Touches.{touch_is}
 use Rattle.ode_interpreter.specs.Seen.{NumberTx}
 use Rattle.ode_interpreter.specs.Touching.{joins_first}
@@ -180,6 +182,19 @@ module _ {O A : Type 0} (past : Past O A) (id : ℕ) where
   class_stays_by : (on class : ℕ) (x y : Tx O A) → class_of on x ≡ Done class y → IsTouched x → IsTouched y
   class_stays_by on class x y = stays 0 0 (class_of on) (λ cs. class_alike (side cs) 0 on) class x y
 
+  method_stays_by : (on : ℕ) (name : List ℕ) (m : Method) (x y : Tx O A) → found_method on name x ≡ Done m y → IsTouched x → IsTouched y
+  method_stays_by on name m x y is h =
+      led (λ _ z. IsTouched z) (found_method on name x) m y is
+      (leads_on (λ _ z. IsTouched z) (λ _ z. IsTouched z) (lives on x) (λ _. class_of on >>= finding) (still 0 0 (lives on) (λ cs. lives_alike (side cs) 0 on) x h) (λ _ z there.
+      leads_on (λ _ z. IsTouched z) (λ _ z. IsTouched z) (class_of on z) finding (still 0 0 (class_of on) (λ cs. class_alike (side cs) 0 on) z there) (λ class w so.
+      found_still (method_named w.now.bones.classes class name) w so))) where
+        finding : ℕ → Act O A Method
+        finding class = finds (λ b. method_named b.classes class name)
+
+        found_still : (o : Option Method) (w : Tx O A) → IsTouched w → Leads (λ _ z. IsTouched z) (found o w)
+        found_still None w so = tt
+        found_still (Some c) w so = so
+
   listed_stays_by : (on : ℕ) (kind : Kind) (listed : Bool) (x y : Tx O A) → is_listed on kind x ≡ Done listed y → IsTouched x → IsTouched y
   listed_stays_by on kind listed x y = stays 0 0 (is_listed on kind) (λ cs. listed_alike (side cs) 0 on kind) listed x y
 
@@ -249,6 +264,9 @@ live_stays id = live_stays_by (numbers no_tables) id
 
 pub class_stays : (id on class : ℕ) (x y : NumberTx) → class_of on x ≡ Done class y → is_touched id x ≡ true → is_touched id y ≡ true
 class_stays id = class_stays_by (numbers no_tables) id
+
+pub method_stays : (id on : ℕ) (name : List ℕ) (m : Method) (x y : NumberTx) → found_method on name x ≡ Done m y → is_touched id x ≡ true → is_touched id y ≡ true
+method_stays id = method_stays_by (numbers no_tables) id
 
 pub hard_stays : (id : ℕ) (r : Ref) (x y : NumberTx) → tests_hard r x ≡ Done tt y → is_touched id x ≡ true → is_touched id y ≡ true
 hard_stays id = hard_stays_by (numbers no_tables) id

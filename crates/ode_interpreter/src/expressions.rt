@@ -1,5 +1,5 @@
 //! How statements take their values from expressions.
-ghost use Rattle.std.specs.Prelude.{◌≡◌, List as Items, IfOk};
+ghost use Rattle.std.specs.Prelude.{◌≡◌, List as Items, IfErr, IfOk};
 ghost use Rattle.std.specs.Option.{unwrap_or};
 ghost use Rattle.ode_value.specs.Classes.{default_of};
 ghost use Rattle.ode_value.specs.Executing.{sets};
@@ -152,11 +152,12 @@ pub(crate) fn default_value(alloc: Global, sort: &Sort) -> Result<Value, AllocEr
 }
 
 /// What a call gives: the value that its body returned, or its sort's default.
-pub(crate) fn given(alloc: Global, v: Option<Value>, sort: &Sort) -> Result<Value, AllocError>
-    ensures { IfOk result (λ answer. answer ≡ unwrap_or v (default_of sort.now)) }
+pub(crate) fn given(alloc: Global, v: Option<Value>, sort: &Sort) -> Result<Value, Stop>
+    ensures is { IfOk result (λ answer. answer ≡ unwrap_or v (default_of sort.now)) }
+    ensures short { IfErr result (λ why. why ≡ Stop.Memory) }
 {
     match v {
         Some(v) => Ok(v),
-        None => default_value(alloc, sort),
+        None => Ok(default_value(alloc, sort)?),
     }
 }

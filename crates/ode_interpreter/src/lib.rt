@@ -2,6 +2,7 @@
 #![tactic(auto)]
 
 mod acts;
+mod beginnings;
 mod completing;
 mod creating;
 mod ends;

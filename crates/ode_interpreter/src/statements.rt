@@ -12,6 +12,7 @@ ghost use Rattle.ode_interpreter.specs.Calling.{binds, runs_method, shows};
 ghost use Rattle.ode_interpreter.specs.Seen.{Ends, EndsBy, IsShort, Leaves, firing, flow_of, scene, with_classes};
 
 use crate::acts::Acts;
+use crate::beginnings::{around, begun, called, method_of};
 use crate::creating::make_named;
 use crate::ends::{derived, dropped, removed, returned, shown, switched_off, switched_on};
 use crate::expressions::{evaluate_all, given, holds, receiver, reference, say, set};
@@ -391,12 +392,8 @@ pub(crate) fn call_inside<S: Schema, T: Acts<S>>(
 {
     touch(alloc, schema, tx, levels, r.object)?;
     tx.stand(schema, r)?;
-    post_before(alloc, schema, tx, levels, r.object, name, args)?;
-    tx.live(schema, r.object)?;
-    let class = tx.class_of(schema, r.object)?;
-    let Some(method) = schema.method(class, name) else {
-        return Err(Stop::Abort(Reason::NoObject(0)));
-    };
+    post_around(alloc, schema, tx, levels, r.object, false, name, args)?;
+    let method = method_of(schema, tx, r.object, name)?;
     run_method(alloc, schema, tx, levels, r, method, name, args)
 }
 
@@ -416,13 +413,10 @@ pub(crate) fn run_method<S: Schema, T: Acts<S>>(
     ensures kept { (g : T.Known) → T.knows tx.old schema.now g → Leaves result (T.knows tx.new schema.now g) (T.failed tx.new g) }
     ensures faults { (b : T.Base) → T.usable tx.old b → Leaves result (T.usable tx.new b) (T.ended tx.new b) }
 {
-    let on = Scene {
-        this: r,
-        locals: args.copy(alloc)?,
-    };
+    let on = called(alloc, r, args)?;
     let v = run_body(alloc, schema, tx, on, levels, method.body.as_slice())?;
     call_after(alloc, schema, tx, levels, r, name, args)?;
-    Ok(given(alloc, v, &method.result)?)
+    given(alloc, v, &method.result)
 }
 
 /// What follows the body of a call of a touched object.
@@ -445,45 +439,27 @@ pub(crate) fn call_after<S: Schema, T: Acts<S>>(
         return Ok(());
     }
     tx.test_hard(schema, r)?;
-    post_after(alloc, schema, tx, levels, r.object, name, args)
+    post_around(alloc, schema, tx, levels, r.object, true, name, args)
 }
 
-/// The point before a call.
+/// The point before a call, or the one after it.
 #[cycle(go)]
-pub(crate) fn post_before<S: Schema, T: Acts<S>>(
+pub(crate) fn post_around<S: Schema, T: Acts<S>>(
     alloc: Global,
     schema: &S,
     tx: &mut T,
     levels: u8,
     id: u64,
+    after: bool,
     name: &Name,
     args: &List<Value>,
 ) -> Result<(), Stop>
-    ensures acts { (classes : Items Declared) (g : T.Known) → S.declares schema.now classes → T.knows tx.old schema.now g → is_touched id (T.view tx.old g) ≡ true → Ends result (with_classes classes (T.view tx.new g)) (posts (numbers (S.tables schema.now)) (actions_of (deeper (numbers (S.tables schema.now)) levels)) id (Kind.Before name.now) args.now (with_classes classes (T.view tx.old g))) }
+    ensures acts { (classes : Items Declared) (g : T.Known) → S.declares schema.now classes → T.knows tx.old schema.now g → is_touched id (T.view tx.old g) ≡ true → Ends result (with_classes classes (T.view tx.new g)) (posts (numbers (S.tables schema.now)) (actions_of (deeper (numbers (S.tables schema.now)) levels)) id (cond after (Kind.After name.now) (Kind.Before name.now)) args.now (with_classes classes (T.view tx.old g))) }
     ensures kept { (g : T.Known) → T.knows tx.old schema.now g → Leaves result (T.knows tx.new schema.now g) (T.failed tx.new g) }
     ensures faults { (b : T.Base) → T.usable tx.old b → Leaves result (T.usable tx.new b) (T.ended tx.new b) }
 {
-    let before = Kind::Before(name.copy(alloc)?);
-    post(alloc, schema, tx, levels, id, &before, args.as_slice())
-}
-
-/// The point after one.
-#[cycle(go)]
-pub(crate) fn post_after<S: Schema, T: Acts<S>>(
-    alloc: Global,
-    schema: &S,
-    tx: &mut T,
-    levels: u8,
-    id: u64,
-    name: &Name,
-    args: &List<Value>,
-) -> Result<(), Stop>
-    ensures acts { (classes : Items Declared) (g : T.Known) → S.declares schema.now classes → T.knows tx.old schema.now g → is_touched id (T.view tx.old g) ≡ true → Ends result (with_classes classes (T.view tx.new g)) (posts (numbers (S.tables schema.now)) (actions_of (deeper (numbers (S.tables schema.now)) levels)) id (Kind.After name.now) args.now (with_classes classes (T.view tx.old g))) }
-    ensures kept { (g : T.Known) → T.knows tx.old schema.now g → Leaves result (T.knows tx.new schema.now g) (T.failed tx.new g) }
-    ensures faults { (b : T.Base) → T.usable tx.old b → Leaves result (T.usable tx.new b) (T.ended tx.new b) }
-{
-    let after = Kind::After(name.copy(alloc)?);
-    post(alloc, schema, tx, levels, id, &after, args.as_slice())
+    let kind = around(alloc, after, name)?;
+    post(alloc, schema, tx, levels, id, &kind, args.as_slice())
 }
 
 /// An object is touched. The first touch posts a point.
@@ -574,7 +550,7 @@ pub(crate) fn fire<S: Schema, T: Acts<S>>(
 
 /// An action.
 #[cycle(go)]
-#[tactic(auto, unfolding(ode_value::specs::Posting::runs))]
+#[tactic(auto, using(crate::proofs::Fronts::runs_is))]
 pub(crate) fn act<S: Schema, T: Acts<S>>(
     alloc: Global,
     schema: &S,
@@ -586,15 +562,7 @@ pub(crate) fn act<S: Schema, T: Acts<S>>(
     ensures kept { (g : T.Known) → T.knows tx.old schema.now g → Leaves result (T.knows tx.new schema.now g) (T.failed tx.new g) }
     ensures faults { (b : T.Base) → T.usable tx.old b → Leaves result (T.usable tx.new b) (T.ended tx.new b) }
 {
-    tx.tell(schema, f)?;
-    tx.live(schema, f.object)?;
-    let on = Scene {
-        this: Ref {
-            object: f.object,
-            version: None,
-        },
-        locals: f.args.copy(alloc)?,
-    };
+    let on = begun(alloc, schema, tx, f)?;
     enter(alloc, schema, tx, levels, on, schema.action(f.trigger))?;
     Ok(())
 }

@@ -1,9 +1,12 @@
-use Rattle.std.proofs.Common.{arith, rules}
+use Rattle.std.proofs.Common.{ℕ, arith, rules}
 use Rattle.std.proofs.lemmas.Grind.{common_steps}
-use Rattle.ode_value.specs.Statements.{calls_behind, calls_inside, creates, deletes, generic}
+use Rattle.ode_value.specs.Executing.{deeper, level}
+use Rattle.ode_value.specs.Pasts.{Past, numbers}
+use Rattle.ode_value.specs.Statements.{Inner, calls_behind, calls_inside, creates, deletes, generic}
 use Rattle.ode_interpreter.specs.Seen.{with_classes}
+use Rattle.ode_interpreter.proofs.Fronts.{calls_by, calls_found}
 use Rattle.ode_interpreter.proofs.Levels.{execute_if}
-use Rattle.ode_interpreter.proofs.Stays.{body_stays, class_stays, denotes_stays, hard_stays, joins_touch, live_stays, makes_touch, post_stays, stand_stays, touches_touch}
+use Rattle.ode_interpreter.proofs.Stays.{body_stays, denotes_stays, hard_stays, joins_touch, makes_touch, method_stays, post_stays, stand_stays, touches_touch}
 use Rattle.ode_interpreter.proofs.Touches.{touched_anew}
 use Rattle.ode_interpreter.proofs.statements.+go.Goals as goal
 
@@ -84,9 +87,9 @@ delete-returns-clause-acts g t c = λ classes k d known.
     let e = c.removed.ensures.acts classes k d k4 in
     first_of (search rules, grind (arith, common_steps))
 
-pub call_inside-returns-in_err-post_before-clause-acts : goal.call_inside-returns-in_err-post_before-clause-acts
+pub call_inside-returns-in_err-post_around-clause-acts : goal.call_inside-returns-in_err-post_around-clause-acts
 unfolding calls_inside
-call_inside-returns-in_err-post_before-clause-acts g t c = λ classes k d known.
+call_inside-returns-in_err-post_around-clause-acts g t c = λ classes k d known.
     let r = c.args.r in
     let a1 = c.in_ok-touch.ensures.acts classes k d known in
     let x1 = with_classes classes (g.T.Acts.view c.touch.new.tx k) in
@@ -96,12 +99,11 @@ call_inside-returns-in_err-post_before-clause-acts g t c = λ classes k d known.
     let x2 = with_classes classes (g.T.Acts.view c.stand.new.self k) in
     let t2 = stand_stays r.object r x1 x2 a2 t1 in
     let k2 = c.in_ok-stand.ensures.kept k k1 in
-    let e = c.in_err-post_before.ensures.acts classes k d k2 t2 in
+    let e = c.in_err-post_around.ensures.acts classes k d k2 t2 in
     first_of (search rules, grind (arith, common_steps))
 
-pub call_inside-returns-in_err-live-clause-acts : goal.call_inside-returns-in_err-live-clause-acts
-unfolding calls_inside
-call_inside-returns-in_err-live-clause-acts g t c = λ classes k d known.
+pub call_inside-returns-in_err-method-clause-acts : goal.call_inside-returns-in_err-method-clause-acts
+call_inside-returns-in_err-method-clause-acts g t c = λ classes k d known.
     let r = c.args.r in
     let a1 = c.in_ok-touch.ensures.acts classes k d known in
     let x1 = with_classes classes (g.T.Acts.view c.touch.new.tx k) in
@@ -111,52 +113,14 @@ call_inside-returns-in_err-live-clause-acts g t c = λ classes k d known.
     let x2 = with_classes classes (g.T.Acts.view c.stand.new.self k) in
     let t2 = stand_stays r.object r x1 x2 a2 t1 in
     let k2 = c.in_ok-stand.ensures.kept k k1 in
-    let a3 = c.in_ok-post_before.ensures.acts classes k d k2 t2 in
-    let k3 = c.in_ok-post_before.ensures.kept k k2 in
-    let e = c.in_err-live.ensures.acts classes k d k3 in
-    first_of (search rules, grind (arith, common_steps))
-
-pub call_inside-returns-in_err-class-clause-acts : goal.call_inside-returns-in_err-class-clause-acts
-unfolding calls_inside
-call_inside-returns-in_err-class-clause-acts g t c = λ classes k d known.
-    let r = c.args.r in
-    let a1 = c.in_ok-touch.ensures.acts classes k d known in
-    let x1 = with_classes classes (g.T.Acts.view c.touch.new.tx k) in
-    let t1 = touches_touch _ _ _ _ _ a1 in
-    let k1 = c.in_ok-touch.ensures.kept k known in
-    let a2 = c.in_ok-stand.ensures.acts classes k d k1 in
-    let x2 = with_classes classes (g.T.Acts.view c.stand.new.self k) in
-    let t2 = stand_stays r.object r x1 x2 a2 t1 in
-    let k2 = c.in_ok-stand.ensures.kept k k1 in
-    let a3 = c.in_ok-post_before.ensures.acts classes k d k2 t2 in
-    let k3 = c.in_ok-post_before.ensures.kept k k2 in
-    let a4 = c.in_ok-live.ensures.acts classes k d k3 in
-    let k4 = c.in_ok-live.ensures.kept k k3 in
-    let e = c.in_err-class.ensures.acts classes k d k4 in
-    first_of (search rules, grind (arith, common_steps))
-
-pub call_inside-returns-in_default-clause-acts : goal.call_inside-returns-in_default-clause-acts
-unfolding calls_inside
-call_inside-returns-in_default-clause-acts g t c = λ classes k d known.
-    let r = c.args.r in
-    let a1 = c.in_ok-touch.ensures.acts classes k d known in
-    let x1 = with_classes classes (g.T.Acts.view c.touch.new.tx k) in
-    let t1 = touches_touch _ _ _ _ _ a1 in
-    let k1 = c.in_ok-touch.ensures.kept k known in
-    let a2 = c.in_ok-stand.ensures.acts classes k d k1 in
-    let x2 = with_classes classes (g.T.Acts.view c.stand.new.self k) in
-    let t2 = stand_stays r.object r x1 x2 a2 t1 in
-    let k2 = c.in_ok-stand.ensures.kept k k1 in
-    let a3 = c.in_ok-post_before.ensures.acts classes k d k2 t2 in
-    let k3 = c.in_ok-post_before.ensures.kept k k2 in
-    let a4 = c.in_ok-live.ensures.acts classes k d k3 in
-    let k4 = c.in_ok-live.ensures.kept k k3 in
-    let a5 = c.in_ok-class.ensures.acts classes k d k4 in
-    let k5 = c.in_ok-class.ensures.kept k k4 in
-    first_of (search rules, grind (arith, common_steps))
+    let a3 = c.in_ok-post_around.ensures.acts classes k d k2 t2 in
+    let k3 = c.in_ok-post_around.ensures.kept k k2 in
+    let past : Past (Unit {0}) ℕ = numbers (g.S.Schema.tables c.args.schema.now) in
+    let inner : Inner (Unit {0}) ℕ = level past (deeper past c.args.levels) in
+    let e = c.in_err-method.ensures.acts classes k d k3 in
+    calls_by past inner c.args.r c.args.name.now c.args.args.now _ _ _ _ _ _ a1 a2 a3 (first_of (search rules, grind (arith, common_steps)))
 
 pub call_inside-returns-clause-acts : goal.call_inside-returns-clause-acts
-unfolding calls_inside
 call_inside-returns-clause-acts g t c = λ classes k d known.
     let r = c.args.r in
     let a1 = c.in_ok-touch.ensures.acts classes k d known in
@@ -167,20 +131,17 @@ call_inside-returns-clause-acts g t c = λ classes k d known.
     let x2 = with_classes classes (g.T.Acts.view c.stand.new.self k) in
     let t2 = stand_stays r.object r x1 x2 a2 t1 in
     let k2 = c.in_ok-stand.ensures.kept k k1 in
-    let a3 = c.in_ok-post_before.ensures.acts classes k d k2 t2 in
-    let x3 = with_classes classes (g.T.Acts.view c.post_before.new.tx k) in
+    let a3 = c.in_ok-post_around.ensures.acts classes k d k2 t2 in
+    let x3 = with_classes classes (g.T.Acts.view c.post_around.new.tx k) in
     let t3 = post_stays _ r.object c.args.levels _ _ _ _ _ a3 t2 in
-    let k3 = c.in_ok-post_before.ensures.kept k k2 in
-    let a4 = c.in_ok-live.ensures.acts classes k d k3 in
-    let x4 = with_classes classes (g.T.Acts.view c.live.new.self k) in
-    let t4 = live_stays r.object r.object x3 x4 a4 t3 in
-    let k4 = c.in_ok-live.ensures.kept k k3 in
-    let a5 = c.in_ok-class.ensures.acts classes k d k4 in
-    let x5 = with_classes classes (g.T.Acts.view c.class_of.new.self k) in
-    let t5 = class_stays r.object r.object c.in_ok-class.class x4 x5 a5 t4 in
-    let k5 = c.in_ok-class.ensures.kept k k4 in
-    let e = c.run_method.ensures.acts classes k d k5 t5 in
-    first_of (search rules, grind (arith, common_steps))
+    let k3 = c.in_ok-post_around.ensures.kept k k2 in
+    let a4 = c.in_ok-method.ensures.acts classes k d k3 in
+    let x4 = with_classes classes (g.T.Acts.view c.method_of.new.tx k) in
+    let t4 = method_stays r.object r.object c.args.name.now c.in_ok-method.method.now x3 x4 a4 t3 in
+    let k4 = c.in_ok-method.ensures.kept k k3 in
+    let past : Past (Unit {0}) ℕ = numbers (g.S.Schema.tables c.args.schema.now) in
+    let inner : Inner (Unit {0}) ℕ = level past (deeper past c.args.levels) in
+    calls_found past inner c.args.r c.args.name.now c.args.args.now _ _ _ _ _ _ _ _ a1 a2 a3 a4 (c.run_method.ensures.acts classes k d k4 t4)
 
 pub run_method-returns-in_err-call_after-clause-acts : goal.run_method-returns-in_err-call_after-clause-acts
 run_method-returns-in_err-call_after-clause-acts g t c = λ classes k d known touched.
@@ -211,5 +172,5 @@ call_after-returns-clause-acts g t c = λ classes k d known touched.
     let x2 = with_classes classes (g.T.Acts.view c.test_hard.new.self k) in
     let t2 = hard_stays c.args.r.object c.args.r x1 x2 a2 t1 in
     let k2 = c.in_ok-test_hard.ensures.kept k k1 in
-    let e = c.post_after.ensures.acts classes k d k2 t2 in
+    let e = c.post_around.ensures.acts classes k d k2 t2 in
     first_of (search rules, grind (arith, common_steps))

@@ -71,11 +71,8 @@ decreases-exec_all g l = let t = g.S.Schema.longest l.schema.now the_size in l.l
 abbrev pub decreases-run_body : goal.decreases-run_body
 decreases-run_body g l = let t = g.S.Schema.longest l.schema.now the_size in l.levels * room t + 4 * t + 15 + 4 * most the_size l.body.now
 
-abbrev pub decreases-post_before : goal.decreases-post_before
-decreases-post_before g l = let t = g.S.Schema.longest l.schema.now the_size in l.levels * room t + 4 * t + 7
-
-abbrev pub decreases-post_after : goal.decreases-post_after
-decreases-post_after g l = let t = g.S.Schema.longest l.schema.now the_size in l.levels * room t + 4 * t + 7
+abbrev pub decreases-post_around : goal.decreases-post_around
+decreases-post_around g l = let t = g.S.Schema.longest l.schema.now the_size in l.levels * room t + 4 * t + 7
 
 abbrev pub decreases-bind : goal.decreases-bind
 decreases-bind g l = let t = g.S.Schema.longest l.schema.now the_size in l.levels * room t + 4 * t + 11
