@@ -5,9 +5,7 @@ FILE := out/example.db
 
 # Proves and builds the program.
 all:
-	@mkdir -p out && rm -f out/built.db
-	cd crates/ode && rt run -- init "$(CURDIR)/out/built.db"
-	@echo "The program is $(PROGRAM): proved and built."
+	@checks/build.sh $(PROGRAM)
 
 # Makes a new file, and runs the first example on it: with the program, or where that isn't built by a try without proofs.
 example:

@@ -6,8 +6,8 @@ transaction has to: append a frame, sync, write one byte, sync; and SQLite, wher
 turns, and the middle one of five rounds counts. Then the same calls with two triggers on, one of which fires at every third call; and
 with one that queues a firing at each call, which is one more transaction a call.
 
-Then what 100,000 objects cost: the opening of their file, beside SQLite's quick check of as many rows, its memory, and a method call on
-one of them beside one of 100. These files are in memory where they can be, so that syncs don't hide the rest.
+Then what 100,000 objects cost: the opening of their file, beside SQLite's quick check of the same objects and versions, its memory, and
+a method call on one of them beside one of 100. These files are in memory where they can be, so that syncs don't hide the rest.
 """
 
 import os
@@ -135,10 +135,22 @@ def crowd(folder, count):
     return opened, memory, max(called - opened, 0.000001)
 
 
+# What the records of an object and of a version have, with the rules of theirs that a table can state.
+TABLES = (
+    "create table object (id integer primary key, class integer not null, last integer not null, check (last >= 1))",
+    "create table version (object integer not null, number integer not null, parent integer not null, n integer not null,"
+    " primary key (object, number), check (1 <= number and parent < number)) without rowid",
+)
+
+
 def quick_check(module, folder, count):
+    """How long SQLite's quick check of the same data takes: so many objects, and a version of each."""
     base = module.connect(f"{folder}/crowd.sqlite")
-    base.execute("create table counter (id integer primary key, n integer)")
-    base.executemany("insert into counter values (?, 0)", ((at,) for at in range(1, count + 1)))
+    for table in TABLES:
+        base.execute(table)
+    ids = range(1, count + 1)
+    base.executemany("insert into object values (?, 1, 1)", ((at,) for at in ids))
+    base.executemany("insert into version values (?, 1, 0, 0)", ((at,) for at in ids))
     base.commit()
     base.close()
     taken = []

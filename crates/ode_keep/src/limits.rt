@@ -1,12 +1,13 @@
 //! What a keeper takes at most.
 
 use crate::spelling::{COUNT_LEN, KEY_LEN, ROW_HEAD};
+use ode_value::limits::{CHANGE_LIMIT, VALUE_LIMIT};
 
 /// Changes in a batch.
-pub const MAX_CHANGES: usize = 1_024;
+pub const MAX_CHANGES: usize = CHANGE_LIMIT;
 
 /// Bytes in the value of a record.
-pub const MAX_VALUE: usize = 3_968;
+pub const MAX_VALUE: usize = VALUE_LIMIT;
 
 /// Bytes in the keys and values of all records.
 pub const MAX_RECORD_BYTES: u64 = 16_777_216;

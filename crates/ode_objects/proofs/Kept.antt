@@ -40,5 +40,5 @@ args_room vs = refl
 pub fields_counted : (vs : List Value) → are_fields vs ≡ true → length vs < 2 ^ 16
 unfolding are_fields value_limit
 fields_counted vs short =
-    let le : version_size vs ≤ 3968 = grind (arith, nat_tests) in
+    let le : version_size vs ≤ value_limit = grind (arith, nat_tests) in
     omega (arith, few_values vs, le)

@@ -27,7 +27,7 @@ use Rattle.ode_value.specs.declared.key.Key.{Key}
 
 fields_fit : (vs : List Value) → are_fields vs ≡ true → values_length vs ≤ 3962
 unfolding are_fields value_limit
-fields_fit vs short = let le : version_size vs ≤ 3968 = grind (arith, nat_tests) in omega (arith, le)
+fields_fit vs short = let le : version_size vs ≤ value_limit = grind (arith, nat_tests) in omega (arith, le)
 
 args_fit : (vs : List Value) → are_args vs ≡ true → values_length vs ≤ 768
 unfolding are_args args_limit

@@ -1,0 +1,43 @@
+#!/usr/bin/env bash
+# Proves and builds the program, and all that it stands on, on all processors: checks/build.sh PROGRAM
+# `rt ci` does it in a copy that has no tests and no must-fail edits, since it would prove crates once more for these.
+set -euo pipefail
+cd "$(dirname "${BASH_SOURCE[0]}")/.."
+
+program=$1
+name=$(basename "$program")
+copy=out/build
+
+if ! command -v rt > /dev/null; then
+    echo 'rt, the command of the Rattle kit, is missing: it proves and builds the program.' >&2
+    exit 1
+fi
+
+# The crates below the program, each with those that it stands on.
+below() {
+    awk -v seek="$1" -F: '
+        { on[$1] = $2; order[NR] = $1 }
+        function mark(crate,   i, n, all) {
+            if (crate in seen || !(crate in on)) return
+            seen[crate] = 1
+            n = split(on[crate], all, " ")
+            for (i = 1; i <= n; i++) mark(all[i])
+        }
+        END { mark(seek); for (i = 1; i <= NR; i++) if (order[i] in seen) print order[i] ":" on[order[i]] }' crates.txt
+}
+
+rm -rf "$copy"
+mkdir -p "$copy/crates"
+cp HANDLES "$copy/"
+below "$name" > "$copy/crates.txt"
+cut -d: -f1 "$copy/crates.txt" | while read -r crate; do
+    mkdir "$copy/crates/$crate"
+    find "crates/$crate" -mindepth 1 -maxdepth 1 ! -name out ! -name must-fail -exec cp -r {} "$copy/crates/$crate/" \;
+done
+
+echo "Proving $(wc -l < "$copy/crates.txt") crates. This takes half an hour on four processors; out/build.log has the whole text."
+(cd "$copy" && rt ci 2>&1) | tee out/build.log | grep --line-buffered -E '^rt: .* (proved|NOT PROVED|is kept)|passed,'
+mkdir -p "$(dirname "$program")"
+cp "$copy/$program" "$program"
+rm -rf "$copy"
+echo "The program is $program: proved and built."
