@@ -1,11 +1,11 @@
 -- Statements by one level.
-use Rattle.std.proofs.Common.{◌≡◌, ℕ, List, [], ◌∷◌, map, Ok, Err, refl, ap, sym, ◌∙◌}
+use Rattle.std.proofs.Common.{◌≡◌, ℕ, List, [], ◌∷◌, map, Result, Ok, Err, refl, ap, sym, ◌∙◌, subst}
 use Rattle.ode_value.specs.declared.binding.Param.{Param}
 use Rattle.ode_value.specs.declared.statement.Expr.{Expr}
 use Rattle.ode_value.specs.declared.statement.Sort.TheVariants as sort
 use Rattle.ode_value.specs.declared.statement.Stmt.TheVariants as stmt
 use Rattle.ode_value.specs.declared.statement.Stmt.{Stmt, out-Stmt, map-Stmt, fold_out-Stmt, the_lemmas}
-use Rattle.ode_types.specs.Answers.{AnswersWith}
+use Rattle.ode_types.specs.Answers.{Answers, AnswersWith}
 use Rattle.ode_types.specs.Bodies.{Checking, body_checked, checks, checking_of, follow, inner, next_checked}
 use Rattle.ode_types.specs.Checks.{Check, ◌>>=◌, in_turn}
 use Rattle.ode_types.specs.Scopes.{Scope, behind, scope_of}
@@ -47,6 +47,12 @@ behind-forget place old last new seen next =
     ap (λ (s : List (ℕ × Param)). scope_of place (record { seen = s; next = last.next })) (sym seen)
     ∙ ap (λ (n : ℕ). scope_of place (record { seen = new.seen; next = n })) (sym next)
 
+-- what was checked, with what is left behind it
+pub made-with : (t : Stmt) (scope : Scope) (r : Result Stmt CheckStop) → Answers {T = Stmt} (Ok t) r → AnswersWith {T = Stmt} {S = Scope} (Ok (t, scope)) scope r
+made-with t scope (Ok x) h = ap (λ m. m >>= (λ (y : Stmt). Ok (y, scope))) h
+made-with t scope (Err (stop.Broken e)) h = ap (λ m. m >>= (λ (y : Stmt). Ok (y, scope))) h
+made-with t scope (Err stop.Memory) h = tt
+
 -- an `if` by its parts
 abbrev done : Expr → List Stmt → List Stmt × Scope → Check (Stmt × Scope)
 done test first second = Ok (stmt.If test first second.0, second.1)
@@ -79,7 +85,9 @@ module _ (s : Stmt) (test t : Expr) (first second : List Stmt) (scope : Scope) (
     if-second v w stop.Memory h = tt
     if-second v w (stop.Broken e) h = if-both ∙ ap (λ m. m >>= done t xs) h
 
-    pub if-done : (ys : List Stmt) (v : Scope) → body_checked c u ≡ Ok (ys, v) → checks s scope ≡ Ok (stmt.If t xs ys, v)
-    if-done ys v h = if-both ∙ ap (λ m. m >>= done t xs) h
+    pub if-made : (ys : List Stmt) (v : Scope) (x : Expr) → x ≡ t → body_checked c u ≡ Ok (ys, v) → (r : Result Stmt CheckStop) → Answers {T = Stmt} (Ok (stmt.If x xs ys)) r → AnswersWith {T = Stmt} {S = Scope} (checks s scope) v r
+    if-made ys v x is h r made =
+        subst (λ m. AnswersWith {T = Stmt} {S = Scope} m v r) (sym (if-both ∙ ap (λ m. m >>= done t xs) h))
+        (made-with (stmt.If t xs ys) v r (subst (λ (y : Expr). Answers {T = Stmt} (Ok (stmt.If y xs ys)) r) is made))
 
 pub ruleset statements = (the_lemmas, checks_out, inner-body, stops_with, stops_behind)

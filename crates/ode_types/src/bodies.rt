@@ -7,8 +7,8 @@ ghost use Rattle.ode_types.specs.Scopes.{scope_of};
 use crate::place::{Locals, Place};
 use crate::rights::{Right, check_rhs, fitting, reference};
 use crate::sorts::{fits, is_void, starting};
-use crate::stop::{CheckStop, duplicate, unknown, where_holds, wrong};
-use ode_value::{Expr, List, Rhs, Sort, Stmt, Var};
+use crate::stop::{CheckStop, boxed, duplicate, unknown, wrong};
+use ode_value::{Boxed, Expr, List, Rhs, Sort, Stmt, Var};
 use std::alloc::Global;
 
 // A `let`. Its name is seen behind it.
@@ -19,7 +19,7 @@ fn check_let(
     rhs: &Rhs,
     place: &Place,
     locals: &mut Locals,
-) -> Result<Stmt, CheckStop>
+) -> Result<Boxed<Stmt>, CheckStop>
     ensures answers { AnswersWith (let_checked var.now rhs.now (scope_of place.now locals.old)) (scope_of place.now locals.new) result }
     ensures kept { OnOk result (take (length locals.old.seen) locals.new.seen ≡ locals.old.seen) }
 {
@@ -33,7 +33,7 @@ fn check_let(
     match starting(sort) {
         Some(sort) if locals.has_slot() => {
             let slot = locals.add(alloc, name, sort)?;
-            Ok(Stmt::Let(Var::Local(slot), rhs))
+            boxed(alloc, Stmt::Let(Var::Local(slot), rhs.into_inner()))
         }
         _ => wrong(alloc, place.member),
     }
@@ -48,12 +48,12 @@ fn set_as(
     rhs: &Rhs,
     place: &Place,
     locals: &Locals,
-) -> Result<Stmt, CheckStop>
+) -> Result<Boxed<Stmt>, CheckStop>
     ensures { AnswersWith (set_as var sort.now rhs.now (scope_of place.now locals.now)) (scope_of place.now locals.now) result }
 {
     let right = check_rhs(alloc, rhs, place, locals)?;
     if fits(&place.known, &right.sort, sort) {
-        Ok(Stmt::Set(var, right.rhs))
+        boxed(alloc, Stmt::Set(var, right.rhs.into_inner()))
     } else {
         wrong(alloc, place.member)
     }
@@ -66,7 +66,7 @@ fn check_set(
     rhs: &Rhs,
     place: &Place,
     locals: &Locals,
-) -> Result<Stmt, CheckStop>
+) -> Result<Boxed<Stmt>, CheckStop>
     ensures { AnswersWith (set_checked var.now rhs.now (scope_of place.now locals.now)) (scope_of place.now locals.now) result }
 {
     let Var::Name(name) = var else {
@@ -84,28 +84,36 @@ fn check_return(
     e: &Option<Expr>,
     place: &Place,
     locals: &Locals,
-) -> Result<Stmt, CheckStop>
+) -> Result<Boxed<Stmt>, CheckStop>
     ensures { Answers (return_checked e.now (scope_of place.now locals.now)) result }
 {
     match e {
         Some(e) => {
             let value = fitting(alloc, place.result, e, place, locals)?;
-            Ok(Stmt::Return(Some(value)))
+            boxed(alloc, Stmt::Return(Some(value.into_inner())))
         }
         None => match place.result {
-            Sort::Void => Ok(Stmt::Return(None)),
+            Sort::Void => boxed(alloc, Stmt::Return(None)),
             _ => wrong(alloc, place.member),
         },
     }
 }
 
 #[tactic(auto, using(crate::proofs::TypingLaws::stops_through), unfolding(crate::specs::Bodies::show_checked))]
-fn check_show(alloc: Global, rhs: &Rhs, place: &Place, locals: &Locals) -> Result<Stmt, CheckStop>
+fn check_show(
+    alloc: Global,
+    rhs: &Rhs,
+    place: &Place,
+    locals: &Locals,
+) -> Result<Boxed<Stmt>, CheckStop>
     ensures { Answers (show_checked rhs.now (scope_of place.now locals.now)) result }
 {
     let right = check_rhs(alloc, rhs, place, locals)?;
-    let shown = !is_void(&right.sort);
-    where_holds(alloc, shown, Stmt::Show(right.rhs), place.member)
+    if is_void(&right.sort) {
+        wrong(alloc, place.member)
+    } else {
+        boxed(alloc, Stmt::Show(right.rhs.into_inner()))
+    }
 }
 
 #[tactic(auto, using(crate::proofs::TypingLaws::stops_through), unfolding(crate::specs::Bodies::deactivate_checked))]
@@ -115,12 +123,15 @@ fn check_deactivate(
     f: &Expr,
     place: &Place,
     locals: &Locals,
-) -> Result<Stmt, CheckStop>
+) -> Result<Boxed<Stmt>, CheckStop>
     ensures { Answers (deactivate_checked e.now f.now (scope_of place.now locals.now)) result }
 {
     let of = reference(alloc, e, place, locals)?;
     let number = fitting(alloc, &Sort::Int, f, place, locals)?;
-    Ok(Stmt::Deactivate(of.expr, number))
+    boxed(
+        alloc,
+        Stmt::Deactivate(of.expr.into_inner(), number.into_inner()),
+    )
 }
 
 /// A statement with slots for its names, or the first rule that it breaks. What it declares is seen behind it.
@@ -131,7 +142,7 @@ pub(crate) fn check_stmt(
     s: &Stmt,
     place: &Place,
     locals: &mut Locals,
-) -> Result<Stmt, CheckStop>
+) -> Result<Boxed<Stmt>, CheckStop>
     ensures answers { AnswersWith (checks s.now (scope_of place.now locals.old)) (scope_of place.now locals.new) result }
     ensures kept { OnOk result (take (length locals.old.seen) locals.new.seen ≡ locals.old.seen) }
 {
@@ -140,30 +151,30 @@ pub(crate) fn check_stmt(
         Stmt::Set(var, rhs) => check_set(alloc, var, rhs, place, locals),
         Stmt::Do(rhs) => {
             let right = check_rhs(alloc, rhs, place, locals)?;
-            Ok(Stmt::Do(right.rhs))
+            boxed(alloc, Stmt::Do(right.rhs.into_inner()))
         }
         Stmt::If(test, first, second) => {
             let test = fitting(alloc, &Sort::Bool, test, place, locals)?;
             let first = check_body(alloc, first.as_slice(), place, locals)?;
             let second = check_body(alloc, second.as_slice(), place, locals)?;
-            Ok(Stmt::If(test, first, second))
+            boxed(alloc, Stmt::If(test.into_inner(), first, second))
         }
         Stmt::Return(e) => check_return(alloc, e, place, locals),
         Stmt::Delete(e) => {
             let of = reference(alloc, e, place, locals)?;
-            Ok(Stmt::Delete(of.expr))
+            boxed(alloc, Stmt::Delete(of.expr.into_inner()))
         }
         Stmt::DropVersion(e) => {
             let of = reference(alloc, e, place, locals)?;
-            Ok(Stmt::DropVersion(of.expr))
+            boxed(alloc, Stmt::DropVersion(of.expr.into_inner()))
         }
         Stmt::Deactivate(e, f) => check_deactivate(alloc, e, f, place, locals),
         Stmt::Show(rhs) => check_show(alloc, rhs, place, locals),
         Stmt::Say(e) => {
             let text = fitting(alloc, &Sort::Text, e, place, locals)?;
-            Ok(Stmt::Say(text))
+            boxed(alloc, Stmt::Say(text.into_inner()))
         }
-        Stmt::TAbort => Ok(Stmt::TAbort),
+        Stmt::TAbort => boxed(alloc, Stmt::TAbort),
     }
 }
 
@@ -195,7 +206,7 @@ pub(crate) fn check_body(
     let seen = locals.seen.len();
     let mut checked = List::new(alloc);
     for s in body {
-        checked.push(check_stmt(alloc, s, place, locals)?)?;
+        checked.push(check_stmt(alloc, s, place, locals)?.into_inner())?;
     }
     locals.forget(seen);
     Ok(checked)

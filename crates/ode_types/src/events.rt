@@ -10,7 +10,7 @@ ghost use Rattle.ode_types.specs.Scopes.{scope_at, scope_of, with_params};
 use crate::families::method_named;
 use crate::place::{Locals, Place};
 use crate::rights::fitting;
-use crate::stop::{CheckStop, wrong};
+use crate::stop::{CheckStop, boxed, unboxed, wrong};
 use ode_value::{Boxed, EventExpr, Expr, Kind, Method, Name, Sort};
 use std::alloc::{AllocError, Global};
 
@@ -79,7 +79,7 @@ fn mask(
     test: &Option<Expr>,
     place: &Place,
     locals: &Locals,
-) -> Result<Option<Expr>, CheckStop>
+) -> Result<Option<Boxed<Expr>>, CheckStop>
     ensures { Answers (mask kind.now test.now (scope_of place.now locals.now)) result }
 {
     match test {
@@ -99,76 +99,20 @@ fn leaf(
     test: &Option<Expr>,
     place: &Place,
     locals: &Locals,
-) -> Result<EventExpr, CheckStop>
+) -> Result<Boxed<EventExpr>, CheckStop>
     ensures { Answers (leaf_listed kind.now test.now (scope_of place.now locals.now)) result }
 {
     if !is_listed(kind, place) {
         return wrong(alloc, place.member);
     }
     let test = mask(alloc, kind, test, place, locals)?;
-    Ok(EventExpr::Leaf(kind.copy(alloc)?, test))
+    let kind = kind.copy(alloc)?;
+    boxed(alloc, EventExpr::Leaf(kind, unboxed(test)))
 }
 
 /// An event expression with slots for the names in its masks, or the first rule that it breaks.
-#[cycle(events)]
 #[tactic(auto, using(crate::proofs::EventLaws::listings))]
 pub(crate) fn check_event(
-    alloc: Global,
-    e: &EventExpr,
-    place: &Place,
-    locals: &Locals,
-) -> Result<EventExpr, CheckStop>
-    ensures { Answers (listed e.now (scope_of place.now locals.now)) result }
-{
-    match e {
-        EventExpr::Leaf(kind, test) => leaf(alloc, kind, test, place, locals),
-        EventExpr::Any => Ok(EventExpr::Any),
-        EventExpr::First => Ok(EventExpr::First),
-        EventExpr::Not(e) => Ok(EventExpr::Not(check_boxed(alloc, e.get(), place, locals)?)),
-        EventExpr::And(e, f) => {
-            let e = check_boxed(alloc, e.get(), place, locals)?;
-            let f = check_boxed(alloc, f.get(), place, locals)?;
-            Ok(EventExpr::And(e, f))
-        }
-        EventExpr::Or(e, f) => {
-            let e = check_boxed(alloc, e.get(), place, locals)?;
-            let f = check_boxed(alloc, f.get(), place, locals)?;
-            Ok(EventExpr::Or(e, f))
-        }
-        EventExpr::Relative(e, f) => {
-            let e = check_boxed(alloc, e.get(), place, locals)?;
-            let f = check_boxed(alloc, f.get(), place, locals)?;
-            Ok(EventExpr::Relative(e, f))
-        }
-        EventExpr::Prior(e, f) => {
-            let e = check_boxed(alloc, e.get(), place, locals)?;
-            let f = check_boxed(alloc, f.get(), place, locals)?;
-            Ok(EventExpr::Prior(e, f))
-        }
-        EventExpr::Sequence(e, f) => {
-            let e = check_boxed(alloc, e.get(), place, locals)?;
-            let f = check_boxed(alloc, f.get(), place, locals)?;
-            Ok(EventExpr::Sequence(e, f))
-        }
-        EventExpr::Choose(n, e) => Ok(EventExpr::Choose(
-            *n,
-            check_boxed(alloc, e.get(), place, locals)?,
-        )),
-        EventExpr::Every(n, e) => Ok(EventExpr::Every(
-            *n,
-            check_boxed(alloc, e.get(), place, locals)?,
-        )),
-        EventExpr::Fa(e, f, g) => {
-            let e = check_boxed(alloc, e.get(), place, locals)?;
-            let f = check_boxed(alloc, f.get(), place, locals)?;
-            let g = check_boxed(alloc, g.get(), place, locals)?;
-            Ok(EventExpr::Fa(e, f, g))
-        }
-    }
-}
-
-#[cycle(events)]
-fn check_boxed(
     alloc: Global,
     e: &EventExpr,
     place: &Place,
@@ -176,6 +120,52 @@ fn check_boxed(
 ) -> Result<Boxed<EventExpr>, CheckStop>
     ensures { Answers (listed e.now (scope_of place.now locals.now)) result }
 {
-    let checked = check_event(alloc, e, place, locals)?;
-    Ok(Boxed::new(alloc, checked)?)
+    match e {
+        EventExpr::Leaf(kind, test) => leaf(alloc, kind, test, place, locals),
+        EventExpr::Any => boxed(alloc, EventExpr::Any),
+        EventExpr::First => boxed(alloc, EventExpr::First),
+        EventExpr::Not(e) => {
+            let e = check_event(alloc, e.get(), place, locals)?;
+            boxed(alloc, EventExpr::Not(e))
+        }
+        EventExpr::And(e, f) => {
+            let e = check_event(alloc, e.get(), place, locals)?;
+            let f = check_event(alloc, f.get(), place, locals)?;
+            boxed(alloc, EventExpr::And(e, f))
+        }
+        EventExpr::Or(e, f) => {
+            let e = check_event(alloc, e.get(), place, locals)?;
+            let f = check_event(alloc, f.get(), place, locals)?;
+            boxed(alloc, EventExpr::Or(e, f))
+        }
+        EventExpr::Relative(e, f) => {
+            let e = check_event(alloc, e.get(), place, locals)?;
+            let f = check_event(alloc, f.get(), place, locals)?;
+            boxed(alloc, EventExpr::Relative(e, f))
+        }
+        EventExpr::Prior(e, f) => {
+            let e = check_event(alloc, e.get(), place, locals)?;
+            let f = check_event(alloc, f.get(), place, locals)?;
+            boxed(alloc, EventExpr::Prior(e, f))
+        }
+        EventExpr::Sequence(e, f) => {
+            let e = check_event(alloc, e.get(), place, locals)?;
+            let f = check_event(alloc, f.get(), place, locals)?;
+            boxed(alloc, EventExpr::Sequence(e, f))
+        }
+        EventExpr::Choose(n, e) => {
+            let e = check_event(alloc, e.get(), place, locals)?;
+            boxed(alloc, EventExpr::Choose(*n, e))
+        }
+        EventExpr::Every(n, e) => {
+            let e = check_event(alloc, e.get(), place, locals)?;
+            boxed(alloc, EventExpr::Every(*n, e))
+        }
+        EventExpr::Fa(e, f, g) => {
+            let e = check_event(alloc, e.get(), place, locals)?;
+            let f = check_event(alloc, f.get(), place, locals)?;
+            let g = check_event(alloc, g.get(), place, locals)?;
+            boxed(alloc, EventExpr::Fa(e, f, g))
+        }
+    }
 }

@@ -1,5 +1,5 @@
 //! The second pass over a class: bodies, constraints and triggers.
-ghost use Rattle.std.specs.Prelude.{◌≡◌, ◌++◌, ◌∷◌, [], IfOk, OnOk, false};
+ghost use Rattle.std.specs.Prelude.{◌≡◌, ◌++◌, ◌∷◌, [], IfOk, Ok, OnOk, false};
 ghost use Rattle.std.specs.Option.{option_copied};
 ghost use Rattle.ode_types.specs.Answers.{Answers};
 ghost use Rattle.ode_types.specs.Declaring.{with_member};
@@ -14,10 +14,10 @@ use crate::events::check_event;
 use crate::line::Known;
 use crate::place::{Locals, Place};
 use crate::rights::fitting;
-use crate::stop::CheckStop;
+use crate::stop::{CheckStop, boxed};
 use ode_value::{
-    Class, ClassDecl, Constraint, EventExpr, Field, Kind, List, Member, Method, Name, Param, Ref,
-    Sort, Stmt, TriggerDecl,
+    Boxed, Class, ClassDecl, Constraint, EventExpr, Field, Kind, List, Member, Method, Name, Param,
+    Ref, Sort, Stmt, TriggerDecl,
 };
 use std::alloc::{AllocError, Global};
 
@@ -47,17 +47,20 @@ fn member_place<'a>(
 }
 
 // The same method with this body.
-fn with_body(alloc: Global, method: &Method, body: List<Stmt>) -> Result<Method, AllocError>
+fn with_body(alloc: Global, method: &Method, body: List<Stmt>) -> Result<Boxed<Method>, AllocError>
     ensures { IfOk result (λ made. made ≡ record method.now { body = body }) }
 {
     let (name, params) = copy_head(alloc, &method.name, &method.params)?;
     let result = method.result.copy(alloc)?;
-    Ok(Method {
-        name,
-        result,
-        params,
-        body,
-    })
+    Boxed::new(
+        alloc,
+        Method {
+            name,
+            result,
+            params,
+            body,
+        },
+    )
 }
 
 #[tactic(auto, using(crate::proofs::TypingLaws::stops_through, crate::proofs::MemberLaws::scope_is), unfolding(crate::specs::Static::method_checked))]
@@ -66,7 +69,7 @@ fn check_method(
     known: &Classes,
     draft: &Class,
     method: &Method,
-) -> Result<Method, CheckStop>
+) -> Result<Boxed<Method>, CheckStop>
     ensures { Answers (method_checked (known.now ++ draft.now ∷ []) draft.now method.now) result }
 {
     let place = member_place(known, draft, &method.name, &method.result, &[]);
@@ -81,7 +84,7 @@ fn check_constraint(
     known: &Classes,
     draft: &Class,
     constraint: &Constraint,
-) -> Result<Constraint, CheckStop>
+) -> Result<Boxed<Constraint>, CheckStop>
     ensures { Answers (constraint_checked (known.now ++ draft.now ∷ []) draft.now constraint.now) result }
 {
     let void = Sort::Void;
@@ -95,11 +98,14 @@ fn check_constraint(
         &locals,
     )?;
     let name = constraint.name.copy(alloc)?;
-    Ok(Constraint {
-        name,
-        soft: constraint.soft,
-        test,
-    })
+    boxed(
+        alloc,
+        Constraint {
+            name,
+            soft: constraint.soft,
+            test: test.into_inner(),
+        },
+    )
 }
 
 fn copy_head(
@@ -118,22 +124,25 @@ fn copy_head(
 fn with_parts(
     alloc: Global,
     trigger: &TriggerDecl,
-    event: EventExpr,
+    event: Boxed<EventExpr>,
     action: List<Stmt>,
-) -> Result<TriggerDecl, AllocError>
+) -> Result<Boxed<TriggerDecl>, AllocError>
     ensures { IfOk result (λ made. made ≡ record trigger.now { event = event; action = action }) }
 {
     let (name, params) = copy_head(alloc, &trigger.name, &trigger.params)?;
-    Ok(TriggerDecl {
-        name,
-        initial: trigger.initial,
-        perpetual: trigger.perpetual,
-        whole: trigger.whole,
-        mode: trigger.mode,
-        params,
-        event,
-        action,
-    })
+    Boxed::new(
+        alloc,
+        TriggerDecl {
+            name,
+            initial: trigger.initial,
+            perpetual: trigger.perpetual,
+            whole: trigger.whole,
+            mode: trigger.mode,
+            params,
+            event: event.into_inner(),
+            action,
+        },
+    )
 }
 
 // A trigger's event, and behind it its action.
@@ -143,7 +152,7 @@ fn trigger_within(
     trigger: &TriggerDecl,
     place: &Place,
     locals: Locals,
-) -> Result<TriggerDecl, CheckStop>
+) -> Result<Boxed<TriggerDecl>, CheckStop>
     ensures { Answers (trigger_within trigger.now (scope_of place.now locals)) result }
 {
     let event = check_event(alloc, &trigger.event, place, &locals)?;
@@ -157,13 +166,19 @@ fn check_trigger(
     known: &Classes,
     draft: &Class,
     trigger: &TriggerDecl,
-) -> Result<TriggerDecl, CheckStop>
+) -> Result<Boxed<TriggerDecl>, CheckStop>
     ensures { Answers (trigger_checked (known.now ++ draft.now ∷ []) draft.now trigger.now) result }
 {
     let void = Sort::Void;
     let place = member_place(known, draft, &trigger.name, &void, &[]);
     let locals = Locals::of(alloc, trigger.params.as_slice())?;
     trigger_within(alloc, trigger, &place, locals)
+}
+
+fn copied(alloc: Global, member: &Member) -> Result<Boxed<Member>, CheckStop>
+    ensures { Answers (Ok member.now) result }
+{
+    boxed(alloc, member.copy(alloc)?)
 }
 
 // The second pass over a member. Fields and kinds have nothing more to check.
@@ -173,18 +188,23 @@ fn check_member(
     known: &Classes,
     draft: &Class,
     member: &Member,
-) -> Result<Member, CheckStop>
+) -> Result<Boxed<Member>, CheckStop>
     ensures { Answers (checked_member (known.now ++ draft.now ∷ []) draft.now member.now) result }
 {
     match member {
-        Member::Method(method) => Ok(Member::Method(check_method(alloc, known, draft, method)?)),
-        Member::Constraint(constraint) => Ok(Member::Constraint(check_constraint(
-            alloc, known, draft, constraint,
-        )?)),
-        Member::Trigger(trigger) => Ok(Member::Trigger(check_trigger(
-            alloc, known, draft, trigger,
-        )?)),
-        _ => Ok(member.copy(alloc)?),
+        Member::Method(method) => {
+            let checked = check_method(alloc, known, draft, method)?;
+            boxed(alloc, Member::Method(checked.into_inner()))
+        }
+        Member::Constraint(constraint) => {
+            let checked = check_constraint(alloc, known, draft, constraint)?;
+            boxed(alloc, Member::Constraint(checked.into_inner()))
+        }
+        Member::Trigger(trigger) => {
+            let checked = check_trigger(alloc, known, draft, trigger)?;
+            boxed(alloc, Member::Trigger(checked.into_inner()))
+        }
+        _ => copied(alloc, member),
     }
 }
 
@@ -224,7 +244,7 @@ fn completed(
     let mut class = start;
     for member in decl.members.as_slice() {
         let checked = check_member(alloc, known, draft, member)?;
-        add_member(alloc, &mut class, checked)?;
+        add_member(alloc, &mut class, checked.into_inner())?;
     }
     Ok(class)
 }

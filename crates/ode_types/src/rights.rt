@@ -1,5 +1,5 @@
 //! Right sides: calls, `pnew`, `newversion`, `activate` and expressions.
-ghost use Rattle.std.specs.Prelude.{◌≡◌, ◌+◌, IfOk, List as Items, Some, ℕ, drop};
+ghost use Rattle.std.specs.Prelude.{◌≡◌, ◌+◌, IfOk, List as Items, Ok, Some, ℕ, drop};
 ghost use Rattle.std.specs.List.{list_any};
 ghost use Rattle.std.specs.Option.{option_copied};
 ghost use Rattle.std.specs.Str.{bytes_eq};
@@ -12,15 +12,15 @@ ghost use Rattle.ode_types.specs.Typing.{fitting, reference};
 use crate::families::{field_named, method_named, trigger_named};
 use crate::place::{Locals, Place};
 use crate::sorts::{class_of, fits, is_reference};
-use crate::stop::{CheckStop, unknown, where_holds, wrong};
+use crate::stop::{CheckStop, boxed, unboxed, unknown, where_holds, wrong};
 use crate::typing::{Typed, check_expr};
-use ode_value::{Call, Class, Expr, List, Method, Name, Param, Rhs, Sort, TriggerDecl};
+use ode_value::{Boxed, Call, Class, Expr, List, Method, Name, Param, Rhs, Sort, TriggerDecl};
 use std::alloc::{AllocError, Global};
 
 /// A checked right side and the sort of its value.
 #[derive(Drop)]
 pub(crate) struct Right {
-    pub(crate) rhs: Rhs,
+    pub(crate) rhs: Boxed<Rhs>,
     pub(crate) sort: Option<Sort>,
 }
 
@@ -32,7 +32,7 @@ pub(crate) fn fitting(
     e: &Expr,
     place: &Place,
     locals: &Locals,
-) -> Result<Expr, CheckStop>
+) -> Result<Boxed<Expr>, CheckStop>
     ensures { Answers (fitting wanted.now e.now (scope_of place.now locals.now)) result }
 {
     let checked = check_expr(alloc, e, place, locals)?;
@@ -64,7 +64,7 @@ fn argument(
     e: &Expr,
     place: &Place,
     locals: &Locals,
-) -> Result<Expr, CheckStop>
+) -> Result<Boxed<Expr>, CheckStop>
     ensures { AnswersWith (argument (scope_of place.now locals.now) (drop i params.now) e.now) (drop (i + 1) params.now) result }
 {
     match params.get(i) {
@@ -89,7 +89,7 @@ fn arguments(
     let mut checked = List::new(alloc);
     for i in 0..args.len() {
         let next = argument(alloc, params, i, &args[i], place, locals)?;
-        checked.push(next)?;
+        checked.push(next.into_inner())?;
     }
     if args.len() < params.len() {
         return wrong(alloc, place.member);
@@ -112,7 +112,7 @@ fn setting(
     set: &(Name, Expr),
     place: &Place,
     locals: &Locals,
-) -> Result<(Name, Expr), CheckStop>
+) -> Result<Boxed<(Name, Expr)>, CheckStop>
     ensures { Answers (setting (scope_of place.now locals.now) class.now before.now set.now) result }
 {
     let Some((_, field)) = field_named(class.fields.as_slice(), &set.0) else {
@@ -122,7 +122,8 @@ fn setting(
         return wrong(alloc, place.member);
     }
     let value = fitting(alloc, &field.sort, &set.1, place, locals)?;
-    Ok((set.0.copy(alloc)?, value))
+    let name = set.0.copy(alloc)?;
+    boxed(alloc, (name, value.into_inner()))
 }
 
 fn settings(
@@ -137,30 +138,32 @@ fn settings(
     let mut checked = List::new(alloc);
     for set in sets {
         let next = setting(alloc, class, checked.as_slice(), set, place, locals)?;
-        checked.push(next)?;
+        checked.push(next.into_inner())?;
     }
     Ok(checked)
+}
+
+// A checked right side with its value's sort.
+fn gives(alloc: Global, rhs: Rhs, sort: Option<Sort>) -> Result<Right, CheckStop>
+    ensures { Answers (Ok (record { rhs = rhs; sort = sort })) result }
+{
+    let rhs = Boxed::new(alloc, rhs)?;
+    Ok(Right { rhs, sort })
 }
 
 // A call of a method with its arguments, and the sort of what it gives.
 fn called(
     alloc: Global,
-    of: Option<Expr>,
+    of: Option<Boxed<Expr>>,
     method: &Method,
     call: &Call,
     args: List<Expr>,
-) -> Result<Right, AllocError>
-    ensures { IfOk result (λ made. made ≡ record { rhs = Rhs.Call (record { of = of; method = call.now.method; args = args }); sort = Some method.now.result }) }
+) -> Result<Right, CheckStop>
+    ensures { Answers (Ok (record { rhs = Rhs.Call (record { of = of; method = call.now.method; args = args }); sort = Some method.now.result })) result }
 {
-    let (name, sort) = copy_call(alloc, &call.method, &method.result)?;
-    Ok(Right {
-        rhs: Rhs::Call(Call {
-            of,
-            method: name,
-            args,
-        }),
-        sort: Some(sort),
-    })
+    let (method, sort) = copy_call(alloc, &call.method, &method.result)?;
+    let of = unboxed(of);
+    gives(alloc, Rhs::Call(Call { of, method, args }), Some(sort))
 }
 
 fn copy_call(alloc: Global, name: &Name, sort: &Sort) -> Result<(Name, Sort), AllocError>
@@ -175,7 +178,7 @@ fn copy_call(alloc: Global, name: &Name, sort: &Sort) -> Result<(Name, Sort), Al
 #[tactic(auto, using(crate::proofs::TypingLaws::stops_through), unfolding(crate::specs::Rights::method_call))]
 fn method_call(
     alloc: Global,
-    of: Option<Expr>,
+    of: Option<Boxed<Expr>>,
     method: &Method,
     call: &Call,
     place: &Place,
@@ -190,13 +193,13 @@ fn method_call(
         place,
         locals,
     )?;
-    Ok(called(alloc, of, method, call, args)?)
+    called(alloc, of, method, call, args)
 }
 
 #[tactic(auto, unfolding(crate::specs::Rights::call_of))]
 fn call_of<'a>(
     alloc: Global,
-    of: Option<Expr>,
+    of: Option<Boxed<Expr>>,
     class: Option<&'a Class>,
     call: &Call,
     place: &Place<'a>,
@@ -245,7 +248,7 @@ fn check_call(
 #[tactic(auto, using(crate::proofs::TypingLaws::stops_through), unfolding(crate::specs::Rights::trigger_activated))]
 fn trigger_activated(
     alloc: Global,
-    of: Expr,
+    of: Boxed<Expr>,
     trigger: &TriggerDecl,
     name: &Name,
     given: &[Expr],
@@ -256,10 +259,8 @@ fn trigger_activated(
 {
     let args = arguments(alloc, trigger.params.as_slice(), given, place, locals)?;
     let trigger = name.copy(alloc)?;
-    Ok(Right {
-        rhs: Rhs::Activate { of, trigger, args },
-        sort: Some(Sort::Int),
-    })
+    let of = of.into_inner();
+    gives(alloc, Rhs::Activate { of, trigger, args }, Some(Sort::Int))
 }
 
 #[tactic(auto, unfolding(crate::specs::Rights::activated))]
@@ -294,16 +295,10 @@ fn made_of(
 ) -> Result<Right, CheckStop>
     ensures { Answers (made_of class.now name.now fields.now (scope_of place.now locals.now)) result }
 {
-    let sort = Sort::Reference(name.copy(alloc)?);
-    let made = name.copy(alloc)?;
     let fields = settings(alloc, class, fields, place, locals)?;
-    Ok(Right {
-        rhs: Rhs::New {
-            class: made,
-            fields,
-        },
-        sort: Some(sort),
-    })
+    let class = name.copy(alloc)?;
+    let sort = Sort::Reference(name.copy(alloc)?);
+    gives(alloc, Rhs::New { class, fields }, Some(sort))
 }
 
 #[tactic(auto, unfolding(crate::specs::Rights::made))]
@@ -335,19 +330,13 @@ pub(crate) fn check_rhs(
     match rhs {
         Rhs::Plain(e) => {
             let checked = check_expr(alloc, e, place, locals)?;
-            Ok(Right {
-                rhs: Rhs::Plain(checked.expr),
-                sort: checked.sort,
-            })
+            gives(alloc, Rhs::Plain(checked.expr.into_inner()), checked.sort)
         }
         Rhs::Call(call) => check_call(alloc, call, place, locals),
         Rhs::New { class, fields } => made(alloc, class, fields.as_slice(), place, locals),
         Rhs::NewVersion(e) => {
             let of = reference(alloc, e, place, locals)?;
-            Ok(Right {
-                rhs: Rhs::NewVersion(of.expr),
-                sort: of.sort,
-            })
+            gives(alloc, Rhs::NewVersion(of.expr.into_inner()), of.sort)
         }
         Rhs::Activate { of, trigger, args } => {
             let of = check_expr(alloc, of, place, locals)?;

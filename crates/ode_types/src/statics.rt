@@ -9,7 +9,7 @@ use crate::classes::Classes;
 use crate::line::Known;
 use crate::names::word;
 use crate::place::{Locals, Place};
-use crate::stop::CheckStop;
+use crate::stop::{CheckStop, opened};
 use ode_value::{List, Ref, Sort, Stmt};
 use std::alloc::Global;
 
@@ -36,5 +36,5 @@ pub fn check_statement(
         literals: sorts.as_slice(),
     };
     let mut locals = Locals::new(alloc);
-    check_stmt(alloc, s, &place, &mut locals)
+    opened(check_stmt(alloc, s, &place, &mut locals))
 }

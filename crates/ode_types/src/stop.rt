@@ -1,10 +1,10 @@
 //! Why a check gives no tree.
-ghost use Rattle.std.specs.Prelude.{Bool, Err};
+ghost use Rattle.std.specs.Prelude.{◌≡◌, Bool, Err, Ok};
 ghost use Rattle.ode_types.specs.Answers.{Answers};
 ghost use Rattle.ode_types.specs.Checks.{where_holds};
 ghost use Rattle.ode_value.specs.declared.reason.CheckError.TheVariants.{Duplicate, TooMany, UnknownName, WrongSort};
 
-use ode_value::{CheckError, Name};
+use ode_value::{Boxed, CheckError, Name};
 use std::alloc::{AllocError, Global};
 
 /// Why a check gives no tree.
@@ -67,5 +67,32 @@ pub(crate) fn where_holds<T: Drop>(
         Ok(checked)
     } else {
         wrong(alloc, member)
+    }
+}
+
+/// What was checked, in a box.
+pub(crate) fn boxed<T: Drop>(alloc: Global, checked: T) -> Result<Boxed<T>, CheckStop>
+    ensures { Answers (Ok checked) result }
+{
+    Ok(Boxed::new(alloc, checked)?)
+}
+
+/// The same out of its box.
+pub(crate) fn opened<T>(checked: Result<Boxed<T>, CheckStop>) -> Result<T, CheckStop>
+    ensures { result ≡ checked }
+{
+    match checked {
+        Ok(checked) => Ok(checked.into_inner()),
+        Err(stop) => Err(stop),
+    }
+}
+
+/// What is there, out of its box.
+pub(crate) fn unboxed<T>(part: Option<Boxed<T>>) -> Option<T>
+    ensures { result ≡ part }
+{
+    match part {
+        Some(part) => Some(part.into_inner()),
+        None => None,
     }
 }

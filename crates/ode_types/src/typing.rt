@@ -1,26 +1,25 @@
 //! The sorts of expressions, and expressions with slots in place of names.
-ghost use Rattle.std.specs.Prelude.{◌≡◌, IfOk, true, not, ℕ};
+ghost use Rattle.std.specs.Prelude.{◌≡◌, IfOk, Ok, true, not, ℕ};
 ghost use Rattle.std.specs.List.{find};
 ghost use Rattle.std.specs.Option.{option_copied};
-ghost use Rattle.ode_value.specs.declared.reason.CheckError.TheVariants.{WrongSort};
 ghost use Rattle.ode_value.specs.declared.value.Ref.{Ref as Literal};
 ghost use Rattle.ode_value.specs.Same.{same_ref};
 ghost use Rattle.ode_types.specs.Answers.{Answers};
 ghost use Rattle.ode_types.specs.Checks.{needs};
 ghost use Rattle.ode_types.specs.Scopes.{scope_at, scope_of, wrong};
-ghost use Rattle.ode_types.specs.Typing.{binary_typed, field_of, field_typed, is_int, is_text, literal, literal_class, literal_sort, name_typed, slot, this_typed, typed, typed_where, unary_typed, value_sort, version_typed};
+ghost use Rattle.ode_types.specs.Typing.{binary_typed, field_of, field_typed, is_int, is_text, literal, literal_class, literal_sort, name_typed, slot, this_typed, typed, unary_typed, value_sort, version_typed};
 
 use crate::families::field_named;
 use crate::place::{Locals, Place};
 use crate::sorts::{binary_sort, class_of, is_reference, unary_sort};
-use crate::stop::{CheckStop, unknown, where_holds, wrong};
+use crate::stop::{CheckStop, unknown, wrong};
 use ode_value::{BinOp, Boxed, Class, Expr, Name, OdeText, Ref, Sort, UnOp, Value, Var};
 use std::alloc::{AllocError, Global};
 
 /// A checked expression and its sort. Null has no sort of its own.
 #[derive(Drop)]
 pub(crate) struct Typed {
-    pub(crate) expr: Expr,
+    pub(crate) expr: Boxed<Expr>,
     pub(crate) sort: Option<Sort>,
 }
 
@@ -93,14 +92,19 @@ fn value_sort(alloc: Global, v: &Value, place: &Place) -> Result<Option<Option<S
     }
 }
 
+// A checked expression with its sort.
+fn gives(alloc: Global, expr: Expr, sort: Option<Sort>) -> Result<Typed, CheckStop>
+    ensures { Answers (Ok (record { expr = expr; sort = sort })) result }
+{
+    let expr = Boxed::new(alloc, expr)?;
+    Ok(Typed { expr, sort })
+}
+
 fn literal(alloc: Global, v: &Value, place: &Place) -> Result<Typed, CheckStop>
     ensures { Answers (literal v.now (scope_at place.now)) result }
 {
     match value_sort(alloc, v, place)? {
-        Some(sort) => {
-            let expr = Expr::Lit(v.copy(alloc)?);
-            Ok(Typed { expr, sort })
-        }
+        Some(sort) => gives(alloc, Expr::Lit(v.copy(alloc)?), sort),
         None => wrong(alloc, place.member),
     }
 }
@@ -124,10 +128,7 @@ fn name_typed(
     ensures { Answers (name_typed name.now (scope_of place.now locals.now)) result }
 {
     match place.meaning(alloc, locals, name)? {
-        Some((var, sort)) => Ok(Typed {
-            expr: slot(var),
-            sort: Some(sort),
-        }),
+        Some((var, sort)) => gives(alloc, slot(var), Some(sort)),
         None => unknown(alloc, name),
     }
 }
@@ -148,26 +149,22 @@ fn this_typed(alloc: Global, place: &Place) -> Result<Typed, CheckStop>
 {
     needs_free(alloc, place)?;
     match place.class {
-        Some(class) => Ok(Typed {
-            expr: Expr::This,
-            sort: Some(Sort::Reference(class.name.copy(alloc)?)),
-        }),
+        Some(class) => {
+            let sort = Sort::Reference(class.name.copy(alloc)?);
+            gives(alloc, Expr::This, Some(sort))
+        }
         None => wrong(alloc, place.member),
     }
 }
 
 // A field of a class, of what was checked.
-fn field_of(alloc: Global, of: Expr, class: &Class, name: &Name) -> Result<Typed, CheckStop>
+fn field_of(alloc: Global, of: Boxed<Expr>, class: &Class, name: &Name) -> Result<Typed, CheckStop>
     ensures { Answers (field_of of class.now name.now) result }
 {
     match field_named(class.fields.as_slice(), name) {
         Some((slot, field)) => {
             let sort = field.sort.copy(alloc)?;
-            let of = Boxed::new(alloc, of)?;
-            Ok(Typed {
-                expr: Expr::Slot(of, slot),
-                sort: Some(sort),
-            })
+            gives(alloc, Expr::Slot(of, slot), Some(sort))
         }
         None => unknown(alloc, name),
     }
@@ -186,47 +183,20 @@ fn field_typed(alloc: Global, of: Typed, name: &Name, place: &Place) -> Result<T
 fn version_typed(alloc: Global, of: Typed, place: &Place) -> Result<Typed, CheckStop>
     ensures { Answers (version_typed of (scope_at place.now)) result }
 {
-    let fit = is_reference(&of.sort);
-    let expr = Boxed::new(alloc, of.expr)?;
-    let typed = Typed {
-        expr: Expr::Version(expr),
-        sort: of.sort,
-    };
-    where_holds(alloc, fit, typed, place.member)
-}
-
-// An expression of a sort, where there is one.
-fn typed_where(
-    alloc: Global,
-    expr: Expr,
-    sort: Option<Sort>,
-    member: &Name,
-) -> Result<Typed, CheckStop>
-    ensures { Answers (typed_where (WrongSort member.now) expr sort) result }
-{
-    match sort {
-        Some(sort) => Ok(Typed {
-            expr,
-            sort: Some(sort),
-        }),
-        None => wrong(alloc, member),
+    if is_reference(&of.sort) {
+        gives(alloc, Expr::Version(of.expr), of.sort)
+    } else {
+        wrong(alloc, place.member)
     }
 }
 
 fn unary_typed(alloc: Global, op: UnOp, a: Typed, place: &Place) -> Result<Typed, CheckStop>
     ensures { Answers (unary_typed op a (scope_at place.now)) result }
 {
-    let sort = unary_sort(op, &a.sort);
-    let expr = Boxed::new(alloc, a.expr)?;
-    typed_where(alloc, Expr::Unary(op, expr), sort, place.member)
-}
-
-fn binary(alloc: Global, op: BinOp, left: Expr, right: Expr) -> Result<Expr, AllocError>
-    ensures { IfOk result (λ both. both ≡ Expr.Binary op left right) }
-{
-    let left = Boxed::new(alloc, left)?;
-    let right = Boxed::new(alloc, right)?;
-    Ok(Expr::Binary(op, left, right))
+    match unary_sort(op, &a.sort) {
+        Some(sort) => gives(alloc, Expr::Unary(op, a.expr), Some(sort)),
+        None => wrong(alloc, place.member),
+    }
 }
 
 fn binary_typed(
@@ -238,9 +208,10 @@ fn binary_typed(
 ) -> Result<Typed, CheckStop>
     ensures { Answers (binary_typed op a b (scope_at place.now)) result }
 {
-    let sort = binary_sort(place.is_plain, op, &a.sort, &b.sort);
-    let expr = binary(alloc, op, a.expr, b.expr)?;
-    typed_where(alloc, expr, sort, place.member)
+    match binary_sort(place.is_plain, op, &a.sort, &b.sort) {
+        Some(sort) => gives(alloc, Expr::Binary(op, a.expr, b.expr), Some(sort)),
+        None => wrong(alloc, place.member),
+    }
 }
 
 /// An expression with slots for its names, and its sort; or the first rule that it breaks. Operands are checked from left to right.

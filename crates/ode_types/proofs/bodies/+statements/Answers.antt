@@ -4,7 +4,7 @@ use Rattle.ode_value.specs.declared.statement.Stmt.{Stmt}
 use Rattle.ode_types.specs.Bodies.{body_checked, next_checked}
 use Rattle.ode_types.specs.Checks.{Check, ◌>>=◌, in_turn}
 use Rattle.ode_types.specs.Scopes.{Scope, scope_of}
-use Rattle.ode_types.proofs.StatementLaws.{behind-forget, behind_body, if-done, if-first, if-second}
+use Rattle.ode_types.proofs.StatementLaws.{behind-forget, behind_body, if-first, if-made, if-second}
 use Rattle.ode_types.proofs.TurnLaws.{turn-end, turn-stops-with}
 use Rattle.ode_types.proofs.bodies.+statements.Goals as goal
 
@@ -47,6 +47,7 @@ check_stmt-returns-in_err-second-in-If-clause-answers t c =
 pub check_stmt-returns-in_ok-second-in-If-clause-answers : goal.check_stmt-returns-in_ok-second-in-If-clause-answers
 check_stmt-returns-in_ok-second-in-If-clause-answers t c =
     let scope = scope_of c.args.place.now c.args.locals.now in
-    if-done c.args.s.now c.in-If.test c.in_ok-test-in-If.test c.in-If.first c.in-If.second scope c.in-If.is c.in_ok-test-in-If.ensures
+    if-made c.args.s.now c.in-If.test c.in_ok-test-in-If.test c.in-If.first c.in-If.second scope c.in-If.is c.in_ok-test-in-If.ensures
     c.as_slice.result.now c.as_slice-in-If.result.now c.in_ok-first-in-If.first (scope_of c.args.place.now c.check_body.new.locals) c.as_slice.ensures c.in_ok-first-in-If.ensures.answers c.as_slice-in-If.ensures
-    c.in_ok-second-in-If.second (scope_of c.args.place.now c.check_body-in-If.new.locals) c.in_ok-second-in-If.ensures.answers
+    c.in_ok-second-in-If.second (scope_of c.args.place.now c.check_body-in-If.new.locals) c.into_inner-in-If.result c.into_inner-in-If.ensures c.in_ok-second-in-If.ensures.answers
+    c.boxed-in-If.result c.boxed-in-If.ensures
