@@ -3,13 +3,11 @@ use Rattle.std.proofs.Common.{◌≡◌, ℕ, zero, suc, ◌+◌, ◌<◌, ◌�
 use Rattle.std.specs.Prelude.{◌&&◌}
 use Rattle.ode_value.specs.declared.binding.Param.{Param}
 use Rattle.ode_value.specs.declared.class.Class.{Class}
-use Rattle.ode_value.specs.declared.reason.CheckError.TheVariants.{TooMany}
 use Rattle.ode_value.specs.declared.statement.ClassDecl.{ClassDecl}
-use Rattle.ode_value.specs.declared.statement.Member.{Member}
 use Rattle.ode_value.specs.Same.{same_sort}
-use Rattle.ode_types.specs.Answers.{Answers, Leaves}
-use Rattle.ode_types.specs.Checks.{Check, ◌>>=◌, ◌>>◌, needs, through}
-use Rattle.ode_types.specs.Declaring.{declared, declares, is_small, knows_param, knows_params, next_param, same_params}
+use Rattle.ode_types.specs.Answers.{Answers}
+use Rattle.ode_types.specs.Checks.{◌>>=◌, through}
+use Rattle.ode_types.specs.Declaring.{knows_param, knows_params, next_param, same_params}
 use Rattle.ode_types.specs.declared.stop.CheckStop.{CheckStop}
 use Rattle.ode_types.specs.declared.stop.CheckStop.TheVariants as stop
 use Rattle.ode_types.proofs.TurnLaws.{through-end, through-stops}
@@ -42,25 +40,3 @@ module _ (known : List Class) (d : ClassDecl) (params : List Param) (i : ℕ) wh
 
   pub params-end : length params ≤ i → through (next_param known d) [] params ≡ through (next_param known d) (take i params) (drop i params) → knows_params known d params ≡ Ok tt
   params-end low so = ap (λ m. m >>= (λ _. Ok tt)) (through-end (next_param known d) (through (next_param known d) [] params) (take i params) params i low so)
-
--- ---- all members
-
-module _ (known : List Class) (d : ClassDecl) (start : Class) where
-  -- what comes behind the members
-  abbrev pub small : Class → Check Class
-  small c = needs (TooMany d.name) (is_small known c) >> Ok c
-
-  pub stopped : (c e : Class) (members : List Member) (i : ℕ) (m : Member) (s : CheckStop) → members ≡ d.members → i < length members → m ≡ get_or members i m
-      → through (declares known d) start members ≡ through (declares known d) c (drop i members) → Leaves {S = Class} (declares known d c m) e (Err s) → Answers {T = Class} (declared known d start) (Err s)
-  unfolding declared
-  stopped c e members i m stop.Memory all low is so h = tt
-  stopped c e members i m (stop.Broken b) all low is so h =
-      ap (λ (ms : List Member). through (declares known d) start ms >>= small) (sym all)
-      ∙ through-stops (declares known d) (through (declares known d) start members) small c e members i m (stop.Broken b) low is so h
-
-  pub all_declared : (c : Class) (members : List Member) (i : ℕ) → members ≡ d.members → length members ≤ i
-      → through (declares known d) start members ≡ through (declares known d) c (drop i members) → declared known d start ≡ small c
-  unfolding declared
-  all_declared c members i all low so =
-      ap (λ (ms : List Member). through (declares known d) start ms >>= small) (sym all)
-      ∙ ap (λ m. m >>= small) (through-end (declares known d) (through (declares known d) start members) c members i low so)

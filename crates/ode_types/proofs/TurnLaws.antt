@@ -129,5 +129,9 @@ module _ {R S T : Type 0} (check : R → Check S) (add : T → S → T) where
       so ∙ ap (added t) (drop_at rs i r low ∙ ap (λ x. x ∷ drop (i + 1) rs) (sym is))
       ∙ ap (λ m. (m >>= (λ x. each check (drop (i + 1) rs) >>= (λ xs. Ok (x ∷ xs)))) >>= (λ ss. Ok (fold add t ss))) h
 
+  pub added-leaves : (all : Check T) (t u : T) (rs : List R) (i : ℕ) (r : R) (e : CheckStop) → i < length rs → r ≡ get_or rs i r → all ≡ added t (drop i rs) → Answers {T = S} (check r) (Err e) → Leaves {S = T} all u (Err e)
+  added-leaves all t u rs i r stop.Memory low is so h = tt
+  added-leaves all t u rs i r (stop.Broken e) low is so h = added-stop all t rs i r (stop.Broken e) low is so h
+
   pub added-end : (all : Check T) (t : T) (rs : List R) (i : ℕ) → length rs ≤ i → all ≡ added t (drop i rs) → all ≡ Ok t
   added-end all t rs i low so = so ∙ ap (added t) (drop_all rs i low)

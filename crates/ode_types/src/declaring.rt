@@ -1,5 +1,5 @@
 //! The first pass over a class: names, class names in sorts, kinds and numbers, without bodies.
-ghost use Rattle.std.specs.Prelude.{◌≡◌, ◌+◌, IfOk, length};
+ghost use Rattle.std.specs.Prelude.{◌≡◌, ◌+◌, IfOk, Ok, length};
 ghost use Rattle.std.specs.List.{list_any};
 ghost use Rattle.std.specs.Str.{bytes_eq};
 ghost use Rattle.ode_value.specs.declared.binding.Param.{Param as Parameter};
@@ -13,10 +13,10 @@ use crate::families::{constraint_named, field_named, method_above, own_method, t
 use crate::limits::{ANCESTOR_LIMIT, CLASSES_LIMIT, FIELD_LIMIT, TRIGGER_LIMIT};
 use crate::line::Known;
 use crate::names::word;
-use crate::stop::{CheckStop, duplicate, too_many, unknown, wrong};
+use crate::stop::{CheckStop, boxed, duplicate, too_many, unknown, wrong};
 use ode_value::{
-    CheckError, Class, ClassDecl, Constraint, Field, Kind, List, Member, Method, Name, Param, Sort,
-    TriggerDecl,
+    Boxed, CheckError, Class, ClassDecl, Constraint, Field, Kind, List, Member, Method, Name,
+    Param, Sort, TriggerDecl,
 };
 use std::alloc::{AllocError, Global};
 
@@ -34,43 +34,59 @@ fn next_number(alloc: Global, known: &Classes, name: &Name) -> Result<u32, Check
 }
 
 // A class that inherits nothing, without members.
-fn without_parent(alloc: Global, number: u32, name: &Name) -> Result<Class, AllocError>
-    ensures { IfOk result (λ class. class ≡ without_members number name.now None) }
+fn without_parent(alloc: Global, number: u32, name: &Name) -> Result<Boxed<Class>, CheckStop>
+    ensures { Answers (Ok (without_members number name.now None)) result }
 {
-    Ok(Class {
-        number,
-        name: name.copy(alloc)?,
-        parent: None,
-        fields: List::new(alloc),
-        methods: List::new(alloc),
-        constraints: List::new(alloc),
-        kinds: List::new(alloc),
-        triggers: List::new(alloc),
-    })
+    let name = name.copy(alloc)?;
+    boxed(
+        alloc,
+        Class {
+            number,
+            name,
+            parent: None,
+            fields: List::new(alloc),
+            methods: List::new(alloc),
+            constraints: List::new(alloc),
+            kinds: List::new(alloc),
+            triggers: List::new(alloc),
+        },
+    )
 }
 
 // A class without members of its own: the next number, and what it inherits.
-fn with_parent(alloc: Global, number: u32, name: &Name, parent: &Class) -> Result<Class, AllocError>
-    ensures { IfOk result (λ class. class ≡ without_members number name.now (Some parent.now)) }
+fn with_parent(
+    alloc: Global,
+    number: u32,
+    name: &Name,
+    parent: &Class,
+) -> Result<Boxed<Class>, CheckStop>
+    ensures { Answers (Ok (without_members number name.now (Some parent.now))) result }
 {
     let name = name.copy(alloc)?;
     let fields = parent.fields.copy(alloc)?;
     let kinds = parent.kinds.copy(alloc)?;
-    Ok(Class {
-        number,
-        name,
-        parent: Some(parent.number),
-        fields,
-        methods: List::new(alloc),
-        constraints: List::new(alloc),
-        kinds,
-        triggers: List::new(alloc),
-    })
+    boxed(
+        alloc,
+        Class {
+            number,
+            name,
+            parent: Some(parent.number),
+            fields,
+            methods: List::new(alloc),
+            constraints: List::new(alloc),
+            kinds,
+            triggers: List::new(alloc),
+        },
+    )
 }
 
 /// The class's name is new, its parent is declared, and a number is left for it.
 #[tactic(auto, unfolding(crate::specs::Declaring::begins))]
-pub(crate) fn begins(alloc: Global, known: &Classes, decl: &ClassDecl) -> Result<Class, CheckStop>
+pub(crate) fn begins(
+    alloc: Global,
+    known: &Classes,
+    decl: &ClassDecl,
+) -> Result<Boxed<Class>, CheckStop>
     ensures { Answers (begins known.now decl.now) result }
 {
     if known.named(&decl.name).is_some() {
@@ -79,14 +95,14 @@ pub(crate) fn begins(alloc: Global, known: &Classes, decl: &ClassDecl) -> Result
     match &decl.parent {
         None => {
             let number = next_number(alloc, known, &decl.name)?;
-            Ok(without_parent(alloc, number, &decl.name)?)
+            without_parent(alloc, number, &decl.name)
         }
         Some(name) => {
             let Some(parent) = known.named(name) else {
                 return unknown(alloc, name);
             };
             let number = next_number(alloc, known, &decl.name)?;
-            Ok(with_parent(alloc, number, &decl.name, parent)?)
+            with_parent(alloc, number, &decl.name, parent)
         }
     }
 }
@@ -433,22 +449,36 @@ fn is_small(known: &Classes, draft: &Class) -> bool
             .is_within(ANCESTOR_LIMIT)
 }
 
+// All members, behind those that the class has so far.
+fn declare_all(
+    alloc: Global,
+    known: &Classes,
+    decl: &ClassDecl,
+    draft: &mut Class,
+    members: &[Member],
+) -> Result<(), CheckStop>
+    ensures { Leaves (through (declares known.now decl.now) draft.old members.now) draft.new result }
+{
+    for member in members {
+        declare(alloc, known, decl, draft, member)?;
+    }
+    Ok(())
+}
+
 /// All members, behind what a class begins with.
-#[tactic(auto, unfolding(crate::specs::Declaring::declared))]
+#[tactic(auto, using(crate::proofs::TypingLaws::stops_leaving), unfolding(crate::specs::Declaring::declared))]
 pub(crate) fn declared(
     alloc: Global,
     known: &Classes,
     decl: &ClassDecl,
-    start: Class,
-) -> Result<Class, CheckStop>
-    ensures { Answers (declared known.now decl.now start) result }
+    start: &Class,
+) -> Result<Boxed<Class>, CheckStop>
+    ensures { Answers (declared known.now decl.now start.now) result }
 {
-    let mut draft = start;
-    for member in decl.members.as_slice() {
-        declare(alloc, known, decl, &mut draft, member)?;
-    }
+    let mut draft = start.copy(alloc)?;
+    declare_all(alloc, known, decl, &mut draft, decl.members.as_slice())?;
     if is_small(known, &draft) {
-        Ok(draft)
+        boxed(alloc, draft)
     } else {
         too_many(alloc, &decl.name)
     }

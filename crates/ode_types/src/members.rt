@@ -1,10 +1,11 @@
 //! The second pass over a class: bodies, constraints and triggers.
 ghost use Rattle.std.specs.Prelude.{◌≡◌, ◌++◌, ◌∷◌, [], IfOk, Ok, OnOk, false};
 ghost use Rattle.std.specs.Option.{option_copied};
-ghost use Rattle.ode_types.specs.Answers.{Answers};
+ghost use Rattle.ode_types.specs.Answers.{Answers, Leaves};
 ghost use Rattle.ode_types.specs.Declaring.{with_member};
+ghost use Rattle.ode_types.specs.Typing.{fitting};
 ghost use Rattle.ode_types.specs.Kept.{IsTypedClass};
-ghost use Rattle.ode_types.specs.Scopes.{scope_of};
+ghost use Rattle.ode_types.specs.Scopes.{member_scope, plain_scope, scope_of};
 ghost use Rattle.ode_types.specs.Static.{check_class, checked_member, completed, constraint_checked, method_checked, trigger_checked, trigger_within};
 
 use crate::bodies::whole_body;
@@ -16,8 +17,8 @@ use crate::place::{Locals, Place};
 use crate::rights::fitting;
 use crate::stop::{CheckStop, boxed};
 use ode_value::{
-    Boxed, Class, ClassDecl, Constraint, EventExpr, Field, Kind, List, Member, Method, Name, Param,
-    Ref, Sort, Stmt, TriggerDecl,
+    Boxed, Class, ClassDecl, Constraint, EventExpr, Expr, Field, Kind, List, Member, Method, Name,
+    Param, Ref, Sort, Stmt, TriggerDecl,
 };
 use std::alloc::{AllocError, Global};
 
@@ -78,7 +79,28 @@ fn check_method(
     Ok(with_body(alloc, method, body)?)
 }
 
-#[tactic(auto, using(crate::proofs::TypingLaws::stops_through, crate::proofs::MemberLaws::scope_is), unfolding(crate::specs::Static::constraint_checked))]
+#[tactic(auto, using(crate::proofs::MemberLaws::scope_is))]
+fn check_test(
+    alloc: Global,
+    known: &Classes,
+    draft: &Class,
+    constraint: &Constraint,
+) -> Result<Boxed<Expr>, CheckStop>
+    ensures { Answers (fitting Sort.Bool constraint.now.test (plain_scope (member_scope (known.now ++ draft.now ∷ []) draft.now constraint.now.name [] Sort.Void))) result }
+{
+    let void = Sort::Void;
+    let place = member_place(known, draft, &constraint.name, &void, &[]);
+    let locals = Locals::new(alloc);
+    fitting(
+        alloc,
+        &Sort::Bool,
+        &constraint.test,
+        &place.plain(),
+        &locals,
+    )
+}
+
+#[tactic(auto, using(crate::proofs::TypingLaws::stops_through), unfolding(crate::specs::Static::constraint_checked))]
 fn check_constraint(
     alloc: Global,
     known: &Classes,
@@ -87,16 +109,7 @@ fn check_constraint(
 ) -> Result<Boxed<Constraint>, CheckStop>
     ensures { Answers (constraint_checked (known.now ++ draft.now ∷ []) draft.now constraint.now) result }
 {
-    let void = Sort::Void;
-    let place = member_place(known, draft, &constraint.name, &void, &[]);
-    let locals = Locals::new(alloc);
-    let test = fitting(
-        alloc,
-        &Sort::Bool,
-        &constraint.test,
-        &place.plain(),
-        &locals,
-    )?;
+    let test = check_test(alloc, known, draft, constraint)?;
     let name = constraint.name.copy(alloc)?;
     boxed(
         alloc,
@@ -232,20 +245,34 @@ fn add_member(alloc: Global, class: &mut Class, member: Member) -> Result<(), Al
 
 // The second pass over the members of a class, which are added to what it begins with.
 #[tactic(auto, unfolding(crate::specs::Static::completed))]
+fn complete(
+    alloc: Global,
+    known: &Classes,
+    decl: &ClassDecl,
+    draft: &Class,
+    class: &mut Class,
+) -> Result<(), CheckStop>
+    ensures { Leaves (completed (known.now ++ draft.now ∷ []) draft.now decl.now class.old) class.new result }
+{
+    for member in decl.members.as_slice() {
+        let checked = check_member(alloc, known, draft, member)?;
+        add_member(alloc, class, checked.into_inner())?;
+    }
+    Ok(())
+}
+
+#[tactic(auto, using(crate::proofs::TypingLaws::stops_left))]
 fn completed(
     alloc: Global,
     known: &Classes,
     decl: &ClassDecl,
     draft: &Class,
-    start: Class,
+    start: Boxed<Class>,
 ) -> Result<Class, CheckStop>
     ensures { Answers (completed (known.now ++ draft.now ∷ []) draft.now decl.now start) result }
 {
-    let mut class = start;
-    for member in decl.members.as_slice() {
-        let checked = check_member(alloc, known, draft, member)?;
-        add_member(alloc, &mut class, checked.into_inner())?;
-    }
+    let mut class = start.into_inner();
+    complete(alloc, known, decl, draft, &mut class)?;
     Ok(class)
 }
 
@@ -256,6 +283,8 @@ pub fn check_class(alloc: Global, known: &Classes, decl: &ClassDecl) -> Result<C
     ensures typed { IfOk result (λ class. IsTypedClass (known.now ++ class ∷ []) class) }
 {
     let start = begins(alloc, known, decl)?;
-    let draft = declared(alloc, known, decl, start.copy(alloc)?)?;
-    completed(alloc, known, decl, &draft, start)
+    let before = start.get();
+    let draft = declared(alloc, known, decl, before)?;
+    let seen = draft.get();
+    completed(alloc, known, decl, seen, start)
 }

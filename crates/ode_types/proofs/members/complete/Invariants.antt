@@ -2,7 +2,7 @@ use Rattle.std.proofs.Common.{◌≡◌, ◌++◌, ◌∷◌, [], drop}
 use Rattle.ode_types.specs.Declaring.{with_member}
 use Rattle.ode_types.specs.Static.{checked_member}
 use Rattle.ode_types.proofs.TurnLaws.{added}
-use Rattle.ode_types.proofs.members.completed.Given as goal
+use Rattle.ode_types.proofs.members.complete.Given as goal
 
 abbrev pub invariant-loop-member : goal.invariant-loop-member
 invariant-loop-member l =
