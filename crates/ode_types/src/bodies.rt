@@ -5,9 +5,10 @@ ghost use Rattle.ode_types.specs.Bodies.{body, body_checked, checks, deactivate_
 ghost use Rattle.ode_types.specs.Scopes.{scope_of};
 
 use crate::place::{Locals, Place};
-use crate::rights::{Right, check_rhs, fitting, reference};
+use crate::rights::{Right, check_rhs, fitting, reference, rhs_of};
 use crate::sorts::{fits, is_void, starting};
 use crate::stop::{CheckStop, boxed, duplicate, unknown, wrong};
+use crate::typing::expr_of;
 use ode_value::{Boxed, Expr, List, Rhs, Sort, Stmt, Var};
 use std::alloc::Global;
 
@@ -29,7 +30,8 @@ fn check_let(
     if locals.named(name).is_some() {
         return duplicate(alloc, name);
     }
-    let Right { rhs, sort } = check_rhs(alloc, rhs, place, locals)?;
+    let right = check_rhs(alloc, rhs, place, locals)?;
+    let Right { rhs, sort } = right.into_inner();
     match starting(sort) {
         Some(sort) if locals.has_slot() => {
             let slot = locals.add(alloc, name, sort)?;
@@ -52,8 +54,8 @@ fn set_as(
     ensures { AnswersWith (set_as var sort.now rhs.now (scope_of place.now locals.now)) (scope_of place.now locals.now) result }
 {
     let right = check_rhs(alloc, rhs, place, locals)?;
-    if fits(&place.known, &right.sort, sort) {
-        boxed(alloc, Stmt::Set(var, right.rhs.into_inner()))
+    if fits(&place.known, &right.get().sort, sort) {
+        boxed(alloc, Stmt::Set(var, rhs_of(right).into_inner()))
     } else {
         wrong(alloc, place.member)
     }
@@ -109,10 +111,10 @@ fn check_show(
     ensures { Answers (show_checked rhs.now (scope_of place.now locals.now)) result }
 {
     let right = check_rhs(alloc, rhs, place, locals)?;
-    if is_void(&right.sort) {
+    if is_void(&right.get().sort) {
         wrong(alloc, place.member)
     } else {
-        boxed(alloc, Stmt::Show(right.rhs.into_inner()))
+        boxed(alloc, Stmt::Show(rhs_of(right).into_inner()))
     }
 }
 
@@ -130,7 +132,7 @@ fn check_deactivate(
     let number = fitting(alloc, &Sort::Int, f, place, locals)?;
     boxed(
         alloc,
-        Stmt::Deactivate(of.expr.into_inner(), number.into_inner()),
+        Stmt::Deactivate(expr_of(of).into_inner(), number.into_inner()),
     )
 }
 
@@ -151,7 +153,7 @@ pub(crate) fn check_stmt(
         Stmt::Set(var, rhs) => check_set(alloc, var, rhs, place, locals),
         Stmt::Do(rhs) => {
             let right = check_rhs(alloc, rhs, place, locals)?;
-            boxed(alloc, Stmt::Do(right.rhs.into_inner()))
+            boxed(alloc, Stmt::Do(rhs_of(right).into_inner()))
         }
         Stmt::If(test, first, second) => {
             let test = fitting(alloc, &Sort::Bool, test, place, locals)?;
@@ -162,11 +164,11 @@ pub(crate) fn check_stmt(
         Stmt::Return(e) => check_return(alloc, e, place, locals),
         Stmt::Delete(e) => {
             let of = reference(alloc, e, place, locals)?;
-            boxed(alloc, Stmt::Delete(of.expr.into_inner()))
+            boxed(alloc, Stmt::Delete(expr_of(of).into_inner()))
         }
         Stmt::DropVersion(e) => {
             let of = reference(alloc, e, place, locals)?;
-            boxed(alloc, Stmt::DropVersion(of.expr.into_inner()))
+            boxed(alloc, Stmt::DropVersion(expr_of(of).into_inner()))
         }
         Stmt::Deactivate(e, f) => check_deactivate(alloc, e, f, place, locals),
         Stmt::Show(rhs) => check_show(alloc, rhs, place, locals),

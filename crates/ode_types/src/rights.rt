@@ -13,7 +13,7 @@ use crate::families::{field_named, method_named, trigger_named};
 use crate::place::{Locals, Place};
 use crate::sorts::{class_of, fits, is_reference};
 use crate::stop::{CheckStop, boxed, unboxed, unknown, where_holds, wrong};
-use crate::typing::{Typed, check_expr};
+use crate::typing::{Typed, check_expr, expr_of};
 use ode_value::{Boxed, Call, Class, Expr, List, Method, Name, Param, Rhs, Sort, TriggerDecl};
 use std::alloc::{AllocError, Global};
 
@@ -36,8 +36,8 @@ pub(crate) fn fitting(
     ensures { Answers (fitting wanted.now e.now (scope_of place.now locals.now)) result }
 {
     let checked = check_expr(alloc, e, place, locals)?;
-    let fit = fits(&place.known, &checked.sort, wanted);
-    where_holds(alloc, fit, checked.expr, place.member)
+    let fit = fits(&place.known, &checked.get().sort, wanted);
+    where_holds(alloc, fit, expr_of(checked), place.member)
 }
 
 /// A reference, which may be null.
@@ -47,11 +47,11 @@ pub(crate) fn reference(
     e: &Expr,
     place: &Place,
     locals: &Locals,
-) -> Result<Typed, CheckStop>
+) -> Result<Boxed<Typed>, CheckStop>
     ensures { Answers (reference e.now (scope_of place.now locals.now)) result }
 {
     let checked = check_expr(alloc, e, place, locals)?;
-    let fit = is_reference(&checked.sort);
+    let fit = is_reference(&checked.get().sort);
     where_holds(alloc, fit, checked, place.member)
 }
 
@@ -144,11 +144,18 @@ fn settings(
 }
 
 // A checked right side with its value's sort.
-fn gives(alloc: Global, rhs: Rhs, sort: Option<Sort>) -> Result<Right, CheckStop>
+fn gives(alloc: Global, rhs: Rhs, sort: Option<Sort>) -> Result<Boxed<Right>, CheckStop>
     ensures { Answers (Ok (record { rhs = rhs; sort = sort })) result }
 {
     let rhs = Boxed::new(alloc, rhs)?;
-    Ok(Right { rhs, sort })
+    boxed(alloc, Right { rhs, sort })
+}
+
+/// The right side that was checked, without its sort.
+pub(crate) fn rhs_of(checked: Boxed<Right>) -> Boxed<Rhs>
+    ensures { result ≡ checked.rhs }
+{
+    checked.into_inner().rhs
 }
 
 // A call of a method with its arguments, and the sort of what it gives.
@@ -158,7 +165,7 @@ fn called(
     method: &Method,
     call: &Call,
     args: List<Expr>,
-) -> Result<Right, CheckStop>
+) -> Result<Boxed<Right>, CheckStop>
     ensures { Answers (Ok (record { rhs = Rhs.Call (record { of = of; method = call.now.method; args = args }); sort = Some method.now.result })) result }
 {
     let (method, sort) = copy_call(alloc, &call.method, &method.result)?;
@@ -183,7 +190,7 @@ fn method_call(
     call: &Call,
     place: &Place,
     locals: &Locals,
-) -> Result<Right, CheckStop>
+) -> Result<Boxed<Right>, CheckStop>
     ensures { Answers (method_call of method.now call.now (scope_of place.now locals.now)) result }
 {
     let args = arguments(
@@ -204,7 +211,7 @@ fn call_of<'a>(
     call: &Call,
     place: &Place<'a>,
     locals: &Locals,
-) -> Result<Right, CheckStop>
+) -> Result<Boxed<Right>, CheckStop>
     ensures { Answers (call_of of (option_copied class.entry) call.now (scope_of place.now locals.now)) result }
 {
     let Some(class) = class else {
@@ -223,12 +230,12 @@ fn call_from(
     call: &Call,
     place: &Place,
     locals: &Locals,
-) -> Result<Right, CheckStop>
+) -> Result<Boxed<Right>, CheckStop>
     ensures { Answers (call_from (Some e.now) call.now (scope_of place.now locals.now)) result }
 {
     let of = check_expr(alloc, e, place, locals)?;
-    let class = class_of(&place.known, &of.sort);
-    call_of(alloc, Some(of.expr), class, call, place, locals)
+    let class = class_of(&place.known, &of.get().sort);
+    call_of(alloc, Some(expr_of(of)), class, call, place, locals)
 }
 
 fn check_call(
@@ -236,7 +243,7 @@ fn check_call(
     call: &Call,
     place: &Place,
     locals: &Locals,
-) -> Result<Right, CheckStop>
+) -> Result<Boxed<Right>, CheckStop>
     ensures { Answers (call_from call.now.of call.now (scope_of place.now locals.now)) result }
 {
     match &call.of {
@@ -254,7 +261,7 @@ fn trigger_activated(
     given: &[Expr],
     place: &Place,
     locals: &Locals,
-) -> Result<Right, CheckStop>
+) -> Result<Boxed<Right>, CheckStop>
     ensures { Answers (trigger_activated of trigger.now name.now given.now (scope_of place.now locals.now)) result }
 {
     let args = arguments(alloc, trigger.params.as_slice(), given, place, locals)?;
@@ -266,19 +273,19 @@ fn trigger_activated(
 #[tactic(auto, unfolding(crate::specs::Rights::activated))]
 fn activated(
     alloc: Global,
-    of: Typed,
+    of: Boxed<Typed>,
     name: &Name,
     given: &[Expr],
     place: &Place,
     locals: &Locals,
-) -> Result<Right, CheckStop>
+) -> Result<Boxed<Right>, CheckStop>
     ensures { Answers (activated of name.now given.now (scope_of place.now locals.now)) result }
 {
-    let Some(class) = class_of(&place.known, &of.sort) else {
+    let Some(class) = class_of(&place.known, &of.get().sort) else {
         return wrong(alloc, place.member);
     };
     match trigger_named(&place.known, class, name) {
-        Some(trigger) => trigger_activated(alloc, of.expr, trigger, name, given, place, locals),
+        Some(trigger) => trigger_activated(alloc, expr_of(of), trigger, name, given, place, locals),
         None => unknown(alloc, name),
     }
 }
@@ -292,7 +299,7 @@ fn made_of(
     fields: &[(Name, Expr)],
     place: &Place,
     locals: &Locals,
-) -> Result<Right, CheckStop>
+) -> Result<Boxed<Right>, CheckStop>
     ensures { Answers (made_of class.now name.now fields.now (scope_of place.now locals.now)) result }
 {
     let fields = settings(alloc, class, fields, place, locals)?;
@@ -308,7 +315,7 @@ fn made(
     fields: &[(Name, Expr)],
     place: &Place,
     locals: &Locals,
-) -> Result<Right, CheckStop>
+) -> Result<Boxed<Right>, CheckStop>
     ensures { Answers (made name.now fields.now (scope_of place.now locals.now)) result }
 {
     match place.known.named(name) {
@@ -324,19 +331,21 @@ pub(crate) fn check_rhs(
     rhs: &Rhs,
     place: &Place,
     locals: &Locals,
-) -> Result<Right, CheckStop>
+) -> Result<Boxed<Right>, CheckStop>
     ensures { Answers (right rhs.now (scope_of place.now locals.now)) result }
 {
     match rhs {
         Rhs::Plain(e) => {
             let checked = check_expr(alloc, e, place, locals)?;
-            gives(alloc, Rhs::Plain(checked.expr.into_inner()), checked.sort)
+            let Typed { expr, sort } = checked.into_inner();
+            gives(alloc, Rhs::Plain(expr.into_inner()), sort)
         }
         Rhs::Call(call) => check_call(alloc, call, place, locals),
         Rhs::New { class, fields } => made(alloc, class, fields.as_slice(), place, locals),
         Rhs::NewVersion(e) => {
             let of = reference(alloc, e, place, locals)?;
-            gives(alloc, Rhs::NewVersion(of.expr.into_inner()), of.sort)
+            let Typed { expr, sort } = of.into_inner();
+            gives(alloc, Rhs::NewVersion(expr.into_inner()), sort)
         }
         Rhs::Activate { of, trigger, args } => {
             let of = check_expr(alloc, of, place, locals)?;

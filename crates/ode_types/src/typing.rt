@@ -12,7 +12,7 @@ ghost use Rattle.ode_types.specs.Typing.{binary_typed, field_of, field_typed, is
 use crate::families::field_named;
 use crate::place::{Locals, Place};
 use crate::sorts::{binary_sort, class_of, is_reference, unary_sort};
-use crate::stop::{CheckStop, unknown, wrong};
+use crate::stop::{CheckStop, boxed, unknown, wrong};
 use ode_value::{BinOp, Boxed, Class, Expr, Name, OdeText, Ref, Sort, UnOp, Value, Var};
 use std::alloc::{AllocError, Global};
 
@@ -93,14 +93,21 @@ fn value_sort(alloc: Global, v: &Value, place: &Place) -> Result<Option<Option<S
 }
 
 // A checked expression with its sort.
-fn gives(alloc: Global, expr: Expr, sort: Option<Sort>) -> Result<Typed, CheckStop>
+fn gives(alloc: Global, expr: Expr, sort: Option<Sort>) -> Result<Boxed<Typed>, CheckStop>
     ensures { Answers (Ok (record { expr = expr; sort = sort })) result }
 {
     let expr = Boxed::new(alloc, expr)?;
-    Ok(Typed { expr, sort })
+    boxed(alloc, Typed { expr, sort })
 }
 
-fn literal(alloc: Global, v: &Value, place: &Place) -> Result<Typed, CheckStop>
+/// The expression that was checked, without its sort.
+pub(crate) fn expr_of(checked: Boxed<Typed>) -> Boxed<Expr>
+    ensures { result ≡ checked.expr }
+{
+    checked.into_inner().expr
+}
+
+fn literal(alloc: Global, v: &Value, place: &Place) -> Result<Boxed<Typed>, CheckStop>
     ensures { Answers (literal v.now (scope_at place.now)) result }
 {
     match value_sort(alloc, v, place)? {
@@ -124,7 +131,7 @@ fn name_typed(
     name: &Name,
     place: &Place,
     locals: &Locals,
-) -> Result<Typed, CheckStop>
+) -> Result<Boxed<Typed>, CheckStop>
     ensures { Answers (name_typed name.now (scope_of place.now locals.now)) result }
 {
     match place.meaning(alloc, locals, name)? {
@@ -144,7 +151,7 @@ fn needs_free(alloc: Global, place: &Place) -> Result<(), CheckStop>
     }
 }
 
-fn this_typed(alloc: Global, place: &Place) -> Result<Typed, CheckStop>
+fn this_typed(alloc: Global, place: &Place) -> Result<Boxed<Typed>, CheckStop>
     ensures { Answers (this_typed (scope_at place.now)) result }
 {
     needs_free(alloc, place)?;
@@ -158,7 +165,12 @@ fn this_typed(alloc: Global, place: &Place) -> Result<Typed, CheckStop>
 }
 
 // A field of a class, of what was checked.
-fn field_of(alloc: Global, of: Boxed<Expr>, class: &Class, name: &Name) -> Result<Typed, CheckStop>
+fn field_of(
+    alloc: Global,
+    of: Boxed<Expr>,
+    class: &Class,
+    name: &Name,
+) -> Result<Boxed<Typed>, CheckStop>
     ensures { Answers (field_of of class.now name.now) result }
 {
     match field_named(class.fields.as_slice(), name) {
@@ -170,31 +182,42 @@ fn field_of(alloc: Global, of: Boxed<Expr>, class: &Class, name: &Name) -> Resul
     }
 }
 
-fn field_typed(alloc: Global, of: Typed, name: &Name, place: &Place) -> Result<Typed, CheckStop>
+fn field_typed(
+    alloc: Global,
+    of: Boxed<Typed>,
+    name: &Name,
+    place: &Place,
+) -> Result<Boxed<Typed>, CheckStop>
     ensures { Answers (field_typed of name.now (scope_at place.now)) result }
 {
     needs_free(alloc, place)?;
-    match class_of(&place.known, &of.sort) {
-        Some(class) => field_of(alloc, of.expr, class, name),
+    match class_of(&place.known, &of.get().sort) {
+        Some(class) => field_of(alloc, expr_of(of), class, name),
         None => wrong(alloc, place.member),
     }
 }
 
-fn version_typed(alloc: Global, of: Typed, place: &Place) -> Result<Typed, CheckStop>
+fn version_typed(alloc: Global, of: Boxed<Typed>, place: &Place) -> Result<Boxed<Typed>, CheckStop>
     ensures { Answers (version_typed of (scope_at place.now)) result }
 {
-    if is_reference(&of.sort) {
-        gives(alloc, Expr::Version(of.expr), of.sort)
+    if is_reference(&of.get().sort) {
+        let Typed { expr, sort } = of.into_inner();
+        gives(alloc, Expr::Version(expr), sort)
     } else {
         wrong(alloc, place.member)
     }
 }
 
-fn unary_typed(alloc: Global, op: UnOp, a: Typed, place: &Place) -> Result<Typed, CheckStop>
+fn unary_typed(
+    alloc: Global,
+    op: UnOp,
+    a: Boxed<Typed>,
+    place: &Place,
+) -> Result<Boxed<Typed>, CheckStop>
     ensures { Answers (unary_typed op a (scope_at place.now)) result }
 {
-    match unary_sort(op, &a.sort) {
-        Some(sort) => gives(alloc, Expr::Unary(op, a.expr), Some(sort)),
+    match unary_sort(op, &a.get().sort) {
+        Some(sort) => gives(alloc, Expr::Unary(op, expr_of(a)), Some(sort)),
         None => wrong(alloc, place.member),
     }
 }
@@ -202,14 +225,14 @@ fn unary_typed(alloc: Global, op: UnOp, a: Typed, place: &Place) -> Result<Typed
 fn binary_typed(
     alloc: Global,
     op: BinOp,
-    a: Typed,
-    b: Typed,
+    a: Boxed<Typed>,
+    b: Boxed<Typed>,
     place: &Place,
-) -> Result<Typed, CheckStop>
+) -> Result<Boxed<Typed>, CheckStop>
     ensures { Answers (binary_typed op a b (scope_at place.now)) result }
 {
-    match binary_sort(place.is_plain, op, &a.sort, &b.sort) {
-        Some(sort) => gives(alloc, Expr::Binary(op, a.expr, b.expr), Some(sort)),
+    match binary_sort(place.is_plain, op, &a.get().sort, &b.get().sort) {
+        Some(sort) => gives(alloc, Expr::Binary(op, expr_of(a), expr_of(b)), Some(sort)),
         None => wrong(alloc, place.member),
     }
 }
@@ -221,7 +244,7 @@ pub(crate) fn check_expr(
     e: &Expr,
     place: &Place,
     locals: &Locals,
-) -> Result<Typed, CheckStop>
+) -> Result<Boxed<Typed>, CheckStop>
     ensures { Answers (typed e.now (scope_of place.now locals.now)) result }
 {
     match e {
