@@ -1,10 +1,10 @@
 //! The overlay, and what it is seen as.
-ghost use Rattle.std.specs.Prelude.{◌≡◌, ◌+◌, ◌≤◌, ◌<◌, ◌^◌, None, Some, IfOk, IsErrOf, OnErr, OnOk, nat_le, slice_get, true};
+ghost use Rattle.std.specs.Prelude.{◌≡◌, ◌+◌, ◌≤◌, ◌<◌, ◌^◌, None, Ok, Some, IfOk, IsErrOf, OnErr, OnOk, nat_le, slice_get, true};
 ghost use Rattle.std.specs.List.{list_any};
 ghost use Rattle.ode_codec.specs.Rules.{IsKeptCounters};
-ghost use Rattle.ode_overlay.specs.Answers.{Answers, Gives, is_usable};
+ghost use Rattle.ode_overlay.specs.Answers.{Answer, Answers, Gives, Leaves, is_usable};
 ghost use Rattle.ode_overlay.specs.Changing.{live, object_of, put_new, put_now, with_now};
-ghost use Rattle.ode_overlay.specs.Layers.{IsGeneration, begun, first_count, generation_of, holding, is_touched, key_count, tracked_at};
+ghost use Rattle.ode_overlay.specs.Layers.{IsGeneration, Layer, begun, first_count, generation_of, holding, is_touched, key_count, tracked_at};
 ghost use Rattle.ode_value.specs.Limits.{change_limit, queue_limit, transaction_limit};
 ghost use Rattle.std.specs.Option.{option_copied};
 
@@ -28,6 +28,13 @@ pub(crate) struct Collected {
     pub generation: u8,
     pub args: KeptArgs,
     pub independent: bool,
+}
+
+/// What becomes of an object, and the keys that are held then.
+#[derive(Drop)]
+pub(crate) struct Change {
+    pub object: Object,
+    pub keys: List<Key>,
 }
 
 /// What a transaction has changed, over the records that a heap reads. An object is read whole when it is first touched or changed.
@@ -183,22 +190,61 @@ impl Overlay {
         }
     }
 
+    /// What becomes of an object, and the keys with these among them.
+    pub(crate) fn change(
+        &self,
+        keys: &[Key],
+        object: Result<Object, AllocError>,
+    ) -> Result<Change, OverlayError>
+        ensures value { Gives (λ c. c.keys) result (holding keys.now self.now) }
+        ensures object { IfOk result (λ c. object ≡ Ok c.object) }
+        ensures few { IfOk result (λ c. key_count c.keys self.now ≤ change_limit) }
+        ensures usable { is_usable result ≡ true }
+        ensures calm { IsErrOf result OverlayError.DiskFault → ⊥ }
+    {
+        let keys = self.holding(keys)?;
+        match object {
+            Ok(object) => Ok(Change { object, keys }),
+            Err(_) => Err(OverlayError::Memory),
+        }
+    }
+
     /// An object is this from now on, and these are the keys. It is tracked where it is new. Nothing changes where there is no
     /// memory.
     pub(crate) fn put(
         &mut self,
         id: u64,
         new: Option<Tracked>,
-        now: Object,
-        keys: List<Key>,
+        change: Change,
     ) -> Result<(), AllocError>
-        requires { key_count keys self.old ≤ change_limit }
-        ensures ok { OnOk result (self.new ≡ with_now id new now keys self.old) }
+        requires { key_count change.keys self.old ≤ change_limit }
+        ensures ok { OnOk result (self.new ≡ with_now id new change.object change.keys self.old) }
         ensures err { OnErr result (self.new ≡ self.old) }
     {
-        put_now(&mut self.objects, id, new, now)?;
+        let Change { object, keys } = change;
+        put_now(&mut self.objects, id, new, object)?;
         self.keys = keys;
         Ok(())
+    }
+
+    /// The same of a change that may not have been made.
+    pub(crate) fn put_made(
+        &mut self,
+        id: u64,
+        new: Option<Tracked>,
+        made: Result<Change, OverlayError>,
+    ) -> Result<(), OverlayError>
+        requires few { IfOk made (λ c. key_count c.keys self.old ≤ change_limit) }
+        requires calm { IsErrOf made OverlayError.DiskFault → ⊥ }
+        ensures acts { (answer : Answer (Unit {0} × Layer)) → Gives (λ c. (tt, with_now id new c.object c.keys self.old)) made answer → Leaves result self.new answer }
+        ensures err { OnErr result (self.new ≡ self.old) }
+        ensures usable { is_usable result ≡ true }
+        ensures calm { IsErrOf result OverlayError.DiskFault → ⊥ }
+    {
+        match made {
+            Ok(change) => Ok(self.put(id, new, change)?),
+            Err(why) => Err(why),
+        }
     }
 }
 

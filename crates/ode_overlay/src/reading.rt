@@ -4,10 +4,12 @@ ghost use Rattle.std.specs.Option.{IfSome};
 ghost use Rattle.ode_host.specs.Causes.{RoseIf};
 ghost use Rattle.ode_host.specs.Host.{Looks};
 ghost use Rattle.ode_keep.specs.Entries.{Entries};
-ghost use Rattle.ode_overlay.specs.Answers.{Answers, UnlessFault, from_records, is_usable};
+ghost use Rattle.ode_overlay.specs.Answers.{◌>>=◌ as bind, Answers, UnlessFault, from_records, is_usable};
 ghost use Rattle.ode_objects.specs.Values.{are_args};
-ghost use Rattle.ode_overlay.specs.Reading.{acts, field_in, field_of, head_now, is_rising, map_of, not_null, object, place_from, read, read_below, read_now, rise_above, running_from, running_of, shown, shown_below, sound};
-ghost use Rattle.ode_versions.specs.Versions.{IsVersionList};
+ghost use Rattle.ode_overlay.specs.Reading.{acts, field_in, field_of, head_now, is_rising, map_of, not_null, object, or_else, place_from, read, read_below, read_now, rise_above, running_from, running_of, shown, shown_below, sound};
+ghost use Rattle.ode_objects.specs.Loading.{class_in, fields_in};
+ghost use Rattle.ode_overlay.specs.declared.error.OverlayError.TheVariants.{NoVersion};
+ghost use Rattle.ode_versions.specs.Versions.{IsVersionList, found};
 
 use crate::error::OverlayError;
 use crate::overlay::Overlay;
@@ -119,6 +121,42 @@ fn read_now(alloc: Global, of: Ref, slot: u16, object: &Object) -> Result<Value,
     }
 }
 
+// The version that a reference denotes.
+fn found(of: Ref, head: &ObjectHead) -> Result<u32, OverlayError>
+    requires { IsVersionList head.now.versions }
+    ensures value { Answers result (or_else (NoVersion of) (found of.version head.now.versions)) }
+    ensures usable { is_usable result ≡ true }
+    ensures calm { IsErrOf result OverlayError.DiskFault → ⊥ }
+{
+    match head.versions.find(of.version) {
+        Some(number) => Ok(number),
+        None => Err(OverlayError::NoVersion(of)),
+    }
+}
+
+fn read_in<H: Host, K: Keep<H>>(
+    alloc: Global,
+    classes: &Classes,
+    heap: &mut Heap<K>,
+    host: &mut H,
+    of: Ref,
+    slot: u16,
+    head: &ObjectHead,
+) -> Result<Value, OverlayError>
+    requires live { IsTrue (K.live heap.old) }
+    requires versions { IsVersionList head.now.versions }
+    ensures value { (base : Entries) → K.holds heap.old (H.view host.old) base → Answers result (bind (or_else (NoVersion of) (found of.version head.now.versions)) (λ number. bind (from_records (class_in classes.now of.object head.now.class)) (λ class. bind (from_records (fields_in base of.object number class)) (field_of slot)))) }
+    ensures holds { UnlessFault result ((base : Entries) → K.holds heap.old (H.view host.old) base → K.holds heap.new (H.view host.new) base) }
+    ensures looks { Looks (H.view host.old) (H.view host.new) }
+    ensures usable { K.live heap.new ≡ is_usable result }
+    ensures cause { RoseIf (IsErrOf result OverlayError.DiskFault) (H.view host.old).disk_faults (H.view host.new).disk_faults }
+{
+    let number = found(of, head)?;
+    let class = class_of(classes, of.object, head.class)?;
+    let fields = load_fields(alloc, heap, host, of.object, number, class)?;
+    take_field(slot, fields)
+}
+
 #[tactic(auto, unfolding(crate::specs::Reading::read_below))]
 fn read_below<H: Host, K: Keep<H>>(
     alloc: Global,
@@ -135,16 +173,10 @@ fn read_below<H: Host, K: Keep<H>>(
     ensures usable { K.live heap.new ≡ is_usable result }
     ensures cause { RoseIf (IsErrOf result OverlayError.DiskFault) (H.view host.old).disk_faults (H.view host.new).disk_faults }
 {
-    let Some(head) = heap.load_object(alloc, host, of.object)? else {
-        return Err(OverlayError::NoObject(of.object));
-    };
-    let head = sound(of.object, head)?;
-    let Some(number) = head.versions.find(of.version) else {
-        return Err(OverlayError::NoVersion(of));
-    };
-    let class = class_of(classes, of.object, head.class)?;
-    let fields = load_fields(alloc, heap, host, of.object, number, class)?;
-    take_field(slot, fields)
+    match object_below(alloc, heap, host, of.object)? {
+        Some(head) => read_in(alloc, classes, heap, host, of, slot, &head),
+        None => Err(OverlayError::NoObject(of.object)),
+    }
 }
 
 // The place of a trigger's table.

@@ -1,22 +1,91 @@
 //! Activations go on and off, and take over states.
-ghost use Rattle.std.specs.Prelude.{◌≡◌, true, IfOk, IsErrOf, IsTrue, OnErr};
+ghost use Rattle.std.specs.Prelude.{◌≡◌, ◌≤◌, ◌<◌, [], ◌∷◌, true, IfOk, IsErrOf, IsTrue, OnErr, OnOk};
 ghost use Rattle.ode_host.specs.Causes.{RoseIf};
 ghost use Rattle.ode_host.specs.Host.{Looks};
 ghost use Rattle.ode_keep.specs.Entries.{Entries};
-ghost use Rattle.ode_overlay.specs.Answers.{Leaves, UnlessFault, is_usable};
-ghost use Rattle.ode_overlay.specs.Changing.{activate, activate_with, deactivate, deactivate_with, put_acts, put_with};
+ghost use Rattle.ode_overlay.specs.Answers.{Gives, Leaves, UnlessFault, is_usable};
+ghost use Rattle.ode_overlay.specs.Changing.{activate, activate_with, deactivate, deactivate_with, next_drawn, put_acts, put_with, with_now};
+ghost use Rattle.ode_objects.specs.Objects.{activated, activation_keys, switched_off, with_states};
+ghost use Rattle.ode_overlay.specs.Layers.{holding, key_count};
+ghost use Rattle.ode_value.specs.Keys.{activation_key};
+ghost use Rattle.ode_value.specs.Limits.{change_limit, number_limit};
 
 use crate::error::OverlayError;
-use crate::overlay::Overlay;
+use crate::overlay::{Change, Overlay};
 use ode_heap::Heap;
 use ode_host::Host;
 use ode_keep::Keep;
-use ode_objects::{Active, KeptArgs, Tracked, activation_key, activation_keys};
+use ode_objects::{Active, KeptArgs, Object, Tracked, activation_key, activation_keys};
 use ode_types::{Classes, Running};
 use ode_value::{List, Value};
+use std::alloc::{AllocError, Global};
+
+// An object again, with a new activation.
+fn activated_in(alloc: Global, object: &Object, active: Active) -> Result<Object, AllocError>
+    ensures { IfOk result (λ o. o ≡ activated active object.now) }
+{
+    object.copy(alloc)?.activated(active)
+}
+
+// An object again, with the activation of a number off.
+fn switched_off_in(alloc: Global, object: &Object, number: u64) -> Result<Object, AllocError>
+    ensures { IfOk result (λ o. o ≡ switched_off number object.now) }
+{
+    Ok(object.copy(alloc)?.switched_off(number))
+}
+
+// An object again, with states taken over.
+fn taken_over_in(alloc: Global, object: &Object, acts: &[Running]) -> Result<Object, AllocError>
+    ensures { IfOk result (λ o. o ≡ with_states acts.now object.now) }
+{
+    Ok(object.copy(alloc)?.taken_over(acts))
+}
 
 impl Overlay {
+    // What becomes of an object with a new activation.
     #[tactic(auto, unfolding(crate::specs::Changing::activate_with))]
+    fn activated(
+        &self,
+        new: &Option<Tracked>,
+        id: u64,
+        class: u32,
+        trigger: u16,
+        args: List<Value>,
+    ) -> Result<Change, OverlayError>
+        ensures value { Gives (λ c. (self.now.next, next_drawn (with_now id new.now c.object c.keys self.now))) result (activate_with new.now id class trigger args self.now) }
+        ensures small { IfOk result (λ _. self.now.next < number_limit) }
+        ensures few { IfOk result (λ c. key_count c.keys self.now ≤ change_limit) }
+        ensures usable { is_usable result ≡ true }
+        ensures calm { IsErrOf result OverlayError.DiskFault → ⊥ }
+    {
+        let object = self.live(new, id)?;
+        let Some(args) = KeptArgs::new(args) else {
+            return Err(OverlayError::TooLong);
+        };
+        let active = Active::new(self.next, class, trigger, args);
+        let now = activated_in(self.alloc, object, active);
+        self.change_drawn(&[activation_key(id, self.next)], now)
+    }
+
+    // An object is this from now on, and a number is drawn.
+    fn put_drawn(
+        &mut self,
+        id: u64,
+        new: Option<Tracked>,
+        change: Change,
+    ) -> Result<u64, AllocError>
+        requires few { key_count change.keys self.old ≤ change_limit }
+        requires small { self.old.next < number_limit }
+        ensures ok { OnOk result (self.new ≡ next_drawn (with_now id new change.object change.keys self.old)) }
+        ensures number { IfOk result (λ n. n ≡ self.old.next) }
+        ensures err { OnErr result (self.new ≡ self.old) }
+    {
+        let number = self.next;
+        self.put(id, new, change)?;
+        self.next = number + 1;
+        Ok(number)
+    }
+
     fn activate_in(
         &mut self,
         new: Option<Tracked>,
@@ -30,17 +99,10 @@ impl Overlay {
         ensures usable { is_usable result ≡ true }
         ensures calm { IsErrOf result OverlayError.DiskFault → ⊥ }
     {
-        let object = self.live(&new, id)?;
-        let Some(args) = KeptArgs::new(args) else {
-            return Err(OverlayError::TooLong);
-        };
-        let keys = self.holding(&[activation_key(id, self.next)])?;
-        let number = self.next_number()?;
-        let active = Active::new(number, class, trigger, args);
-        let now = object.copy(self.alloc)?.activated(active)?;
-        self.put(id, new, now, keys)?;
-        self.next = number + 1;
-        Ok(number)
+        match self.activated(&new, id, class, trigger, args) {
+            Ok(change) => Ok(self.put_drawn(id, new, change)?),
+            Err(why) => Err(why),
+        }
     }
 
     /// A new activation of a trigger for an object, and its number. The class is the one that declares the trigger.
@@ -67,6 +129,23 @@ impl Overlay {
         self.activate_in(new, id, class, trigger, args)
     }
 
+    // What becomes of an object whose activation of a number goes off.
+    fn switched_off(
+        &self,
+        object: &Object,
+        id: u64,
+        activation: u64,
+    ) -> Result<Change, OverlayError>
+        ensures value { Gives (λ c. c.keys) result (holding (activation_key id activation ∷ []) self.now) }
+        ensures object { IfOk result (λ c. c.object ≡ switched_off activation object.now) }
+        ensures few { IfOk result (λ c. key_count c.keys self.now ≤ change_limit) }
+        ensures usable { is_usable result ≡ true }
+        ensures calm { IsErrOf result OverlayError.DiskFault → ⊥ }
+    {
+        let now = switched_off_in(self.alloc, object, activation);
+        self.change(&[activation_key(id, activation)], now)
+    }
+
     #[tactic(auto, unfolding(crate::specs::Changing::deactivate_with))]
     fn deactivate_in(
         &mut self,
@@ -79,14 +158,16 @@ impl Overlay {
         ensures usable { is_usable result ≡ true }
         ensures calm { IsErrOf result OverlayError.DiskFault → ⊥ }
     {
-        let object = self.live(&new, id)?;
-        if !object.is_on(activation) {
-            return Ok(());
+        match self.live(&new, id) {
+            Ok(object) => {
+                if !object.is_on(activation) {
+                    return Ok(());
+                }
+                let made = self.switched_off(object, id, activation);
+                self.put_made(id, new, made)
+            }
+            Err(why) => Err(why),
         }
-        let keys = self.holding(&[activation_key(id, activation)])?;
-        let now = object.copy(self.alloc)?.switched_off(activation);
-        self.put(id, new, now, keys)?;
-        Ok(())
     }
 
     /// An activation of an object goes off, where there is one of this number that is on.
@@ -111,6 +192,18 @@ impl Overlay {
         self.deactivate_in(new, id, activation)
     }
 
+    // What becomes of an object that takes over states.
+    fn taken_over(&self, object: &Object, id: u64, acts: &[Running]) -> Result<Change, OverlayError>
+        ensures value { Gives (λ c. c.keys) result (holding (activation_keys id object.now.activations) self.now) }
+        ensures object { IfOk result (λ c. c.object ≡ with_states acts.now object.now) }
+        ensures few { IfOk result (λ c. key_count c.keys self.now ≤ change_limit) }
+        ensures usable { is_usable result ≡ true }
+        ensures calm { IsErrOf result OverlayError.DiskFault → ⊥ }
+    {
+        let keys = activation_keys(self.alloc, id, object)?;
+        self.change(keys.as_slice(), taken_over_in(self.alloc, object, acts))
+    }
+
     #[tactic(auto, unfolding(crate::specs::Changing::put_with))]
     fn put_acts_in(
         &mut self,
@@ -123,15 +216,13 @@ impl Overlay {
         ensures usable { is_usable result ≡ true }
         ensures calm { IsErrOf result OverlayError.DiskFault → ⊥ }
     {
-        let Some(tracked) = self.object_of(&new, id) else {
-            return Ok(());
-        };
-        let object = &tracked.current;
-        let keys = activation_keys(self.alloc, id, object)?;
-        let keys = self.holding(keys.as_slice())?;
-        let now = object.copy(self.alloc)?.taken_over(acts);
-        self.put(id, new, now, keys)?;
-        Ok(())
+        match self.object_of(&new, id) {
+            Some(tracked) => {
+                let made = self.taken_over(&tracked.current, id, acts);
+                self.put_made(id, new, made)
+            }
+            None => Ok(()),
+        }
     }
 
     /// The activations of an object take over states, and whether they are on, one from each in order.
