@@ -2,7 +2,7 @@
 
 /// What a transaction comes from: a script, an entry of the queue, or the clock, which it leaves at a position or behind
 /// everything of an instant.
-#[derive(Clone, Copy, Debug, PartialEq, Eq)]
+#[derive(Clone, Copy)]
 pub enum Origin {
     Script,
     Entry {

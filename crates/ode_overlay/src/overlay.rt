@@ -1,6 +1,8 @@
 //! The overlay, and what it is seen as.
 ghost use Rattle.std.specs.Prelude.{◌≡◌, ◌+◌, ◌≤◌, ◌<◌, ◌^◌, None, Ok, Some, IfOk, IsErrOf, OnErr, OnOk, nat_le, slice_get, true};
+ghost use Rattle.std.specs.BTreeMap.{insert_entry};
 ghost use Rattle.std.specs.List.{list_any};
+ghost use Rattle.std.specs.Ordering.{nat_cmp};
 ghost use Rattle.ode_codec.specs.Rules.{IsKeptCounters};
 ghost use Rattle.ode_overlay.specs.Answers.{Answer, Answers, Gives, Leaves, is_usable};
 ghost use Rattle.ode_overlay.specs.Changing.{live, object_of, put_new, put_now, with_now};
@@ -248,6 +250,19 @@ impl Overlay {
     }
 }
 
+/// A value stands under a number from now on.
+pub(crate) fn insert<T: Drop>(
+    map: &mut BTreeMap<u64, T>,
+    id: u64,
+    value: T,
+) -> Result<(), AllocError>
+    ensures ok { OnOk result (map.new.entries ≡ insert_entry nat_cmp map.old.entries id value) }
+    ensures err { OnErr result (map.new.entries ≡ map.old.entries) }
+{
+    map.insert(id, value)?;
+    Ok(())
+}
+
 // An object is this from now on, and one that isn't tracked is made.
 #[tactic(auto, using(crate::proofs::Maps::written_is_inserted))]
 fn put_tracked(objects: &mut BTreeMap<u64, Tracked>, id: u64, now: Object) -> Result<(), AllocError>
@@ -255,12 +270,12 @@ fn put_tracked(objects: &mut BTreeMap<u64, Tracked>, id: u64, now: Object) -> Re
     ensures err { OnErr result (objects.new.entries ≡ objects.old.entries) }
 {
     match objects.get_mut(&id) {
-        Some(tracked) => tracked.change(now),
-        None => {
-            objects.insert(id, Tracked::made(now))?;
+        Some(tracked) => {
+            tracked.change(now);
+            Ok(())
         }
+        None => insert(objects, id, Tracked::made(now)),
     }
-    Ok(())
 }
 
 /// An object that is new is tracked from now on.
@@ -272,10 +287,10 @@ pub(crate) fn put_new(
     ensures ok { OnOk result (objects.new.entries ≡ put_new id new objects.old.entries) }
     ensures err { OnErr result (objects.new.entries ≡ objects.old.entries) }
 {
-    if let Some(tracked) = new {
-        objects.insert(id, tracked)?;
+    match new {
+        Some(tracked) => insert(objects, id, tracked),
+        None => Ok(()),
     }
-    Ok(())
 }
 
 /// An object, which is new or tracked, is this from now on; one that is neither is made.
@@ -292,8 +307,7 @@ pub(crate) fn put_now(
         Some(tracked) => {
             let mut tracked = tracked;
             tracked.change(now);
-            objects.insert(id, tracked)?;
-            Ok(())
+            insert(objects, id, tracked)
         }
         None => put_tracked(objects, id, now),
     }

@@ -4,7 +4,7 @@ ghost use Rattle.ode_overlay.specs.Rewinding.{put_rewound, rewind, rewound_from,
 ghost use Rattle.std.specs.List.{filter};
 
 use crate::error::OverlayError;
-use crate::overlay::{Collected, Overlay};
+use crate::overlay::{Collected, Overlay, insert};
 use ode_heap::Heap;
 use ode_host::Host;
 use ode_keep::Keep;
@@ -22,10 +22,10 @@ fn put_rewound(
 ) -> Result<(), AllocError>
     ensures { OnOk result (objects.new.entries ≡ put_rewound id rewound objects.old.entries) }
 {
-    if let Some(tracked) = rewound {
-        objects.insert(id, tracked)?;
+    match rewound {
+        Some(tracked) => insert(objects, id, tracked),
+        None => Ok(()),
     }
-    Ok(())
 }
 
 fn copy_collected(alloc: Global, collected: &Collected) -> Result<Collected, AllocError>

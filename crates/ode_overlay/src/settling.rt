@@ -1,9 +1,9 @@
 //! Firings are collected for the queue; and how much the records grow.
-ghost use Rattle.std.specs.Prelude.{◌≡◌, ◌+◌, Ok, IfOk, OnErr, length, nat_le, nat_lt};
+ghost use Rattle.std.specs.Prelude.{◌≡◌, ◌+◌, Ok, IfOk, OnErr, length, nat_le, nat_lt, pos};
 ghost use Rattle.ode_objects.specs.Weights.{capped};
 ghost use Rattle.ode_overlay.specs.Layers.{generation_of, key_count};
 ghost use Rattle.ode_value.specs.Limits.{change_limit, generation_limit, number_limit, queue_limit};
-ghost use Rattle.ode_overlay.specs.Settling.{bytes_after, bytes_before, collect, growth_told, has_room};
+ghost use Rattle.ode_overlay.specs.Settling.{bytes_after, bytes_before, collect, growth_told, has_room, within};
 
 use crate::error::OverlayError;
 use crate::overlay::{Collected, Overlay};
@@ -15,6 +15,13 @@ use ode_objects::KeptArgs;
 use ode_types::Classes;
 use ode_value::limits::{GENERATION_LIMIT, NUMBER_LIMIT, QUEUE_LIMIT};
 use std::alloc::AllocError;
+
+// A number, or the greatest of 63 bits.
+fn within(bytes: u64) -> i64
+    ensures { result ≡ pos (within bytes) }
+{
+    i64::try_from(bytes).unwrap_or(i64::MAX)
+}
 
 impl Overlay {
     // Whether there is a generation for one more firing.
@@ -121,8 +128,6 @@ impl Overlay {
         ensures heap { _heap.new ≡ _heap.old }
         ensures host { _host.new ≡ _host.old }
     {
-        let after = i64::try_from(self.bytes_after()).unwrap_or(i64::MAX);
-        let before = i64::try_from(self.bytes_before()).unwrap_or(i64::MAX);
-        Ok(after - before)
+        Ok(within(self.bytes_after()) - within(self.bytes_before()))
     }
 }
