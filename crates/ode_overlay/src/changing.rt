@@ -221,8 +221,10 @@ impl Overlay {
         ensures cause { RoseIf (IsErrOf result OverlayError.DiskFault) (H.view host.old).disk_faults (H.view host.new).disk_faults }
     {
         not_null(of)?;
-        let new = self.fresh(classes, heap, host, of.object)?;
-        self.write_in(new, of, slot, value)
+        match self.fresh(classes, heap, host, of.object) {
+            Ok(new) => self.write_in(new, of, slot, value),
+            Err(why) => Err(why),
+        }
     }
 
     // The keys with those of a new version of an object, where a number is left for it.
@@ -269,11 +271,13 @@ impl Overlay {
         match self.derived(&new, of) {
             Ok(change) => {
                 let version = Some(change.object.last);
-                self.put(of.object, new, change)?;
-                Ok(Ref {
-                    object: of.object,
-                    version,
-                })
+                match self.put(of.object, new, change) {
+                    Ok(()) => Ok(Ref {
+                        object: of.object,
+                        version,
+                    }),
+                    Err(_) => Err(OverlayError::Memory),
+                }
             }
             Err(why) => Err(why),
         }
@@ -297,8 +301,10 @@ impl Overlay {
         ensures cause { RoseIf (IsErrOf result OverlayError.DiskFault) (H.view host.old).disk_faults (H.view host.new).disk_faults }
     {
         not_null(of)?;
-        let new = self.fresh(classes, heap, host, of.object)?;
-        self.derive_in(new, of)
+        match self.fresh(classes, heap, host, of.object) {
+            Ok(new) => self.derive_in(new, of),
+            Err(why) => Err(why),
+        }
     }
 
     // What becomes of an object without a version.
@@ -346,8 +352,10 @@ impl Overlay {
         ensures cause { RoseIf (IsErrOf result OverlayError.DiskFault) (H.view host.old).disk_faults (H.view host.new).disk_faults }
     {
         not_null(of)?;
-        let new = self.fresh(classes, heap, host, of.object)?;
-        self.drop_in(new, of)
+        match self.fresh(classes, heap, host, of.object) {
+            Ok(new) => self.drop_in(new, of),
+            Err(why) => Err(why),
+        }
     }
 
     // The keys with those of the activations of an object.
@@ -419,8 +427,10 @@ impl Overlay {
         ensures usable { K.live heap.new ≡ is_usable result }
         ensures cause { RoseIf (IsErrOf result OverlayError.DiskFault) (H.view host.old).disk_faults (H.view host.new).disk_faults }
     {
-        let new = self.fresh(classes, heap, host, id)?;
-        self.touch_in(new, id)
+        match self.fresh(classes, heap, host, id) {
+            Ok(new) => self.touch_in(new, id),
+            Err(why) => Err(why),
+        }
     }
 
     /// What becomes of an object, and the keys with these among them, where a number is left.
@@ -543,7 +553,9 @@ impl Overlay {
         ensures usable { K.live heap.new ≡ is_usable result }
         ensures cause { RoseIf (IsErrOf result OverlayError.DiskFault) (H.view host.old).disk_faults (H.view host.new).disk_faults }
     {
-        let new = self.fresh(classes, heap, host, id)?;
-        self.remove_in(new, id)
+        match self.fresh(classes, heap, host, id) {
+            Ok(new) => self.remove_in(new, id),
+            Err(why) => Err(why),
+        }
     }
 }

@@ -1,13 +1,13 @@
 //! What is seen of objects through the overlay.
-ghost use Rattle.std.specs.Prelude.{◌≡◌, [], true, All, IfOk, IsErrOf, IsTrue};
+ghost use Rattle.std.specs.Prelude.{◌≡◌, [], true, All, IfOk, IsErrOf, IsTrue, Some};
 ghost use Rattle.std.specs.Option.{IfSome};
 ghost use Rattle.ode_host.specs.Causes.{RoseIf};
 ghost use Rattle.ode_host.specs.Host.{Looks};
 ghost use Rattle.ode_keep.specs.Entries.{Entries};
 ghost use Rattle.ode_overlay.specs.Answers.{◌>>=◌ as bind, Answers, UnlessFault, from_records, is_usable};
 ghost use Rattle.ode_objects.specs.Values.{are_args};
-ghost use Rattle.ode_overlay.specs.Reading.{acts, field_in, field_of, head_now, is_rising, map_of, not_null, object, or_else, place_from, read, read_below, read_now, rise_above, running_from, running_of, shown, shown_below, sound};
-ghost use Rattle.ode_objects.specs.Loading.{class_in, fields_in};
+ghost use Rattle.ode_overlay.specs.Reading.{acts, field_in, field_of, head_now, is_rising, map_of, not_null, object, or_else, place_from, read, read_below, read_now, rise_above, running_from, running_of, shown, shown_below};
+ghost use Rattle.ode_objects.specs.Loading.{actives_in, class_in, fields_in};
 ghost use Rattle.ode_overlay.specs.declared.error.OverlayError.TheVariants.{NoVersion};
 ghost use Rattle.ode_versions.specs.Versions.{IsVersionList, found};
 
@@ -51,14 +51,14 @@ fn is_rising(list: &VersionList) -> bool
 
 // A head whose versions are those of an object.
 #[tactic(auto, using(crate::proofs::Rising::are_versions))]
-fn sound(id: u64, head: ObjectHead) -> Result<ObjectHead, OverlayError>
-    ensures value { Answers result (sound id head) }
-    ensures versions { IfOk result (λ head. IsVersionList head.versions) }
+fn shown(id: u64, head: ObjectHead) -> Result<Option<ObjectHead>, OverlayError>
+    ensures value { Answers result (shown id (Some head)) }
+    ensures versions { IfOk result (λ found. IfSome found (λ head. IsVersionList head.versions)) }
     ensures usable { is_usable result ≡ true }
     ensures calm { IsErrOf result OverlayError.DiskFault → ⊥ }
 {
     if is_rising(&head.versions) {
-        Ok(head)
+        Ok(Some(head))
     } else {
         Err(OverlayError::Damaged {
             key: object_key(id),
@@ -233,6 +233,26 @@ fn running_in(
     Ok(running)
 }
 
+fn acts_below<H: Host, K: Keep<H>>(
+    alloc: Global,
+    classes: &Classes,
+    heap: &mut Heap<K>,
+    host: &mut H,
+    id: u64,
+    maps: &[u32],
+) -> Result<List<Running>, OverlayError>
+    requires live { IsTrue (K.live heap.old) }
+    ensures value { (base : Entries) → K.holds heap.old (H.view host.old) base → Answers result (bind (from_records (actives_in classes.now base id)) (running_from maps.now id [])) }
+    ensures short { IfOk result (All (λ a. are_args a.args ≡ true)) }
+    ensures holds { UnlessFault result ((base : Entries) → K.holds heap.old (H.view host.old) base → K.holds heap.new (H.view host.new) base) }
+    ensures looks { Looks (H.view host.old) (H.view host.new) }
+    ensures usable { K.live heap.new ≡ is_usable result }
+    ensures cause { RoseIf (IsErrOf result OverlayError.DiskFault) (H.view host.old).disk_faults (H.view host.new).disk_faults }
+{
+    let actives = load_actives(alloc, classes, heap, host, id)?;
+    running_in(alloc, maps, id, actives.as_slice())
+}
+
 fn object_below<H: Host, K: Keep<H>>(
     alloc: Global,
     heap: &mut Heap<K>,
@@ -248,7 +268,7 @@ fn object_below<H: Host, K: Keep<H>>(
     ensures cause { RoseIf (IsErrOf result OverlayError.DiskFault) (H.view host.old).disk_faults (H.view host.new).disk_faults }
 {
     match heap.load_object(alloc, host, id)? {
-        Some(head) => Ok(Some(sound(id, head)?)),
+        Some(head) => shown(id, head),
         None => Ok(None),
     }
 }
@@ -262,8 +282,7 @@ fn object_now(alloc: Global, id: u64, object: &Object) -> Result<Option<ObjectHe
     if !object.live {
         return Ok(None);
     }
-    let head = object.head(alloc)?;
-    Ok(Some(sound(id, head)?))
+    shown(id, object.head(alloc)?)
 }
 
 impl Overlay {
@@ -340,10 +359,7 @@ impl Overlay {
                 id,
                 tracked.current.activations.as_slice(),
             ),
-            None => {
-                let actives = load_actives(self.alloc, classes, heap, host, id)?;
-                running_in(self.alloc, maps.as_slice(), id, actives.as_slice())
-            }
+            None => acts_below(self.alloc, classes, heap, host, id, maps.as_slice()),
         }
     }
 }

@@ -1,5 +1,6 @@
 //! An abort takes back what was changed, but for what was drawn and for whole histories.
 ghost use Rattle.std.specs.Prelude.{◌≡◌, ◌≤◌, [], IfErr, IfOk, OnErr, OnOk, length};
+ghost use Rattle.ode_objects.specs.Rewinding.{rewound};
 ghost use Rattle.ode_overlay.specs.Rewinding.{put_rewound, rewind, rewound_from, stays};
 ghost use Rattle.std.specs.List.{filter};
 
@@ -16,13 +17,15 @@ use std::collections::BTreeMap;
 
 // An object that was there comes back.
 fn put_rewound(
+    alloc: Global,
+    classes: &Classes,
     objects: &mut BTreeMap<u64, Tracked>,
     id: u64,
-    rewound: Option<Tracked>,
+    tracked: &Tracked,
 ) -> Result<(), AllocError>
-    ensures { OnOk result (objects.new.entries ≡ put_rewound id rewound objects.old.entries) }
+    ensures { OnOk result (objects.new.entries ≡ put_rewound id (rewound classes.now tracked.now) objects.old.entries) }
 {
-    match rewound {
+    match tracked.rewound(alloc, classes)? {
         Some(tracked) => insert(objects, id, tracked),
         None => Ok(()),
     }
@@ -48,7 +51,7 @@ impl Overlay {
     {
         let mut objects = BTreeMap::new(self.alloc);
         for (id, tracked) in &self.objects {
-            put_rewound(&mut objects, *id, tracked.rewound(self.alloc, classes)?)?;
+            put_rewound(self.alloc, classes, &mut objects, *id, tracked)?;
         }
         Ok(objects)
     }

@@ -125,8 +125,10 @@ impl Overlay {
         ensures usable { K.live heap.new ≡ is_usable result }
         ensures cause { RoseIf (IsErrOf result OverlayError.DiskFault) (H.view host.old).disk_faults (H.view host.new).disk_faults }
     {
-        let new = self.fresh(classes, heap, host, id)?;
-        self.activate_in(new, id, class, trigger, args)
+        match self.fresh(classes, heap, host, id) {
+            Ok(new) => self.activate_in(new, id, class, trigger, args),
+            Err(why) => Err(why),
+        }
     }
 
     // What becomes of an object whose activation of a number goes off.
@@ -188,8 +190,10 @@ impl Overlay {
         ensures usable { K.live heap.new ≡ is_usable result }
         ensures cause { RoseIf (IsErrOf result OverlayError.DiskFault) (H.view host.old).disk_faults (H.view host.new).disk_faults }
     {
-        let new = self.fresh(classes, heap, host, id)?;
-        self.deactivate_in(new, id, activation)
+        match self.fresh(classes, heap, host, id) {
+            Ok(new) => self.deactivate_in(new, id, activation),
+            Err(why) => Err(why),
+        }
     }
 
     // What becomes of an object that takes over states.
@@ -243,7 +247,9 @@ impl Overlay {
         ensures usable { K.live heap.new ≡ is_usable result }
         ensures cause { RoseIf (IsErrOf result OverlayError.DiskFault) (H.view host.old).disk_faults (H.view host.new).disk_faults }
     {
-        let new = self.fresh(classes, heap, host, id)?;
-        self.put_acts_in(new, id, acts.as_slice())
+        match self.fresh(classes, heap, host, id) {
+            Ok(new) => self.put_acts_in(new, id, acts.as_slice()),
+            Err(why) => Err(why),
+        }
     }
 }
