@@ -5,7 +5,7 @@ ghost use Rattle.ode_heap.specs.Answers.{Answers, UnlessFault, is_usable};
 ghost use Rattle.ode_host.specs.Causes.{RoseIf};
 ghost use Rattle.ode_host.specs.Host.{Looks};
 ghost use Rattle.ode_keep.specs.Entries.{Entries};
-ghost use Rattle.ode_objects.specs.Loading.{Gives, active_of, actives_from, actives_in, class_in, fields_in, parts_in, versions_from, whole_in};
+ghost use Rattle.ode_objects.specs.Loading.{Gives, active_of, actives_from, actives_in, class_in, fields_in, versions_from, whole_in, with_parts};
 
 use crate::keys::{activation_key, object_key, version_key};
 use crate::object::{Active, Fields, Object, Version};
@@ -154,9 +154,9 @@ fn load_parts<H: Host, K: Keep<H>>(
     host: &mut H,
     id: u64,
     head: &ObjectHead,
-) -> Result<Object, HeapError>
+) -> Result<Option<Object>, HeapError>
     requires live { IsTrue (K.live heap.old) }
-    ensures value { (base : Entries) → K.holds heap.old (H.view host.old) base → Answers result (parts_in classes.now base id head.now) }
+    ensures value { (base : Entries) → K.holds heap.old (H.view host.old) base → Answers result (with_parts classes.now base id (Some head.now)) }
     ensures holds { UnlessFault result ((base : Entries) → K.holds heap.old (H.view host.old) base → K.holds heap.new (H.view host.new) base) }
     ensures looks { Looks (H.view host.old) (H.view host.new) }
     ensures usable { K.live heap.new ≡ is_usable result }
@@ -171,14 +171,16 @@ fn load_parts<H: Host, K: Keep<H>>(
         class,
         head.versions.versions.as_slice(),
     )?;
-    let activations = load_actives(alloc, classes, heap, host, id)?;
-    Ok(Object {
-        class: head.class,
-        live: true,
-        last: head.versions.last,
-        versions,
-        activations,
-    })
+    match load_actives(alloc, classes, heap, host, id) {
+        Ok(activations) => Ok(Some(Object {
+            class: head.class,
+            live: true,
+            last: head.versions.last,
+            versions,
+            activations,
+        })),
+        Err(why) => Err(why),
+    }
 }
 
 /// An object that the records have, if they have it.
@@ -199,6 +201,6 @@ pub fn load<H: Host, K: Keep<H>>(
 {
     match heap.load_object(alloc, host, id)? {
         None => Ok(None),
-        Some(head) => Ok(Some(load_parts(alloc, classes, heap, host, id, &head)?)),
+        Some(head) => load_parts(alloc, classes, heap, host, id, &head),
     }
 }
