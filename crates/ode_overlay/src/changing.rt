@@ -1,5 +1,5 @@
 //! Versions are written, made and removed; objects are touched, made and removed.
-ghost use Rattle.std.specs.Prelude.{◌≡◌, ◌+◌, ◌≤◌, ◌<◌, ◌^◌, [], ◌∷◌, true, None, Ok, Some, IfOk, IsErrOf, IsTrue, OnErr, OnOk, nat_lt, slice_set};
+ghost use Rattle.std.specs.Prelude.{◌≡◌, ◌+◌, ◌≤◌, ◌<◌, ◌^◌, [], ◌∷◌, false, true, None, Ok, Some, IfOk, IsErrOf, IsTrue, OnErr, OnOk, nat_lt, slice_set};
 ghost use Rattle.ode_host.specs.Causes.{RoseIf};
 ghost use Rattle.ode_host.specs.Host.{Looks};
 ghost use Rattle.ode_keep.specs.Entries.{Entries};
@@ -12,7 +12,7 @@ ghost use Rattle.ode_overlay.specs.Layers.{holding, key_count, touching};
 ghost use Rattle.ode_overlay.specs.declared.error.OverlayError.TheVariants.{NoNumber, TooLong};
 ghost use Rattle.ode_value.specs.Keys.{object_key, version_key};
 ghost use Rattle.ode_value.specs.Limits.{change_limit, number_limit, version_limit};
-ghost use Rattle.ode_overlay.specs.Changing.{create, created, denoted_in, derive, derive_with, drop_version, drop_with, fields_with, fresh, live, needs, next_drawn, next_number, remove, remove_with, touch, touch_with, touched_with, with_now, write, write_with};
+ghost use Rattle.ode_overlay.specs.Changing.{create, created, denoted_in, derive, derive_with, drop_version, drop_with, fields_with, fresh, live, needs, next_drawn, next_number, remove, remove_with, touch, touch_first, touch_with, touched_with, with_now, write, write_with};
 
 use crate::error::OverlayError;
 use crate::overlay::{Change, Overlay, put_new, put_now};
@@ -388,6 +388,34 @@ impl Overlay {
         Ok(())
     }
 
+    // An object that was touched is touched again, where it is there.
+    fn touch_again(&self, new: &Option<Tracked>, id: u64) -> Result<bool, OverlayError>
+        ensures value { Answers result (bind (live new.now id self.now) (λ _. Ok false)) }
+        ensures usable { is_usable result ≡ true }
+        ensures calm { IsErrOf result OverlayError.DiskFault → ⊥ }
+    {
+        match self.live(new, id) {
+            Ok(_) => Ok(false),
+            Err(why) => Err(why),
+        }
+    }
+
+    // An object is touched for the first time, where it is there.
+    fn touch_first(&mut self, new: Option<Tracked>, id: u64) -> Result<bool, OverlayError>
+        ensures acts { Leaves result self.new (bind (live new id self.old) (λ o. touch_first new id o self.old)) }
+        ensures err { OnErr result (self.new ≡ self.old) }
+        ensures usable { is_usable result ≡ true }
+        ensures calm { IsErrOf result OverlayError.DiskFault → ⊥ }
+    {
+        match self.first_keys(&new, id) {
+            Ok(keys) => match self.put_touched(id, new, keys) {
+                Ok(()) => Ok(true),
+                Err(_) => Err(OverlayError::Memory),
+            },
+            Err(why) => Err(why),
+        }
+    }
+
     #[tactic(auto, unfolding(crate::specs::Changing::touch_with))]
     fn touch_in(&mut self, new: Option<Tracked>, id: u64) -> Result<bool, OverlayError>
         ensures acts { Leaves result self.new (touch_with new id self.old) }
@@ -396,17 +424,9 @@ impl Overlay {
         ensures calm { IsErrOf result OverlayError.DiskFault → ⊥ }
     {
         if self.is_touched(id) {
-            return match self.live(&new, id) {
-                Ok(_) => Ok(false),
-                Err(why) => Err(why),
-            };
-        }
-        match self.first_keys(&new, id) {
-            Ok(keys) => {
-                self.put_touched(id, new, keys)?;
-                Ok(true)
-            }
-            Err(why) => Err(why),
+            self.touch_again(&new, id)
+        } else {
+            self.touch_first(new, id)
         }
     }
 
@@ -461,7 +481,10 @@ impl Overlay {
     {
         let keys = [object_key(self.next), version_key(self.next, 1)];
         match self.change_drawn(&keys, Object::made(self.alloc, class, fields)) {
-            Ok(change) => Ok(self.put_created(change)?),
+            Ok(change) => match self.put_created(change) {
+                Ok(id) => Ok(id),
+                Err(_) => Err(OverlayError::Memory),
+            },
             Err(why) => Err(why),
         }
     }

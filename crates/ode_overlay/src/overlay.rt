@@ -244,7 +244,10 @@ impl Overlay {
         ensures calm { IsErrOf result OverlayError.DiskFault → ⊥ }
     {
         match made {
-            Ok(change) => Ok(self.put(id, new, change)?),
+            Ok(change) => match self.put(id, new, change) {
+                Ok(()) => Ok(()),
+                Err(_) => Err(OverlayError::Memory),
+            },
             Err(why) => Err(why),
         }
     }

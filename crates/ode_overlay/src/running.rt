@@ -100,7 +100,10 @@ impl Overlay {
         ensures calm { IsErrOf result OverlayError.DiskFault → ⊥ }
     {
         match self.activated(&new, id, class, trigger, args) {
-            Ok(change) => Ok(self.put_drawn(id, new, change)?),
+            Ok(change) => match self.put_drawn(id, new, change) {
+                Ok(number) => Ok(number),
+                Err(_) => Err(OverlayError::Memory),
+            },
             Err(why) => Err(why),
         }
     }
