@@ -1,5 +1,5 @@
 //! Versions are written, made and removed; objects are touched, made and removed.
-ghost use Rattle.std.specs.Prelude.{◌≡◌, ◌+◌, ◌≤◌, ◌<◌, ◌^◌, [], ◌∷◌, false, true, None, Ok, Some, IfOk, IsErrOf, IsTrue, OnErr, OnOk, nat_lt, slice_set};
+ghost use Rattle.std.specs.Prelude.{◌≡◌, ◌+◌, ◌≤◌, ◌<◌, ◌^◌, [], ◌∷◌, false, true, None, Ok, Some, IfErr, IfOk, IsErrOf, IsTrue, OnErr, OnOk, nat_lt, slice_set};
 ghost use Rattle.ode_host.specs.Causes.{RoseIf};
 ghost use Rattle.ode_host.specs.Host.{Looks};
 ghost use Rattle.ode_keep.specs.Entries.{Entries};
@@ -276,7 +276,7 @@ impl Overlay {
                         object: of.object,
                         version,
                     }),
-                    Err(_) => Err(OverlayError::Memory),
+                    Err(why) => Err(why),
                 }
             }
             Err(why) => Err(why),
@@ -376,16 +376,18 @@ impl Overlay {
         id: u64,
         new: Option<Tracked>,
         keys: List<Key>,
-    ) -> Result<(), AllocError>
+    ) -> Result<bool, OverlayError>
         requires { key_count keys self.old ≤ change_limit }
         ensures ok { OnOk result (self.new ≡ touched_with new keys id self.old) }
+        ensures first { IfOk result (λ first. first ≡ true) }
+        ensures memory { IfErr result (λ why. why ≡ OverlayError.Memory) }
         ensures err { OnErr result (self.new ≡ self.old) }
     {
         self.touched.reserve(1)?;
         put_new(&mut self.objects, id, new)?;
         let _ = self.touched.insert(id);
         self.keys = keys;
-        Ok(())
+        Ok(true)
     }
 
     // An object that was touched is touched again, where it is there.
@@ -408,10 +410,7 @@ impl Overlay {
         ensures calm { IsErrOf result OverlayError.DiskFault → ⊥ }
     {
         match self.first_keys(&new, id) {
-            Ok(keys) => match self.put_touched(id, new, keys) {
-                Ok(()) => Ok(true),
-                Err(_) => Err(OverlayError::Memory),
-            },
+            Ok(keys) => self.put_touched(id, new, keys),
             Err(why) => Err(why),
         }
     }
@@ -481,20 +480,18 @@ impl Overlay {
     {
         let keys = [object_key(self.next), version_key(self.next, 1)];
         match self.change_drawn(&keys, Object::made(self.alloc, class, fields)) {
-            Ok(change) => match self.put_created(change) {
-                Ok(id) => Ok(id),
-                Err(_) => Err(OverlayError::Memory),
-            },
+            Ok(change) => self.put_created(change),
             Err(why) => Err(why),
         }
     }
 
     // An object is made, and counts as touched.
-    fn put_created(&mut self, change: Change) -> Result<u64, AllocError>
+    fn put_created(&mut self, change: Change) -> Result<u64, OverlayError>
         requires few { key_count change.keys self.old ≤ change_limit }
         requires small { self.old.next < number_limit }
         ensures ok { OnOk result (self.new ≡ touching self.old.next (next_drawn (with_now self.old.next None change.object change.keys self.old))) }
         ensures number { IfOk result (λ n. n ≡ self.old.next) }
+        ensures memory { IfErr result (λ why. why ≡ OverlayError.Memory) }
         ensures err { OnErr result (self.new ≡ self.old) }
     {
         let Change { object, keys } = change;

@@ -1,5 +1,5 @@
 //! The overlay, and what it is seen as.
-ghost use Rattle.std.specs.Prelude.{◌≡◌, ◌+◌, ◌≤◌, ◌<◌, ◌^◌, None, Ok, Some, IfOk, IsErrOf, OnErr, OnOk, nat_le, slice_get, true};
+ghost use Rattle.std.specs.Prelude.{◌≡◌, ◌+◌, ◌≤◌, ◌<◌, ◌^◌, None, Ok, Some, IfErr, IfOk, IsErrOf, OnErr, OnOk, nat_le, slice_get, true};
 ghost use Rattle.std.specs.BTreeMap.{insert_entry};
 ghost use Rattle.std.specs.List.{list_any};
 ghost use Rattle.std.specs.Ordering.{nat_cmp};
@@ -218,9 +218,10 @@ impl Overlay {
         id: u64,
         new: Option<Tracked>,
         change: Change,
-    ) -> Result<(), AllocError>
+    ) -> Result<(), OverlayError>
         requires { key_count change.keys self.old ≤ change_limit }
         ensures ok { OnOk result (self.new ≡ with_now id new change.object change.keys self.old) }
+        ensures memory { IfErr result (λ why. why ≡ OverlayError.Memory) }
         ensures err { OnErr result (self.new ≡ self.old) }
     {
         let Change { object, keys } = change;
@@ -244,10 +245,7 @@ impl Overlay {
         ensures calm { IsErrOf result OverlayError.DiskFault → ⊥ }
     {
         match made {
-            Ok(change) => match self.put(id, new, change) {
-                Ok(()) => Ok(()),
-                Err(_) => Err(OverlayError::Memory),
-            },
+            Ok(change) => self.put(id, new, change),
             Err(why) => Err(why),
         }
     }

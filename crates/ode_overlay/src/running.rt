@@ -1,5 +1,5 @@
 //! Activations go on and off, and take over states.
-ghost use Rattle.std.specs.Prelude.{◌≡◌, ◌≤◌, ◌<◌, [], ◌∷◌, true, IfOk, IsErrOf, IsTrue, OnErr, OnOk};
+ghost use Rattle.std.specs.Prelude.{◌≡◌, ◌≤◌, ◌<◌, [], ◌∷◌, true, IfErr, IfOk, IsErrOf, IsTrue, OnErr, OnOk};
 ghost use Rattle.ode_host.specs.Causes.{RoseIf};
 ghost use Rattle.ode_host.specs.Host.{Looks};
 ghost use Rattle.ode_keep.specs.Entries.{Entries};
@@ -73,11 +73,12 @@ impl Overlay {
         id: u64,
         new: Option<Tracked>,
         change: Change,
-    ) -> Result<u64, AllocError>
+    ) -> Result<u64, OverlayError>
         requires few { key_count change.keys self.old ≤ change_limit }
         requires small { self.old.next < number_limit }
         ensures ok { OnOk result (self.new ≡ next_drawn (with_now id new change.object change.keys self.old)) }
         ensures number { IfOk result (λ n. n ≡ self.old.next) }
+        ensures memory { IfErr result (λ why. why ≡ OverlayError.Memory) }
         ensures err { OnErr result (self.new ≡ self.old) }
     {
         let number = self.next;
@@ -100,10 +101,7 @@ impl Overlay {
         ensures calm { IsErrOf result OverlayError.DiskFault → ⊥ }
     {
         match self.activated(&new, id, class, trigger, args) {
-            Ok(change) => match self.put_drawn(id, new, change) {
-                Ok(number) => Ok(number),
-                Err(_) => Err(OverlayError::Memory),
-            },
+            Ok(change) => self.put_drawn(id, new, change),
             Err(why) => Err(why),
         }
     }
