@@ -157,7 +157,7 @@ fn read_in<H: Host, K: Keep<H>>(
     take_field(slot, fields)
 }
 
-#[tactic(auto, unfolding(crate::specs::Reading::read_below))]
+#[tactic(auto, using(crate::proofs::Rising::are_versions), unfolding(crate::specs::Reading::read_below))]
 fn read_below<H: Host, K: Keep<H>>(
     alloc: Global,
     classes: &Classes,
@@ -173,9 +173,15 @@ fn read_below<H: Host, K: Keep<H>>(
     ensures usable { K.live heap.new ≡ is_usable result }
     ensures cause { RoseIf (IsErrOf result OverlayError.DiskFault) (H.view host.old).disk_faults (H.view host.new).disk_faults }
 {
-    match object_below(alloc, heap, host, of.object)? {
-        Some(head) => read_in(alloc, classes, heap, host, of, slot, &head),
-        None => Err(OverlayError::NoObject(of.object)),
+    let Some(head) = heap.load_object(alloc, host, of.object)? else {
+        return Err(OverlayError::NoObject(of.object));
+    };
+    if is_rising(&head.versions) {
+        read_in(alloc, classes, heap, host, of, slot, &head)
+    } else {
+        Err(OverlayError::Damaged {
+            key: object_key(of.object),
+        })
     }
 }
 
