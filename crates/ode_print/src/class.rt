@@ -6,7 +6,7 @@ ghost use Rattle.ode_print.specs.Joined.{behind};
 
 use crate::event::{put_event, put_kind};
 use crate::expression::put_expr;
-use crate::put::put;
+use crate::put::{put, put_three_texts, put_two_texts};
 use crate::statement::put_body;
 use ode_value::{
     ClassDecl, Constraint, Kind, List, Member, Method, Mode, Name, Param, Sort, TriggerDecl,
@@ -20,11 +20,7 @@ fn put_sort(out: &mut Vec<u8>, sort: &Sort) -> Result<(), AllocError>
         Sort::Int => put(out, b"int"),
         Sort::Bool => put(out, b"bool"),
         Sort::Text => put(out, b"text"),
-        Sort::Reference(class) => {
-            put(out, b"ref ")?;
-            put(out, class.as_bytes())?;
-            Ok(())
-        }
+        Sort::Reference(class) => put_two_texts(out, b"ref ", class.as_bytes()),
         Sort::Void => put(out, b"void"),
     }
 }
@@ -33,9 +29,7 @@ fn put_param(out: &mut Vec<u8>, param: &Param) -> Result<(), AllocError>
     ensures { OnOk result (out.new.items ≡ out.old.items ++ param_text param.now) }
 {
     put_sort(out, &param.sort)?;
-    put(out, b" ")?;
-    put(out, param.name.as_bytes())?;
-    Ok(())
+    put_two_texts(out, b" ", param.name.as_bytes())
 }
 
 // Puts what follows the first one at the end.
@@ -56,8 +50,7 @@ fn put_param_list(out: &mut Vec<u8>, params: &[Param]) -> Result<(), AllocError>
         return Ok(());
     };
     put_param(out, first)?;
-    put_more_params(out, rest)?;
-    Ok(())
+    put_more_params(out, rest)
 }
 
 fn put_params(out: &mut Vec<u8>, params: &[Param]) -> Result<(), AllocError>
@@ -65,20 +58,17 @@ fn put_params(out: &mut Vec<u8>, params: &[Param]) -> Result<(), AllocError>
 {
     put(out, b"(")?;
     put_param_list(out, params)?;
-    put(out, b")")?;
-    Ok(())
+    put(out, b")")
 }
 
 fn put_method(alloc: Global, out: &mut Vec<u8>, method: &Method) -> Result<(), AllocError>
     ensures { OnOk result (out.new.items ≡ out.old.items ++ method_text method.now) }
 {
     put_sort(out, &method.result)?;
-    put(out, b" ")?;
-    put(out, method.name.as_bytes())?;
+    put_two_texts(out, b" ", method.name.as_bytes())?;
     put_params(out, method.params.as_slice())?;
     put(out, b" ")?;
-    put_body(alloc, out, method.body.as_slice())?;
-    Ok(())
+    put_body(alloc, out, method.body.as_slice())
 }
 
 // Puts one text or the other at the end.
@@ -96,12 +86,9 @@ fn put_constraint(
     ensures { OnOk result (out.new.items ≡ out.old.items ++ constraint_text constraint.now) }
 {
     put_choice(out, constraint.soft, b"soft ", b"")?;
-    put(out, b"constraint ")?;
-    put(out, constraint.name.as_bytes())?;
-    put(out, b": ")?;
+    put_three_texts(out, b"constraint ", constraint.name.as_bytes(), b": ")?;
     put_expr(alloc, out, &constraint.test)?;
-    put(out, b";")?;
-    Ok(())
+    put(out, b";")
 }
 
 // Puts what follows the first one at the end.
@@ -122,8 +109,7 @@ fn put_kinds(alloc: Global, out: &mut Vec<u8>, kinds: &[Kind]) -> Result<(), All
         return Ok(());
     };
     put_kind(alloc, out, first)?;
-    put_more_kinds(alloc, out, rest)?;
-    Ok(())
+    put_more_kinds(alloc, out, rest)
 }
 
 fn put_mode(out: &mut Vec<u8>, mode: Mode) -> Result<(), AllocError>
@@ -144,8 +130,7 @@ fn put_trigger_words(out: &mut Vec<u8>, trigger: &TriggerDecl) -> Result<(), All
     put_choice(out, trigger.initial, b"initial ", b"")?;
     put_choice(out, trigger.perpetual, b"perpetual ", b"once ")?;
     put_choice(out, trigger.whole, b"whole ", b"committed ")?;
-    put_mode(out, trigger.mode)?;
-    Ok(())
+    put_mode(out, trigger.mode)
 }
 
 fn put_trigger(alloc: Global, out: &mut Vec<u8>, trigger: &TriggerDecl) -> Result<(), AllocError>
@@ -157,18 +142,14 @@ fn put_trigger(alloc: Global, out: &mut Vec<u8>, trigger: &TriggerDecl) -> Resul
     put(out, b": ")?;
     put_event(alloc, out, &trigger.event)?;
     put(out, b" ==> ")?;
-    put_body(alloc, out, trigger.action.as_slice())?;
-    Ok(())
+    put_body(alloc, out, trigger.action.as_slice())
 }
 
 fn put_field(out: &mut Vec<u8>, name: &Name, sort: &Sort) -> Result<(), AllocError>
     ensures { OnOk result (out.new.items ≡ out.old.items ++ (sort_text sort.now ++ codes " " ++ name.now ++ codes ";")) }
 {
     put_sort(out, sort)?;
-    put(out, b" ")?;
-    put(out, name.as_bytes())?;
-    put(out, b";")?;
-    Ok(())
+    put_three_texts(out, b" ", name.as_bytes(), b";")
 }
 
 fn put_events(alloc: Global, out: &mut Vec<u8>, kinds: &[Kind]) -> Result<(), AllocError>
@@ -176,8 +157,7 @@ fn put_events(alloc: Global, out: &mut Vec<u8>, kinds: &[Kind]) -> Result<(), Al
 {
     put(out, b"event ")?;
     put_kinds(alloc, out, kinds)?;
-    put(out, b";")?;
-    Ok(())
+    put(out, b";")
 }
 
 fn put_member(alloc: Global, out: &mut Vec<u8>, member: &Member) -> Result<(), AllocError>
@@ -200,8 +180,7 @@ fn put_members(alloc: Global, out: &mut Vec<u8>, members: &[Member]) -> Result<(
         put(out, b" ")?;
         put_member(alloc, out, member)?;
     }
-    put(out, b" }")?;
-    Ok(())
+    put(out, b" }")
 }
 
 fn put_parent(out: &mut Vec<u8>, parent: &Option<Name>) -> Result<(), AllocError>
@@ -209,12 +188,17 @@ fn put_parent(out: &mut Vec<u8>, parent: &Option<Name>) -> Result<(), AllocError
 {
     match parent {
         None => Ok(()),
-        Some(name) => {
-            put(out, b" : ")?;
-            put(out, name.as_bytes())?;
-            Ok(())
-        }
+        Some(name) => put_two_texts(out, b" : ", name.as_bytes()),
     }
+}
+
+fn put_class(alloc: Global, out: &mut Vec<u8>, class: &ClassDecl) -> Result<(), AllocError>
+    ensures { OnOk result (out.new.items ≡ out.old.items ++ decl_text class.now) }
+{
+    put_two_texts(out, b"class ", class.name.as_bytes())?;
+    put_parent(out, &class.parent)?;
+    put(out, b" ")?;
+    put_members(alloc, out, class.members.as_slice())
 }
 
 /// The text of a class: its members in order, each once.
@@ -222,10 +206,6 @@ pub fn print_class(alloc: Global, class: &ClassDecl) -> Result<List<u8>, AllocEr
     ensures { IfOk result (λ text. text ≡ decl_text class.now) }
 {
     let mut out = Vec::new(alloc);
-    put(&mut out, b"class ")?;
-    put(&mut out, class.name.as_bytes())?;
-    put_parent(&mut out, &class.parent)?;
-    put(&mut out, b" ")?;
-    put_members(alloc, &mut out, class.members.as_slice())?;
+    put_class(alloc, &mut out, class)?;
     Ok(List::from_vec(out))
 }

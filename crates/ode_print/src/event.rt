@@ -5,7 +5,7 @@ ghost use Rattle.ode_value.specs.Decimal.{digits_of};
 
 use crate::expression::put_operand;
 use crate::instant::put_instant;
-use crate::put::put;
+use crate::put::{put, put_two_texts};
 use crate::value::put_number;
 use ode_value::{EventExpr, Expr, Kind, List};
 use std::alloc::{AllocError, Global};
@@ -17,8 +17,8 @@ pub fn put_kind(alloc: Global, out: &mut Vec<u8>, kind: &Kind) -> Result<(), All
     match kind {
         Kind::Create => put(out, b"after create"),
         Kind::Delete => put(out, b"before delete"),
-        Kind::Before(method) => put_named(out, b"before ", method.as_bytes()),
-        Kind::After(method) => put_named(out, b"after ", method.as_bytes()),
+        Kind::Before(method) => put_two_texts(out, b"before ", method.as_bytes()),
+        Kind::After(method) => put_two_texts(out, b"after ", method.as_bytes()),
         Kind::TBegin => put(out, b"after tbegin"),
         Kind::TComplete => put(out, b"before tcomplete"),
         Kind::TCommit => put(out, b"after tcommit"),
@@ -30,19 +30,9 @@ pub fn put_kind(alloc: Global, out: &mut Vec<u8>, kind: &Kind) -> Result<(), All
         Kind::TimeAt(second) => {
             put(out, b"time at \"")?;
             put_instant(out, *second)?;
-            put(out, b"\"")?;
-            Ok(())
+            put(out, b"\"")
         }
     }
-}
-
-/// Puts two texts at the end.
-pub fn put_named(out: &mut Vec<u8>, word: &[u8], name: &[u8]) -> Result<(), AllocError>
-    ensures { OnOk result (out.new.items ≡ out.old.items ++ (word.now ++ name.now)) }
-{
-    put(out, word)?;
-    put(out, name)?;
-    Ok(())
 }
 
 fn put_mask(alloc: Global, out: &mut Vec<u8>, mask: &Option<Expr>) -> Result<(), AllocError>
@@ -52,8 +42,7 @@ fn put_mask(alloc: Global, out: &mut Vec<u8>, mask: &Option<Expr>) -> Result<(),
         None => Ok(()),
         Some(test) => {
             put(out, b" && ")?;
-            put_operand(alloc, out, test)?;
-            Ok(())
+            put_operand(alloc, out, test)
         }
     }
 }
@@ -67,8 +56,7 @@ fn put_leaf(
     ensures { OnOk result (out.new.items ≡ out.old.items ++ (kind_text kind.now ++ mask_text mask.now)) }
 {
     put_kind(alloc, out, kind)?;
-    put_mask(alloc, out, mask)?;
-    Ok(())
+    put_mask(alloc, out, mask)
 }
 
 /// Puts the text of an event expression at the end.
@@ -84,36 +72,30 @@ pub fn put_event(alloc: Global, out: &mut Vec<u8>, e: &EventExpr) -> Result<(), 
         EventExpr::Not(of) => put_behind(alloc, out, b"!", of.get()),
         EventExpr::And(left, right) => {
             put_event_operand(alloc, out, left.get())?;
-            put_behind(alloc, out, b" and ", right.get())?;
-            Ok(())
+            put_behind(alloc, out, b" and ", right.get())
         }
         EventExpr::Or(left, right) => {
             put_event_operand(alloc, out, left.get())?;
-            put_behind(alloc, out, b" or ", right.get())?;
-            Ok(())
+            put_behind(alloc, out, b" or ", right.get())
         }
         EventExpr::Relative(first, second) => {
             put_first(alloc, out, b"relative", first.get())?;
-            put_last(alloc, out, second.get())?;
-            Ok(())
+            put_between(alloc, out, b", ", second.get(), b")")
         }
         EventExpr::Prior(first, second) => {
             put_first(alloc, out, b"prior", first.get())?;
-            put_last(alloc, out, second.get())?;
-            Ok(())
+            put_between(alloc, out, b", ", second.get(), b")")
         }
         EventExpr::Sequence(first, second) => {
             put_first(alloc, out, b"sequence", first.get())?;
-            put_last(alloc, out, second.get())?;
-            Ok(())
+            put_between(alloc, out, b", ", second.get(), b")")
         }
         EventExpr::Choose(count, of) => put_counted(alloc, out, b"choose ", *count, of.get()),
         EventExpr::Every(count, of) => put_counted(alloc, out, b"every ", *count, of.get()),
         EventExpr::Fa(first, second, third) => {
             put_first(alloc, out, b"fa", first.get())?;
             put_next(alloc, out, second.get())?;
-            put_last(alloc, out, third.get())?;
-            Ok(())
+            put_between(alloc, out, b", ", third.get(), b")")
         }
     }
 }
@@ -129,8 +111,7 @@ fn put_behind(
     ensures { OnOk result (out.new.items ≡ out.old.items ++ (operator.now ++ operand (printed_event e.now))) }
 {
     put(out, operator)?;
-    put_event_operand(alloc, out, e)?;
-    Ok(())
+    put_event_operand(alloc, out, e)
 }
 
 // Puts the first part in brackets behind a word at the end.
@@ -138,9 +119,8 @@ fn put_behind(
 fn put_first(alloc: Global, out: &mut Vec<u8>, word: &[u8], e: &EventExpr) -> Result<(), AllocError>
     ensures { OnOk result (out.new.items ≡ out.old.items ++ (word.now ++ codes "(" ++ event_text e.now)) }
 {
-    put_named(out, word, b"(")?;
-    put_event(alloc, out, e)?;
-    Ok(())
+    put_two_texts(out, word, b"(")?;
+    put_event(alloc, out, e)
 }
 
 // Puts a further part in brackets at the end.
@@ -149,19 +129,23 @@ fn put_next(alloc: Global, out: &mut Vec<u8>, e: &EventExpr) -> Result<(), Alloc
     ensures { OnOk result (out.new.items ≡ out.old.items ++ (codes ", " ++ event_text e.now)) }
 {
     put(out, b", ")?;
-    put_event(alloc, out, e)?;
-    Ok(())
+    put_event(alloc, out, e)
 }
 
-// Puts the last part in brackets at the end.
+// Puts a part between two texts at the end.
 #[cycle(events)]
-fn put_last(alloc: Global, out: &mut Vec<u8>, e: &EventExpr) -> Result<(), AllocError>
-    ensures { OnOk result (out.new.items ≡ out.old.items ++ (codes ", " ++ event_text e.now ++ codes ")")) }
+fn put_between(
+    alloc: Global,
+    out: &mut Vec<u8>,
+    before: &[u8],
+    e: &EventExpr,
+    behind: &[u8],
+) -> Result<(), AllocError>
+    ensures { OnOk result (out.new.items ≡ out.old.items ++ (before.now ++ event_text e.now ++ behind.now)) }
 {
-    put(out, b", ")?;
+    put(out, before)?;
     put_event(alloc, out, e)?;
-    put(out, b")")?;
-    Ok(())
+    put(out, behind)
 }
 
 // Puts a word and a number at the end.
@@ -184,10 +168,8 @@ fn put_counted(
     ensures { OnOk result (out.new.items ≡ out.old.items ++ (word.now ++ digits_of count ++ codes " " ++ in_brackets (event_text of.now))) }
 {
     put_count(alloc, out, word, count)?;
-    put_named(out, b" ", b"(")?;
-    put_event(alloc, out, of)?;
-    put(out, b")")?;
-    Ok(())
+    put(out, b" ")?;
+    put_between(alloc, out, b"(", of, b")")
 }
 
 // Puts the text of an operand at the end, an operator in brackets.
@@ -198,10 +180,7 @@ fn put_event_operand(alloc: Global, out: &mut Vec<u8>, e: &EventExpr) -> Result<
 {
     match e {
         EventExpr::Not(_) | EventExpr::And(_, _) | EventExpr::Or(_, _) => {
-            put(out, b"(")?;
-            put_event(alloc, out, e)?;
-            put(out, b")")?;
-            Ok(())
+            put_between(alloc, out, b"(", e, b")")
         }
         _ => put_event(alloc, out, e),
     }

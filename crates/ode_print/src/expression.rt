@@ -2,7 +2,7 @@
 ghost use Rattle.std.specs.Prelude.{◌≡◌, ◌++◌, OnOk, IfOk};
 ghost use Rattle.ode_value.specs.Printing.{binary_text, expr_text, operand_text, unary_text};
 
-use crate::put::put;
+use crate::put::{put, put_two_texts};
 use crate::value::put_value;
 use ode_value::{BinOp, Expr, List, UnOp};
 use std::alloc::{AllocError, Global};
@@ -48,32 +48,41 @@ pub fn put_expr(alloc: Global, out: &mut Vec<u8>, e: &Expr) -> Result<(), AllocE
         Expr::This => put(out, b"this"),
         Expr::Field(of, name) => {
             put_operand(alloc, out, of.get())?;
-            put(out, b".")?;
-            put(out, name.as_bytes())?;
-            Ok(())
+            put_two_texts(out, b".", name.as_bytes())
         }
         Expr::Version(of) => {
             put(out, b"version")?;
-            put(out, b"(")?;
-            put_expr(alloc, out, of.get())?;
-            put(out, b")")?;
-            Ok(())
+            put_between(alloc, out, b"(", of.get(), b")")
         }
         Expr::Unary(op, of) => {
             put_sign(out, *op)?;
-            put_operand(alloc, out, of.get())?;
-            Ok(())
+            put_operand(alloc, out, of.get())
         }
         Expr::Binary(op, left, right) => {
             put_operand(alloc, out, left.get())?;
             put_operator(out, *op)?;
-            put_operand(alloc, out, right.get())?;
-            Ok(())
+            put_operand(alloc, out, right.get())
         }
         Expr::Local(_) => Ok(()),
         Expr::Own(_) => Ok(()),
         Expr::Slot(_, _) => Ok(()),
     }
+}
+
+/// Puts an expression between two texts at the end.
+#[cycle(exprs)]
+pub fn put_between(
+    alloc: Global,
+    out: &mut Vec<u8>,
+    before: &[u8],
+    e: &Expr,
+    behind: &[u8],
+) -> Result<(), AllocError>
+    ensures { OnOk result (out.new.items ≡ out.old.items ++ (before.now ++ expr_text e.now ++ behind.now)) }
+{
+    put(out, before)?;
+    put_expr(alloc, out, e)?;
+    put(out, behind)
 }
 
 /// Puts the text of an operand at the end, an operator in brackets.
@@ -83,12 +92,7 @@ pub fn put_operand(alloc: Global, out: &mut Vec<u8>, e: &Expr) -> Result<(), All
     ensures { OnOk result (out.new.items ≡ out.old.items ++ operand_text e.now) }
 {
     match e {
-        Expr::Unary(_, _) | Expr::Binary(_, _, _) => {
-            put(out, b"(")?;
-            put_expr(alloc, out, e)?;
-            put(out, b")")?;
-            Ok(())
-        }
+        Expr::Unary(_, _) | Expr::Binary(_, _, _) => { put_between(alloc, out, b"(", e, b")") }
         _ => put_expr(alloc, out, e),
     }
 }

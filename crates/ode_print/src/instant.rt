@@ -37,8 +37,15 @@ fn put_two(out: &mut Vec<u8>, n: u64) -> Result<(), AllocError>
     ensures { OnOk result (out.new.items ≡ out.old.items ++ two_digits n) }
 {
     put_digit(out, n / 10)?;
-    put_digit(out, n)?;
-    Ok(())
+    put_digit(out, n)
+}
+
+// Puts a text and the last two digits of a number at the end.
+fn put_marked(out: &mut Vec<u8>, mark: &[u8], n: u64) -> Result<(), AllocError>
+    ensures { OnOk result (out.new.items ≡ out.old.items ++ (mark.now ++ two_digits n)) }
+{
+    put(out, mark)?;
+    put_two(out, n)
 }
 
 fn put_date(out: &mut Vec<u8>, year: u64, month: u64, day: u64) -> Result<(), AllocError>
@@ -46,22 +53,16 @@ fn put_date(out: &mut Vec<u8>, year: u64, month: u64, day: u64) -> Result<(), Al
 {
     put_two(out, year / 100)?;
     put_two(out, year)?;
-    put(out, b"-")?;
-    put_two(out, month)?;
-    put(out, b"-")?;
-    put_two(out, day)?;
-    Ok(())
+    put_marked(out, b"-", month)?;
+    put_marked(out, b"-", day)
 }
 
 fn put_time(out: &mut Vec<u8>, second: u64) -> Result<(), AllocError>
     ensures { OnOk result (out.new.items ≡ out.old.items ++ time_text second) }
 {
     put_two(out, second / 3600)?;
-    put(out, b":")?;
-    put_two(out, second / 60 % 60)?;
-    put(out, b":")?;
-    put_two(out, second % 60)?;
-    Ok(())
+    put_marked(out, b":", second / 60 % 60)?;
+    put_marked(out, b":", second % 60)
 }
 
 // The year of a day among 400 years, and the month of a day of a year from March on.
@@ -109,8 +110,7 @@ fn put_moment(out: &mut Vec<u8>, seconds: u64) -> Result<(), AllocError>
     put_day(out, seconds / DAY)?;
     put(out, b"T")?;
     put_time(out, seconds % DAY)?;
-    put(out, b"Z")?;
-    Ok(())
+    put(out, b"Z")
 }
 
 /// Puts the text of an instant at the end.

@@ -8,6 +8,26 @@ use std::alloc::AllocError;
 pub fn put(out: &mut Vec<u8>, text: &[u8]) -> Result<(), AllocError>
     ensures { OnOk result (out.new.items ≡ out.old.items ++ text.now) }
 {
-    out.extend_from_slice(text)?;
-    Ok(())
+    out.extend_from_slice(text)
+}
+
+/// Puts two texts at the end.
+pub fn put_two_texts(out: &mut Vec<u8>, first: &[u8], second: &[u8]) -> Result<(), AllocError>
+    ensures { OnOk result (out.new.items ≡ out.old.items ++ (first.now ++ second.now)) }
+{
+    put(out, first)?;
+    put(out, second)
+}
+
+/// Puts three texts at the end.
+pub fn put_three_texts(
+    out: &mut Vec<u8>,
+    first: &[u8],
+    second: &[u8],
+    third: &[u8],
+) -> Result<(), AllocError>
+    ensures { OnOk result (out.new.items ≡ out.old.items ++ (first.now ++ second.now ++ third.now)) }
+{
+    put_two_texts(out, first, second)?;
+    put(out, third)
 }

@@ -5,8 +5,8 @@ ghost use Rattle.ode_value.specs.Printing.{expr_text, in_brackets, operand_text,
 ghost use Rattle.ode_value.specs.PrintedClasses.{args_text, body_text, call_text, else_part, of_text, rhs_text, set_text, stmt_text, value_part, var_text};
 ghost use Rattle.ode_print.specs.Joined.{behind};
 
-use crate::expression::{put_expr, put_operand};
-use crate::put::put;
+use crate::expression::{put_between, put_expr, put_operand};
+use crate::put::{put, put_three_texts, put_two_texts};
 use ode_value::{Call, Expr, List, Name, Rhs, Stmt, Var};
 use std::alloc::{AllocError, Global};
 
@@ -29,8 +29,7 @@ fn put_exprs(alloc: Global, out: &mut Vec<u8>, args: &[Expr]) -> Result<(), Allo
         return Ok(());
     };
     put_expr(alloc, out, first)?;
-    put_more_exprs(alloc, out, rest)?;
-    Ok(())
+    put_more_exprs(alloc, out, rest)
 }
 
 fn put_args(alloc: Global, out: &mut Vec<u8>, args: &[Expr]) -> Result<(), AllocError>
@@ -38,8 +37,7 @@ fn put_args(alloc: Global, out: &mut Vec<u8>, args: &[Expr]) -> Result<(), Alloc
 {
     put(out, b"(")?;
     put_exprs(alloc, out, args)?;
-    put(out, b")")?;
-    Ok(())
+    put(out, b")")
 }
 
 fn put_of(alloc: Global, out: &mut Vec<u8>, of: &Option<Expr>) -> Result<(), AllocError>
@@ -49,8 +47,7 @@ fn put_of(alloc: Global, out: &mut Vec<u8>, of: &Option<Expr>) -> Result<(), All
         None => Ok(()),
         Some(e) => {
             put_operand(alloc, out, e)?;
-            put(out, b".")?;
-            Ok(())
+            put(out, b".")
         }
     }
 }
@@ -60,17 +57,14 @@ fn put_call(alloc: Global, out: &mut Vec<u8>, call: &Call) -> Result<(), AllocEr
 {
     put_of(alloc, out, &call.of)?;
     put(out, call.method.as_bytes())?;
-    put_args(alloc, out, call.args.as_slice())?;
-    Ok(())
+    put_args(alloc, out, call.args.as_slice())
 }
 
 fn put_set(alloc: Global, out: &mut Vec<u8>, set: &(Name, Expr)) -> Result<(), AllocError>
     ensures { OnOk result (out.new.items ≡ out.old.items ++ set_text set.now) }
 {
-    put(out, set.0.as_bytes())?;
-    put(out, b" = ")?;
-    put_expr(alloc, out, &set.1)?;
-    Ok(())
+    put_two_texts(out, set.0.as_bytes(), b" = ")?;
+    put_expr(alloc, out, &set.1)
 }
 
 // Puts what follows the first one at the end.
@@ -91,8 +85,7 @@ fn put_sets(alloc: Global, out: &mut Vec<u8>, sets: &[(Name, Expr)]) -> Result<(
         return Ok(());
     };
     put_set(alloc, out, first)?;
-    put_more_sets(alloc, out, rest)?;
-    Ok(())
+    put_more_sets(alloc, out, rest)
 }
 
 fn put_new(
@@ -103,12 +96,9 @@ fn put_new(
 ) -> Result<(), AllocError>
     ensures { OnOk result (out.new.items ≡ out.old.items ++ (codes "pnew " ++ class.now ++ in_brackets (with_commas (map set_text fields.now)))) }
 {
-    put(out, b"pnew ")?;
-    put(out, class.as_bytes())?;
-    put(out, b"(")?;
+    put_three_texts(out, b"pnew ", class.as_bytes(), b"(")?;
     put_sets(alloc, out, fields)?;
-    put(out, b")")?;
-    Ok(())
+    put(out, b")")
 }
 
 fn put_activation(
@@ -122,10 +112,8 @@ fn put_activation(
 {
     put(out, b"activate ")?;
     put_operand(alloc, out, of)?;
-    put(out, b".")?;
-    put(out, trigger.as_bytes())?;
-    put_args(alloc, out, args)?;
-    Ok(())
+    put_two_texts(out, b".", trigger.as_bytes())?;
+    put_args(alloc, out, args)
 }
 
 /// Puts the text of a right side at the end.
@@ -159,8 +147,7 @@ fn put_value_part(alloc: Global, out: &mut Vec<u8>, value: &Option<Expr>) -> Res
         None => Ok(()),
         Some(e) => {
             put(out, b" ")?;
-            put_expr(alloc, out, e)?;
-            Ok(())
+            put_expr(alloc, out, e)
         }
     }
 }
@@ -171,32 +158,28 @@ fn put_set_to(alloc: Global, out: &mut Vec<u8>, var: &Var, rhs: &Rhs) -> Result<
     put_var(out, var)?;
     put(out, b" = ")?;
     put_rhs(alloc, out, rhs)?;
-    put(out, b";")?;
-    Ok(())
+    put(out, b";")
 }
 
 fn put_let(alloc: Global, out: &mut Vec<u8>, var: &Var, rhs: &Rhs) -> Result<(), AllocError>
     ensures { OnOk result (out.new.items ≡ out.old.items ++ (codes "let " ++ var_text var.now ++ codes " = " ++ rhs_text rhs.now ++ codes ";")) }
 {
     put(out, b"let ")?;
-    put_set_to(alloc, out, var, rhs)?;
-    Ok(())
+    put_set_to(alloc, out, var, rhs)
 }
 
 fn put_do(alloc: Global, out: &mut Vec<u8>, rhs: &Rhs) -> Result<(), AllocError>
     ensures { OnOk result (out.new.items ≡ out.old.items ++ (rhs_text rhs.now ++ codes ";")) }
 {
     put_rhs(alloc, out, rhs)?;
-    put(out, b";")?;
-    Ok(())
+    put(out, b";")
 }
 
 fn put_show(alloc: Global, out: &mut Vec<u8>, rhs: &Rhs) -> Result<(), AllocError>
     ensures { OnOk result (out.new.items ≡ out.old.items ++ (codes "show " ++ rhs_text rhs.now ++ codes ";")) }
 {
     put(out, b"show ")?;
-    put_do(alloc, out, rhs)?;
-    Ok(())
+    put_do(alloc, out, rhs)
 }
 
 fn put_return(alloc: Global, out: &mut Vec<u8>, value: &Option<Expr>) -> Result<(), AllocError>
@@ -204,24 +187,7 @@ fn put_return(alloc: Global, out: &mut Vec<u8>, value: &Option<Expr>) -> Result<
 {
     put(out, b"return")?;
     put_value_part(alloc, out, value)?;
-    put(out, b";")?;
-    Ok(())
-}
-
-// Puts an expression between two texts at the end.
-fn put_between(
-    alloc: Global,
-    out: &mut Vec<u8>,
-    before: &[u8],
-    e: &Expr,
-    behind: &[u8],
-) -> Result<(), AllocError>
-    ensures { OnOk result (out.new.items ≡ out.old.items ++ (before.now ++ expr_text e.now ++ behind.now)) }
-{
-    put(out, before)?;
-    put_expr(alloc, out, e)?;
-    put(out, behind)?;
-    Ok(())
+    put(out, b";")
 }
 
 // Puts a text and an expression at the end.
@@ -229,8 +195,7 @@ fn put_worded(alloc: Global, out: &mut Vec<u8>, word: &[u8], e: &Expr) -> Result
     ensures { OnOk result (out.new.items ≡ out.old.items ++ (word.now ++ expr_text e.now)) }
 {
     put(out, word)?;
-    put_expr(alloc, out, e)?;
-    Ok(())
+    put_expr(alloc, out, e)
 }
 
 // Puts two expressions behind a text at the end, as a statement.
@@ -245,19 +210,15 @@ fn put_pair(
 {
     put_between(alloc, out, word, first, b", ")?;
     put_expr(alloc, out, second)?;
-    put(out, b";")?;
-    Ok(())
+    put(out, b";")
 }
 
 fn put_test(alloc: Global, out: &mut Vec<u8>, test: &Expr) -> Result<(), AllocError>
     ensures { OnOk result (out.new.items ≡ out.old.items ++ (codes "if " ++ in_brackets (expr_text test.now) ++ codes " ")) }
 {
     put(out, b"if ")?;
-    put(out, b"(")?;
-    put_expr(alloc, out, test)?;
-    put(out, b")")?;
-    put(out, b" ")?;
-    Ok(())
+    put_between(alloc, out, b"(", test, b")")?;
+    put(out, b" ")
 }
 
 /// Puts the text of a statement at the end.
@@ -273,8 +234,7 @@ pub fn put_stmt(alloc: Global, out: &mut Vec<u8>, s: &Stmt) -> Result<(), AllocE
         Stmt::If(test, first, second) => {
             put_test(alloc, out, test)?;
             put_body(alloc, out, first.as_slice())?;
-            put_else(alloc, out, second.as_slice())?;
-            Ok(())
+            put_else(alloc, out, second.as_slice())
         }
         Stmt::Return(value) => put_return(alloc, out, value),
         Stmt::Delete(e) => put_between(alloc, out, b"pdelete ", e, b";"),
@@ -297,8 +257,7 @@ pub fn put_body(alloc: Global, out: &mut Vec<u8>, body: &[Stmt]) -> Result<(), A
         put(out, b" ")?;
         put_stmt(alloc, out, s)?;
     }
-    put(out, b" }")?;
-    Ok(())
+    put(out, b" }")
 }
 
 #[cycle(statements)]
@@ -310,6 +269,5 @@ fn put_else(alloc: Global, out: &mut Vec<u8>, body: &[Stmt]) -> Result<(), Alloc
         return Ok(());
     }
     put(out, b" else ")?;
-    put_body(alloc, out, body)?;
-    Ok(())
+    put_body(alloc, out, body)
 }

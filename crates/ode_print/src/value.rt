@@ -5,7 +5,7 @@ ghost use Rattle.ode_value.specs.Decimal.{digits_of};
 ghost use Rattle.ode_value.specs.Texts.{escaped, value_text};
 
 use crate::put::put;
-use ode_value::{Value, decimal, int_text, ref_text};
+use ode_value::{List, Value, decimal, int_text, ref_text};
 use std::alloc::{AllocError, Global};
 
 // Puts a byte of a text at the end, a quote or a backslash behind a backslash.
@@ -29,12 +29,20 @@ fn put_content(out: &mut Vec<u8>, text: &[u8]) -> Result<(), AllocError>
     Ok(())
 }
 
+// Puts a text that was made for it at the end, and lets it go.
+fn put_made(out: &mut Vec<u8>, text: List<u8>) -> Result<(), AllocError>
+    ensures { OnOk result (out.new.items ≡ out.old.items ++ text) }
+{
+    let done = put(out, text.as_slice());
+    drop(text);
+    done
+}
+
 /// Puts a number at the end, in decimal.
 pub fn put_number(alloc: Global, out: &mut Vec<u8>, number: u64) -> Result<(), AllocError>
     ensures { OnOk result (out.new.items ≡ out.old.items ++ digits_of number) }
 {
-    let digits = decimal(alloc, number)?;
-    put(out, digits.as_slice())
+    put_made(out, decimal(alloc, number)?)
 }
 
 /// Puts the text of a value at the end.
@@ -42,21 +50,14 @@ pub fn put_value(alloc: Global, out: &mut Vec<u8>, value: &Value) -> Result<(), 
     ensures { OnOk result (out.new.items ≡ out.old.items ++ value_text value.now) }
 {
     match value {
-        Value::Int(number) => {
-            let digits = int_text(alloc, *number)?;
-            put(out, digits.as_slice())
-        }
+        Value::Int(number) => put_made(out, int_text(alloc, *number)?),
         Value::Bool(true) => put(out, b"true"),
         Value::Bool(false) => put(out, b"false"),
         Value::Text(text) => {
             put(out, b"\"")?;
             put_content(out, text.as_bytes())?;
-            put(out, b"\"")?;
-            Ok(())
+            put(out, b"\"")
         }
-        Value::Reference(reference) => {
-            let text = ref_text(alloc, *reference)?;
-            put(out, text.as_slice())
-        }
+        Value::Reference(reference) => put_made(out, ref_text(alloc, *reference)?),
     }
 }
