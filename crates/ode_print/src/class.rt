@@ -2,10 +2,10 @@
 ghost use Rattle.std.specs.Prelude.{◌≡◌, ◌++◌, codes, cond, map, OnOk, IfOk, drop};
 ghost use Rattle.ode_value.specs.Printing.{kind_text, with_commas};
 ghost use Rattle.ode_value.specs.PrintedClasses.{constraint_text, decl_text, in_braces, member_text, method_text, mode_text, param_text, params_text, parent_text, sort_text, trigger_text, trigger_words};
-ghost use Rattle.ode_print.specs.Joined.{behind};
 
-use crate::event::{put_event, put_kind};
+use crate::event::put_event;
 use crate::expression::put_expr;
+use crate::listed::put_list;
 use crate::put::{put, put_three_texts, put_two_texts};
 use crate::statement::put_body;
 use ode_value::{
@@ -25,39 +25,19 @@ fn put_sort(out: &mut Vec<u8>, sort: &Sort) -> Result<(), AllocError>
     }
 }
 
-fn put_param(out: &mut Vec<u8>, param: &Param) -> Result<(), AllocError>
+/// Puts the text of a parameter at the end.
+pub(crate) fn put_param(out: &mut Vec<u8>, param: &Param) -> Result<(), AllocError>
     ensures { OnOk result (out.new.items ≡ out.old.items ++ param_text param.now) }
 {
     put_sort(out, &param.sort)?;
     put_two_texts(out, b" ", param.name.as_bytes())
 }
 
-// Puts what follows the first one at the end.
-fn put_more_params(out: &mut Vec<u8>, rest: &[Param]) -> Result<(), AllocError>
-    ensures { OnOk result (out.new.items ≡ out.old.items ++ behind (codes ", ") (map param_text rest.now)) }
-{
-    for param in rest {
-        put(out, b", ")?;
-        put_param(out, param)?;
-    }
-    Ok(())
-}
-
-fn put_param_list(out: &mut Vec<u8>, params: &[Param]) -> Result<(), AllocError>
-    ensures { OnOk result (out.new.items ≡ out.old.items ++ with_commas (map param_text params.now)) }
-{
-    let Some((first, rest)) = params.split_first() else {
-        return Ok(());
-    };
-    put_param(out, first)?;
-    put_more_params(out, rest)
-}
-
-fn put_params(out: &mut Vec<u8>, params: &[Param]) -> Result<(), AllocError>
+fn put_params(alloc: Global, out: &mut Vec<u8>, params: &[Param]) -> Result<(), AllocError>
     ensures { OnOk result (out.new.items ≡ out.old.items ++ params_text params.now) }
 {
     put(out, b"(")?;
-    put_param_list(out, params)?;
+    put_list(alloc, out, params)?;
     put(out, b")")
 }
 
@@ -66,7 +46,7 @@ fn put_method(alloc: Global, out: &mut Vec<u8>, method: &Method) -> Result<(), A
 {
     put_sort(out, &method.result)?;
     put_two_texts(out, b" ", method.name.as_bytes())?;
-    put_params(out, method.params.as_slice())?;
+    put_params(alloc, out, method.params.as_slice())?;
     put(out, b" ")?;
     put_body(alloc, out, method.body.as_slice())
 }
@@ -89,27 +69,6 @@ fn put_constraint(
     put_three_texts(out, b"constraint ", constraint.name.as_bytes(), b": ")?;
     put_expr(alloc, out, &constraint.test)?;
     put(out, b";")
-}
-
-// Puts what follows the first one at the end.
-fn put_more_kinds(alloc: Global, out: &mut Vec<u8>, rest: &[Kind]) -> Result<(), AllocError>
-    ensures { OnOk result (out.new.items ≡ out.old.items ++ behind (codes ", ") (map kind_text rest.now)) }
-{
-    for kind in rest {
-        put(out, b", ")?;
-        put_kind(alloc, out, kind)?;
-    }
-    Ok(())
-}
-
-fn put_kinds(alloc: Global, out: &mut Vec<u8>, kinds: &[Kind]) -> Result<(), AllocError>
-    ensures { OnOk result (out.new.items ≡ out.old.items ++ with_commas (map kind_text kinds.now)) }
-{
-    let Some((first, rest)) = kinds.split_first() else {
-        return Ok(());
-    };
-    put_kind(alloc, out, first)?;
-    put_more_kinds(alloc, out, rest)
 }
 
 fn put_mode(out: &mut Vec<u8>, mode: Mode) -> Result<(), AllocError>
@@ -138,7 +97,7 @@ fn put_trigger(alloc: Global, out: &mut Vec<u8>, trigger: &TriggerDecl) -> Resul
 {
     put_trigger_words(out, trigger)?;
     put(out, trigger.name.as_bytes())?;
-    put_params(out, trigger.params.as_slice())?;
+    put_params(alloc, out, trigger.params.as_slice())?;
     put(out, b": ")?;
     put_event(alloc, out, &trigger.event)?;
     put(out, b" ==> ")?;
@@ -156,7 +115,7 @@ fn put_events(alloc: Global, out: &mut Vec<u8>, kinds: &[Kind]) -> Result<(), Al
     ensures { OnOk result (out.new.items ≡ out.old.items ++ (codes "event " ++ with_commas (map kind_text kinds.now) ++ codes ";")) }
 {
     put(out, b"event ")?;
-    put_kinds(alloc, out, kinds)?;
+    put_list(alloc, out, kinds)?;
     put(out, b";")
 }
 

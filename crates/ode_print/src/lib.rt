@@ -5,6 +5,7 @@ mod class;
 mod event;
 mod expression;
 mod instant;
+mod listed;
 mod put;
 mod statement;
 mod value;

@@ -6,37 +6,16 @@ ghost use Rattle.ode_value.specs.PrintedClasses.{args_text, body_text, call_text
 ghost use Rattle.ode_print.specs.Joined.{behind};
 
 use crate::expression::{put_between, put_expr, put_operand};
+use crate::listed::put_list;
 use crate::put::{put, put_three_texts, put_two_texts};
 use ode_value::{Call, Expr, List, Name, Rhs, Stmt, Var};
 use std::alloc::{AllocError, Global};
-
-// Puts what follows the first one at the end.
-fn put_more_exprs(alloc: Global, out: &mut Vec<u8>, rest: &[Expr]) -> Result<(), AllocError>
-    ensures { OnOk result (out.new.items ≡ out.old.items ++ behind (codes ", ") (map expr_text rest.now)) }
-{
-    for e in rest {
-        put(out, b", ")?;
-        put_expr(alloc, out, e)?;
-    }
-    Ok(())
-}
-
-// Puts expressions with commas between them at the end.
-fn put_exprs(alloc: Global, out: &mut Vec<u8>, args: &[Expr]) -> Result<(), AllocError>
-    ensures { OnOk result (out.new.items ≡ out.old.items ++ with_commas (map expr_text args.now)) }
-{
-    let Some((first, rest)) = args.split_first() else {
-        return Ok(());
-    };
-    put_expr(alloc, out, first)?;
-    put_more_exprs(alloc, out, rest)
-}
 
 fn put_args(alloc: Global, out: &mut Vec<u8>, args: &[Expr]) -> Result<(), AllocError>
     ensures { OnOk result (out.new.items ≡ out.old.items ++ args_text args.now) }
 {
     put(out, b"(")?;
-    put_exprs(alloc, out, args)?;
+    put_list(alloc, out, args)?;
     put(out, b")")
 }
 
