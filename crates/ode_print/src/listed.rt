@@ -8,7 +8,8 @@ use crate::class::put_param;
 use crate::event::put_kind;
 use crate::expression::put_expr;
 use crate::put::put;
-use ode_value::{Expr, Kind, Param};
+use crate::statement::put_set;
+use ode_value::{Expr, Kind, Name, Param};
 use std::alloc::{AllocError, Global};
 
 /// What stands in a list with commas.
@@ -48,6 +49,16 @@ impl Listed for Param {
 
     fn put_listed(&self, _alloc: Global, out: &mut Vec<u8>) -> Result<(), AllocError> {
         put_param(out, self)
+    }
+}
+
+impl Listed for (Name, Expr) {
+    ghost use Rattle.ode_value.specs.PrintedClasses.{set_text};
+
+    ghost text_of = { set_text };
+
+    fn put_listed(&self, alloc: Global, out: &mut Vec<u8>) -> Result<(), AllocError> {
+        put_set(alloc, out, self)
     }
 }
 

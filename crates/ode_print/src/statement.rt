@@ -3,7 +3,6 @@ ghost use Rattle.std.specs.Prelude.{◌≡◌, ◌++◌, codes, map, OnOk, drop}
 ghost use Rattle.std.specs.List.{join_by};
 ghost use Rattle.ode_value.specs.Printing.{expr_text, in_brackets, operand_text, with_commas};
 ghost use Rattle.ode_value.specs.PrintedClasses.{args_text, body_text, call_text, else_part, of_text, rhs_text, set_text, stmt_text, value_part, var_text};
-ghost use Rattle.ode_print.specs.Joined.{behind};
 
 use crate::expression::{put_between, put_expr, put_operand};
 use crate::listed::put_list;
@@ -39,32 +38,16 @@ fn put_call(alloc: Global, out: &mut Vec<u8>, call: &Call) -> Result<(), AllocEr
     put_args(alloc, out, call.args.as_slice())
 }
 
-fn put_set(alloc: Global, out: &mut Vec<u8>, set: &(Name, Expr)) -> Result<(), AllocError>
+/// Puts the text of a field that is set at the end.
+pub(crate) fn put_set(
+    alloc: Global,
+    out: &mut Vec<u8>,
+    set: &(Name, Expr),
+) -> Result<(), AllocError>
     ensures { OnOk result (out.new.items ≡ out.old.items ++ set_text set.now) }
 {
     put_two_texts(out, set.0.as_bytes(), b" = ")?;
     put_expr(alloc, out, &set.1)
-}
-
-// Puts what follows the first one at the end.
-fn put_more_sets(alloc: Global, out: &mut Vec<u8>, rest: &[(Name, Expr)]) -> Result<(), AllocError>
-    ensures { OnOk result (out.new.items ≡ out.old.items ++ behind (codes ", ") (map set_text rest.now)) }
-{
-    for set in rest {
-        put(out, b", ")?;
-        put_set(alloc, out, set)?;
-    }
-    Ok(())
-}
-
-fn put_sets(alloc: Global, out: &mut Vec<u8>, sets: &[(Name, Expr)]) -> Result<(), AllocError>
-    ensures { OnOk result (out.new.items ≡ out.old.items ++ with_commas (map set_text sets.now)) }
-{
-    let Some((first, rest)) = sets.split_first() else {
-        return Ok(());
-    };
-    put_set(alloc, out, first)?;
-    put_more_sets(alloc, out, rest)
 }
 
 fn put_new(
@@ -76,7 +59,7 @@ fn put_new(
     ensures { OnOk result (out.new.items ≡ out.old.items ++ (codes "pnew " ++ class.now ++ in_brackets (with_commas (map set_text fields.now)))) }
 {
     put_three_texts(out, b"pnew ", class.as_bytes(), b"(")?;
-    put_sets(alloc, out, fields)?;
+    put_list(alloc, out, fields)?;
     put(out, b")")
 }
 
