@@ -2,6 +2,7 @@
 ghost use Rattle.std.specs.Prelude.{◌≡◌, ◌++◌, codes, OnOk, IfOk};
 ghost use Rattle.ode_value.specs.Printing.{event_text, in_brackets, kind_text, mask_text, operand, printed_event};
 ghost use Rattle.ode_value.specs.Decimal.{digits_of};
+ghost use Rattle.ode_value.specs.Instants.{instant_text};
 
 use crate::expression::put_operand;
 use crate::instant::put_instant;
@@ -9,6 +10,14 @@ use crate::put::{put, put_two_texts};
 use crate::value::put_number;
 use ode_value::{EventExpr, Expr, Kind, List};
 use std::alloc::{AllocError, Global};
+
+fn put_time(out: &mut Vec<u8>, second: i64) -> Result<(), AllocError>
+    ensures { OnOk result (out.new.items ≡ out.old.items ++ (codes "time at \"" ++ instant_text second ++ codes "\"")) }
+{
+    put(out, b"time at \"")?;
+    put_instant(out, second)?;
+    put(out, b"\"")
+}
 
 /// Puts the text of a kind at the end.
 pub fn put_kind(alloc: Global, out: &mut Vec<u8>, kind: &Kind) -> Result<(), AllocError>
@@ -23,15 +32,8 @@ pub fn put_kind(alloc: Global, out: &mut Vec<u8>, kind: &Kind) -> Result<(), All
         Kind::TComplete => put(out, b"before tcomplete"),
         Kind::TCommit => put(out, b"after tcommit"),
         Kind::TAbort => put(out, b"after tabort"),
-        Kind::TimeEvery(seconds) => {
-            put(out, b"time every ")?;
-            put_number(alloc, out, u64::from(*seconds))
-        }
-        Kind::TimeAt(second) => {
-            put(out, b"time at \"")?;
-            put_instant(out, *second)?;
-            put(out, b"\"")
-        }
+        Kind::TimeEvery(seconds) => put_count(alloc, out, b"time every ", *seconds),
+        Kind::TimeAt(second) => put_time(out, *second),
     }
 }
 

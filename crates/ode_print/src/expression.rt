@@ -19,21 +19,22 @@ fn put_sign(out: &mut Vec<u8>, op: UnOp) -> Result<(), AllocError>
 fn put_operator(out: &mut Vec<u8>, op: BinOp) -> Result<(), AllocError>
     ensures { OnOk result (out.new.items ≡ out.old.items ++ binary_text op) }
 {
-    match op {
-        BinOp::Add => put(out, b" + "),
-        BinOp::Sub => put(out, b" - "),
-        BinOp::Mul => put(out, b" * "),
-        BinOp::Div => put(out, b" / "),
-        BinOp::Rem => put(out, b" % "),
-        BinOp::Eq => put(out, b" == "),
-        BinOp::Ne => put(out, b" != "),
-        BinOp::Lt => put(out, b" < "),
-        BinOp::Le => put(out, b" <= "),
-        BinOp::Gt => put(out, b" > "),
-        BinOp::Ge => put(out, b" >= "),
-        BinOp::And => put(out, b" && "),
-        BinOp::Or => put(out, b" || "),
-    }
+    let text: &[u8] = match op {
+        BinOp::Add => b" + ",
+        BinOp::Sub => b" - ",
+        BinOp::Mul => b" * ",
+        BinOp::Div => b" / ",
+        BinOp::Rem => b" % ",
+        BinOp::Eq => b" == ",
+        BinOp::Ne => b" != ",
+        BinOp::Lt => b" < ",
+        BinOp::Le => b" <= ",
+        BinOp::Gt => b" > ",
+        BinOp::Ge => b" >= ",
+        BinOp::And => b" && ",
+        BinOp::Or => b" || ",
+    };
+    put(out, text)
 }
 
 /// Puts the text of an expression at the end.
