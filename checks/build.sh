@@ -1,12 +1,13 @@
 #!/usr/bin/env bash
 # Proves and builds the program, and all that it stands on, on all processors: checks/build.sh PROGRAM
-# `rt ci` does it in a copy that has no tests and no must-fail edits, since it would prove crates once more for these.
+# `rt ci` does it in a copy outside, which has no tests and no must-fail edits: for these it would prove crates once more.
 set -euo pipefail
 cd "$(dirname "${BASH_SOURCE[0]}")/.."
 
 program=$1
 name=$(basename "$program")
-copy=out/build
+copy=$(mktemp -d)
+trap 'rm -rf "$copy"' EXIT
 
 if ! command -v rt > /dev/null; then
     echo 'rt, the command of the Rattle kit, is missing: it proves and builds the program.' >&2
@@ -26,8 +27,7 @@ below() {
         END { mark(seek); for (i = 1; i <= NR; i++) if (order[i] in seen) print order[i] ":" on[order[i]] }' crates.txt
 }
 
-rm -rf "$copy"
-mkdir -p "$copy/crates"
+mkdir -p out "$copy/crates"
 cp HANDLES "$copy/"
 below "$name" > "$copy/crates.txt"
 cut -d: -f1 "$copy/crates.txt" | while read -r crate; do
@@ -39,5 +39,4 @@ echo "Proving $(wc -l < "$copy/crates.txt") crates. This takes up to an hour on 
 (cd "$copy" && rt ci 2>&1) | tee out/build.log | grep --line-buffered -E '^rt: .* (proved|NOT PROVED|is kept)|passed,'
 mkdir -p "$(dirname "$program")"
 cp "$copy/$program" "$program"
-rm -rf "$copy"
 echo "The program is $program: proved and built."
