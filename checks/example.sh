@@ -31,7 +31,7 @@ printf '%s\n' init "$file" > "$runs/1 init.args"
 cp examples/first.ode "$runs/2 run first.ode"
 printf '%s\n' run "$file" > "$runs/2 run first.ode.args"
 echo 'There is no proved program yet, so rt builds one without proofs. This takes a minute or two.'
-if ! (cd crates/ode && rt try --cases "$runs" 2> "$work/errors"); then
+if ! (cd crates/ode && rt try --steps 1000 --cases "$runs" 2> "$work/errors"); then
     cat "$work/errors" >&2
     exit 1
 fi
