@@ -1,6 +1,5 @@
 -- How a check of a statement answers.
 use Rattle.std.specs.Prelude.{◌≡◌, Result, Ok, Err, IsErrOf}
-use Rattle.ode_engine.specs.declared.commanding.State.{State}
 use Rattle.ode_engine.specs.declared.engine.Done.{Done}
 use Rattle.ode_engine.specs.declared.engine.Done.TheVariants as done
 use Rattle.ode_engine.specs.declared.refusing.Turned.{Turned}
@@ -50,7 +49,7 @@ pub record LeavesChecked {R : Type 0} (result : Result R Turned) (usable : Type 
   pub silent : IsErrOf result (Stopped error.WriteFault) → ⊥
 
 -- what is answered then, where this is there
-abbrev pub turned_down : {K : Type 0} → State K → Turned → Result (State K × Done) EngineError
+abbrev pub turned_down : {S : Type 0} → S → Turned → Result (S × Done) EngineError
 turned_down s (Refused why) = Ok (s, done.Refused why)
 turned_down s (Stopped error) = Err error
 

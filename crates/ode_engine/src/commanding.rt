@@ -1,25 +1,29 @@
 //! Statements, over an opened file and inside a transaction.
-ghost use Rattle.std.specs.Prelude.{◌≡◌, ◌<◌, IfOk, IsErrOf, IsTrue, Ok, false};
+ghost use Rattle.std.specs.Prelude.{◌≡◌, ◌<◌, ℕ, List as Items, IfOk, IsErrOf, IsTrue, Ok, Some, false, true};
 ghost use Rattle.ode_compile.specs.Compiling.{HaveNumbers};
 ghost use Rattle.ode_declare.specs.Texts.{HasText};
 ghost use Rattle.ode_declared_laws.specs.Adding.{AreAligned};
 ghost use Rattle.ode_engine.specs.Refusing.{turned_down};
 ghost use Rattle.ode_engine.specs.Serving.{IsServed, IsSession, IsUsable, Serves, StandsIn, answer_to};
 ghost use Rattle.ode_good_laws.specs.Well.{IsWell};
-ghost use Rattle.ode_host.specs.Host.{HostCalls};
+ghost use Rattle.ode_host.specs.Causes.{RoseIf};
+ghost use Rattle.ode_host.specs.Host.{HostCalls, LeavesOnly, Looks, Printed};
 ghost use Rattle.ode_language.specs.Languages.{ode};
 ghost use Rattle.ode_machine.specs.Commands.{carried, commits, finish, goes_on, settles};
-ghost use Rattle.ode_machine.specs.Refusals.{checked_in, place_of};
+ghost use Rattle.ode_machine.specs.Moments.{LeavesSettling};
+ghost use Rattle.ode_machine.specs.Refusals.{checked_in, is_lone, place_of};
 ghost use Rattle.ode_machine.specs.Sessions.{Session, closed, opened};
 ghost use Rattle.ode_run.specs.Contexts.{ContextRuns, parts_of};
 ghost use Rattle.ode_schema.specs.Parts.{AreFit};
-ghost use Rattle.ode_transact.specs.Resting.{IsAtRest, resting_parts};
-ghost use Rattle.ode_transact.specs.Working.{settled_by};
+ghost use Rattle.ode_transact.specs.Errors.{OnDamaged};
+ghost use Rattle.ode_transact.specs.Resting.{HoldsBy, IsAtRest, resting_parts};
+ghost use Rattle.ode_transact.specs.Working.{EndedAs, settled_by, whole_of};
 ghost use Rattle.ode_value.specs.Executing.{commands};
-ghost use Rattle.ode_value.specs.Language.{ListTx, ListWorld};
+ghost use Rattle.ode_value.specs.Language.{Language, ListTx, ListWorld};
 ghost use Rattle.ode_value.specs.Limits.{number_limit};
+ghost use Rattle.ode_value.specs.Objects.{Histories, Starts};
 ghost use Rattle.ode_value.specs.Pasts.{lists};
-ghost use Rattle.ode_value.specs.Settling.{abort, transaction};
+ghost use Rattle.ode_value.specs.Settling.{Settled, abort, transaction};
 ghost use Rattle.ode_value.specs.Transactions.{Script, begun};
 ghost use Rattle.ode_value.specs.declared.statement.Statement.TheVariants as statement;
 
@@ -46,12 +50,35 @@ pub(crate) enum State<K> {
 }
 
 // What is answered where a statement isn't carried out: this is there as before.
-fn turned_down<K: Drop>(state: State<K>, turned: Turned) -> Result<(State<K>, Done), EngineError>
+fn turned_down<S: Drop>(state: S, turned: Turned) -> Result<(S, Done), EngineError>
     ensures { result ≡ turned_down state turned }
 {
     match turned {
         Turned::Refused(why) => Ok((state, Done::Refused(why))),
         Turned::Stopped(error) => Err(error),
+    }
+}
+
+// The drain behind a transaction that has settled.
+fn settled<H: Host, K: Keep<H> + Drop>(
+    alloc: Global,
+    rest: Opened<K>,
+    host: &mut H,
+) -> Result<(State<K>, Done), EngineError>
+    requires live { IsTrue (K.live rest.keeper) }
+    requires fit { AreFit (resting_parts rest) }
+    requires aligned { AreAligned (resting_parts rest) }
+    // Whatever the calls from `before` on settled, they and the drain serve it.
+    ensures serves { (session : Session) (s : Settled Histories Starts) (before : H) → Printed s.1 (H.view before) (H.view host.old)
+        → ((said : Items ℕ) → (H.view before).text ≡ Some said → LeavesOnly (H.view before) (H.view host.old) (LeavesSettling (HoldsBy ode K.means) session.world s.0 said s.1))
+        → IsWell ode s.0 → IsAtRest H.view K.holds K.live ode s.0 rest host.old
+        → Serves H.view K.holds K.live K.means ode session (Ok (settles s)) result before host.new }
+    ensures usable { IfOk result (λ r. IsUsable K.live r.0) }
+    ensures leaves { HostCalls (IsErrOf result EngineError.DiskFault) (IsErrOf result EngineError.WriteFault) (H.view host.old) (H.view host.new) }
+{
+    match drain(alloc, rest, host, DRAIN_LIMIT) {
+        Ok((rest, ran)) => Ok((State::Rest(rest), Done::Settled(ran + 1))),
+        Err(error) => Err(error),
     }
 }
 
@@ -70,9 +97,10 @@ fn settle<H: Host, K: Keep<H> + Drop>(
     ensures usable { IfOk result (λ r. IsUsable K.live r.0) }
     ensures leaves { HostCalls (IsErrOf result EngineError.DiskFault) (IsErrOf result EngineError.WriteFault) (H.view host.old) (H.view host.new) }
 {
-    let rest = end(alloc, ctx, host, ending)?;
-    let (rest, ran) = drain(alloc, rest, host, DRAIN_LIMIT)?;
-    Ok((State::Rest(rest), Done::Settled(ran + 1)))
+    match end(alloc, ctx, host, ending) {
+        Ok(rest) => settled(alloc, rest, host),
+        Err(error) => Err(error),
+    }
 }
 
 // A checked statement of an open transaction.
@@ -95,7 +123,10 @@ fn run_inside<H: Host, K: Keep<H> + Drop>(
     match exec(alloc, &mut ctx, host, s) {
         Ok(()) => Ok((State::Running(ctx), Done::Settled(0))),
         Err(Stop::Abort(why)) => settle(alloc, ctx, host, Some(why)),
-        Err(stop) => Err(fault_of(stop)),
+        Err(stop) => {
+            drop(ctx);
+            Err(fault_of(stop))
+        }
     }
 }
 
@@ -136,8 +167,13 @@ fn commit<H: Host, K: Keep<H> + Drop>(
     ensures leaves { HostCalls (IsErrOf result EngineError.DiskFault) (IsErrOf result EngineError.WriteFault) (H.view host.old) (H.view host.new) }
 {
     let mut ctx = ctx;
-    let ending = run_completion(alloc, &mut ctx, host)?;
-    settle(alloc, ctx, host, ending)
+    match run_completion(alloc, &mut ctx, host) {
+        Ok(ending) => settle(alloc, ctx, host, ending),
+        Err(error) => {
+            drop(ctx);
+            Err(error)
+        }
+    }
 }
 
 // The open transaction is aborted, by a statement or at the end of the input.
@@ -185,6 +221,26 @@ fn command_inside<H: Host, K: Keep<H> + Drop>(
     }
 }
 
+// A checked statement, and the completion behind it.
+fn carry<H: Host, K: Keep<H>>(
+    alloc: Global,
+    ctx: &mut Ctx<K>,
+    host: &mut H,
+    s: &Stmt,
+) -> Result<Option<Reason>, EngineError>
+    requires fit { AreFit (parts_of ctx.old) }
+    ensures runs { (w : ListWorld) (x : ListTx) → ContextRuns H.view K.holds K.live ode w ctx.old host.old x
+        → IfOk result (λ ending. EndedAs ending (ContextRuns H.view K.holds K.live ode w ctx.new host.new) (whole_of (Work.Statement s.entry) lists x)) }
+    ensures looks { K.live ctx.old.heap ≡ true → Looks (H.view host.old) (H.view host.new) }
+    ensures cause { K.live ctx.old.heap ≡ true → RoseIf (IsErrOf result EngineError.DiskFault) (H.view host.old).disk_faults (H.view host.new).disk_faults }
+    ensures usable { K.live ctx.old.heap ≡ true → IfOk result (λ _. K.live ctx.new.heap ≡ true) }
+    ensures silent { IsErrOf result EngineError.WriteFault → ⊥ }
+    ensures undamaged { OnDamaged result ((l : Language) (w : ListWorld) (x : ListTx) → ContextRuns H.view K.holds K.live l w ctx.old host.old x → ⊥) }
+    ensures same { parts_of ctx.new ≡ parts_of ctx.old }
+{
+    run(alloc, ctx, host, Work::Statement(s))
+}
+
 // A checked statement as a transaction of its own.
 fn run_whole<H: Host, K: Keep<H> + Drop>(
     alloc: Global,
@@ -201,8 +257,13 @@ fn run_whole<H: Host, K: Keep<H> + Drop>(
     ensures leaves { HostCalls (IsErrOf result EngineError.DiskFault) (IsErrOf result EngineError.WriteFault) (H.view host.old) (H.view host.new) }
 {
     let mut ctx = ctx;
-    let ending = run(alloc, &mut ctx, host, Work::Statement(s))?;
-    settle(alloc, ctx, host, ending)
+    match carry(alloc, &mut ctx, host, s) {
+        Ok(ending) => settle(alloc, ctx, host, ending),
+        Err(error) => {
+            drop(ctx);
+            Err(error)
+        }
+    }
 }
 
 // A simple statement as a transaction of its own, which has begun. Where the statement is refused, nothing is left of that.
@@ -242,8 +303,10 @@ fn simple<H: Host, K: Keep<H> + Drop>(
     ensures usable { IfOk result (λ r. IsUsable K.live r.0) }
     ensures leaves { HostCalls (IsErrOf result EngineError.DiskFault) (IsErrOf result EngineError.WriteFault) (H.view host.old) (H.view host.new) }
 {
-    let ctx = begin(alloc, rest, host, Origin::Script)?;
-    simple_begun(alloc, ctx, host, s)
+    match begin(alloc, rest, host, Origin::Script) {
+        Ok(ctx) => simple_begun(alloc, ctx, host, s),
+        Err(error) => Err(error),
+    }
 }
 
 // A class, with the drain behind its transaction.
@@ -262,13 +325,12 @@ fn class<H: Host, K: Keep<H> + Drop>(
     ensures usable { IfOk result (λ r. IsUsable K.live r.0) }
     ensures leaves { HostCalls (IsErrOf result EngineError.DiskFault) (IsErrOf result EngineError.WriteFault) (H.view host.old) (H.view host.new) }
 {
-    let (rest, refused) = declare(alloc, rest, host, decl)?;
-    match refused {
-        Some(why) => Ok((State::Rest(rest), Done::Refused(why))),
-        None => {
-            let (rest, ran) = drain(alloc, rest, host, DRAIN_LIMIT)?;
-            Ok((State::Rest(rest), Done::Settled(ran + 1)))
-        }
+    match declare(alloc, rest, host, decl) {
+        Ok((rest, refused)) => match refused {
+            Some(why) => Ok((State::Rest(rest), Done::Refused(why))),
+            None => settled(alloc, rest, host),
+        },
+        Err(error) => Err(error),
     }
 }
 
@@ -286,8 +348,10 @@ fn leave_open<H: Host, K: Keep<H> + Drop>(
     ensures usable { IfOk result (λ r. IsUsable K.live r.0) }
     ensures leaves { HostCalls (IsErrOf result EngineError.DiskFault) (IsErrOf result EngineError.WriteFault) (H.view host.old) (H.view host.new) }
 {
-    let ctx = begin(alloc, rest, host, Origin::Script)?;
-    Ok((State::Running(ctx), Done::Settled(0)))
+    match begin(alloc, rest, host, Origin::Script) {
+        Ok(ctx) => Ok((State::Running(ctx), Done::Settled(0))),
+        Err(error) => Err(error),
+    }
 }
 
 // A statement outside a transaction that stands in its place and has a number.
@@ -315,6 +379,30 @@ fn carry_out<H: Host, K: Keep<H> + Drop>(
     }
 }
 
+// A statement outside a transaction that stands in its place and takes a number.
+fn numbered<H: Host, K: Keep<H> + Drop>(
+    alloc: Global,
+    rest: Opened<K>,
+    host: &mut H,
+    s: &Statement,
+) -> Result<(State<K>, Done), EngineError>
+    requires live { IsTrue (K.live rest.keeper) }
+    requires fit { AreFit (resting_parts rest) }
+    requires aligned { AreAligned (resting_parts rest) }
+    requires text { HasText ode s.now }
+    requires served { IsServed s.now }
+    ensures serves { (w : ListWorld) → IsWell ode w → IsAtRest H.view K.holds K.live ode w rest host.old → place_of s.now false ≡ Ok tt → is_lone s.now ≡ false
+        → Serves H.view K.holds K.live K.means ode (closed w) (answer_to ode (closed w) s.now) result host.old host.new }
+    ensures usable { IfOk result (λ r. IsUsable K.live r.0) }
+    ensures leaves { HostCalls (IsErrOf result EngineError.DiskFault) (IsErrOf result EngineError.WriteFault) (H.view host.old) (H.view host.new) }
+{
+    let (rest, number) = next_number(alloc, rest, host)?;
+    if number >= NUMBER_LIMIT {
+        return Ok((State::Rest(rest), Done::Refused(Refusal::NumbersSpent)));
+    }
+    carry_out(alloc, rest, host, s)
+}
+
 // A statement outside a transaction.
 fn command_at_rest<H: Host, K: Keep<H> + Drop>(
     alloc: Global,
@@ -338,11 +426,7 @@ fn command_at_rest<H: Host, K: Keep<H> + Drop>(
     if !takes_number(s) {
         return Ok((State::Rest(rest), Done::Settled(0)));
     }
-    let (rest, number) = next_number(alloc, rest, host)?;
-    if number >= NUMBER_LIMIT {
-        return Ok((State::Rest(rest), Done::Refused(Refusal::NumbersSpent)));
-    }
-    carry_out(alloc, rest, host, s)
+    numbered(alloc, rest, host, s)
 }
 
 /// A statement, over what is there.

@@ -34,6 +34,13 @@ pub enum Done {
     Refused(Refusal),
 }
 
+// Another value stands in a place.
+fn set<T: Drop>(place: &mut T, value: T)
+    ensures { place.new ≡ value }
+{
+    *place = value;
+}
+
 /// An opened file, or the context of an open transaction over it; and whether it may be called: not after an error.
 #[derive(Drop)]
 pub struct Engine<K> {
@@ -73,12 +80,12 @@ impl<K: Drop> Engine<K> {
     {
         match state {
             State::Rest(rest) => {
-                self.rest = Some(rest);
-                self.running = None;
+                set(&mut self.rest, Some(rest));
+                set(&mut self.running, None);
             }
             State::Running(ctx) => {
-                self.rest = None;
-                self.running = Some(ctx);
+                set(&mut self.rest, None);
+                set(&mut self.running, Some(ctx));
             }
         }
     }

@@ -1,5 +1,5 @@
 //! Why a statement is refused: its place, a number for its transaction, what its literals denote, and the static rules.
-ghost use Rattle.std.specs.Prelude.{◌≡◌, IsErrOf, IsTrue, Option, not, true};
+ghost use Rattle.std.specs.Prelude.{◌≡◌, Err, IsErrOf, IsTrue, Ok, Option, cond, not, true};
 ghost use Rattle.std.specs.Option.{IfSome, option_map};
 ghost use Rattle.ode_engine.specs.Refusing.{Answers, KeepsChecked, LeavesChecked};
 ghost use Rattle.ode_heap.specs.Answering.{head_of_object};
@@ -7,8 +7,9 @@ ghost use Rattle.ode_language.specs.Languages.{ode};
 ghost use Rattle.ode_machine.specs.Refusals.{checked_in, class_behind, classes_behind, is_lone, place_of};
 ghost use Rattle.ode_run.specs.Contexts.{ContextRuns, parts_of};
 ghost use Rattle.ode_schema.specs.Parts.{AreFit};
+ghost use Rattle.ode_types.specs.Literals.{literals};
 ghost use Rattle.ode_types.specs.Static.{check_statement};
-ghost use Rattle.ode_value.specs.Answers.{checks, refuses};
+ghost use Rattle.ode_value.specs.Answers.{checks};
 ghost use Rattle.ode_value.specs.Denoting.{object_of};
 ghost use Rattle.ode_value.specs.Language.{Language, ListTx, ListWorld};
 ghost use Rattle.ode_value.specs.Worlds.{Object};
@@ -43,8 +44,8 @@ impl From<AllocError> for Turned {
     }
 }
 
-fn refuses(when: bool, why: Refusal) -> Result<(), Refusal>
-    ensures { result ≡ refuses when why }
+fn refuses<W: Drop>(when: bool, why: W) -> Result<(), W>
+    ensures { result ≡ cond when (Err why) (Ok tt) }
 {
     if when { Err(why) } else { Ok(()) }
 }
@@ -83,6 +84,18 @@ fn class_behind(of: Ref, found: &Option<ObjectHead>) -> Result<u32, Refusal>
     }
 }
 
+// That of one, where this is found under the number of its object.
+fn class_there(of: Ref, found: &Option<ObjectHead>) -> Result<u32, Turned>
+    requires { IfSome found.now (λ head. IsVersionList head.versions) }
+    ensures answers { (o : Option Object) → found.now ≡ option_map head_of_object o → Answers result (class_behind of o) }
+    ensures calm { (error : EngineError) → IsErrOf result (Turned.Stopped error) → error ≡ EngineError.Memory }
+{
+    match class_behind(of, found) {
+        Ok(class) => Ok(class),
+        Err(why) => Err(Turned::Refused(why)),
+    }
+}
+
 // That of one, looked up in the world now.
 fn class_of<H: Host, K: Keep<H>>(ctx: &mut Ctx<K>, host: &mut H, of: &Ref) -> Result<u32, Turned>
     requires live { IsTrue (K.live ctx.old.heap) }
@@ -98,10 +111,7 @@ fn class_of<H: Host, K: Keep<H>>(ctx: &mut Ctx<K>, host: &mut H, of: &Ref) -> Re
         return Err(Turned::Refused(Refusal::NoObject(0)));
     }
     match head(ctx, host, of.object) {
-        Ok(found) => match class_behind(*of, &found) {
-            Ok(class) => Ok(class),
-            Err(why) => Err(Turned::Refused(why)),
-        },
+        Ok(found) => class_there(*of, &found),
         Err(stop) => Err(Turned::Stopped(fault_of(stop))),
     }
 }
@@ -130,6 +140,14 @@ fn classes_behind<H: Host, K: Keep<H>>(
     Ok(classes)
 }
 
+// A value in a box.
+fn boxed<T: Drop>(alloc: Global, value: T) -> Result<Boxed<T>, Turned>
+    ensures answers { Answers result (Ok value) }
+    ensures calm { (error : EngineError) → IsErrOf result (Turned.Stopped error) → error ≡ EngineError.Memory }
+{
+    Ok(Boxed::new(alloc, value)?)
+}
+
 // The static rules.
 fn by_rules(
     alloc: Global,
@@ -141,10 +159,30 @@ fn by_rules(
     ensures calm { (error : EngineError) → IsErrOf result (Turned.Stopped error) → error ≡ EngineError.Memory }
 {
     match check_statement(alloc, known, classes, s) {
-        Ok(s) => Ok(Boxed::new(alloc, s)?),
+        Ok(s) => boxed(alloc, s),
         Err(CheckStop::Memory) => Err(Turned::Stopped(EngineError::Memory)),
         Err(CheckStop::Broken(broken)) => Err(Turned::Refused(Refusal::Check(broken))),
     }
+}
+
+// The classes of a statement's literals.
+fn behind_literals<H: Host, K: Keep<H>>(
+    alloc: Global,
+    ctx: &mut Ctx<K>,
+    host: &mut H,
+    s: &Stmt,
+) -> Result<List<(Ref, u32)>, Turned>
+    requires live { IsTrue (K.live ctx.old.heap) }
+    requires fit { AreFit (parts_of ctx.old) }
+    ensures answers { (l : Language) (w : ListWorld) (t : ListTx) → ContextRuns H.view K.holds K.live l w ctx.old host.old t
+        → Answers result (classes_behind t.now.bones (literals s.now)) }
+    ensures keeps { (l : Language) (w : ListWorld) (t : ListTx) → ContextRuns H.view K.holds K.live l w ctx.old host.old t
+        → KeepsChecked result (ContextRuns H.view K.holds K.live l w ctx.new host.new t) }
+    ensures leaves { LeavesChecked result (K.live ctx.new.heap ≡ true) (H.view host.old) (H.view host.new) }
+    ensures same { parts_of ctx.new ≡ parts_of ctx.old }
+{
+    let refs = literals(alloc, s)?;
+    classes_behind(alloc, ctx, host, refs.as_slice())
 }
 
 /// A simple statement as it is checked: its literals in the world now, then the static rules.
@@ -163,7 +201,8 @@ pub(crate) fn checked<H: Host, K: Keep<H>>(
     ensures leaves { LeavesChecked result (K.live ctx.new.heap ≡ true) (H.view host.old) (H.view host.new) }
     ensures same { parts_of ctx.new ≡ parts_of ctx.old }
 {
-    let refs = literals(alloc, s)?;
-    let classes = classes_behind(alloc, ctx, host, refs.as_slice())?;
-    by_rules(alloc, &ctx.classes, &classes, s)
+    match behind_literals(alloc, ctx, host, s) {
+        Ok(classes) => by_rules(alloc, &ctx.classes, &classes, s),
+        Err(turned) => Err(turned),
+    }
 }

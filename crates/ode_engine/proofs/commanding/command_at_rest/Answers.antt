@@ -1,19 +1,15 @@
-use Rattle.std.proofs.lemmas.Result.{err_from_is_err_and}
-use Rattle.ode_value.specs.Limits.{number_limit}
-use Rattle.std.proofs.Common.{◌∙◌, ◌<◌, ◌≤◌, Err, Ok, arith, refl, subst, sym}
+use Rattle.std.proofs.Common.{◌∙◌, Err, Ok, refl, subst, sym}
 use Rattle.ode_host.proofs.Moments.{looks_none}
 use Rattle.ode_language.specs.Languages.{ode}
-use Rattle.ode_machine.specs.Commands.{Step, carried}
+use Rattle.ode_machine.specs.Commands.{Step}
 use Rattle.ode_machine.specs.Refusals.{is_lone}
 use Rattle.ode_machine.specs.Sessions.{closed}
 use Rattle.ode_value.specs.Answers.{Answer}
-use Rattle.ode_value.specs.declared.reason.Refusal.TheVariants as refusal
-use Rattle.ode_engine.specs.Serving.{Serves, answer_to}
+use Rattle.ode_engine.specs.Serving.{Serves}
 use Rattle.ode_engine.specs.declared.commanding.State.TheVariants as state
 use Rattle.ode_engine.specs.declared.engine.Done.TheVariants as done
-use Rattle.ode_engine.proofs.PlaceLaws.{misplaced_outside, no_lone, place_ok, placed_outside, spent_outside}
-use Rattle.ode_engine.proofs.FaultLaws.{undamaged_by}
-use Rattle.ode_engine.proofs.ServeLaws.{behind_serves, quiet_by, quiet_none, quiet_serves, rest_now, stopped_serves, told_by, told_none, told_on}
+use Rattle.ode_engine.proofs.PlaceLaws.{misplaced_outside, no_lone, place_ok}
+use Rattle.ode_engine.proofs.ServeLaws.{quiet_none, quiet_serves, rest_now, told_none}
 use Rattle.ode_engine.proofs.SessionLaws.{closed_session}
 use Rattle.ode_engine.proofs.commanding.command_at_rest.Goals as goal
 
@@ -22,41 +18,9 @@ returns-in-Err-clause-serves g c w well rests =
     subst (λ (a : Answer Step). Serves g.H.Host.view g.K.Keep.holds g.K.Keep.live g.K.Keep.means ode (closed w) a (Ok (state.Rest c.args.rest, done.Refused c.in-Err.why)) c.args.host.now c.args.host.now) (sym (misplaced_outside w c.args.s.now c.in-Err.why (sym c.place_of.ensures ∙ c.in-Err.is)))
     (quiet_serves g.H.Host.view g.K.Keep.holds g.K.Keep.live g.K.Keep.means ode g.met.K.Keep.stands g.met.H.Host.text_stands (closed w) (Err c.in-Err.why) (state.Rest c.args.rest) (done.Refused c.in-Err.why) c.args.host.now c.args.host.now (rest_now g.H.Host.view g.K.Keep.holds g.K.Keep.live ode w c.args.rest c.args.host.now well rests) (looks_none (g.H.Host.view c.args.host.now)) refl refl (closed_session w well) (refl, rests))
 
-pub returns-in_err-rest-clause-serves : goal.returns-in_err-rest-clause-serves
-returns-in_err-rest-clause-serves g c w well rests =
-    let p = err_from_is_err_and c.from_residual.result c.from_residual.ensures.1 in
-    rw (p.1, p.2) (stopped_serves g.H.Host.view g.K.Keep.holds g.K.Keep.live g.K.Keep.means ode g.met.K.Keep.stands g.met.H.Host.text_stands (closed w) (answer_to ode (closed w) c.args.s.now) _ c.args.host.now c.next_number.new.host (rest_now g.H.Host.view g.K.Keep.holds g.K.Keep.live ode w c.args.rest c.args.host.now well rests)
-    c.in_err-rest.ensures.looks (undamaged_by _ _ c.in_err-rest.ensures.undamaged (λ never. never ode w rests)))
-
-pub returns-then-number-ge-NUMBER_LIMIT-clause-serves : goal.returns-then-number-ge-NUMBER_LIMIT-clause-serves
-returns-then-number-ge-NUMBER_LIMIT-clause-serves g c w well rests =
-    let place = sym c.place_of.ensures ∙ place_ok c.place_of.result c.in_default.not-Err in
-    let next = c.in_ok-rest.ensures.is ode w rests in
-    let lone = no_lone (is_lone c.args.s.now) (sym c.takes_number.ensures ∙ c.if-not-takes_number.false) in
-    let none : number_limit ≤ w.bones.transaction = omega (arith, next.1, c.if-number-ge-NUMBER_LIMIT.true) in
-    subst (λ (a : Answer Step). Serves g.H.Host.view g.K.Keep.holds g.K.Keep.live g.K.Keep.means ode (closed w) a (Ok (state.Rest c.in_ok-rest.rest, done.Refused refusal.NumbersSpent)) c.args.host.now c.next_number.new.host) (sym (spent_outside w c.args.s.now place lone none))
-    (quiet_serves g.H.Host.view g.K.Keep.holds g.K.Keep.live g.K.Keep.means ode g.met.K.Keep.stands g.met.H.Host.text_stands (closed w) (Err refusal.NumbersSpent) (state.Rest c.in_ok-rest.rest) (done.Refused refusal.NumbersSpent) c.args.host.now c.next_number.new.host (rest_now g.H.Host.view g.K.Keep.holds g.K.Keep.live ode w c.args.rest c.args.host.now well rests)
-    c.in_ok-rest.ensures.looks refl refl (closed_session w well) (refl, next.0))
-
-pub returns-clause-serves : goal.returns-clause-serves
-returns-clause-serves g c w well rests =
-    let place = sym c.place_of.ensures ∙ place_ok c.place_of.result c.in_default.not-Err in
-    let next = c.in_ok-rest.ensures.is ode w rests in
-    let less : w.bones.transaction < number_limit = omega (arith, next.1, c.if-number-ge-NUMBER_LIMIT.false) in
-    subst (λ (a : Answer Step). Serves g.H.Host.view g.K.Keep.holds g.K.Keep.live g.K.Keep.means ode (closed w) a c.carry_out.result c.args.host.now c.carry_out.new.host) (sym (placed_outside w c.args.s.now place less))
-    (behind_serves g.H.Host.view g.K.Keep.holds g.K.Keep.live g.K.Keep.means ode g.met.K.Keep.stands g.met.H.Host.text_stands (closed w) (carried ode (closed w) c.args.s.now) c.carry_out.result c.args.host.now c.next_number.new.host c.carry_out.new.host (rest_now g.H.Host.view g.K.Keep.holds g.K.Keep.live ode w c.args.rest c.args.host.now well rests)
-    c.in_ok-rest.ensures.looks (c.carry_out.ensures.serves w well next.0 less place))
-
 pub returns-in-Err-clause-leaves : goal.returns-in-Err-clause-leaves
 returns-in-Err-clause-leaves g c = told_none _ _ _ (quiet_none (g.H.Host.view c.args.host.now))
 
-pub returns-in_err-rest-clause-leaves : goal.returns-in_err-rest-clause-leaves
-returns-in_err-rest-clause-leaves g c =
-    let p = err_from_is_err_and c.from_residual.result c.from_residual.ensures.1 in
-    rw (p.1, p.2) (told_by _ _ _ _ (λ is. cc (is)) (λ is. cc (is)) (λ is. c.in_err-rest.ensures.silent (cc (is))) c.in_err-rest.ensures.looks c.in_err-rest.ensures.cause)
-
-pub returns-then-number-ge-NUMBER_LIMIT-clause-leaves : goal.returns-then-number-ge-NUMBER_LIMIT-clause-leaves
-returns-then-number-ge-NUMBER_LIMIT-clause-leaves g c = told_none _ _ _ (quiet_by _ _ _ (λ is. cc (is)) c.in_ok-rest.ensures.looks c.in_ok-rest.ensures.cause)
-
-pub returns-clause-leaves : goal.returns-clause-leaves
-returns-clause-leaves g c = told_on _ _ _ _ _ (quiet_by _ _ _ (λ is. cc (is)) c.in_ok-rest.ensures.looks c.in_ok-rest.ensures.cause).1 c.carry_out.ensures.leaves
+pub returns-clause-serves : goal.returns-clause-serves
+returns-clause-serves g c w well rests =
+    c.numbered.ensures.serves w well rests (sym c.place_of.ensures ∙ place_ok c.place_of.result c.in_default.not-Err) (no_lone (is_lone c.args.s.now) (sym c.takes_number.ensures ∙ c.if-not-takes_number.false))

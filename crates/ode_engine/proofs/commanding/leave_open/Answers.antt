@@ -1,4 +1,3 @@
-use Rattle.std.proofs.lemmas.Result.{err_from_is_err_and}
 use Rattle.ode_language.specs.Languages.{ode}
 use Rattle.ode_machine.specs.Commands.{carried}
 use Rattle.ode_machine.specs.Sessions.{closed}
@@ -9,20 +8,18 @@ use Rattle.ode_engine.proofs.ServeLaws.{quiet_by, rest_now, stopped_serves, told
 use Rattle.ode_engine.proofs.SessionLaws.{room}
 use Rattle.ode_engine.proofs.commanding.leave_open.Goals as goal
 
-pub returns-in_err-ctx-clause-serves : goal.returns-in_err-ctx-clause-serves
-returns-in_err-ctx-clause-serves g c w well rests left =
-    let p = err_from_is_err_and c.from_residual.result c.from_residual.ensures.1 in
-    rw (p.1, p.2) (stopped_serves g.H.Host.view g.K.Keep.holds g.K.Keep.live g.K.Keep.means ode g.met.K.Keep.stands g.met.H.Host.text_stands (closed w) (carried ode (closed w) statement.Begin) _ c.args.host.now c.begin.new.host (rest_now g.H.Host.view g.K.Keep.holds g.K.Keep.live ode w c.args.rest c.args.host.now well rests)
-    c.in_err-ctx.ensures.looks (undamaged_by _ _ c.in_err-ctx.ensures.undamaged (λ never. never ode w rests tt (room w left))))
+pub returns-in-Err-clause-serves : goal.returns-in-Err-clause-serves
+returns-in-Err-clause-serves g c w well rests left =
+    stopped_serves g.H.Host.view g.K.Keep.holds g.K.Keep.live g.K.Keep.means ode g.met.K.Keep.stands g.met.H.Host.text_stands (closed w) (carried ode (closed w) statement.Begin) _ c.args.host.now c.begin.new.host (rest_now g.H.Host.view g.K.Keep.holds g.K.Keep.live ode w c.args.rest c.args.host.now well rests)
+    c.in-Err.ensures.looks (undamaged_by _ _ c.in-Err.ensures.undamaged (λ never. never ode w rests tt (room w left)))
 
-pub returns-in_err-ctx-clause-leaves : goal.returns-in_err-ctx-clause-leaves
-returns-in_err-ctx-clause-leaves g c =
-    let p = err_from_is_err_and c.from_residual.result c.from_residual.ensures.1 in
-    rw (p.1, p.2) (told_by _ _ _ _ (λ is. cc (is)) (λ is. cc (is)) (λ is. c.in_err-ctx.ensures.silent (cc (is))) c.in_err-ctx.ensures.looks c.in_err-ctx.ensures.cause)
+pub returns-in-Err-clause-leaves : goal.returns-in-Err-clause-leaves
+returns-in-Err-clause-leaves g c =
+    told_by _ _ _ _ (λ is. cc (is)) (λ is. cc (is)) (λ is. c.in-Err.ensures.silent (cc (is))) c.in-Err.ensures.looks c.in-Err.ensures.cause
 
-pub returns-clause-serves : goal.returns-clause-serves
-returns-clause-serves g c w well rests left =
-    begun_serves g.H.Host.view g.K.Keep.holds g.K.Keep.live g.K.Keep.means g.met.K.Keep.stands g.met.H.Host.text_stands w _ c.args.host.now c.begin.new.host well left (rest_now g.H.Host.view g.K.Keep.holds g.K.Keep.live ode w c.args.rest c.args.host.now well rests) c.in_ok-ctx.ensures.looks (c.in_ok-ctx.ensures.begun ode w rests tt)
+pub returns-in-Ok-clause-serves : goal.returns-in-Ok-clause-serves
+returns-in-Ok-clause-serves g c w well rests left =
+    begun_serves g.H.Host.view g.K.Keep.holds g.K.Keep.live g.K.Keep.means g.met.K.Keep.stands g.met.H.Host.text_stands w _ c.args.host.now c.begin.new.host well left (rest_now g.H.Host.view g.K.Keep.holds g.K.Keep.live ode w c.args.rest c.args.host.now well rests) c.in-Ok.ensures.looks (c.in-Ok.ensures.begun ode w rests tt)
 
-pub returns-clause-leaves : goal.returns-clause-leaves
-returns-clause-leaves g c = told_none _ _ _ (quiet_by _ _ _ (λ is. cc (is)) c.in_ok-ctx.ensures.looks c.in_ok-ctx.ensures.cause)
+pub returns-in-Ok-clause-leaves : goal.returns-in-Ok-clause-leaves
+returns-in-Ok-clause-leaves g c = told_none _ _ _ (quiet_by _ _ _ (λ is. cc (is)) c.in-Ok.ensures.looks c.in-Ok.ensures.cause)

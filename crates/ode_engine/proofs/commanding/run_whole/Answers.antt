@@ -1,5 +1,4 @@
 use Rattle.std.proofs.Common.{Ok}
-use Rattle.std.proofs.lemmas.Result.{err_from_is_err_and}
 use Rattle.ode_language.specs.Languages.{ode}
 use Rattle.ode_machine.specs.Commands.{settles}
 use Rattle.ode_machine.specs.Sessions.{closed}
@@ -15,25 +14,23 @@ use Rattle.ode_engine.proofs.ServeLaws.{quiet_by, running_now, stopped_serves, t
 use Rattle.ode_engine.proofs.commanding.run_whole.Goals as goal
 
 pub settle-requires-clause-live : goal.settle-requires-clause-live
-settle-requires-clause-live g c = c.in_ok-ending.ensures.usable c.requires.live
+settle-requires-clause-live g c = c.in-Ok.ensures.usable c.requires.live
 
-pub returns-in_err-ending-clause-serves : goal.returns-in_err-ending-clause-serves
-returns-in_err-ending-clause-serves g c w well runs wells =
-    let p = err_from_is_err_and c.from_residual.result c.from_residual.ensures.1 in
-    rw (p.1, p.2) (stopped_serves g.H.Host.view g.K.Keep.holds g.K.Keep.live g.K.Keep.means ode g.met.K.Keep.stands g.met.H.Host.text_stands (closed w) (Ok (settles (transaction lists Script (commands lists c.args.s.now) w))) _ c.args.host.now c.run.new.host (running_now g.H.Host.view g.K.Keep.holds g.K.Keep.live ode w c.args.ctx c.args.host.now (begun Script w) well runs)
-    (c.in_err-ending.ensures.looks c.requires.live) (undamaged_by _ _ c.in_err-ending.ensures.undamaged (λ never. never ode w (begun Script w) runs)))
+pub returns-in-Err-clause-serves : goal.returns-in-Err-clause-serves
+returns-in-Err-clause-serves g c w well runs wells =
+    stopped_serves g.H.Host.view g.K.Keep.holds g.K.Keep.live g.K.Keep.means ode g.met.K.Keep.stands g.met.H.Host.text_stands (closed w) (Ok (settles (transaction lists Script (commands lists c.args.s.now) w))) _ c.args.host.now c.carry.new.host (running_now g.H.Host.view g.K.Keep.holds g.K.Keep.live ode w c.args.ctx c.args.host.now (begun Script w) well runs)
+    (c.in-Err.ensures.looks c.requires.live) (undamaged_by _ _ c.in-Err.ensures.undamaged (λ never. never ode w (begun Script w) runs))
 
-pub returns-in_err-ending-clause-leaves : goal.returns-in_err-ending-clause-leaves
-returns-in_err-ending-clause-leaves g c =
-    let p = err_from_is_err_and c.from_residual.result c.from_residual.ensures.1 in
-    rw (p.1, p.2) (told_by _ _ _ _ (λ is. cc (is)) (λ is. cc (is)) (λ is. c.in_err-ending.ensures.silent (cc (is))) (c.in_err-ending.ensures.looks c.requires.live) (c.in_err-ending.ensures.cause c.requires.live))
+pub returns-in-Err-clause-leaves : goal.returns-in-Err-clause-leaves
+returns-in-Err-clause-leaves g c =
+    told_by _ _ _ _ (λ is. cc (is)) (λ is. cc (is)) (λ is. c.in-Err.ensures.silent (cc (is))) (c.in-Err.ensures.looks c.requires.live) (c.in-Err.ensures.cause c.requires.live)
 
-pub returns-clause-serves : goal.returns-clause-serves
-returns-clause-serves g c w well runs wells =
-    let ended = transaction_settles Script (commands lists c.args.s.now) w c.in_ok-ending.ending (ContextRuns g.H.Host.view g.K.Keep.holds g.K.Keep.live ode w c.run.new.ctx c.run.new.host) (c.in_ok-ending.ensures.runs ode w (begun Script w) runs) in
-    ended_serves g.H.Host.view g.K.Keep.holds g.K.Keep.live g.K.Keep.means g.met.K.Keep.stands g.met.H.Host.text_stands (closed w) (transaction lists Script (commands lists c.args.s.now) w) c.in_ok-ending.ending ended.0 _ c.args.host.now c.run.new.host c.settle.new.host (running_now g.H.Host.view g.K.Keep.holds g.K.Keep.live ode w c.args.ctx c.args.host.now (begun Script w) well runs)
-    (c.in_ok-ending.ensures.looks c.requires.live) ended.2 wells (λ wells2. c.settle.ensures.serves (closed w) ended.0 well ended.1 wells2)
+pub returns-in-Ok-clause-serves : goal.returns-in-Ok-clause-serves
+returns-in-Ok-clause-serves g c w well runs wells =
+    let ended = transaction_settles Script (commands lists c.args.s.now) w c.in-Ok.ending (ContextRuns g.H.Host.view g.K.Keep.holds g.K.Keep.live ode w c.carry.new.ctx c.carry.new.host) (c.in-Ok.ensures.runs w (begun Script w) runs) in
+    ended_serves g.H.Host.view g.K.Keep.holds g.K.Keep.live g.K.Keep.means g.met.K.Keep.stands g.met.H.Host.text_stands (closed w) (transaction lists Script (commands lists c.args.s.now) w) c.in-Ok.ending ended.0 _ c.args.host.now c.carry.new.host c.settle.new.host (running_now g.H.Host.view g.K.Keep.holds g.K.Keep.live ode w c.args.ctx c.args.host.now (begun Script w) well runs)
+    (c.in-Ok.ensures.looks c.requires.live) ended.2 wells (λ wells2. c.settle.ensures.serves (closed w) ended.0 well ended.1 wells2)
 
-pub returns-clause-leaves : goal.returns-clause-leaves
-returns-clause-leaves g c =
-    told_on _ _ _ _ _ (quiet_by _ _ _ (λ is. cc (is)) (c.in_ok-ending.ensures.looks c.requires.live) (c.in_ok-ending.ensures.cause c.requires.live)).1 c.settle.ensures.leaves
+pub returns-in-Ok-clause-leaves : goal.returns-in-Ok-clause-leaves
+returns-in-Ok-clause-leaves g c =
+    told_on _ _ _ _ _ (quiet_by _ _ _ (λ is. cc (is)) (c.in-Ok.ensures.looks c.requires.live) (c.in-Ok.ensures.cause c.requires.live)).1 c.settle.ensures.leaves
