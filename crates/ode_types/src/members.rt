@@ -79,6 +79,7 @@ fn check_method(
     Ok(with_body(alloc, method, body)?)
 }
 
+// A constraint's test, which is plain.
 #[tactic(auto, using(crate::proofs::MemberLaws::scope_is))]
 fn check_test(
     alloc: Global,
@@ -188,6 +189,7 @@ fn check_trigger(
     trigger_within(alloc, trigger, &place, locals)
 }
 
+// The same member, in a box.
 fn copied(alloc: Global, member: &Member) -> Result<Boxed<Member>, CheckStop>
     ensures { Answers (Ok member.now) result }
 {
@@ -261,6 +263,7 @@ fn complete(
     Ok(())
 }
 
+// The same of a class that begins with this.
 #[tactic(auto, using(crate::proofs::TypingLaws::stops_left))]
 fn completed(
     alloc: Global,
