@@ -2,7 +2,7 @@
 use Rattle.std.proofs.Common.{◌≡◌, ◌-◌, ℕ, suc, List, [], ◌∷◌, map, length, Result, option_map, Option, Some, None, Ok, Err, refl, sym, ap, subst, ◌∙◌, arith}
 use Rattle.std.proofs.lemmas.Bool.Decides.{nat_tests}
 use Rattle.std.proofs.lemmas.List.Elements.{recursion_from_All}
-use Rattle.std.specs.Prelude.{◌==◌, ◌||◌, IfOk, nat_eq, slice_get, true}
+use Rattle.std.specs.Prelude.{◌==◌, ◌||◌, Bool, IfOk, cond, false, nat_eq, slice_get, true}
 use Rattle.std.specs.List.{All, AllByRecursion, list_any}
 use Rattle.std.specs.Option.{IsSome, option_map_or}
 use Rattle.ode_arising_laws.specs.Arising.{AllGo, HasShortArgs, IsGoing, firing_by}
@@ -91,6 +91,11 @@ pub arises_so : (says : code.Firing → Firing) (id : ℕ) (fired fires : List F
     → outcome ≡ Done (map says (map (firing_by id) fires)) z → fired ≡ fires → firings ≡ map (firing_by id) fired → outcome ≡ Done (map says firings) z
 arises_so says id fired fires firings outcome z is same told =
     is ∙ ap (λ (fs : List Fired). Done (map says (map (firing_by id) fs)) z) (sym same) ∙ ap (λ (fs : List code.Firing). Done (map says fs) z) (sym told)
+
+-- one of two, by a test
+pub by_either : {X : Type 0} (P : X → Type 0) (b : Bool) (x y : X) → (b ≡ true → P x) → (b ≡ false → P y) → P (cond b x y)
+by_either P true x y first second = first refl
+by_either P false x y first second = second refl
 
 -- ---- touched objects, in the machine and in the overlay
 

@@ -36,19 +36,11 @@ gathers tells independent f view x x' b pair is shows =
 pub gathered_then : (tells : List ℕ → Deed (Unit {0}) ℕ) (independent : Bool) (f : Firing) (y z : NumberTx) (b : Bool) → b ≡ true → Gathers tells independent f y z b → collects tells independent f y ≡ Done tt z
 gathered_then tells independent f y z b is gathers = subst (Gathers tells independent f y z) is gathers
 
-told_then : (tells : List ℕ → Deed (Unit {0}) ℕ) (independent : Bool) (f : Firing) (y z w : NumberTx) (b : Bool) (text : List ℕ) (result : Result (Unit {0}) Stop) → b ≡ false → Gathers tells independent f y z b
+pub told_then : (tells : List ℕ → Deed (Unit {0}) ℕ) (independent : Bool) (f : Firing) (y z w : NumberTx) (b : Bool) (text : List ℕ) (result : Result (Unit {0}) Stop) → b ≡ false → Gathers tells independent f y z b
     → text ≡ dropped_text f → Ends result w (tells text z) → Ends result w (collects tells independent f y)
 told_then tells independent f y z w b text result is gathers line ends =
     let dropped : collects tells independent f y ≡ tells (dropped_text f) z = subst (Gathers tells independent f y z) is gathers in
     subst (λ (o : Outcome (Unit {0}) ℕ (Unit {0})). Ends result w o) (ap (λ t. tells t z) line ∙ sym dropped) ends
-
-pub dropped_then : (independent : Bool) (f : Firing) (y z w : NumberTx) (b : Bool) (text : List ℕ) (result : Result (Unit {0}) Stop) → b ≡ false → Gathers prints independent f y z b → text ≡ dropped_text f
-    → Ends result w (prints text z) → Ends result w (collects prints independent f y)
-dropped_then = told_then prints
-
-pub dropped_last : (f : Firing) (y z w : NumberTx) (b : Bool) (text : List ℕ) (result : Result (Unit {0}) Stop) → b ≡ false → Gathers says true f y z b → text ≡ dropped_text f → Ends result w (says text z)
-    → Ends result w (collects says true f y)
-dropped_last = told_then says true
 
 -- a line that has no limit
 pub said : (all : List Declared) (first : NumberWorld) (x : Layer) (ds : List (ℕ × Fired)) (text t line : List ℕ) (left : ℕ) → t ≡ text ++ line

@@ -95,11 +95,11 @@ impl<'a, 'b, H: Host, K: Keep<H>> Acts<Program<'b>> for Work<'a, H, K> {
     }
 
     fn collect(&mut self, schema: &Program<'b>, independent: bool, f: &Firing) -> Result<(), Stop> {
-        self.collect(self.alloc, schema, independent, f)
+        self.collect(self.alloc, schema, false, independent, f)
     }
 
     fn collect_last(&mut self, schema: &Program<'b>, f: &Firing) -> Result<(), Stop> {
-        self.collect_last(self.alloc, schema, f)
+        self.collect(self.alloc, schema, true, true, f)
     }
 
     fn test_hard(&mut self, schema: &Program<'b>, r: Ref) -> Result<(), Stop> {

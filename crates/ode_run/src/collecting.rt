@@ -1,5 +1,5 @@
 //! Detached firings are collected.
-ghost use Rattle.std.specs.Prelude.{◌≡◌, ◌+◌, ◌≤◌, List as Items, None, IfErr, IfOk, true};
+ghost use Rattle.std.specs.Prelude.{◌≡◌, ◌+◌, ◌≤◌, List as Items, None, IfErr, IfOk, cond};
 ghost use Rattle.std.specs.Option.{IfSome};
 ghost use Rattle.ode_interpreter.specs.Seen.{Ends, IsFault, IsShort, Leaves, firing};
 ghost use Rattle.ode_known_laws.specs.Knowing.{declared_in};
@@ -80,18 +80,35 @@ impl<'a, H: Host, K: Keep<H>> Work<'a, H, K> {
         Ok(collected)
     }
 
-    /// A detached firing.
-    #[tactic(auto, using(crate::proofs::CollectLaws::gathered_then, crate::proofs::CollectLaws::dropped_then))]
+    // A line. At a point of the settling it has no limit.
+    #[tactic(auto, using(crate::proofs::CollectLaws::said))]
+    fn put_line(&mut self, classes: &Classes, last: bool, line: &[u8]) -> Result<(), Stop>
+        ensures acts { (all : Items Declared) (k : Known H) → classes.now ≡ declared_in k.first → IsRunning H.view K.holds K.live self.old k
+            → Ends result (tx all k self.new) (cond last says prints line.now (tx all k self.old)) }
+        ensures kept { (k : Known H) → classes.now ≡ declared_in k.first → IsRunning H.view K.holds K.live self.old k
+            → Leaves result (IsRunning H.view K.holds K.live self.new k) (Failed H.view self.new.host.now k) }
+        ensures faults { (began : H) → IsServing H.view K.live began self.old → Leaves result (IsServing H.view K.live began self.new) (Stops (H.view began) (H.view self.new.host.now)) }
+        ensures lent { (k : Known H) → Lent k self.old → Lent k self.new }
+    {
+        if !last {
+            return self.print(classes, line);
+        }
+        add(self.text, line)?;
+        Ok(())
+    }
+
+    /// A detached firing; the last ones, at points of the settling, are those whose lines have no limit.
     pub fn collect(
         &mut self,
         alloc: Global,
         program: &Program,
+        last: bool,
         independent: bool,
         f: &Firing,
     ) -> Result<(), Stop>
         requires { IsShort f.now }
         ensures acts { (all : Items Declared) (k : Known H) → checked all ≡ program.now.classes → program.now.classes ≡ declared_in k.first → IsRunning H.view K.holds K.live self.old k
-            → Ends result (tx all k self.new) (collects prints independent (firing (trigger_of program.now.classes) f.now) (tx all k self.old)) }
+            → Ends result (tx all k self.new) (collects (cond last says prints) independent (firing (trigger_of program.now.classes) f.now) (tx all k self.old)) }
         ensures kept { (k : Known H) → program.now.classes ≡ declared_in k.first → IsRunning H.view K.holds K.live self.old k
             → Leaves result (IsRunning H.view K.holds K.live self.new k) (Failed H.view self.new.host.now k) }
         ensures faults { (began : H) → IsServing H.view K.live began self.old → Leaves result (IsServing H.view K.live began self.new) (Stops (H.view began) (H.view self.new.host.now)) }
@@ -101,38 +118,6 @@ impl<'a, H: Host, K: Keep<H>> Work<'a, H, K> {
             return Ok(());
         }
         let line = dropped_line(alloc, program.trigger_name(f.trigger), f.object)?;
-        self.print(program.classes(), line.as_slice())
-    }
-
-    // A line of the settling, which has no limit.
-    #[tactic(auto, using(crate::proofs::CollectLaws::said))]
-    fn settling_line(&mut self, classes: &Classes, line: &[u8]) -> Result<(), Stop>
-        ensures acts { (all : Items Declared) (k : Known H) → classes.now ≡ declared_in k.first → IsRunning H.view K.holds K.live self.old k
-            → Ends result (tx all k self.new) (says line.now (tx all k self.old)) }
-        ensures kept { (k : Known H) → classes.now ≡ declared_in k.first → IsRunning H.view K.holds K.live self.old k
-            → Leaves result (IsRunning H.view K.holds K.live self.new k) (Failed H.view self.new.host.now k) }
-        ensures faults { (began : H) → IsServing H.view K.live began self.old → Leaves result (IsServing H.view K.live began self.new) (Stops (H.view began) (H.view self.new.host.now)) }
-        ensures lent { (k : Known H) → Lent k self.old → Lent k self.new }
-    {
-        add(self.text, line)?;
-        Ok(())
-    }
-
-    /// One at a point of the settling, where lines have no limit.
-    #[tactic(auto, using(crate::proofs::CollectLaws::gathered_then, crate::proofs::CollectLaws::dropped_last))]
-    pub fn collect_last(&mut self, alloc: Global, program: &Program, f: &Firing) -> Result<(), Stop>
-        requires { IsShort f.now }
-        ensures acts { (all : Items Declared) (k : Known H) → checked all ≡ program.now.classes → program.now.classes ≡ declared_in k.first → IsRunning H.view K.holds K.live self.old k
-            → Ends result (tx all k self.new) (collects says true (firing (trigger_of program.now.classes) f.now) (tx all k self.old)) }
-        ensures kept { (k : Known H) → program.now.classes ≡ declared_in k.first → IsRunning H.view K.holds K.live self.old k
-            → Leaves result (IsRunning H.view K.holds K.live self.new k) (Failed H.view self.new.host.now k) }
-        ensures faults { (began : H) → IsServing H.view K.live began self.old → Leaves result (IsServing H.view K.live began self.new) (Stops (H.view began) (H.view self.new.host.now)) }
-        ensures lent { (k : Known H) → Lent k self.old → Lent k self.new }
-    {
-        if self.gather(alloc, program.classes(), true, f)? {
-            return Ok(());
-        }
-        let line = dropped_line(alloc, program.trigger_name(f.trigger), f.object)?;
-        self.settling_line(program.classes(), line.as_slice())
+        self.put_line(program.classes(), last, line.as_slice())
     }
 }

@@ -5,12 +5,12 @@ use Rattle.ode_view_laws.specs.Viewing.{world_now}
 
 pub returns-clause-acts : goal.returns-clause-acts
 unfolding world_now
-returns-clause-acts g c = λ all k declares known. c.collect_last.ensures.acts all k declares known.classes known.runs
+returns-clause-acts g c = λ all k declares known. c.collect.ensures.acts all k declares known.classes known.runs
 
 pub returns-clause-kept : goal.returns-clause-kept
 returns-clause-kept g c = λ k known.
-    known_behind g.H.Host.view g.K.Keep.holds g.K.Keep.live c.collect_last.result c.args.self.now c.collect_last.new.self c.args.schema.now k known (c.collect_last.ensures.lent k) (c.collect_last.ensures.kept k known.classes known.runs)
+    known_behind g.H.Host.view g.K.Keep.holds g.K.Keep.live c.collect.result c.args.self.now c.collect.new.self c.args.schema.now k known (c.collect.ensures.lent k) (c.collect.ensures.kept k known.classes known.runs)
 
 pub returns-clause-faults : goal.returns-clause-faults
 returns-clause-faults g c = λ k before.
-    goes_behind g.H.Host.view g.K.Keep.live c.collect_last.result c.args.self.now c.collect_last.new.self k before (c.collect_last.ensures.lent k) (c.collect_last.ensures.faults k.began)
+    goes_behind g.H.Host.view g.K.Keep.live c.collect.result c.args.self.now c.collect.new.self k before (c.collect.ensures.lent k) (c.collect.ensures.faults k.began)
