@@ -3,10 +3,7 @@ use Rattle.std.proofs.Common.{◌≡◌, ◌+◌, ◌<◌, ℕ, List, [], ◌∷
 use Rattle.std.proofs.lemmas.List.{drop_more}
 use Rattle.std.specs.Prelude.{is_some, pos}
 use Rattle.std.specs.List.{AllByRecursion}
-use Rattle.std.specs.Option.{option_map}
 use Rattle.ode_activation_laws.specs.Switching.{tells_line}
-use Rattle.ode_heap.specs.Answering.{head_of_object}
-use Rattle.ode_heap.specs.declared.object.ObjectHead.{ObjectHead}
 use Rattle.ode_interpreter.specs.Creating.{makes_active}
 use Rattle.ode_interpreter.specs.Seen.{Ends, Leaves, trigger}
 use Rattle.ode_interpreter.specs.declared.firing.Trigger as code
@@ -21,6 +18,7 @@ use Rattle.ode_run.specs.Activating.{IsOfClass, Names, Takes, TakesAll}
 use Rattle.ode_run.specs.Telling.{EndsThen}
 use Rattle.ode_schema.specs.Parts.{trigger_of}
 use Rattle.ode_value.specs.Acts.{Act, Outcome, Done, Aborted, ◌>>=◌, ◌>>◌, each, finds, found, gives, go_on, sees}
+use Rattle.ode_value.specs.Changes.{class_of}
 use Rattle.ode_value.specs.Classes.{Trigger, initial_triggers, trigger_named}
 use Rattle.ode_value.specs.Denoting.{object_at}
 use Rattle.ode_value.specs.Making.{makes, switches_on}
@@ -29,6 +27,7 @@ use Rattle.ode_value.specs.Statements.{activates_initial, switches_on_named}
 use Rattle.ode_value.specs.Tables.{Table}
 use Rattle.ode_value.specs.Worlds.{Declared, Object}
 use Rattle.ode_value.specs.declared.class.Class.{Class}
+use Rattle.ode_value.specs.declared.reason.Reason.{Reason}
 use Rattle.ode_value.specs.declared.reason.Reason.TheVariants as reason
 use Rattle.ode_value.specs.declared.value.Ref.{Ref}
 use Rattle.ode_value.specs.declared.value.Value.{Value}
@@ -146,14 +145,21 @@ pub named_there : (all : List Declared) (first : NumberWorld) (x : Layer) (b : B
     → trigger_named (running all first x b).now.bones.classes number name ≡ Some t → trigger_named all number name ≡ Some t
 named_there all first x b number name t is = ap (λ (ds : List Declared). trigger_named ds number name) (sym (classes_now all first x b)) ∙ is
 
--- an object's class is that of its head
-pub of_head : (y : NumberTx) (id : ℕ) (head : ObjectHead) → Some head ≡ option_map head_of_object (object_at y.now.bones id) → IsOfClass y id head.class
-of_head y id head is = by_object (object_at y.now.bones id) refl is where
-  by_object : (o : Option Object) → object_at y.now.bones id ≡ o → Some head ≡ option_map head_of_object o → IsOfClass y id head.class
+-- an object's class, where it is known
+abbrev classed : NumberTx → Option Object → Outcome (Unit {0}) ℕ ℕ
+classed y o = go_on (found o y) (λ q. gives q.class)
+
+pub same_tx : (y z : NumberTx) (id class : ℕ) → class_of id y ≡ Done class z → y ≡ z
+same_tx y z id class is = by_object (object_at y.now.bones id) is where
+  by_object : (o : Option Object) → classed y o ≡ Done class z → y ≡ z
+  by_object None e = absurd (cc e)
+  by_object (Some o) e = cc e
+
+pub of_class : (y z : NumberTx) (id class : ℕ) → class_of id y ≡ Done class z → IsOfClass z id class
+of_class y z id class is = subst (λ (q : NumberTx). IsOfClass q id class) (same_tx y z id class is) (by_object (object_at y.now.bones id) refl is) where
+  by_object : (o : Option Object) → object_at y.now.bones id ≡ o → classed y o ≡ Done class z → IsOfClass y id class
   by_object None there e = absurd (cc e)
-  by_object (Some o) there e =
-      let same : head ≡ head_of_object o = cc e in
-      record { object = o; there = there; class = sym (ap (λ (h : ObjectHead). h.class) same) }
+  by_object (Some o) there e = record { object = o; there = there; class = cc e }
 
 pub names_it : (y : NumberTx) (all : List Declared) (id class : ℕ) (name : List ℕ) (t : Trigger) → y.now.bones.classes ≡ all → IsOfClass y id class → Some t ≡ trigger_named all class name → Names y id name t
 names_it y all id class name t classes of found = record {
@@ -163,17 +169,27 @@ names_it y all id class name t classes of found = record {
 }
 
 -- where the object isn't there
-no_object : {R : Type 0} (next : Object → Act (Unit {0}) ℕ R) (id : ℕ) (y z : NumberTx) → y ≡ z → None ≡ option_map head_of_object (object_at y.now.bones id)
-    → go_on (found (object_at y.now.bones id) y) next ≡ Aborted (reason.NoObject 0) z
-no_object {R} next id y z same is = by_object (object_at y.now.bones id) is ∙ ap (λ (q : NumberTx). Aborted (reason.NoObject 0) q) same where
-  by_object : (o : Option Object) → None ≡ option_map head_of_object o → go_on (found o y) next ≡ Aborted (reason.NoObject 0) y
-  by_object None e = refl
+no_object : {R : Type 0} (next : Object → Act (Unit {0}) ℕ R) (id : ℕ) (y z : NumberTx) (why : Reason) → class_of id y ≡ Aborted why z → go_on (found (object_at y.now.bones id) y) next ≡ Aborted why z
+no_object {R} next id y z why is = by_object (object_at y.now.bones id) is where
+  by_object : (o : Option Object) → classed y o ≡ Aborted why z → go_on (found o y) next ≡ Aborted why z
+  by_object None e = ap (λ (q : Outcome (Unit {0}) ℕ ℕ). go_on q (λ (n : ℕ) (t : NumberTx). go_on (found None y) next)) e
   by_object (Some o) e = absurd (cc e)
 
 module _ (tables : ℕ → ℕ → Table) (r : Ref) (name : List ℕ) (args : List Value) where
-  pub none_there : (y z : NumberTx) → y ≡ z → None ≡ option_map head_of_object (object_at y.now.bones r.object) → switches_on_named (numbers tables) r name args y ≡ Aborted (reason.NoObject 0) z
+  none_there : (y z : NumberTx) (why : Reason) → class_of r.object y ≡ Aborted why z → switches_on_named (numbers tables) r name args y ≡ Aborted why z
   unfolding switches_on_named
-  none_there y z same is = no_object _ r.object y z same is
+  none_there y z why is = no_object _ r.object y z why is
+
+  ends_there : (why : Stop) (z y : NumberTx) → Ends {R = ℕ} (Err why) z (class_of r.object y) → Ends {R = Value} (Err why) z (switches_on_named (numbers tables) r name args y)
+  ends_there (stop.Abort why) z y ends = none_there y z why ends
+  ends_there stop.Memory z y ends = tt
+  ends_there stop.DiskFault z y ends = tt
+  ends_there (stop.Damaged key) z y ends = tt
+
+  pub not_classed : (y z : NumberTx) (result : Result ℕ Stop) (other : Result Value Stop) (why : Stop) → Ends result z (class_of r.object y) → result ≡ Err why → other ≡ Err why
+      → Ends other z (switches_on_named (numbers tables) r name args y)
+  not_classed y z result other why ends is same =
+      subst (λ (q : Result Value Stop). Ends q z (switches_on_named (numbers tables) r name args y)) (sym same) (ends_there why z y (subst (λ (q : Result ℕ Stop). Ends q z (class_of r.object y)) is ends))
 
   -- where its class has no such trigger
   abbrev behind_trigger : NumberTx → Option Trigger → Outcome (Unit {0}) ℕ Value

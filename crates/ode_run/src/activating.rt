@@ -98,9 +98,7 @@ impl<'a, H: Host, K: Keep<H>> Work<'a, H, K> {
         ensures faults { (began : H) → IsServing H.view K.live began self.old → Leaves result (IsServing H.view K.live began self.new) (Stops (H.view began) (H.view self.new.host.now)) }
         ensures lent { (k : Known H) → Lent k self.old → Lent k self.new }
     {
-        match self.head(program.classes(), of.object)? {
-            Some(head) => self.activate_of(alloc, program, of, head.class, name, args),
-            None => Err(Stop::Abort(Reason::NoObject(0))),
-        }
+        let class = self.class_of(program.classes(), of.object)?;
+        self.activate_of(alloc, program, of, class, name, args)
     }
 }
