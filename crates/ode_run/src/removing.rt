@@ -88,24 +88,8 @@ impl<'a, H: Host, K: Keep<H>> Work<'a, H, K> {
         )
     }
 
-    // The activation of a number goes off.
-    #[tactic(auto, using(crate::proofs::OffLaws::went_off, crate::proofs::OffLaws::not_off))]
-    fn deactivate_numbered(&mut self, classes: &Classes, of: Ref, number: u64) -> Result<(), Stop>
-        ensures acts { (all : Items Declared) (k : Known H) (tables : ℕ → ℕ → Table) → classes.now ≡ declared_in k.first → IsRunning H.view K.holds K.live self.old k
-            → Ends result (tx all k self.new) (switches_off_numbered (numbers tables) of (value.Int (pos number)) (tx all k self.old)) }
-        ensures kept { (k : Known H) → classes.now ≡ declared_in k.first → IsRunning H.view K.holds K.live self.old k
-            → Leaves result (IsRunning H.view K.holds K.live self.new k) (Failed H.view self.new.host.now k) }
-        ensures faults { (began : H) → IsServing H.view K.live began self.old → Leaves result (IsServing H.view K.live began self.new) (Stops (H.view began) (H.view self.new.host.now)) }
-        ensures lent { (k : Known H) → Lent k self.old → Lent k self.new }
-    {
-        if !self.is_live(classes, of.object)? {
-            return Err(Stop::Abort(Reason::NoObject(0)));
-        }
-        self.deactivate_live(classes, of, number)
-    }
-
     /// The activation of a number goes off.
-    #[tactic(auto, using(crate::proofs::OffLaws::off_by_value, crate::proofs::OffLaws::none_went_off, crate::proofs::OffLaws::not_off))]
+    #[tactic(auto, using(crate::proofs::OffLaws::none_went_off, crate::proofs::OffLaws::not_off))]
     pub fn deactivate(&mut self, classes: &Classes, of: Ref, number: &Value) -> Result<(), Stop>
         ensures acts { (all : Items Declared) (k : Known H) (tables : ℕ → ℕ → Table) → classes.now ≡ declared_in k.first → IsRunning H.view K.holds K.live self.old k
             → Ends result (tx all k self.new) (switches_off_numbered (numbers tables) of number.now (tx all k self.old)) }
@@ -114,13 +98,12 @@ impl<'a, H: Host, K: Keep<H>> Work<'a, H, K> {
         ensures faults { (began : H) → IsServing H.view K.live began self.old → Leaves result (IsServing H.view K.live began self.new) (Stops (H.view began) (H.view self.new.host.now)) }
         ensures lent { (k : Known H) → Lent k self.old → Lent k self.new }
     {
-        if let Some(number) = natural(number) {
-            return self.deactivate_numbered(classes, of, number);
+        if !self.is_live(classes, of.object)? {
+            return Err(Stop::Abort(Reason::NoObject(0)));
         }
-        if self.is_live(classes, of.object)? {
-            Ok(())
-        } else {
-            Err(Stop::Abort(Reason::NoObject(0)))
+        match natural(number) {
+            Some(number) => self.deactivate_live(classes, of, number),
+            None => Ok(()),
         }
     }
 }
