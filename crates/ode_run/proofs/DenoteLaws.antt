@@ -11,7 +11,8 @@ use Rattle.ode_interpreter.specs.declared.stop.Stop.{Stop}
 use Rattle.ode_interpreter.specs.declared.stop.Stop.TheVariants as stop
 use Rattle.ode_laws.specs.Alike.{NumberTx, NumberWorld}
 use Rattle.ode_overlay.specs.Layers.{Layer}
-use Rattle.ode_value.specs.Acts.{Outcome, Done, Aborted, computes, found, go_on, nothing, reached, sees, valued}
+use Rattle.ode_value.specs.Acts.{Outcome, Done, Aborted, computes, found, gives, go_on, nothing, reached, sees, valued}
+use Rattle.ode_value.specs.Changes.{class_of}
 use Rattle.ode_value.specs.Classes.{lists_kind}
 use Rattle.ode_value.specs.Denoting.{denoted, denotes, object_at, object_of, version_in}
 use Rattle.ode_value.specs.Expressions.{stands}
@@ -39,7 +40,7 @@ counted y r None = Aborted (reason.NoVersion r) y
 by_null : (y : NumberTx) (r : Ref) (b : Bool) → (r.object == 0) ≡ b → computes (λ b. number_of b r) y ≡ number_as y r (cond b None (object_at y.now.bones r.object))
 by_null y r b is = ap (λ t. number_as y r (cond t None (object_at y.now.bones r.object))) is
 
-pub of_null : (y : NumberTx) (r : Ref) → r.object ≡ 0 → computes (λ b. number_of b r) y ≡ Aborted (reason.NoObject 0) y
+of_null : (y : NumberTx) (r : Ref) → r.object ≡ 0 → computes (λ b. number_of b r) y ≡ Aborted (reason.NoObject 0) y
 of_null y r is =
     let test : (r.object == 0) ≡ true = grind (arith, nat_tests) in
     by_null y r true test ∙ ap (λ n. Aborted (reason.NoObject n) y) is
@@ -49,7 +50,7 @@ by_object y r some =
     let test : (r.object == 0) ≡ false = grind (arith, nat_tests) in
     by_null y r false test
 
-pub of_none : (y : NumberTx) (r : Ref) → 0 < r.object → None ≡ option_map head_of_object (object_at y.now.bones r.object) → computes (λ b. number_of b r) y ≡ Aborted (reason.NoObject r.object) y
+of_none : (y : NumberTx) (r : Ref) → 0 < r.object → None ≡ option_map head_of_object (object_at y.now.bones r.object) → computes (λ b. number_of b r) y ≡ Aborted (reason.NoObject r.object) y
 of_none y r some is = by_object y r some ∙ by_cases (object_at y.now.bones r.object) is where
   by_cases : (o : Option Object) → None ≡ option_map head_of_object o → number_as y r o ≡ Aborted (reason.NoObject r.object) y
   by_cases None is = refl
@@ -66,11 +67,11 @@ by_head y r head number some is found = by_object y r some ∙ by_cases (object_
   by_cases None is = absurd (cc is)
   by_cases (Some o) is = let e : head ≡ head_of_object o = cc is in by_version y r (version_of r.version o.versions) ∙ ap (counted y r) (sym (found o e))
 
-pub of_version : (y : NumberTx) (r : Ref) (head : ObjectHead) (number : Option ℕ) (n : ℕ) → 0 < r.object → Some head ≡ option_map head_of_object (object_at y.now.bones r.object)
+of_version : (y : NumberTx) (r : Ref) (head : ObjectHead) (number : Option ℕ) (n : ℕ) → 0 < r.object → Some head ≡ option_map head_of_object (object_at y.now.bones r.object)
     → ((o : Object) → head ≡ head_of_object o → number ≡ option_map (λ (v : Version). v.number) (version_of r.version o.versions)) → number ≡ Some n → computes (λ b. number_of b r) y ≡ Done n y
 of_version y r head number n some is found e = by_head y r head number some is found ∙ ap (counted y r) e
 
-pub of_no_version : (y : NumberTx) (r : Ref) (head : ObjectHead) (number : Option ℕ) → 0 < r.object → Some head ≡ option_map head_of_object (object_at y.now.bones r.object)
+of_no_version : (y : NumberTx) (r : Ref) (head : ObjectHead) (number : Option ℕ) → 0 < r.object → Some head ≡ option_map head_of_object (object_at y.now.bones r.object)
     → ((o : Object) → head ≡ head_of_object o → number ≡ option_map (λ (v : Version). v.number) (version_of r.version o.versions)) → number ≡ None → computes (λ b. number_of b r) y ≡ Aborted (reason.NoVersion r) y
 of_no_version y r head number some is found e = by_head y r head number some is found ∙ ap (counted y r) e
 
@@ -80,16 +81,22 @@ same_act : (y : NumberTx) (d : Result Version Fault) → go_on (valued d y) (λ 
 same_act y (Ok v) = refl
 same_act y (Err why) = refl
 
-pub stood : (y z : NumberTx) (r : Ref) (n : ℕ) → computes (λ b. number_of b r) y ≡ Done n z → stands r y ≡ Done tt z
-stood y z r n is = same_act y (denoted y.now.bones r) ∙ ap (λ o. go_on o (λ _. nothing)) is
+stands_as : (y : NumberTx) (r : Ref) (o : Outcome (Unit {0}) ℕ ℕ) → computes (λ b. number_of b r) y ≡ o → stands r y ≡ go_on o (λ _. nothing)
+stands_as y r o is = same_act y (denoted y.now.bones r) ∙ ap (λ q. go_on q (λ _. nothing)) is
 
-pub fell : (y z : NumberTx) (r : Ref) (why : Stop) (result : Result ℕ Stop) → result ≡ Err why → Ends result z (computes (λ b. number_of b r) y) → Ends {R = Unit {0}} (Err why) z (stands r y)
-fell y z r stop.Memory result e ends = tt
-fell y z r stop.DiskFault result e ends = tt
-fell y z r (stop.Damaged key) result e ends = tt
-fell y z r (stop.Abort why) result e ends =
-    let is : computes (λ b. number_of b r) y ≡ Aborted why z = subst (λ (q : Result ℕ Stop). Ends q z (computes (λ b. number_of b r) y)) e ends in
-    same_act y (denoted y.now.bones r) ∙ ap (λ o. go_on o (λ _. nothing)) is
+pub stands_null : (y : NumberTx) (r : Ref) → r.object ≡ 0 → stands r y ≡ Aborted (reason.NoObject 0) y
+stands_null y r is = stands_as y r (Aborted (reason.NoObject 0) y) (of_null y r is)
+
+pub no_object : (y : NumberTx) (r : Ref) → 0 < r.object → None ≡ option_map head_of_object (object_at y.now.bones r.object) → stands r y ≡ Aborted (reason.NoObject r.object) y
+no_object y r some is = stands_as y r (Aborted (reason.NoObject r.object) y) (of_none y r some is)
+
+module _ (y : NumberTx) (r : Ref) (head : ObjectHead) (number : Option ℕ) (some : 0 < r.object) (there : Some head ≡ option_map head_of_object (object_at y.now.bones r.object))
+    (named : (o : Object) → head ≡ head_of_object o → number ≡ option_map (λ (v : Version). v.number) (version_of r.version o.versions)) where
+  pub stood : (n : ℕ) → number ≡ Some n → stands r y ≡ Done tt y
+  stood n is = stands_as y r (Done n y) (of_version y r head number n some there named is)
+
+  pub no_version : number ≡ None → stands r y ≡ Aborted (reason.NoVersion r) y
+  no_version is = stands_as y r (Aborted (reason.NoVersion r) y) (of_no_version y r head number some there named is)
 
 -- the transaction is the same, and this it is
 abbrev sees_so : NumberTx → Bool → Outcome (Unit {0}) ℕ Bool
@@ -117,11 +124,26 @@ number_aborted : (y z : NumberTx) (why : Reason) (d : Result Version Fault) → 
 number_aborted y z why (Ok v) is = absurd (cc is)
 number_aborted y z why (Err fault) is = ap (λ o. Done false (reached o)) is
 
-pub denotes_one : (y z : NumberTx) (r : Ref) (n : ℕ) → computes (λ b. number_of b r) y ≡ Done n z → sees (λ b. is_some (denotes b r)) y ≡ Done true z
-denotes_one y z r n is = ap (sees_so y) (denoted_is y r) ∙ number_done y z n (denoted y.now.bones r) is
+sees_one : (y z : NumberTx) (r : Ref) (n : ℕ) → computes (λ b. number_of b r) y ≡ Done n z → sees (λ b. is_some (denotes b r)) y ≡ Done true z
+sees_one y z r n is = ap (sees_so y) (denoted_is y r) ∙ number_done y z n (denoted y.now.bones r) is
 
-pub denotes_none : (y z : NumberTx) (r : Ref) (why : Reason) → computes (λ b. number_of b r) y ≡ Aborted why z → sees (λ b. is_some (denotes b r)) y ≡ Done false z
-denotes_none y z r why is = ap (sees_so y) (denoted_is y r) ∙ number_aborted y z why (denoted y.now.bones r) is
+sees_none : (y z : NumberTx) (r : Ref) (why : Reason) → computes (λ b. number_of b r) y ≡ Aborted why z → sees (λ b. is_some (denotes b r)) y ≡ Done false z
+sees_none y z r why is = ap (sees_so y) (denoted_is y r) ∙ number_aborted y z why (denoted y.now.bones r) is
+
+pub denotes_null : (y : NumberTx) (r : Ref) → r.object ≡ 0 → sees (λ b. is_some (denotes b r)) y ≡ Done false y
+denotes_null y r is = sees_none y y r (reason.NoObject 0) (of_null y r is)
+
+pub denotes_no_object : (y : NumberTx) (r : Ref) → 0 < r.object → None ≡ option_map head_of_object (object_at y.now.bones r.object) → sees (λ b. is_some (denotes b r)) y ≡ Done false y
+denotes_no_object y r some is = sees_none y y r (reason.NoObject r.object) (of_none y r some is)
+
+-- whether a number was found
+module _ (y : NumberTx) (r : Ref) (head : ObjectHead) (number : Option ℕ) (some : 0 < r.object) (there : Some head ≡ option_map head_of_object (object_at y.now.bones r.object))
+    (named : (o : Object) → head ≡ head_of_object o → number ≡ option_map (λ (v : Version). v.number) (version_of r.version o.versions)) where
+  pub denotes_as : sees (λ b. is_some (denotes b r)) y ≡ Done (is_some number) y
+  denotes_as = by_number number refl where
+    by_number : (n : Option ℕ) → number ≡ n → sees (λ b. is_some (denotes b r)) y ≡ Done (is_some n) y
+    by_number (Some n) is = sees_one y y r n (of_version y r head number n some there named is)
+    by_number None is = sees_none y y r (reason.NoVersion r) (of_no_version y r head number some there named is)
 
 -- ---- what a class lists
 
@@ -132,15 +154,24 @@ module _ (all : List Declared) (first : NumberWorld) (x : Layer) (b : Beside) (i
   abbrev asked : Option Object → Outcome (Unit {0}) ℕ Bool
   asked o = go_on (found o y) (λ q. sees (λ b. lists_kind b.classes q.class kind))
 
-  pub listed_is : (head : ObjectHead) (listed : Bool) → Some head ≡ option_map head_of_object (object_at y.now.bones id) → listed ≡ lists_kind all head.class kind → is_listed id kind y ≡ Done listed y
-  unfolding world_now
-  listed_is head listed is same = by_object (object_at y.now.bones id) is where
-    by_object : (o : Option Object) → Some head ≡ option_map head_of_object o → asked o ≡ Done listed y
-    by_object None is = absurd (cc is)
-    by_object (Some o) is = let e : head ≡ head_of_object o = cc is in ap (λ (h : ObjectHead). Done (lists_kind all h.class kind) y) (sym e) ∙ ap (λ t. Done t y) (sym same)
+  abbrev classed : Option Object → Outcome (Unit {0}) ℕ ℕ
+  classed o = go_on (found o y) (λ q. gives q.class)
 
-  pub lists_none : None ≡ option_map head_of_object (object_at y.now.bones id) → is_listed id kind y ≡ Aborted (reason.NoObject 0) y
-  lists_none is = by_object (object_at y.now.bones id) is where
-    by_object : (o : Option Object) → None ≡ option_map head_of_object o → asked o ≡ Aborted (reason.NoObject 0) y
-    by_object None is = refl
+  pub listed_is : (class : ℕ) (z : NumberTx) (listed : Bool) → class_of id y ≡ Done class z → listed ≡ lists_kind all class kind → is_listed id kind y ≡ Done listed z
+  unfolding world_now
+  listed_is class z listed is same = by_object (object_at y.now.bones id) is where
+    by_object : (o : Option Object) → classed o ≡ Done class z → asked o ≡ Done listed z
+    by_object None is = absurd (cc is)
+    by_object (Some o) is =
+        let e : o.class ≡ class = cc is in
+        let still : y ≡ z = cc is in
+        ap (λ (c : ℕ). Done (lists_kind all c kind) y) e ∙ ap (λ t. Done t y) (sym same) ∙ ap (Done listed) still
+
+  pub not_listed : (why : Stop) (z : NumberTx) (result : Result ℕ Stop) → result ≡ Err why → Ends result z (class_of id y) → Ends {R = Bool} (Err why) z (is_listed id kind y)
+  not_listed stop.Memory z result e ends = tt
+  not_listed stop.DiskFault z result e ends = tt
+  not_listed (stop.Damaged key) z result e ends = tt
+  not_listed (stop.Abort why) z result e ends = by_object (object_at y.now.bones id) (subst (λ (q : Result ℕ Stop). Ends q z (class_of id y)) e ends) where
+    by_object : (o : Option Object) → classed o ≡ Aborted why z → asked o ≡ Aborted why z
+    by_object None is = ap (λ o. go_on o (λ _. sees (λ _. true))) is
     by_object (Some o) is = absurd (cc is)
