@@ -77,7 +77,7 @@ impl<'a, 'b, H: Host, K: Keep<H>> Acts<Program<'b>> for Work<'a, H, K> {
         kind: &Kind,
         args: &[Value],
     ) -> Result<List<Firing>, Stop> {
-        self.arise(self.alloc, schema, id, kind, args)
+        self.arise(self.alloc, schema, false, id, kind, args)
     }
 
     fn arise_whole(
@@ -87,7 +87,7 @@ impl<'a, 'b, H: Host, K: Keep<H>> Acts<Program<'b>> for Work<'a, H, K> {
         kind: &Kind,
         args: &[Value],
     ) -> Result<List<Firing>, Stop> {
-        self.arise_whole(self.alloc, schema, id, kind, args)
+        self.arise(self.alloc, schema, true, id, kind, args)
     }
 
     fn defer(&mut self, schema: &Program<'b>, f: &Firing) -> Result<(), Stop> {

@@ -1,28 +1,23 @@
-//! Points arise.
-ghost use Rattle.std.specs.Prelude.{◌≡◌, ℕ, List as Items, All, IfErr, IfOk, OnOk, Ok, Some, map, true};
+//! What a point makes of the activations of an object.
+ghost use Rattle.std.specs.Prelude.{◌≡◌, All, IfErr, IfOk, OnOk, Ok, Some, map};
 ghost use Rattle.std.specs.List.{AllByRecursion};
 ghost use Rattle.std.specs.Option.{IsSome, option_copied};
-ghost use Rattle.ode_arising_laws.specs.Arising.{HasShortArgs, IsGoing, IsShortlyFired, firing_by, live_in};
-ghost use Rattle.ode_interpreter.specs.Seen.{EndsBy, IsFault, IsShort, Leaves, firing};
+ghost use Rattle.ode_arising_laws.specs.Arising.{HasShortArgs, IsGoing, firing_by, live_in};
+ghost use Rattle.ode_interpreter.specs.Seen.{IsFault, IsShort, Leaves};
 ghost use Rattle.ode_known_laws.specs.Knowing.{declared_in};
 ghost use Rattle.ode_objects.specs.declared.object.Object.{Object as Held};
 ghost use Rattle.ode_overlay.specs.Changing.{put_acts};
 ghost use Rattle.ode_overlay.specs.Reading.{acts};
 ghost use Rattle.ode_overlay_laws.specs.Standing.{object_as};
 ghost use Rattle.ode_point_laws.specs.Points.{point_of};
-ghost use Rattle.ode_run.specs.Knowing.{Failed, IsRunning, Known, Lent, tx};
+ghost use Rattle.ode_run.specs.Knowing.{Failed, IsRunning, Known, Lent};
 ghost use Rattle.ode_run.specs.Serving.{IsServing, Stops};
-ghost use Rattle.ode_schema.specs.Parts.{table_by, trigger_of};
 ghost use Rattle.ode_states.specs.Advance.{advanced, fired_in};
-ghost use Rattle.ode_states.specs.Machine.{checked};
-ghost use Rattle.ode_value.specs.Firings.{arises, both_lists, current_fields};
-ghost use Rattle.ode_value.specs.Pasts.{numbers};
-ghost use Rattle.ode_value.specs.Posting.{is_touched};
-ghost use Rattle.ode_value.specs.Worlds.{Declared};
+ghost use Rattle.ode_value.specs.Firings.{current_fields};
 
 use crate::stopping::read;
 use crate::work::Work;
-use ode_arising_laws::{activations_go_on, points_show};
+use ode_arising_laws::activations_go_on;
 use ode_held_laws::objects_are_read_fresh;
 use ode_host::Host;
 use ode_interpreter::{Firing, Stop, Trigger};
@@ -33,7 +28,7 @@ use ode_overlay::Overlay;
 use ode_schema::Program;
 use ode_states::{Fired, advance};
 use ode_types::{Classes, Running};
-use ode_value::{Kind, List, Reason, Value};
+use ode_value::{Kind, List, Value};
 use ode_view_laws::overlays_have_views;
 use std::alloc::{AllocError, Global};
 
@@ -73,41 +68,8 @@ fn fields_in(overlay: &Overlay, id: u64) -> &[Value]
 
 // ---- its activations
 
-// The activations of an object go on by a point: those that fire there.
-#[tactic(auto, using(ode_arising_laws::proofs::GoingLaws::fired_short))]
-pub(crate) fn go_on(
-    alloc: Global,
-    program: &Program,
-    overlay: &Overlay,
-    id: u64,
-    there: &mut List<Running>,
-    kind: &Kind,
-    args: &[Value],
-) -> Result<List<Fired>, AllocError>
-    ensures acts { (o : Held) → live_in id overlay.now ≡ Some o
-        → OnOk result (there.new ≡ map (advanced program.now.tables program.now.alphabets program.now.classes (point_of id o kind.now args.now)) there.old) }
-    ensures fired { (o : Held) → live_in id overlay.now ≡ Some o
-        → IfOk result (λ fired. fired ≡ fired_in program.now.tables program.now.alphabets program.now.classes (point_of id o kind.now args.now) there.old) }
-    ensures short { AllByRecursion HasShortArgs there.old → IfOk result (AllByRecursion IsShortlyFired) }
-{
-    advance(
-        alloc,
-        program.tables(),
-        program.alphabets(),
-        there,
-        program.classes(),
-        kind,
-        args,
-        fields_in(overlay, id),
-    )
-}
-
 // The firings of an object.
-pub(crate) fn firings_of(
-    alloc: Global,
-    id: u64,
-    fired: List<Fired>,
-) -> Result<List<Firing>, AllocError>
+fn firings_of(alloc: Global, id: u64, fired: List<Fired>) -> Result<List<Firing>, AllocError>
     ensures { IfOk result (λ firings. firings ≡ map (firing_by id) fired) }
 {
     let mut firings = List::new(alloc);
@@ -123,6 +85,36 @@ pub(crate) fn firings_of(
         })?;
     }
     Ok(firings)
+}
+
+// Activations of an object go on by a point: the firings there.
+#[tactic(auto, using(ode_arising_laws::proofs::GoingLaws::fired_short, ode_arising_laws::proofs::GoingLaws::told_short))]
+pub(crate) fn go_on(
+    alloc: Global,
+    program: &Program,
+    overlay: &Overlay,
+    id: u64,
+    there: &mut List<Running>,
+    kind: &Kind,
+    args: &[Value],
+) -> Result<List<Firing>, AllocError>
+    ensures acts { (o : Held) → live_in id overlay.now ≡ Some o
+        → OnOk result (there.new ≡ map (advanced program.now.tables program.now.alphabets program.now.classes (point_of id o kind.now args.now)) there.old) }
+    ensures fired { (o : Held) → live_in id overlay.now ≡ Some o
+        → IfOk result (λ firings. firings ≡ map (firing_by id) (fired_in program.now.tables program.now.alphabets program.now.classes (point_of id o kind.now args.now) there.old)) }
+    ensures short { AllByRecursion HasShortArgs there.old → IfOk result (All IsShort) }
+{
+    let fired = advance(
+        alloc,
+        program.tables(),
+        program.alphabets(),
+        there,
+        program.classes(),
+        kind,
+        args,
+        fields_in(overlay, id),
+    )?;
+    firings_of(alloc, id, fired)
 }
 
 impl<'a, H: Host, K: Keep<H>> Work<'a, H, K> {
@@ -177,37 +169,5 @@ impl<'a, H: Host, K: Keep<H>> Work<'a, H, K> {
             self.overlay
                 .put_acts(classes, self.heap, self.host, id, there),
         )
-    }
-
-    /// A point of a touched object arises: the activations that fire there, in order.
-    pub fn arise(
-        &mut self,
-        alloc: Global,
-        program: &Program,
-        id: u64,
-        kind: &Kind,
-        args: &[Value],
-    ) -> Result<List<Firing>, Stop>
-        ensures acts { (all : Items Declared) (k : Known H) → checked all ≡ program.now.classes → program.now.classes ≡ declared_in k.first → IsRunning H.view K.holds K.live self.old k
-            → is_touched id (tx all k self.old) ≡ true
-            → EndsBy (map (firing (trigger_of program.now.classes))) result (tx all k self.new)
-            (arises (numbers (table_by program.now.tables program.now.maps)) (both_lists (numbers (table_by program.now.tables program.now.maps))) id kind.now args.now (tx all k self.old)) }
-        ensures kept { (k : Known H) → program.now.classes ≡ declared_in k.first → IsRunning H.view K.holds K.live self.old k
-            → Leaves result (IsRunning H.view K.holds K.live self.new k) (Failed H.view self.new.host.now k) }
-        ensures faults { (began : H) → IsServing H.view K.live began self.old → Leaves result (IsServing H.view K.live began self.new) (Stops (H.view began) (H.view self.new.host.now)) }
-        ensures lent { (k : Known H) → Lent k self.old → Lent k self.new }
-        ensures short { IfOk result (All IsShort) }
-    {
-        points_show();
-        // Read, so that they are known as checked.
-        let _checked = program.classes().as_slice();
-        let Some(_object) = live_in(self.overlay, id) else {
-            return Err(Stop::Abort(Reason::NoObject(0)));
-        };
-        let mut there = self.activations(program, id)?;
-        let fired = go_on(alloc, program, self.overlay, id, &mut there, kind, args)?;
-        self.put_back(program.classes(), id, there)?;
-        let firings = firings_of(alloc, id, fired)?;
-        Ok(firings)
     }
 }

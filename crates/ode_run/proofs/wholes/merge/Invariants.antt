@@ -1,6 +1,6 @@
 use Rattle.std.proofs.Common.{◌≡◌, ◌++◌, drop, length, take}
 use Rattle.ode_point_laws.specs.Points.{sees_whole}
-use Rattle.ode_run.proofs.wholes.merged.Given as goal
+use Rattle.ode_run.proofs.wholes.merge.Given as goal
 use Rattle.ode_run.specs.Wholes.{merged}
 
 -- those so far, and what becomes of those that are left
