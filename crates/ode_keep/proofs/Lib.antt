@@ -7,3 +7,4 @@ pub mod Maps
 pub mod Firsts
 pub mod Lists
 pub mod Lengths
+pub mod Spanning

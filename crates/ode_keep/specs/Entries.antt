@@ -1,5 +1,5 @@
 -- Records by key, and what changes make of them.
-use Rattle.std.specs.Prelude.{◌<◌, ◌^◌, ◌==◌, ℕ, slice_index, List, [], ◌∷◌, not, Option, Some, None}
+use Rattle.std.specs.Prelude.{◌≡◌, ◌++◌, ◌<◌, ◌^◌, ◌==◌, ℕ, slice_index, List, [], ◌∷◌, not, Option, Some, None}
 use Rattle.std.specs.BTreeMap.{is_at, insert_entry}
 use Rattle.std.specs.List.{AllByRecursion, count_by, filter, find}
 use Rattle.std.specs.List.Sorted.{IsStrictlySortedBy}
@@ -31,9 +31,14 @@ AreBytes entries = AllByRecursion HasBytes entries
 abbrev pub least_from : Entries → Key → Option Key
 least_from entries k = find (λ q. is_le (key_cmp k q)) (keys_of entries)
 
--- the record under it
-abbrev pub record_from : Entries → Key → Option Row
-record_from entries k = find (λ e. is_le (key_cmp k e.0)) entries
+-- the records at or above a key
+abbrev pub entries_from : Entries → Key → Entries
+entries_from entries k = filter (λ e. is_le (key_cmp k e.0)) entries
+
+-- some of the first records of all, one or more where there are any
+abbrev pub StartsOf : Entries → Entries → Type 0
+StartsOf [] all = all ≡ []
+StartsOf (e ∷ es) all = (rest : Entries) × (all ≡ (e ∷ es) ++ rest)
 
 -- changes: the value that stands under a key from then on, or that none does
 abbrev pub Changes : Type 0

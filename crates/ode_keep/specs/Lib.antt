@@ -5,3 +5,4 @@ pub mod Rising
 pub mod ShortValues
 pub mod Snapshots
 pub mod Payloads
+pub mod Spans

@@ -1,12 +1,13 @@
 //! The trait of keepers.
 ghost use Rattle.std.specs.Prelude.{◌≡◌, ◌<◌, ◌≤◌, ℕ, List, Bool, IfOk, IsErrOf, IsTrue, OnOk, length, true};
+ghost use Rattle.std.specs.List.{AllByRecursion};
 ghost use Rattle.std.specs.Option.{IfSome};
 ghost use Rattle.std.specs.Ordering.{is_le};
 ghost use Rattle.ode_host.specs.Causes.{RoseIf};
 ghost use Rattle.ode_host.specs.Host.{DiskCalls, LeavesOnly, Looks, Stands};
 ghost use Rattle.ode_host.specs.View.{View};
 ghost use Rattle.ode_keep.specs.ShortValues.{HasShortValues};
-ghost use Rattle.ode_keep.specs.Entries.{Entries, HasRisingKeys, applied, least_from, record_from};
+ghost use Rattle.ode_keep.specs.Entries.{Entries, HasRisingKeys, applied, entries_from, least_from, StartsOf};
 ghost use Rattle.ode_value.specs.Keys.{entry_kind, key_cmp};
 ghost use Rattle.ode_keep.specs.Entries.{count_of_kind, record_bytes, value_under};
 ghost use Rattle.ode_keep.specs.Keeping.{LeavesOldOrNew, OnDamaged, OnRefusal, OnTooLarge};
@@ -15,6 +16,7 @@ ghost use Rattle.ode_keep.specs.Keeping.{UnlessFault, is_usable};
 use crate::batch::Batch;
 use crate::error::KeepError;
 use crate::limits::{MAX_CHANGES, MAX_RECORD_BYTES};
+use crate::rows::Rows;
 use ode_host::Host;
 use ode_value::{Key, List};
 
@@ -60,12 +62,12 @@ pub trait Keep<H: Host> {
         ensures damaged { OnDamaged result ((entries : Entries) → holds self.old (H.view host.old) entries → ⊥) }
         ensures too_large { OnTooLarge result (λ _. ⊥) };
 
-    /// The record of the least key at or above a key.
-    fn record_from(&mut self, host: &mut H, key: Key) -> Result<Option<(Key, List<u8>)>, KeepError>
+    /// The first records at or above a key, one or more where there are any: as many as come without more work.
+    fn rows_from(&mut self, host: &mut H, key: Key) -> Result<Rows, KeepError>
         requires live { IsTrue (live self.old) }
-        ensures value { IfOk result (λ found. (entries : Entries) → holds self.old (H.view host.old) entries
-            → found ≡ record_from entries key) }
-        ensures above { IfOk result (λ found. IfSome found (λ r. is_le (key_cmp key r.0) ≡ true)) }
+        ensures value { IfOk result (λ rows. (entries : Entries) → holds self.old (H.view host.old) entries
+            → StartsOf rows (entries_from entries key)) }
+        ensures above { IfOk result (λ rows. AllByRecursion (λ e. is_le (key_cmp key e.0) ≡ true) rows) }
         ensures holds { UnlessFault result ((entries : Entries) → holds self.old (H.view host.old) entries
             → holds self.new (H.view host.new) entries) }
         ensures looks { Looks (H.view host.old) (H.view host.new) }

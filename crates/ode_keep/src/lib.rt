@@ -5,6 +5,7 @@ mod batch;
 mod error;
 mod keep;
 mod limits;
+mod rows;
 mod spelling;
 
 pub use batch::Batch;
@@ -13,6 +14,7 @@ pub use keep::Keep;
 pub use limits::{
     MAX_CHANGE_LEN, MAX_CHANGES, MAX_GROWTH, MAX_PAYLOAD_LEN, MAX_RECORD_BYTES, MAX_VALUE,
 };
+pub use rows::{Reader, Rows};
 pub use spelling::{
     COUNT_LEN, FirstChange, FirstRow, KEY_LEN, PUT, REMOVAL, ROW_HEAD, first_row, key_bytes,
     next_change, next_row, payload_length, put_row, row_head,
