@@ -1,3 +1,4 @@
 pub mod Keyed
+pub mod Batches
 pub mod Through
 pub mod Completing

@@ -12,16 +12,6 @@ stops_through meant next error.DiskFault h = tt
 stops_through meant next error.Memory h = tt
 
 module _ {S X : Type 0} (step : S → X → Ruled S) where
-  -- a step that goes on
-  pub goes : (s t : S) (x : X) (xs : List X) (all : Ruled S) → step s x ≡ Ok t → through step s (x ∷ xs) ≡ all → through step t xs ≡ all
-  goes s t x xs all is so_far = sym (ap (λ m. m >>= λ u. through step u xs) is) ∙ so_far
-
-  -- a step that is left by an error
-  pub stops : (s t : S) (x : X) (xs : List X) (all : Ruled S) (last : S) (e : OpenError) → Leaves (step s x) t (Err e) → through step s (x ∷ xs) ≡ all → Leaves all last (Err e)
-  stops s t x xs all last (error.BadFile cause) h so_far = sym so_far ∙ ap (λ m. m >>= λ u. through step u xs) h
-  stops s t x xs all last error.DiskFault h so_far = tt
-  stops s t x xs all last error.Memory h so_far = tt
-
   bound : (m : Ruled S) (xs ys : List X) → ((t : S) → through step t (xs ++ ys) ≡ (through step t xs >>= λ u. through step u ys))
       → (m >>= λ t. through step t (xs ++ ys)) ≡ ((m >>= λ t. through step t xs) >>= λ u. through step u ys)
   bound (Ok t) xs ys more = more t
@@ -30,3 +20,14 @@ module _ {S X : Type 0} (step : S → X → Ruled S) where
   pub through-append : (s : S) (xs ys : List X) → through step s (xs ++ ys) ≡ (through step s xs >>= λ t. through step t ys)
   through-append s [] ys = refl
   through-append s (x ∷ xs) ys = bound (step s x) xs ys (λ t. through-append t xs ys)
+
+  -- a part in front that goes on
+  pub goes_by : (s t : S) (xs ys : List X) (all : Ruled S) → through step s xs ≡ Ok t → through step s (xs ++ ys) ≡ all → through step t ys ≡ all
+  goes_by s t xs ys all is so_far = sym (through-append s xs ys ∙ ap (λ m. m >>= λ u. through step u ys) is) ∙ so_far
+
+  -- a part in front that is left by an error
+  pub stops_by : (Y Z : Type 0) (s t : S) (xs ys : List X) (all : Ruled S) (last : S) (e : OpenError) → Leaves {X = Y} (through step s xs) t (Err e)
+      → through step s (xs ++ ys) ≡ all → Leaves {X = Z} all last (Err e)
+  stops_by Y Z s t xs ys all last (error.BadFile cause) h so_far = sym so_far ∙ through-append s xs ys ∙ ap (λ m. m >>= λ u. through step u ys) h
+  stops_by Y Z s t xs ys all last error.DiskFault h so_far = tt
+  stops_by Y Z s t xs ys all last error.Memory h so_far = tt

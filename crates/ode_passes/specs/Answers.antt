@@ -14,9 +14,9 @@ Answers meant (Err (BadFile cause)) = meant ≡ Err cause
 Answers meant (Err DiskFault) = Unit {0}
 Answers meant (Err Memory) = Unit {0}
 
--- the same of a call whose only answer is what it leaves
-abbrev pub Leaves : {S : Type 0} → Ruled S → S → Result (Unit {0}) OpenError → Type 0
-Leaves meant s (Ok u) = meant ≡ Ok s
+-- the same of a call where this is meant of what it leaves, whatever it answers
+abbrev pub Leaves : {S X : Type 0} → Ruled S → S → Result X OpenError → Type 0
+Leaves meant s (Ok x) = meant ≡ Ok s
 Leaves meant s (Err (BadFile cause)) = meant ≡ Err cause
 Leaves meant s (Err DiskFault) = Unit {0}
 Leaves meant s (Err Memory) = Unit {0}

@@ -13,4 +13,4 @@ pub use completeness::{Part, class_count, complete, of_head};
 pub use error::OpenError;
 pub use records::{Found, record_in};
 pub use tally::{Tally, is_light, read_tally};
-pub use walking::{Pass, next_key, next_record, walk};
+pub use walking::{Pass, walk};

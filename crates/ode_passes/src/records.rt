@@ -29,8 +29,8 @@ impl Pass for List<(Key, Record)> {
 
     ghost takes = { with_record };
 
-    fn take(&mut self, alloc: Global, key: Key, value: List<u8>) -> Result<(), OpenError> {
-        match decode(alloc, key, value.as_slice())? {
+    fn take(&mut self, alloc: Global, key: Key, value: &[u8]) -> Result<(), OpenError> {
+        match decode(alloc, key, value)? {
             Some(record) => {
                 self.push((key, record))?;
                 Ok(())

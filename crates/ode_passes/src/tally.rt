@@ -17,8 +17,8 @@ use crate::walking::{Pass, walk};
 use ode_codec::{Counters, Record};
 use ode_host::Host;
 use ode_keep::{KEY_LEN, Keep};
+use ode_value::Key;
 use ode_value::limits::WEIGHT_LIMIT;
-use ode_value::{Key, List};
 use std::alloc::Global;
 
 /// What the records so far come to.
@@ -55,9 +55,9 @@ impl Pass for Tally {
 
     ghost takes = { tallied };
 
-    fn take(&mut self, alloc: Global, key: Key, value: List<u8>) -> Result<(), OpenError> {
-        let record = record_in(alloc, key, value.as_slice())?;
-        self.total = counted(self.total, key, value.as_slice());
+    fn take(&mut self, alloc: Global, key: Key, value: &[u8]) -> Result<(), OpenError> {
+        let record = record_in(alloc, key, value)?;
+        self.total = counted(self.total, key, value);
         self.counters = counters_or(self.counters, &record);
         Ok(())
     }
