@@ -1,0 +1,4 @@
+pub mod Kinding
+pub mod Firsts
+pub mod Lengths
+pub mod Spelling
