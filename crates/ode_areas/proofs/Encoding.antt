@@ -1,13 +1,10 @@
--- What is added to a frame bit by bit, and to a snapshot.
-use Rattle.std.proofs.Common.{◌≡◌, ◌≤◌, ◌<◌, ℕ, ◌+◌, ◌-◌, ◌^◌, List, [], ◌∷◌, ◌++◌, length, sym, ap, subst, ◌∙◌, arith, append_assoc, length-append}
-use Rattle.std.specs.List.{AllByRecursion}
+-- What is added to a frame bit by bit.
+use Rattle.std.proofs.Common.{◌≡◌, ◌≤◌, ℕ, ◌+◌, ◌-◌, List, [], ◌++◌, length, ap, ◌∙◌, arith, append_assoc, length-append}
 use Rattle.ode_gate.specs.declared.places.TheConstants.{AREA_LEN}
 use Rattle.ode_journal.specs.Filling.{Filling, filled_by}
 use Rattle.ode_journal.specs.declared.frame.TheConstants.{FRAME_BYTES}
-use Rattle.ode_value.specs.declared.key.Key.{Key}
-use Rattle.ode_value.specs.Records.{row_bytes, snapshot}
+use Rattle.ode_value.specs.Records.{snapshot}
 use Rattle.ode_keep.specs.Entries.{Entries, record_bytes}
-use Rattle.ode_keep.specs.Snapshots.{FitsRow}
 use Rattle.ode_keep.specs.declared.limits.TheConstants.{MAX_PAYLOAD_LEN, MAX_RECORD_BYTES}
 use Rattle.ode_keep.proofs.Lengths.{keys_count, length-snapshot}
 
@@ -31,15 +28,3 @@ started_frame f g head bytes rest n first second is long =
 -- a snapshot of records within the limit leaves room for a frame in its area
 pub frame_fits : (es : Entries) (payload : ℕ) → record_bytes es ≤ MAX_RECORD_BYTES → payload ≤ MAX_PAYLOAD_LEN → length (snapshot es) + payload + FRAME_BYTES ≤ AREA_LEN
 frame_fits es payload within short = omega (arith, length-snapshot es, keys_count es)
-
--- one record more of a snapshot
-pub row_more : (map iter next : Entries) (k : Key) (v s now new : List ℕ) → iter ≡ (k, v) ∷ next → s ≡ v → (length s < 2 ^ 16 → new ≡ now ++ row_bytes (k, s))
-    → AllByRecursion FitsRow iter × (now ++ snapshot iter ≡ snapshot map) → AllByRecursion FitsRow next × (new ++ snapshot next ≡ snapshot map)
-row_more map iter next k v s now new first is put was =
-    let all : AllByRecursion FitsRow ((k, v) ∷ next) = subst (λ (l : Entries). AllByRecursion FitsRow l) first was.0 in
-    let long : length s ≡ length v = ap (λ (l : List ℕ). length l) is in
-    let grown : new ≡ now ++ row_bytes (k, v) = put (omega (arith, long, all.0.value)) ∙ ap (λ (l : List ℕ). now ++ row_bytes (k, l)) is in (
-      all.1,
-      ap (λ (l : List ℕ). l ++ snapshot next) grown ∙ append_assoc now (row_bytes (k, v)) (snapshot next)
-          ∙ ap (λ (l : Entries). now ++ snapshot l) (sym first) ∙ was.1,
-    )

@@ -1,31 +1,25 @@
--- Records in memory: the first of those from a key on, and what they count.
-use Rattle.std.proofs.Common.{◌≡◌, ◌∷◌, [], Bool, true, false, cond, List, Option, Some, refl}
+-- Records in memory: the first of those from a key on.
+use Rattle.std.proofs.Common.{◌≡◌, ◌∷◌, [], Bool, true, false, cond, List, Option, Some, refl, ap, ◌∙◌}
 use Rattle.std.specs.List.{filter, find, slice_get}
 use Rattle.std.specs.Map.{keys_of}
 use Rattle.std.specs.Option.{option_map}
+use Rattle.std.specs.Ordering.{is_le}
+use Rattle.ode_value.specs.declared.key.Key.{Key}
+use Rattle.ode_value.specs.Keys.{key_cmp}
+use Rattle.ode_keep.specs.Entries.{Entries, StartsOf, entries_from, least_from}
+use Rattle.ode_records.proofs.Firsts.{first_of}
 
-module _ {K X : Type 0} (p q : K → Bool) (same : (k : K) → p k ≡ q k) where
-  first_at : (e : K × X) (rest : List (K × X)) (found : Option K) (b c : Bool) → b ≡ c → option_map (λ e. e.0) (slice_get rest 0) ≡ found
-      → option_map (λ e. e.0) (slice_get (cond b (e ∷ rest) rest) 0) ≡ cond c (Some e.0) found
-  first_at e rest found true true h more = refl
-  first_at e rest found false false h more = more
-  first_at e rest found true false h more = absurd (cc)
-  first_at e rest found false true h more = absurd (cc)
+module _ {K X : Type 0} (p : K → Bool) where
+  first_at : (e : K × X) (rest : List (K × X)) (found : Option K) (b : Bool) → option_map (λ e. e.0) (slice_get rest 0) ≡ found
+      → option_map (λ e. e.0) (slice_get (cond b (e ∷ rest) rest) 0) ≡ cond b (Some e.0) found
+  first_at e rest found true more = refl
+  first_at e rest found false more = more
 
   -- the first of the entries that pass has the first key that passes
-  pub first_passing : (es : List (K × X)) → option_map (λ e. e.0) (slice_get (filter (λ e. p e.0) es) 0) ≡ find q (keys_of es)
+  first_passing : (es : List (K × X)) → option_map (λ e. e.0) (slice_get (filter (λ e. p e.0) es) 0) ≡ find p (keys_of es)
   first_passing [] = refl
-  first_passing (e ∷ es) = first_at e (filter (λ e. p e.0) es) (find q (keys_of es)) (p e.0) (q e.0) (same e.0) (first_passing es)
+  first_passing (e ∷ es) = first_at e (filter (λ e. p e.0) es) (find p (keys_of es)) (p e.0) (first_passing es)
 
--- the first of the entries that pass is the one that is found
-module _ {X : Type 0} (p q : X → Bool) (same : (x : X) → p x ≡ q x) where
-  found_at : (x : X) (rest : List X) (found : Option X) (b c : Bool) → b ≡ c → slice_get rest 0 ≡ found
-      → slice_get (cond b (x ∷ rest) rest) 0 ≡ cond c (Some x) found
-  found_at x rest found true true h more = refl
-  found_at x rest found false false h more = more
-  found_at x rest found true false h more = absurd (cc)
-  found_at x rest found false true h more = absurd (cc)
-
-  pub first_found : (xs : List X) → slice_get (filter p xs) 0 ≡ find q xs
-  first_found [] = refl
-  first_found (x ∷ xs) = found_at x (filter p xs) (find q xs) (p x) (q x) (same x) (first_found xs)
+-- the first of some records from a key on has the least key from there on
+pub least_of : (es rows : Entries) (k : Key) → StartsOf rows (entries_from es k) → option_map (λ e. e.0) (slice_get rows 0) ≡ least_from es k
+least_of es rows k starts = ap (option_map (λ e. e.0)) (first_of rows (entries_from es k) starts) ∙ first_passing (λ q. is_le (key_cmp k q)) es

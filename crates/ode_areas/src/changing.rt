@@ -10,9 +10,9 @@ ghost use Rattle.ode_areas.specs.Puts.{LeadBack, NeedNoRoom, puts, removals};
 
 use crate::map::{Map, one_queued};
 use ode_keep::{Batch, KEY_LEN, MAX_CHANGES, MAX_GROWTH};
+use ode_records::Records;
 use ode_value::{Key, List};
 use std::alloc::{AllocError, Global};
-use std::collections::BTreeMap;
 
 // What stood under a key before a value was put there.
 type Note = (Key, Option<List<u8>>);
@@ -29,18 +29,16 @@ fn counted(value: Option<&List<u8>>) -> u64
 }
 
 // Takes the record under a key out. It takes no memory.
-fn take_out(records: &mut BTreeMap<Key, List<u8>>, key: Key)
-    ensures { records.new.entries ≡ changed records.old.entries key None }
+fn take_out(records: &mut Records, key: Key)
+    ensures { records.new ≡ changed records.old key None }
 {
-    // The keys rise, as this call tells.
-    let _ = records.len();
-    let _ = records.remove(&key);
+    let _ = records.remove(key);
 }
 
 // What stood under a key stands there again. It takes no memory, since a value is put back only over another.
-fn put_back(records: &mut BTreeMap<Key, List<u8>>, key: Key, old: Option<List<u8>>)
-    requires { IfSome old (λ v. IsSome (value_under records.old.entries key)) }
-    ensures { records.new.entries ≡ changed records.old.entries key old }
+fn put_back(records: &mut Records, key: Key, old: Option<List<u8>>)
+    requires { IfSome old (λ v. IsSome (value_under records.old key)) }
+    ensures { records.new ≡ changed records.old key old }
 {
     match old {
         None => take_out(records, key),
@@ -53,17 +51,19 @@ fn put_back(records: &mut BTreeMap<Key, List<u8>>, key: Key, old: Option<List<u8
 
 // Puts a value, and notes what stood there. Where there is no memory nothing changed.
 fn put_noted(
-    records: &mut BTreeMap<Key, List<u8>>,
+    records: &mut Records,
     notes: &mut Vec<Note>,
     key: Key,
     value: List<u8>,
 ) -> Result<(), AllocError>
-    ensures put { OnOk result (records.new.entries ≡ insert_entry key_cmp records.old.entries key value) }
-    ensures noted { OnOk result (notes.new.items ≡ notes.old.items ++ (key, value_under records.old.entries key) ∷ []) }
-    ensures same { OnErr result (records.new.entries ≡ records.old.entries) }
+    ensures put { OnOk result (records.new ≡ insert_entry key_cmp records.old key value) }
+    ensures noted { OnOk result (notes.new.items ≡ notes.old.items ++ (key, value_under records.old key) ∷ []) }
+    ensures same { OnErr result (records.new ≡ records.old) }
     ensures no_note { OnErr result (notes.new.items ≡ notes.old.items) }
-    ensures rising { HasRisingKeys records.old.entries }
+    ensures rising { HasRisingKeys records.old }
 {
+    // The keys rise, as this call tells.
+    let _ = records.len();
     let old = records.insert(key, value)?;
     if let Err(failed) = notes.push((key, old)) {
         let (key, old) = failed.value;
@@ -76,13 +76,13 @@ fn put_noted(
 // Puts the values of a batch, and notes what stood there.
 fn put_all(
     alloc: Global,
-    records: &mut BTreeMap<Key, List<u8>>,
+    records: &mut Records,
     notes: &mut Vec<Note>,
     batch: &Batch,
 ) -> Result<(), AllocError>
-    ensures put { OnOk result (records.new.entries ≡ applied (puts batch.now) records.old.entries) }
-    ensures back { (old : Entries) → LeadBack (reverse notes.old.items) records.old.entries old
-        → LeadBack (reverse notes.new.items) records.new.entries old }
+    ensures put { OnOk result (records.new ≡ applied (puts batch.now) records.old) }
+    ensures back { (old : Entries) → LeadBack (reverse notes.old.items) records.old old
+        → LeadBack (reverse notes.new.items) records.new old }
 {
     for (key, value) in batch.iter() {
         if let Some(value) = value {
@@ -94,9 +94,9 @@ fn put_all(
 }
 
 // Goes back through the notes, the last first.
-fn undo_all(records: &mut BTreeMap<Key, List<u8>>, notes: &mut Vec<Note>)
-    requires { NeedNoRoom (reverse notes.old.items) records.old.entries }
-    ensures { records.new.entries ≡ applied (reverse notes.old.items) records.old.entries }
+fn undo_all(records: &mut Records, notes: &mut Vec<Note>)
+    requires { NeedNoRoom (reverse notes.old.items) records.old }
+    ensures { records.new ≡ applied (reverse notes.old.items) records.old }
 {
     while let Some((key, old)) = notes.pop() {
         put_back(records, key, old);
@@ -104,8 +104,8 @@ fn undo_all(records: &mut BTreeMap<Key, List<u8>>, notes: &mut Vec<Note>)
 }
 
 // Takes out the records that a batch removes.
-fn remove_all(records: &mut BTreeMap<Key, List<u8>>, batch: &Batch)
-    ensures removed { records.new.entries ≡ applied (removals batch.now) records.old.entries }
+fn remove_all(records: &mut Records, batch: &Batch)
+    ensures removed { records.new ≡ applied (removals batch.now) records.old }
     ensures rising { HasRisingKeys batch.now }
 {
     for (key, value) in batch.iter() {

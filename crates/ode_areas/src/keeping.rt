@@ -10,7 +10,7 @@ use crate::plan::{Checkpoint, checkpoint_for};
 use crate::steps::write_changes;
 use ode_host::Host;
 use ode_journal::Frame;
-use ode_keep::{Batch, Keep, KeepError, MAX_CHANGES, MAX_RECORD_BYTES, payload_length};
+use ode_keep::{Batch, Keep, KeepError, MAX_CHANGES, MAX_RECORD_BYTES, Rows, payload_length};
 use ode_value::{Key, List};
 
 /// What a commit writes: a frame, and before it a checkpoint where one is due.
@@ -89,18 +89,8 @@ impl<H: Host> Keep<H> for Areas {
         Ok(self.map.least_from(key))
     }
 
-    fn record_from(
-        &mut self,
-        _host: &mut H,
-        key: Key,
-    ) -> Result<Option<(Key, List<u8>)>, KeepError> {
-        match self.map.record_from(key) {
-            None => Ok(None),
-            Some((found, value)) => {
-                let value = List::from_slice(self.alloc, value.as_slice())?;
-                Ok(Some((found, value)))
-            }
-        }
+    fn rows_from(&mut self, _host: &mut H, key: Key) -> Result<Rows, KeepError> {
+        Ok(self.map.rows_from(self.alloc, key)?)
     }
 
     fn queued(&mut self, _host: &mut H) -> Result<u64, KeepError> {

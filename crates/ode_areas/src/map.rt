@@ -1,21 +1,20 @@
 //! The records of a keeper, in memory.
-ghost use Rattle.std.specs.Prelude.{◌≡◌, ◌+◌, ◌==◌, [], Some, None, cond, true, OnErr, OnOk};
-ghost use Rattle.std.specs.Option.{IfSome, option_copied, option_map};
-ghost use Rattle.std.specs.Ordering.{is_le};
-ghost use Rattle.ode_keep.specs.Entries.{Entries, HasRisingKeys, changed, count_of_kind, least_from, record_bytes, record_from, value_under};
+ghost use Rattle.std.specs.Prelude.{◌≡◌, ◌+◌, ◌==◌, [], Some, None, cond, IfOk, OnErr, OnOk};
+ghost use Rattle.std.specs.Option.{option_copied};
+ghost use Rattle.ode_keep.specs.Entries.{Entries, HasRisingKeys, StartsOf, changed, count_of_kind, entries_from, least_from, record_bytes, value_under};
 ghost use Rattle.ode_keep.specs.Growth.{one_of_kind};
-ghost use Rattle.ode_value.specs.Keys.{entry_kind, key_cmp};
+ghost use Rattle.ode_value.specs.Keys.{entry_kind};
 
-use ode_keep::KEY_LEN;
+use ode_keep::{KEY_LEN, Rows};
+use ode_records::Records;
 use ode_value::{Key, List};
 use std::alloc::{AllocError, Global};
-use std::collections::BTreeMap;
 use std::marker::Model;
 
 /// Records in rising order of their keys, how many bytes they count, and how many are entries of the queue.
 #[derive(Drop)]
 pub(crate) struct Map {
-    pub(crate) records: BTreeMap<Key, List<u8>>,
+    pub(crate) records: Records,
     pub(crate) bytes: u64,
     pub(crate) queued: u64,
 }
@@ -23,10 +22,10 @@ pub(crate) struct Map {
 impl Model for Map {
     ghost Value = { Entries };
 
-    ghost view = { λ map. map.records.entries };
+    ghost view = { λ map. map.records };
 
-    ghost invariant = { λ map. (map.bytes ≡ record_bytes map.records.entries)
-        × (map.queued ≡ count_of_kind entry_kind map.records.entries) × HasRisingKeys map.records.entries };
+    ghost invariant = { λ map. (map.bytes ≡ record_bytes map.records)
+        × (map.queued ≡ count_of_kind entry_kind map.records) × HasRisingKeys map.records };
 }
 
 // How many entries of the queue a record is, if there is one.
@@ -55,7 +54,7 @@ impl Map {
         ensures { result ≡ [] }
     {
         Map {
-            records: BTreeMap::new(alloc),
+            records: Records::new(alloc),
             bytes: 0,
             queued: 0,
         }
@@ -84,7 +83,7 @@ impl Map {
     pub(crate) fn remove(&mut self, key: Key)
         ensures { self.new ≡ changed self.old key None }
     {
-        if let Some(old) = self.records.remove(&key) {
+        if let Some(old) = self.records.remove(key) {
             self.bytes -= KEY_LEN as u64 + old.len() as u64;
             let taken = one_queued(key, Some(&old));
             self.queued -= taken;
@@ -95,24 +94,22 @@ impl Map {
     pub(crate) fn get(&self, key: Key) -> Option<&List<u8>>
         ensures { option_copied result ≡ value_under self.now key }
     {
-        self.records.get(&key)
+        self.records.get(key)
     }
 
     /// The least key at or above a key.
     pub(crate) fn least_from(&self, key: Key) -> Option<Key>
         ensures { result ≡ least_from self.now key }
     {
-        let (least, _) = self.records.range(key..).next()?;
+        let (least, _) = self.records.rows_from(key).first()?;
         Some(*least)
     }
 
-    /// The record of the least key at or above a key.
-    pub(crate) fn record_from(&self, key: Key) -> Option<(Key, &List<u8>)>
-        ensures exact { option_map (λ r. (r.0, r.1.now)) result ≡ record_from self.now key }
-        ensures above { IfSome result (λ r. is_le (key_cmp key r.0) ≡ true) }
+    /// A copy of the first records at or above a key, one or more where there are any.
+    pub(crate) fn rows_from(&self, alloc: Global, key: Key) -> Result<Rows, AllocError>
+        ensures { IfOk result (λ rows. StartsOf rows (entries_from self.now key)) }
     {
-        let (least, value) = self.records.range(key..).next()?;
-        Some((*least, value))
+        Rows::copy(alloc, self.records.rows_from(key))
     }
 
     /// How many bytes the keys and values count.

@@ -8,7 +8,7 @@ ghost use Rattle.ode_value.specs.Records.{snapshot};
 use crate::map::Map;
 use ode_gate::SHUT;
 use ode_host::put_u8;
-use ode_keep::{next_row, put_row};
+use ode_keep::next_row;
 use ode_value::List;
 use std::alloc::{AllocError, Global};
 
@@ -16,8 +16,9 @@ use std::alloc::{AllocError, Global};
 pub(crate) fn snapshot_length(map: &Map) -> u64
     ensures { result ≡ min (length (snapshot map.now)) (2 ^ 64 - 1) }
 {
+    let bytes = map.bytes();
     let fields = 2 * map.records.len() as u64;
-    map.bytes().saturating_add(fields)
+    bytes.saturating_add(fields)
 }
 
 /// The snapshot of these records, of this length in bytes, and one shut gate behind it.
@@ -26,9 +27,7 @@ pub(crate) fn shut_snapshot(alloc: Global, map: &Map, length: usize) -> Result<V
     ensures { IfOk result (λ bytes. AllByRecursion FitsRow map.now → bytes.items ≡ snapshot map.now ++ SHUT ∷ []) }
 {
     let mut bytes = Vec::with_capacity(alloc, length + 1)?;
-    for (key, value) in map.records.iter() {
-        put_row(&mut bytes, *key, value.as_slice())?;
-    }
+    map.records.put_rows(&mut bytes)?;
     put_u8(&mut bytes, SHUT)?;
     Ok(bytes)
 }

@@ -165,8 +165,9 @@ impl Store {
         if !Keep::<MemHost>::live(&self.keeper) {
             return Err(KeepError::DiskFault);
         }
-        let found = self.keeper.record_from(&mut self.host, key(kind, a))?;
-        Ok(found.and_then(|record| record.1.as_slice().first().copied()))
+        let rows = self.keeper.rows_from(&mut self.host, key(kind, a))?;
+        let first = rows.reader().next();
+        Ok(first.and_then(|record| record.1.first().copied()))
     }
 
     // The slot and the generation of the header that counts, and where its area starts.

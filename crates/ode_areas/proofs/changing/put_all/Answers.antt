@@ -8,7 +8,7 @@ use Rattle.ode_areas.proofs.changing.put_all.Goals as goal
 
 pub loop-key-preserved-in-Continue-branch-2 : goal.loop-key-preserved-in-Continue-branch-2
 loop-key-preserved-in-Continue-branch-2 c =
-    let es = c.loop-key.records.entries in
+    let es = c.loop-key.records in
     let next = c.next.new.self in
     let key = c.in-Some.key.now in
     let copied : c.in_ok-copy.copy ≡ c.in-Some-value.value = c.in_ok-copy.ensures ∙ c.as_slice.ensures in
@@ -18,11 +18,11 @@ loop-key-preserved-in-Continue-branch-2 c =
           ∙ ap (λ (l : Changes). applied (puts l) es) (sym (c.in-Some.ensures.steps ∙ ap (λ (w : Option (List ℕ)). (key, w) ∷ next) c.in-Some-value.is))
           ∙ c.loop-key.invariant.ahead;
       back = λ old led.
-          led_one_more key c.in_ok-copy.copy c.loop-key.notes.items c.put_noted.new.notes.items es c.put_noted.new.records.entries old c.in_ok-put_noted.ensures.rising
+          led_one_more key c.in_ok-copy.copy c.loop-key.notes.items c.put_noted.new.notes.items es c.put_noted.new.records old c.in_ok-put_noted.ensures.rising
           c.in_ok-put_noted.ensures.noted c.in_ok-put_noted.ensures.put (c.loop-key.invariant.back old led);
     }
 
 pub returns-in_err-put_noted-clause-back : goal.returns-in_err-put_noted-clause-back
 returns-in_err-put_noted-clause-back c = λ old led.
-    led_same c.loop-key.notes.items c.put_noted.new.notes.items c.loop-key.records.entries c.put_noted.new.records.entries old
+    led_same c.loop-key.notes.items c.put_noted.new.notes.items c.loop-key.records c.put_noted.new.records old
     c.in_err-put_noted.ensures.no_note c.in_err-put_noted.ensures.same (c.loop-key.invariant.back old led)

@@ -5,6 +5,6 @@ use Rattle.ode_areas.proofs.changing.put_all.Given as goal
 
 abbrev pub invariant-loop-key : goal.invariant-loop-key
 invariant-loop-key l = record {
-  ahead : applied (puts l.key-iterator) l.records.entries ≡ applied (puts l.batch) l.initial.records.entries;
-  back : (old : Entries) → LeadBack (reverse l.initial.notes.items) l.initial.records.entries old → LeadBack (reverse l.notes.items) l.records.entries old;
+  ahead : applied (puts l.key-iterator) l.records ≡ applied (puts l.batch) l.initial.records;
+  back : (old : Entries) → LeadBack (reverse l.initial.notes.items) l.initial.records old → LeadBack (reverse l.notes.items) l.records old;
 }

@@ -5,8 +5,8 @@ use Rattle.ode_areas.proofs.changing.undo_all.Given as goal
 
 abbrev pub invariant-loop-key : goal.invariant-loop-key
 invariant-loop-key l = record {
-  room : NeedNoRoom (reverse l.notes.items) l.records.entries;
-  same : applied (reverse l.notes.items) l.records.entries ≡ applied (reverse l.initial.notes.items) l.initial.records.entries;
+  room : NeedNoRoom (reverse l.notes.items) l.records;
+  same : applied (reverse l.notes.items) l.records ≡ applied (reverse l.initial.notes.items) l.initial.records;
 }
 
 abbrev pub decreases-loop-key : goal.decreases-loop-key

@@ -8,8 +8,8 @@ use Rattle.ode_areas.proofs.map.Map.apply.Goals as goal
 pub invariant_of-self-2 : goal.invariant_of-self-2
 invariant_of-self-2 c =
     let batch = c.args.batch.now in
-    let before = c.self.inside.records.entries in
-    let made = made_all batch before c.put_all.new.records.entries c.remove_all.new.records.entries c.args.self.now c.remove_all.ensures.rising c.self.invariant.2
+    let before = c.self.inside.records in
+    let made = made_all batch before c.put_all.new.records c.remove_all.new.records c.args.self.now c.remove_all.ensures.rising c.self.invariant.2
     c.self.view_is c.in_default.ensures.put c.remove_all.ensures.removed in (
       c.requires ∙ ap record_bytes (sym made),
       c.queued_after-queued.ensures ∙ ap (λ (l : Entries). count_of_kind entry_kind l) (sym made),
@@ -19,5 +19,5 @@ invariant_of-self-2 c =
 
 pub returns-clause-ok : goal.returns-clause-ok
 returns-clause-ok c =
-    made_all c.args.batch.now c.self.inside.records.entries c.put_all.new.records.entries c.remove_all.new.records.entries c.args.self.now
+    made_all c.args.batch.now c.self.inside.records c.put_all.new.records c.remove_all.new.records c.args.self.now
     c.remove_all.ensures.rising c.self.invariant.2 c.self.view_is c.in_default.ensures.put c.remove_all.ensures.removed

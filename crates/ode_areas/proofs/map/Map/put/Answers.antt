@@ -1,8 +1,9 @@
-use Rattle.std.proofs.Common.{◌≡◌, List, Option, ℕ, Some, None, sym, ap, ◌∙◌, arith}
+use Rattle.std.proofs.Common.{◌≡◌, List, Option, ℕ, Some, None, subst, sym, ap, ◌∙◌, arith}
 use Rattle.std.specs.Prelude.{◌==◌}
-use Rattle.ode_keep.specs.Entries.{Entries, count_of_kind, record_bytes, value_under}
+use Rattle.ode_keep.specs.Entries.{Entries, HasRisingKeys, count_of_kind, record_bytes, value_under}
 use Rattle.ode_keep.specs.Growth.{bytes_of, one_of_kind}
 use Rattle.ode_value.specs.Keys.{entry_kind}
+use Rattle.ode_keep.proofs.Applying.{changed_rising}
 use Rattle.ode_keep.proofs.Counts.{at_most_one, count_within, put_counts}
 use Rattle.ode_keep.proofs.Growing.{put_grows}
 use Rattle.ode_areas.proofs.map.Map.put.Goals as goal
@@ -12,7 +13,7 @@ pub overflow_add-self : goal.overflow_add-self
 overflow_add-self c =
     omega (
       arith,
-      count_within entry_kind c.self.inside.records.entries,
+      count_within entry_kind c.self.inside.records,
       at_most_one entry_kind (c.args.key.kind == entry_kind),
       c.self.invariant.0,
       c.self.invariant.1,
@@ -22,17 +23,17 @@ overflow_add-self c =
 
 pub overflow_sub-self : goal.overflow_sub-self
 overflow_sub-self c =
-    let entries = c.self.inside.records.entries in
-    let grows = put_grows entries c.args.key c.args.value c.in_ok-old.ensures.was_ordered in
+    let entries = c.self.inside.records in
+    let grows = put_grows entries c.args.key c.args.value c.self.invariant.2 in
     let found : value_under entries c.args.key ≡ Some c.in-Some-old.old = sym c.in_ok-old.ensures.old ∙ c.in-Some-old.is in
     omega (arith, grows, ap bytes_of found, c.self.invariant.0, c.in-Some.ensures, c.len.ensures, c.len-length.ensures)
 
 pub invariant_of-self-2 : goal.invariant_of-self-2
 invariant_of-self-2 c =
-    let entries = c.self.inside.records.entries in
-    let grows = put_grows entries c.args.key c.args.value c.in_ok-old.ensures.was_ordered in
-    let now = ap record_bytes c.in_ok-old.ensures.entries in
-    let counts : c.match-old.self ≡ record_bytes c.insert.new.self.entries = elim c.match-old.branch [
+    let entries = c.self.inside.records in
+    let grows = put_grows entries c.args.key c.args.value c.self.invariant.2 in
+    let now = ap record_bytes c.in_ok-old.ensures.put in
+    let counts : c.match-old.self ≡ record_bytes c.insert.new.self = elim c.match-old.branch [
       | in-Some-old w ↦
           let found : value_under entries c.args.key ≡ Some w.in-Some-old.old = sym c.in_ok-old.ensures.old ∙ w.in-Some-old.is in
           omega (arith, grows, now, ap bytes_of found, c.self.invariant.0, c.in-Some.ensures, w.len.ensures, c.len-length.ensures, w.self-is)
@@ -43,12 +44,12 @@ invariant_of-self-2 c =
       counts,
       omega (
         arith,
-        put_counts entry_kind entries c.args.key c.args.value c.in_ok-old.ensures.was_ordered,
-        ap (λ (l : Entries). count_of_kind entry_kind l) c.in_ok-old.ensures.entries,
+        put_counts entry_kind entries c.args.key c.args.value c.self.invariant.2,
+        ap (λ (l : Entries). count_of_kind entry_kind l) c.in_ok-old.ensures.put,
         ap (λ (o : Option (List ℕ)). one_of_kind entry_kind c.args.key o) c.as_ref.ensures.value,
         ap (λ (o : Option (List ℕ)). one_of_kind entry_kind c.args.key o) c.in_ok-old.ensures.old,
         c.self.invariant.1,
         c.one_added-added.ensures,
       ),
-      c.insert.ensures.ordered,
+      subst (λ (l : Entries). HasRisingKeys l) (sym c.in_ok-old.ensures.put) (changed_rising entries c.args.key (Some c.args.value) c.self.invariant.2),
     )
