@@ -17,9 +17,11 @@ use Rattle.ode_value.specs.Limits.{queue_limit}
 use Rattle.ode_value.specs.Records.{Row}
 use Rattle.ode_value.specs.declared.class.Class.{Class}
 use Rattle.ode_value.specs.declared.key.Key.{Key}
+use Rattle.ode_opening_objects.specs.Heads.{head_in}
 use Rattle.ode_opening_objects.specs.Known.{Known}
+use Rattle.ode_opening_objects.specs.Numbers.{at, is_twice}
 use Rattle.ode_opening_objects.specs.Objects.{object_keeps, objects_keep, references_keep, version_keeps}
-use Rattle.ode_opening_objects.specs.Scenes.{checked, each_refers, fits, heads_of, is_twice, keeps, objects_kept, passed, queued, referred, refers, scene_in, scene_kept, turn, versions_of, with_object}
+use Rattle.ode_opening_objects.specs.Scenes.{checked, each_refers, fits, heads_from, keeps, objects_kept, passed, queued, referred, refers, scene_in, scene_kept, turn, versions_of}
 use Rattle.ode_opening_objects.specs.States.{is_seen}
 use Rattle.ode_opening_objects.specs.Triggers.{activation_keeps, at_most, entry_fits, entry_keeps, is_shared, none_over}
 use Rattle.ode_opening_objects.specs.declared.head.Head.{Head}
@@ -28,7 +30,7 @@ use Rattle.ode_opening_objects.specs.declared.scene.Course.{Course}
 use Rattle.ode_opening_objects.specs.declared.scene.Queue.{Queue}
 use Rattle.ode_opening_objects.specs.declared.scene.Rule.TheVariants as rule
 use Rattle.ode_opening_objects.specs.declared.states.States.{States}
-use Rattle.ode_opening_objects.proofs.Gathering.{numbers_are}
+use Rattle.ode_opening_objects.proofs.Gathering.{heads_are, numbers_are}
 use Rattle.ode_opening_objects.proofs.Parts.{by_kinds}
 
 -- ---- one rule behind another
@@ -46,113 +48,96 @@ carried : {X : Type 0} (a : Ruled (Unit {0})) (s : Known) (next : Known → Rule
 carried (Ok u) s next = refl
 carried (Err e) s next = refl
 
--- ---- objects
+-- ---- one pass
 
-object_step : (m : Ruled (Unit {0})) (entries : Entries) (s : Known) (es : Entries) → through (with_object entries) s es ≡ (each (object_keeps s.counters.next_number s.classes (versions_of entries)) es >>= λ _. Ok s)
-    → ((m >>= λ _. Ok s) >>= λ t. through (with_object entries) t es) ≡ ((m >>= λ _. each (object_keeps s.counters.next_number s.classes (versions_of entries)) es) >>= λ _. Ok s)
-object_step (Ok u) entries s es more = more
-object_step (Err e) entries s es more = refl
+abbrev on : Check → Key → Record → Check
+on c k r = record c { course = referred c.course k r }
 
-pub objects_through : (entries : Entries) (s : Known) (es : Entries) → through (with_object entries) s es ≡ (each (object_keeps s.counters.next_number s.classes (versions_of entries)) es >>= λ _. Ok s)
-objects_through entries s [] = refl
-objects_through entries s (e ∷ es) = object_step (object_keeps s.counters.next_number s.classes (versions_of entries) e) entries s es (objects_through entries s es)
+abbrev Passes : Entries → Check → Type 0
+Passes es c = (through checked c es >>= λ d. Ok d.course) ≡ passed c.rule es c.course
 
-pub objects_stop : (entries : Entries) (s t : Known) (e : OpenError) → Leaves (through (with_object entries) s (within object_kind object_kind entries)) t (Err e) → Answers (objects_kept entries s) (Err e)
-objects_stop entries s t (error.BadFile why) ran = sym (objects_through entries s (within object_kind object_kind entries)) ∙ ran
-objects_stop entries s t error.DiskFault ran = tt
-objects_stop entries s t error.Memory ran = tt
+fits_step : (m : Ruled (Unit {0})) (c : Check) (k : Key) (r : Record) (es : Entries) → Passes es (on c k r)
+    → (((m >>= λ _. Ok (on c k r)) >>= λ d. through checked d es) >>= λ d. Ok d.course)
+    ≡ ((m >>= λ _. each (keeps c.rule c.course.scene) es)
+    >>= λ _. Ok (record c.course { references = c.course.references >>= λ _. (refers c.course.scene k r >>= λ _. each_refers c.course.scene es) }))
+fits_step (Ok u) c k r es more =
+    more
+    ∙ ap (λ (m : Ruled (Unit {0})). each (keeps c.rule c.course.scene) es >>= λ _. Ok (record c.course { references = m }))
+    (together c.course.references (refers c.course.scene k r) (each_refers c.course.scene es))
+fits_step (Err e) c k r es more = refl
 
-module _ (heads : ℕ → Option Head) where
-  -- ---- one pass
+record_step : (m : Ruled Record) (c : Check) (k : Key) (es : Entries) → ((r : Record) → Passes es (on c k r))
+    → (((m >>= λ r. fits c.rule c.course.scene k r >>= λ _. Ok (on c k r)) >>= λ d. through checked d es) >>= λ d. Ok d.course)
+    ≡ (((m >>= λ r. fits c.rule c.course.scene k r) >>= λ _. each (keeps c.rule c.course.scene) es)
+    >>= λ _. Ok (record c.course { references = c.course.references >>= λ _. ((m >>= λ r. refers c.course.scene k r) >>= λ _. each_refers c.course.scene es) }))
+record_step (Ok r) c k es more = fits_step (fits c.rule c.course.scene k r) c k r es (more r)
+record_step (Err e) c k es more = refl
 
-  abbrev on : Check → Key → Record → Check
-  on c k r = record c { course = referred heads c.course k r }
+pub checked_course : (es : Entries) (c : Check) → Passes es c
+checked_course [] c = ap (λ (m : Ruled (Unit {0})). Ok (record c.course { references = m })) (sym (ended c.course.references))
+checked_course (e ∷ es) c = record_step (record_in e) c e.0 es (λ r. checked_course es (on c e.0 r))
 
-  abbrev Passes : Entries → Check → Type 0
-  Passes es c = (through (checked heads) c es >>= λ d. Ok d.course) ≡ passed heads c.rule es c.course
+pub check_goes : (es : Entries) (c d : Check) → through checked c es ≡ Ok d → passed c.rule es c.course ≡ Ok d.course
+check_goes es c d ran = sym (checked_course es c) ∙ ap (λ m. m >>= λ t. Ok t.course) ran
 
-  fits_step : (m : Ruled (Unit {0})) (c : Check) (k : Key) (r : Record) (es : Entries) → Passes es (on c k r)
-      → (((m >>= λ _. Ok (on c k r)) >>= λ d. through (checked heads) d es) >>= λ d. Ok d.course)
-      ≡ ((m >>= λ _. each (keeps heads c.rule c.course.scene) es)
-      >>= λ _. Ok (record c.course { references = c.course.references >>= λ _. (refers heads c.course.scene k r >>= λ _. each_refers heads c.course.scene es) }))
-  fits_step (Ok u) c k r es more =
-      more
-      ∙ ap (λ (m : Ruled (Unit {0})). each (keeps heads c.rule c.course.scene) es >>= λ _. Ok (record c.course { references = m }))
-      (together c.course.references (refers heads c.course.scene k r) (each_refers heads c.course.scene es))
-  fits_step (Err e) c k r es more = refl
+pub check_stops : (es : Entries) (c d : Check) (e : OpenError) → Leaves {X = Unit {0}} (through checked c es) d (Err e) → Answers (passed c.rule es c.course) (Err e)
+check_stops es c d (error.BadFile why) ran = sym (checked_course es c) ∙ ap (λ m. m >>= λ t. Ok t.course) ran
+check_stops es c d error.DiskFault ran = tt
+check_stops es c d error.Memory ran = tt
 
-  record_step : (m : Ruled Record) (c : Check) (k : Key) (es : Entries) → ((r : Record) → Passes es (on c k r))
-      → (((m >>= λ r. fits heads c.rule c.course.scene k r >>= λ _. Ok (on c k r)) >>= λ d. through (checked heads) d es) >>= λ d. Ok d.course)
-      ≡ (((m >>= λ r. fits heads c.rule c.course.scene k r) >>= λ _. each (keeps heads c.rule c.course.scene) es)
-      >>= λ _. Ok (record c.course { references = c.course.references >>= λ _. ((m >>= λ r. refers heads c.course.scene k r) >>= λ _. each_refers heads c.course.scene es) }))
-  record_step (Ok r) c k es more = fits_step (fits heads c.rule c.course.scene k r) c k r es (more r)
-  record_step (Err e) c k es more = refl
+-- ---- the queue
 
-  pub checked_course : (es : Entries) (c : Check) → Passes es c
-  checked_course [] c = ap (λ (m : Ruled (Unit {0})). Ok (record c.course { references = m })) (sym (ended c.course.references))
-  checked_course (e ∷ es) c = record_step (record_in e) c e.0 es (λ r. checked_course es (on c e.0 r))
+abbrev Waits : Entries → ℕ → Course → Type 0
+Waits es n c =
+    (through queued (record { course = c; left = n }) es >>= λ p. Ok p.course)
+    ≡ (at_most n (turn c.scene) es >>= λ _. Ok (record c { references = c.references >>= λ _. each_refers c.scene es }))
 
-  pub check_goes : (es : Entries) (c d : Check) → through (checked heads) c es ≡ Ok d → passed heads c.rule es c.course ≡ Ok d.course
-  check_goes es c d ran = sym (checked_course es c) ∙ ap (λ m. m >>= λ t. Ok t.course) ran
+abbrev turned : Course → Key → ℕ → Record → Ruled Queue
+turned c k n r = needs (cause.Record k) (entry_fits c.scene.counters c.scene.classes (at c.scene.heads) r) >>= λ _. Ok (record { course = referred c k r; left = n })
 
-  pub check_stops : (es : Entries) (c d : Check) (e : OpenError) → Leaves (through (checked heads) c es) d (Err e) → Answers (passed heads c.rule es c.course) (Err e)
-  check_stops es c d (error.BadFile why) ran = sym (checked_course es c) ∙ ap (λ m. m >>= λ t. Ok t.course) ran
-  check_stops es c d error.DiskFault ran = tt
-  check_stops es c d error.Memory ran = tt
+turn_step : (m : Ruled (Unit {0})) (c : Course) (k : Key) (r : Record) (n : ℕ) (es : Entries) → Waits es n (referred c k r)
+    → (((m >>= λ _. Ok (record { course = referred c k r; left = n })) >>= λ p. through queued p es) >>= λ p. Ok p.course)
+    ≡ (((m >>= λ _. each (turn c.scene) (take n es)) >>= λ _. none_over (drop n es))
+    >>= λ _. Ok (record c { references = c.references >>= λ _. (refers c.scene k r >>= λ _. each_refers c.scene es) }))
+turn_step (Ok u) c k r n es more =
+    more
+    ∙ ap (λ (m : Ruled (Unit {0})). at_most n (turn c.scene) es >>= λ _. Ok (record c { references = m }))
+    (together c.references (refers c.scene k r) (each_refers c.scene es))
+turn_step (Err e) c k r n es more = refl
 
-  -- ---- the queue
+turn_record : (m : Ruled Record) (c : Course) (k : Key) (n : ℕ) (es : Entries) → ((r : Record) → Waits es n (referred c k r))
+    → (((m >>= turned c k n) >>= λ p. through queued p es) >>= λ p. Ok p.course)
+    ≡ ((((m >>= λ r. needs (cause.Record k) (entry_fits c.scene.counters c.scene.classes (at c.scene.heads) r)) >>= λ _. each (turn c.scene) (take n es)) >>= λ _. none_over (drop n es))
+    >>= λ _. Ok (record c { references = c.references >>= λ _. ((m >>= λ r. refers c.scene k r) >>= λ _. each_refers c.scene es) }))
+turn_record (Ok r) c k n es more = turn_step (needs (cause.Record k) (entry_fits c.scene.counters c.scene.classes (at c.scene.heads) r)) c k r n es (more r)
+turn_record (Err e) c k n es more = refl
 
-  abbrev Waits : Entries → ℕ → Course → Type 0
-  Waits es n c =
-      (through (queued heads) (record { course = c; left = n }) es >>= λ p. Ok p.course)
-      ≡ (at_most n (turn heads c.scene) es >>= λ _. Ok (record c { references = c.references >>= λ _. each_refers heads c.scene es }))
+queue_turn : (n : ℕ) (c : Course) (e : Row) → queued (record { course = c; left = suc n }) e ≡ (record_in e >>= turned c e.0 n)
+queue_turn n c e =
+    let some : nat_lt 0 (suc n) ≡ true = lt-ltb 0 (suc n) (omega arith) in
+    let one : suc n - 1 ≡ n = omega arith in
+    ap (λ (b : Bool). needs (cause.Record e.0) b >>= λ _. (record_in e >>= turned c e.0 (suc n - 1))) some
+    ∙ ap (λ (left : ℕ). record_in e >>= turned c e.0 left) one
 
-  abbrev turned : Course → Key → ℕ → Record → Ruled Queue
-  turned c k n r = needs (cause.Record k) (entry_fits c.scene.counters c.scene.classes heads r) >>= λ _. Ok (record { course = referred heads c k r; left = n })
+pub queue_course : (es : Entries) (left : ℕ) (c : Course) → Waits es left c
+queue_course [] zero c = ap (λ (m : Ruled (Unit {0})). Ok (record c { references = m })) (sym (ended c.references))
+queue_course [] (suc n) c = ap (λ (m : Ruled (Unit {0})). Ok (record c { references = m })) (sym (ended c.references))
+queue_course (e ∷ es) zero c = refl
+queue_course (e ∷ es) (suc n) c =
+    ap (λ (m : Ruled Queue). (m >>= λ p. through queued p es) >>= λ p. Ok p.course) (queue_turn n c e)
+    ∙ turn_record (record_in e) c e.0 n es (λ r. queue_course es n (referred c e.0 r))
 
-  turn_step : (m : Ruled (Unit {0})) (c : Course) (k : Key) (r : Record) (n : ℕ) (es : Entries) → Waits es n (referred heads c k r)
-      → (((m >>= λ _. Ok (record { course = referred heads c k r; left = n })) >>= λ p. through (queued heads) p es) >>= λ p. Ok p.course)
-      ≡ (((m >>= λ _. each (turn heads c.scene) (take n es)) >>= λ _. none_over (drop n es))
-      >>= λ _. Ok (record c { references = c.references >>= λ _. (refers heads c.scene k r >>= λ _. each_refers heads c.scene es) }))
-  turn_step (Ok u) c k r n es more =
-      more
-      ∙ ap (λ (m : Ruled (Unit {0})). at_most n (turn heads c.scene) es >>= λ _. Ok (record c { references = m }))
-      (together c.references (refers heads c.scene k r) (each_refers heads c.scene es))
-  turn_step (Err e) c k r n es more = refl
+abbrev queue_left : Entries → ℕ → Course → Ruled Course
+queue_left es left c = at_most left (turn c.scene) es >>= λ _. Ok (record c { references = c.references >>= λ _. each_refers c.scene es })
 
-  turn_record : (m : Ruled Record) (c : Course) (k : Key) (n : ℕ) (es : Entries) → ((r : Record) → Waits es n (referred heads c k r))
-      → (((m >>= turned c k n) >>= λ p. through (queued heads) p es) >>= λ p. Ok p.course)
-      ≡ ((((m >>= λ r. needs (cause.Record k) (entry_fits c.scene.counters c.scene.classes heads r)) >>= λ _. each (turn heads c.scene) (take n es)) >>= λ _. none_over (drop n es))
-      >>= λ _. Ok (record c { references = c.references >>= λ _. ((m >>= λ r. refers heads c.scene k r) >>= λ _. each_refers heads c.scene es) }))
-  turn_record (Ok r) c k n es more = turn_step (needs (cause.Record k) (entry_fits c.scene.counters c.scene.classes heads r)) c k r n es (more r)
-  turn_record (Err e) c k n es more = refl
+pub queue_goes : (es : Entries) (left : ℕ) (c : Course) (q : Queue) → through queued (record { course = c; left = left }) es ≡ Ok q → queue_left es left c ≡ Ok q.course
+queue_goes es left c q ran = sym (queue_course es left c) ∙ ap (λ m. m >>= λ p. Ok p.course) ran
 
-  queue_turn : (n : ℕ) (c : Course) (e : Row) → queued heads (record { course = c; left = suc n }) e ≡ (record_in e >>= turned c e.0 n)
-  queue_turn n c e =
-      let some : nat_lt 0 (suc n) ≡ true = lt-ltb 0 (suc n) (omega arith) in
-      let one : suc n - 1 ≡ n = omega arith in
-      ap (λ (b : Bool). needs (cause.Record e.0) b >>= λ _. (record_in e >>= turned c e.0 (suc n - 1))) some
-      ∙ ap (λ (left : ℕ). record_in e >>= turned c e.0 left) one
-
-  pub queue_course : (es : Entries) (left : ℕ) (c : Course) → Waits es left c
-  queue_course [] zero c = ap (λ (m : Ruled (Unit {0})). Ok (record c { references = m })) (sym (ended c.references))
-  queue_course [] (suc n) c = ap (λ (m : Ruled (Unit {0})). Ok (record c { references = m })) (sym (ended c.references))
-  queue_course (e ∷ es) zero c = refl
-  queue_course (e ∷ es) (suc n) c =
-      ap (λ (m : Ruled Queue). (m >>= λ p. through (queued heads) p es) >>= λ p. Ok p.course) (queue_turn n c e)
-      ∙ turn_record (record_in e) c e.0 n es (λ r. queue_course es n (referred heads c e.0 r))
-
-  abbrev queue_left : Entries → ℕ → Course → Ruled Course
-  queue_left es left c = at_most left (turn heads c.scene) es >>= λ _. Ok (record c { references = c.references >>= λ _. each_refers heads c.scene es })
-
-  pub queue_goes : (es : Entries) (left : ℕ) (c : Course) (q : Queue) → through (queued heads) (record { course = c; left = left }) es ≡ Ok q → queue_left es left c ≡ Ok q.course
-  queue_goes es left c q ran = sym (queue_course es left c) ∙ ap (λ m. m >>= λ p. Ok p.course) ran
-
-  pub queue_stops : (es : Entries) (left : ℕ) (c : Course) (q : Queue) (e : OpenError) → Leaves (through (queued heads) (record { course = c; left = left }) es) q (Err e)
-      → Answers (queue_left es left c) (Err e)
-  queue_stops es left c q (error.BadFile why) ran = sym (queue_course es left c) ∙ ap (λ m. m >>= λ p. Ok p.course) ran
-  queue_stops es left c q error.DiskFault ran = tt
-  queue_stops es left c q error.Memory ran = tt
+pub queue_stops : (es : Entries) (left : ℕ) (c : Course) (q : Queue) (e : OpenError) → Leaves {X = Unit {0}} (through queued (record { course = c; left = left }) es) q (Err e)
+    → Answers (queue_left es left c) (Err e)
+queue_stops es left c q (error.BadFile why) ran = sym (queue_course es left c) ∙ ap (λ m. m >>= λ p. Ok p.course) ran
+queue_stops es left c q error.DiskFault ran = tt
+queue_stops es left c q error.Memory ran = tt
 
 -- ---- all passes
 
@@ -182,9 +167,6 @@ module _ (s : Known) (second third : Known → Ruled (Unit {0})) (first_refers :
   by_first (Err e) = refl
 
 module _ (entries : Entries) (s : Known) where
-  abbrev heads : ℕ → Option Head
-  heads = heads_of entries
-
   abbrev versions : Entries
   versions = within version_kind version_kind entries
 
@@ -196,42 +178,57 @@ module _ (entries : Entries) (s : Known) where
 
   -- the passes as the program makes them come to their rules, one behind the other
   kept_in_rules : scene_kept entries s
-      ≡ (each (keeps heads rule.Versions s) versions >>= λ _. (each (keeps heads rule.Activations s) activations >>= λ _. (at_most queue_limit (turn heads s) queue
-      >>= λ _. (each_refers heads s versions >>= λ _. (each_refers heads s activations >>= λ _. each_refers heads s queue)))))
+      ≡ (each (keeps rule.Versions s) versions >>= λ _. (each (keeps rule.Activations s) activations >>= λ _. (at_most queue_limit (turn s) queue
+      >>= λ _. (each_refers s versions >>= λ _. (each_refers s activations >>= λ _. each_refers s queue)))))
   kept_in_rules =
-      by_first s (λ t. each (keeps heads rule.Activations t) activations) (λ t. at_most queue_limit (turn heads t) queue) (each_refers heads s versions) (λ t. each_refers heads t activations)
-      (λ t. each_refers heads t queue) (each (keeps heads rule.Versions s) versions)
+      by_first s (λ t. each (keeps rule.Activations t) activations) (λ t. at_most queue_limit (turn t) queue) (each_refers s versions) (λ t. each_refers t activations)
+      (λ t. each_refers t queue) (each (keeps rule.Versions s) versions)
 
 module _ (counters : Counters) (reached : ℕ → ℕ → ℕ → Bool) (classes : List Class) (states : States) (same : (class place state : ℕ) → is_seen states class place state ≡ reached class place state)
     (entries : Entries) (rising : HasRisingKeys entries) where
   abbrev next : ℕ
   next = counters.next_number
 
+  abbrev objects : Entries
+  objects = within object_kind object_kind entries
+
   abbrev known : Known
   known = scene_in counters classes states entries
 
-  abbrev A : Ruled (Unit {0})
-  A = each (object_keeps next classes (versions_of entries)) (within object_kind object_kind entries)
+  -- and by the objects
+  abbrev known_then : Known
+  known_then = record known { heads = heads_from [] objects }
 
-  -- by what the records of activations tell, by the tables, and by the references
-  abbrev ruled : (ℕ → Bool) → (ℕ → ℕ → ℕ → Bool) → Ruled (Unit {0}) → Ruled (Unit {0})
-  ruled shared seen references =
-      A >>= λ _. (each (version_keeps classes (heads_of entries)) (within version_kind version_kind entries)
-      >>= λ _. (each (activation_keeps next classes (heads_of entries) shared seen) (within activation_kind activation_kind entries)
-      >>= λ _. (at_most queue_limit (entry_keeps counters classes (heads_of entries)) (within entry_kind entry_kind entries)
+  abbrev A : Ruled (Unit {0})
+  A = each (object_keeps next classes (versions_of entries)) objects
+
+  -- by the objects, by what the records of activations tell, by the tables, and by the references
+  abbrev ruled : (ℕ → Option Head) → (ℕ → Bool) → (ℕ → ℕ → ℕ → Bool) → Ruled (Unit {0}) → Ruled (Unit {0})
+  ruled heads shared seen references =
+      A >>= λ _. (each (version_keeps classes heads) (within version_kind version_kind entries)
+      >>= λ _. (each (activation_keeps next classes heads shared seen) (within activation_kind activation_kind entries)
+      >>= λ _. (at_most queue_limit (entry_keeps counters classes heads) (within entry_kind entry_kind entries)
       >>= λ _. references)))
 
+  -- the references by kinds of records, and all of them
+  abbrev part_refers : (ℕ → Option Head) → ℕ → Ruled (Unit {0})
+  part_refers heads kind = each (references_keep next classes heads) (within kind kind entries)
+
+  abbrev parts_refer : (ℕ → Option Head) → Ruled (Unit {0})
+  parts_refer heads = part_refers heads version_kind >>= λ _. (part_refers heads activation_kind >>= λ _. part_refers heads entry_kind)
+
   abbrev all_refer : Ruled (Unit {0})
-  all_refer = each (references_keep next classes (heads_of entries)) (within version_kind entry_kind entries)
+  all_refer = each (references_keep next classes (head_in objects)) (within version_kind entry_kind entries)
 
   pub in_passes : (objects_kept entries known >>= λ s. scene_kept entries s) ≡ objects_keep counters reached classes entries
   unfolding objects_keep
   in_passes =
-      carried A known (λ s. scene_kept entries s)
-      ∙ ap (λ (m : Ruled (Unit {0})). A >>= λ _. m) (kept_in_rules entries known)
-      ∙ ap (ruled (is_twice known.numbers) (is_seen states)) (sym (by_kinds (references_keep next classes (heads_of entries)) entries rising))
-      ∙ ap (λ (shared : ℕ → Bool). ruled shared (is_seen states) all_refer) (numbers_are (within activation_kind activation_kind entries))
-      ∙ ap (λ (seen : ℕ → ℕ → ℕ → Bool). ruled (is_shared (within activation_kind activation_kind entries)) seen all_refer) (λ i class place state. same class place state i)
+      carried A known_then (λ s. scene_kept entries s)
+      ∙ ap (λ (m : Ruled (Unit {0})). A >>= λ _. m) (kept_in_rules entries known_then)
+      ∙ ap (λ (heads : ℕ → Option Head). ruled heads (is_twice known.numbers) (is_seen states) (parts_refer heads)) (heads_are objects)
+      ∙ ap (ruled (head_in objects) (is_twice known.numbers) (is_seen states)) (sym (by_kinds (references_keep next classes (head_in objects)) entries rising))
+      ∙ ap (λ (shared : ℕ → Bool). ruled (head_in objects) shared (is_seen states) all_refer) (numbers_are (within activation_kind activation_kind entries))
+      ∙ ap (λ (seen : ℕ → ℕ → ℕ → Bool). ruled (head_in objects) (is_shared (within activation_kind activation_kind entries)) seen all_refer) (λ i class place state. same class place state i)
 
 -- ---- one pass behind another
 

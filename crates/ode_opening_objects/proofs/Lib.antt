@@ -1,8 +1,6 @@
 pub mod ClimbLaws
 pub mod StateLaws
+pub mod Places
 pub mod Gathering
-pub mod Knowing
-pub mod Taking
-pub mod Finding
 pub mod Parts
 pub mod Checking

@@ -3,6 +3,6 @@ pub mod Fitting
 pub mod Triggers
 pub mod States
 pub mod Objects
-pub mod Naming
+pub mod Numbers
 pub mod Known
 pub mod Scenes

@@ -2,11 +2,10 @@
 ghost use Rattle.std.specs.Prelude.{◌≡◌};
 ghost use Rattle.ode_value.specs.declared.statement.Sort.{Sort as OfSort};
 ghost use Rattle.ode_opening_objects.specs.Fitting.{fits_object, fits_reference, fits_sort, has_sort, is_drawn, match_sorts, refer};
-ghost use Rattle.ode_opening_objects.specs.Scenes.{known_at};
+ghost use Rattle.ode_opening_objects.specs.Numbers.{at};
 
 use crate::climbing::climbs;
 use crate::head::Head;
-use crate::numbers::Heads;
 use crate::scene::Scene;
 use ode_types::Classes;
 use ode_value::{Field, Name, Param, Ref, Sort, Value};
@@ -84,8 +83,8 @@ fn fits_object(classes: &Classes, class: &Name, version: Option<u32>, head: Head
     climbs(classes, head.class, class) && is_drawn(head.last, version)
 }
 
-fn fits_reference(scene: &Scene, heads: &Heads, class: &Name, reference: Ref) -> bool
-    ensures { result ≡ fits_reference scene.now.counters.next_number scene.now.classes (known_at heads.now) class.now reference }
+fn fits_reference(scene: &Scene, class: &Name, reference: Ref) -> bool
+    ensures { result ≡ fits_reference scene.now.counters.next_number scene.now.classes (at scene.now.heads) class.now reference }
 {
     if reference.object == 0 {
         return true;
@@ -93,18 +92,18 @@ fn fits_reference(scene: &Scene, heads: &Heads, class: &Name, reference: Ref) ->
     if reference.object >= scene.counters.next_number {
         return false;
     }
-    match heads.at(reference.object) {
+    match scene.heads.at(reference.object) {
         Some(head) => fits_object(scene.classes, class, reference.version, head),
         None => true,
     }
 }
 
-fn fits_sort(scene: &Scene, heads: &Heads, sort: &Sort, value: &Value) -> bool
-    ensures { result ≡ fits_sort scene.now.counters.next_number scene.now.classes (known_at heads.now) sort.now value.now }
+fn fits_sort(scene: &Scene, sort: &Sort, value: &Value) -> bool
+    ensures { result ≡ fits_sort scene.now.counters.next_number scene.now.classes (at scene.now.heads) sort.now value.now }
 {
     match sort {
         Sort::Reference(class) => match value {
-            Value::Reference(reference) => fits_reference(scene, heads, class, *reference),
+            Value::Reference(reference) => fits_reference(scene, class, *reference),
             _ => true,
         },
         _ => true,
@@ -112,21 +111,15 @@ fn fits_sort(scene: &Scene, heads: &Heads, sort: &Sort, value: &Value) -> bool
 }
 
 /// Whether the references among the values of members fit.
-pub(crate) fn refer<M: Sorted>(
-    scene: &Scene,
-    heads: &Heads,
-    members: &[M],
-    values: &[Value],
-) -> bool
-    ensures { result ≡ refer scene.now.counters.next_number scene.now.classes (known_at heads.now) M.sort_of members.now values.now }
+pub(crate) fn refer<M: Sorted>(scene: &Scene, members: &[M], values: &[Value]) -> bool
+    ensures { result ≡ refer scene.now.counters.next_number scene.now.classes (at scene.now.heads) M.sort_of members.now values.now }
 {
     match members {
         [] => true,
         [member, members @ ..] => match values {
             [] => true,
             [value, values @ ..] => {
-                fits_sort(scene, heads, member.sort(), value)
-                    && refer(scene, heads, members, values)
+                fits_sort(scene, member.sort(), value) && refer(scene, members, values)
             }
         },
     }

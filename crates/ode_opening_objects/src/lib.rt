@@ -2,13 +2,10 @@
 //! rules.
 #![tactic(auto)]
 
-mod asking;
 mod climbing;
 mod fitting;
 mod head;
 mod lengths;
-mod looking;
-mod naming;
 mod numbers;
 mod objects;
 mod rules;

@@ -1,56 +1,102 @@
 //! What is known by numbers of objects and activations.
-ghost use Rattle.std.specs.Prelude.{◌≡◌, [], OnErr, OnOk};
+ghost use Rattle.std.specs.Prelude.{◌≡◌, [], length, IfErr, IfOk, IsTrue, OnErr, OnOk};
 ghost use Rattle.std.specs.BTreeMap.{insert_entry};
 ghost use Rattle.std.specs.Ordering.{nat_cmp};
-ghost use Rattle.ode_opening_objects.specs.Scenes.{is_twice, known_at, noted};
+ghost use Rattle.ode_opening_objects.specs.Numbers.{IsAt, IsGap, at, has, is_twice, noted};
 
 use crate::head::Head;
 use std::alloc::{AllocError, Global};
 use std::collections::BTreeMap;
 use std::marker::Model;
 
-/// What is known of objects, by their numbers: some of them, or that there is none of a number.
+/// What is known by numbers, in the order of these.
 #[derive(Drop)]
-pub(crate) struct Heads {
-    map: BTreeMap<u64, Option<Head>>,
+pub(crate) struct ByNumber<X> {
+    rows: Vec<(u64, X)>,
 }
 
-impl Model for Heads {
-    ghost use Rattle.std.specs.Prelude.{ℕ, List as Items, Option as Perhaps};
-    ghost use Rattle.ode_opening_objects.specs.declared.head.Head.{Head as Known};
+/// What is known of objects, by their numbers.
+pub(crate) type Heads = ByNumber<Head>;
 
-    ghost Value = { Items (ℕ × Perhaps Known) };
+/// The numbers of the objects that have versions.
+pub(crate) type Owners = ByNumber<()>;
 
-    ghost view = { λ h. h.map.entries };
+impl<X> Model for ByNumber<X> {
+    ghost use Rattle.std.specs.Prelude.{ℕ, List as Items};
+    ghost use Rattle.std.specs.Coded.{coded_list, coded_ℕ, coded×};
+    ghost use Rattle.std.specs.List.Sorted.{IsStrictlySortedBy};
+    ghost use Rattle.std.specs.Map.{keys_of};
+    ghost use Rattle.std.specs.Ordering.{nat_cmp};
+
+    ghost Value = { Items (ℕ × X) };
+
+    ghost coded = { coded_list (coded× coded_ℕ X.code) };
+
+    ghost view = { λ b. b.rows.items };
+
+    ghost invariant = { λ b. IsStrictlySortedBy nat_cmp (keys_of b.rows.items) };
 }
 
-impl Heads {
+impl<X: Copy> ByNumber<X> {
     /// Nothing is known.
-    pub(crate) fn new(alloc: Global) -> Heads
+    pub(crate) fn new(alloc: Global) -> ByNumber<X>
         ensures { result ≡ [] }
     {
-        Heads {
-            map: BTreeMap::new(alloc),
+        ByNumber {
+            rows: Vec::new(alloc),
         }
     }
 
-    /// This is known of an object from now on. Nothing changes where there is no memory.
-    pub(crate) fn put(&mut self, id: u64, head: Option<Head>) -> Result<(), AllocError>
-        ensures ok { OnOk result (self.new ≡ insert_entry nat_cmp self.old id head) }
+    // Whether a number comes behind all that stand here.
+    fn is_past(&self, id: u64) -> bool
+        ensures { IsTrue result → IsGap id self.now (length self.now) }
+    {
+        match self.rows.last() {
+            Some(row) => row.0 < id,
+            None => false,
+        }
+    }
+
+    // Where a number stands, or where it would.
+    fn search(&self, id: u64) -> Result<usize, usize>
+        ensures found { IfOk result (IsAt id self.now) }
+        ensures absent { IfErr result (IsGap id self.now) }
+    {
+        if self.is_past(id) {
+            return Err(self.rows.len());
+        }
+        self.rows.binary_search_by_key(&id, |&(number, _)| number)
+    }
+
+    /// This is known of a number from now on. Nothing changes where there is no memory.
+    pub(crate) fn put(&mut self, id: u64, x: X) -> Result<(), AllocError>
+        ensures ok { OnOk result (self.new ≡ insert_entry nat_cmp self.old id x) }
         ensures err { OnErr result (self.new ≡ self.old) }
     {
-        self.map.insert(id, head)?;
-        Ok(())
+        match self.search(id) {
+            Ok(place) => {
+                self.rows[place] = (id, x);
+                Ok(())
+            }
+            Err(place) => Ok(self.rows.insert(place, (id, x))?),
+        }
     }
 
-    /// What is known of an object.
-    pub(crate) fn at(&self, id: u64) -> Option<Head>
-        ensures { result ≡ known_at self.now id }
+    /// What is known of a number.
+    pub(crate) fn at(&self, id: u64) -> Option<X>
+        ensures { result ≡ at self.now id }
     {
-        match self.map.get(&id) {
-            Some(head) => *head,
-            None => None,
+        match self.search(id) {
+            Ok(place) => Some(self.rows[place].1),
+            Err(_) => None,
         }
+    }
+
+    /// Whether something is known of a number.
+    pub(crate) fn has(&self, id: u64) -> bool
+        ensures { result ≡ has self.now id }
+    {
+        self.at(id).is_some()
     }
 }
 

@@ -5,14 +5,14 @@ ghost use Rattle.ode_host.specs.Host.{Looks};
 ghost use Rattle.ode_keep.specs.Entries.{Entries};
 ghost use Rattle.ode_passes.specs.Answers.{Answers, UnlessFault, is_usable};
 ghost use Rattle.ode_passes.specs.Walking.{within};
-ghost use Rattle.ode_value.specs.Keys.{activation_kind, entry_kind};
+ghost use Rattle.ode_value.specs.Keys.{activation_kind, entry_kind, version_kind};
+ghost use Rattle.ode_opening_objects.specs.Numbers.{numbers_from, owners_from};
 ghost use Rattle.ode_opening_objects.specs.Objects.{objects_keep};
-ghost use Rattle.ode_opening_objects.specs.Scenes.{heads_of, numbers_from, objects_kept, passed, scene_kept, waited};
+ghost use Rattle.ode_opening_objects.specs.Scenes.{objects_kept, passed, scene_kept, waited};
 ghost use Rattle.ode_opening_objects.specs.Triggers.{is_reached_in};
 
-use crate::asking::ask;
-use crate::numbers::Numbers;
-use crate::scene::{Check, Course, Queue, Rule, Scene};
+use crate::numbers::{Heads, Numbers, Owners};
+use crate::scene::{Check, Course, Queue, Roll, Rule, Scene};
 use crate::states::States;
 use ode_codec::Counters;
 use ode_host::Host;
@@ -51,7 +51,27 @@ fn read_numbers<H: Host, K: Keep<H>>(
     Ok(numbers)
 }
 
-// Goes over the objects.
+// Which objects have versions.
+fn read_owners<H: Host, K: Keep<H>>(
+    alloc: Global,
+    keeper: &mut K,
+    host: &mut H,
+) -> Result<Owners, OpenError>
+    requires live { IsTrue (K.live keeper.old) }
+    ensures meant { (entries : Entries) → K.holds keeper.old (H.view host.old) entries
+        → Answers (Ok (owners_from [] (within version_kind version_kind entries))) result }
+    ensures holds { UnlessFault result ((entries : Entries) → K.holds keeper.old (H.view host.old) entries
+        → K.holds keeper.new (H.view host.new) entries) }
+    ensures looks { Looks (H.view host.old) (H.view host.new) }
+    ensures usable { K.live keeper.new ≡ is_usable result }
+    ensures cause { RoseIf (IsErrOf result OpenError.DiskFault) (H.view host.old).disk_faults (H.view host.new).disk_faults }
+{
+    let mut owners = Owners::new(alloc);
+    walk(alloc, keeper, host, Key::VERSION, Key::VERSION, &mut owners)?;
+    Ok(owners)
+}
+
+// Goes over the objects. What is known of them is in the scene from then on.
 fn check_heads<'a, H: Host, K: Keep<H>>(
     alloc: Global,
     keeper: &mut K,
@@ -67,8 +87,10 @@ fn check_heads<'a, H: Host, K: Keep<H>>(
     ensures usable { K.live keeper.new ≡ is_usable result }
     ensures cause { RoseIf (IsErrOf result OpenError.DiskFault) (H.view host.old).disk_faults (H.view host.new).disk_faults }
 {
-    let mut scene = scene;
-    ask(alloc, keeper, host, Key::OBJECT, &mut scene)?;
+    let owners = read_owners(alloc, keeper, host)?;
+    let mut roll = Roll { scene, owners };
+    walk(alloc, keeper, host, Key::OBJECT, Key::OBJECT, &mut roll)?;
+    let Roll { scene, .. } = roll;
     Ok(scene)
 }
 
@@ -83,7 +105,7 @@ fn check<'a, H: Host, K: Keep<H>>(
 ) -> Result<Course<'a>, OpenError>
     requires live { IsTrue (K.live keeper.old) }
     ensures meant { (entries : Entries) → K.holds keeper.old (H.view host.old) entries
-        → Answers (passed (heads_of entries) rule (within kind kind entries) course.entry) result }
+        → Answers (passed rule (within kind kind entries) course.entry) result }
     ensures holds { UnlessFault result ((entries : Entries) → K.holds keeper.old (H.view host.old) entries
         → K.holds keeper.new (H.view host.new) entries) }
     ensures looks { Looks (H.view host.old) (H.view host.new) }
@@ -91,7 +113,7 @@ fn check<'a, H: Host, K: Keep<H>>(
     ensures cause { RoseIf (IsErrOf result OpenError.DiskFault) (H.view host.old).disk_faults (H.view host.new).disk_faults }
 {
     let mut check = Check { rule, course };
-    ask(alloc, keeper, host, kind, &mut check)?;
+    walk(alloc, keeper, host, kind, kind, &mut check)?;
     let Check { course, .. } = check;
     Ok(course)
 }
@@ -106,7 +128,7 @@ fn check_queue<'a, H: Host, K: Keep<H>>(
 ) -> Result<Course<'a>, OpenError>
     requires live { IsTrue (K.live keeper.old) }
     ensures meant { (entries : Entries) → K.holds keeper.old (H.view host.old) entries
-        → Answers (waited (heads_of entries) (within entry_kind entry_kind entries) course.entry) result }
+        → Answers (waited (within entry_kind entry_kind entries) course.entry) result }
     ensures holds { UnlessFault result ((entries : Entries) → K.holds keeper.old (H.view host.old) entries
         → K.holds keeper.new (H.view host.new) entries) }
     ensures looks { Looks (H.view host.old) (H.view host.new) }
@@ -117,7 +139,7 @@ fn check_queue<'a, H: Host, K: Keep<H>>(
         course,
         left: QUEUE_LIMIT,
     };
-    ask(alloc, keeper, host, Key::ENTRY, &mut queue)?;
+    walk(alloc, keeper, host, Key::ENTRY, Key::ENTRY, &mut queue)?;
     let Queue { course, .. } = queue;
     Ok(course)
 }
@@ -184,6 +206,7 @@ pub fn check_objects<H: Host, K: Keep<H>>(
         classes,
         numbers,
         states,
+        heads: Heads::new(alloc),
     };
     let scene = check_heads(alloc, keeper, host, known)?;
     check_scene(alloc, keeper, host, scene)?;

@@ -1,20 +1,21 @@
 //! What passes over objects, versions, activations and entries go by.
 
-use crate::numbers::Numbers;
+use crate::numbers::{Heads, Numbers, Owners};
 use crate::states::States;
 use ode_codec::Counters;
 use ode_passes::Cause;
 use ode_types::Classes;
 use std::marker::Model;
 
-/// What is known of a database: its next numbers, its classes, which numbers activations have, and which states of their tables words lead
-/// to.
+/// What is known of a database: its next numbers, its classes, which numbers activations have, which states of their tables words lead to,
+/// and its objects.
 #[derive(Drop)]
 pub(crate) struct Scene<'a> {
     pub(crate) counters: Counters,
     pub(crate) classes: &'a Classes,
     pub(crate) numbers: Numbers,
     pub(crate) states: States,
+    pub(crate) heads: Heads,
 }
 
 impl<'a> Model for Scene<'a> {
@@ -27,7 +28,14 @@ impl<'a> Model for Scene<'a> {
 
     ghost coded = { Prim.hlevel (codes, class.the_row.coded, expr.the_row.coded) };
 
-    ghost view = { λ s. record { counters = s.counters; classes = s.classes.now; numbers = s.numbers; states = s.states } };
+    ghost view = { λ s. record { counters = s.counters; classes = s.classes.now; numbers = s.numbers; states = s.states; heads = s.heads } };
+}
+
+/// What is known of a database with its objects so far, and which objects have versions.
+#[derive(Drop)]
+pub(crate) struct Roll<'a> {
+    pub(crate) scene: Scene<'a>,
+    pub(crate) owners: Owners,
 }
 
 /// What is known of a database, and the first reference so far that doesn't fit.

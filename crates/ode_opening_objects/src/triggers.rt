@@ -4,7 +4,7 @@ ghost use Rattle.std.specs.List.{slice_get};
 ghost use Rattle.std.specs.Option.{option_and_then, option_copied, option_map_or};
 ghost use Rattle.ode_value.specs.declared.class.Class.{Class as OfClass};
 ghost use Rattle.ode_opening_objects.specs.Fitting.{descends};
-ghost use Rattle.ode_opening_objects.specs.Scenes.{is_twice, known_at};
+ghost use Rattle.ode_opening_objects.specs.Numbers.{at, is_twice};
 ghost use Rattle.ode_opening_objects.specs.States.{is_seen};
 ghost use Rattle.ode_opening_objects.specs.Triggers.{activation_fits, entry_fits, fit_trigger, goes_on, has_turn, have_trigger, is_own_number, trigger_under, waits};
 ghost use Rattle.ode_opening_objects.specs.declared.head.Head.{Head as Known};
@@ -12,7 +12,6 @@ ghost use Rattle.ode_opening_objects.specs.declared.head.Head.{Head as Known};
 use crate::climbing::climbs;
 use crate::fitting::match_sorts;
 use crate::lengths::fit;
-use crate::numbers::Heads;
 use crate::scene::Scene;
 use ode_codec::{Activation, Counters, Entry, Record};
 use ode_passes::Cause;
@@ -52,36 +51,36 @@ fn have_trigger(classes: &Classes, class: u32, place: u16, args: &[Value]) -> bo
 }
 
 // Whether the class of an object is this one or inherits from it; and what is said where the object isn't there.
-fn has_class(scene: &Scene, heads: &Heads, object: u64, class: u32, absent: bool) -> bool
-    ensures { result ≡ option_map_or (λ (h : Known). descends scene.now.classes h.class class) (known_at heads.now object) absent }
+fn has_class(scene: &Scene, object: u64, class: u32, absent: bool) -> bool
+    ensures { result ≡ option_map_or (λ (h : Known). descends scene.now.classes h.class class) (at scene.now.heads object) absent }
 {
-    match heads.at(object) {
+    match scene.heads.at(object) {
         Some(head) => climbs(scene.classes, head.class, &class),
         None => absent,
     }
 }
 
-fn is_own_number(scene: &Scene, heads: &Heads, number: u64) -> bool
-    ensures { result ≡ is_own_number scene.now.counters.next_number (known_at heads.now) (is_twice scene.now.numbers) number }
+fn is_own_number(scene: &Scene, number: u64) -> bool
+    ensures { result ≡ is_own_number scene.now.counters.next_number (at scene.now.heads) (is_twice scene.now.numbers) number }
 {
     number < scene.counters.next_number
-        && heads.at(number).is_none()
+        && scene.heads.at(number).is_none()
         && !scene.numbers.is_twice(number)
 }
 
-fn activation_fits(scene: &Scene, heads: &Heads, a: &Activation) -> bool
-    ensures { result ≡ activation_fits scene.now.counters.next_number scene.now.classes (known_at heads.now) (is_twice scene.now.numbers) a.now }
+fn activation_fits(scene: &Scene, a: &Activation) -> bool
+    ensures { result ≡ activation_fits scene.now.counters.next_number scene.now.classes (at scene.now.heads) (is_twice scene.now.numbers) a.now }
 {
-    has_class(scene, heads, a.object, a.class, false)
+    has_class(scene, a.object, a.class, false)
         && have_trigger(scene.classes, a.class, a.trigger, a.args.as_slice())
-        && is_own_number(scene, heads, a.number)
+        && is_own_number(scene, a.number)
 }
 
 /// Whether an activation keeps its rule.
-pub(crate) fn goes_on(scene: &Scene, heads: &Heads, key: Key, a: &Activation) -> Result<(), Cause>
-    ensures { result ≡ goes_on scene.now.counters.next_number scene.now.classes (known_at heads.now) (is_twice scene.now.numbers) (is_seen scene.now.states) key a.now }
+pub(crate) fn goes_on(scene: &Scene, key: Key, a: &Activation) -> Result<(), Cause>
+    ensures { result ≡ goes_on scene.now.counters.next_number scene.now.classes (at scene.now.heads) (is_twice scene.now.numbers) (is_seen scene.now.states) key a.now }
 {
-    if !activation_fits(scene, heads, a) {
+    if !activation_fits(scene, a) {
         return Err(Cause::Record(key));
     }
     if !scene.states.is_seen(a.class, a.trigger, a.state) {
@@ -97,21 +96,21 @@ fn has_turn(counters: Counters, number: u64, q: &Entry) -> bool
     number < counters.next_entry && 1 <= q.generation && q.generation <= GENERATION_LIMIT
 }
 
-fn waits(scene: &Scene, heads: &Heads, number: u64, q: &Entry) -> bool
-    ensures { result ≡ waits scene.now.counters scene.now.classes (known_at heads.now) number q.now }
+fn waits(scene: &Scene, number: u64, q: &Entry) -> bool
+    ensures { result ≡ waits scene.now.counters scene.now.classes (at scene.now.heads) number q.now }
 {
     has_turn(scene.counters, number, q)
         && have_trigger(scene.classes, q.class, q.trigger, q.args.as_slice())
         && q.object < scene.counters.next_number
-        && has_class(scene, heads, q.object, q.class, true)
+        && has_class(scene, q.object, q.class, true)
 }
 
 /// Whether a record is that of an entry that keeps its rule.
-pub(crate) fn entry_fits(scene: &Scene, heads: &Heads, row: &Record) -> bool
-    ensures { result ≡ entry_fits scene.now.counters scene.now.classes (known_at heads.now) row.now }
+pub(crate) fn entry_fits(scene: &Scene, row: &Record) -> bool
+    ensures { result ≡ entry_fits scene.now.counters scene.now.classes (at scene.now.heads) row.now }
 {
     match row {
-        Record::Entry { number, entry } => waits(scene, heads, *number, entry),
+        Record::Entry { number, entry } => waits(scene, *number, entry),
         _ => false,
     }
 }

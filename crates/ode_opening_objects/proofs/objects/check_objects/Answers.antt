@@ -8,13 +8,15 @@ use Rattle.ode_passes.specs.Walking.{within}
 use Rattle.ode_passes.proofs.Through.{stops_through}
 use Rattle.ode_value.specs.Keys.{activation_kind}
 use Rattle.ode_opening_objects.specs.Known.{Known}
-use Rattle.ode_opening_objects.specs.Scenes.{numbers_from, objects_kept, scene_in, scene_kept}
+use Rattle.ode_opening_objects.specs.Numbers.{numbers_from}
+use Rattle.ode_opening_objects.specs.Scenes.{objects_kept, scene_in, scene_kept}
 use Rattle.ode_opening_objects.specs.Triggers.{is_reached_in}
+use Rattle.ode_opening_objects.specs.declared.head.Head.{Head}
 use Rattle.ode_opening_objects.proofs.Checking.{in_passes, next_is}
 use Rattle.ode_opening_objects.proofs.objects.check_objects.Goals as goal
 
-abbrev known_by : Known → List (ℕ × Bool) → Known
-known_by s numbers = record s { numbers = numbers }
+abbrev known_by : Known → List (ℕ × Bool) → List (ℕ × Head) → Known
+known_by s numbers heads = record s { numbers = numbers; heads = heads }
 
 pub returns-in_err-scene-clause-meant : goal.returns-in_err-scene-clause-meant
 returns-in_err-scene-clause-meant g c = λ entries holds.
@@ -24,10 +26,12 @@ returns-in_err-scene-clause-meant g c = λ entries holds.
     let rising : HasRisingKeys entries = g.met.K.Keep.rising law.0 entries law.2 in
     let s : Known = scene_in c.args.counters c.args.classes.now c.in_ok-states.states entries in
     let n : numbers_from [] (within activation_kind activation_kind entries) ≡ c.in_ok-numbers.numbers = cc (c.in_ok-numbers.ensures.meant entries holds) in
+    let same : s ≡ known_by s c.in_ok-numbers.numbers c.new.result =
+    ap (λ (numbers : List (ℕ × Bool)). known_by s numbers []) n ∙ sym (ap (λ (heads : List (ℕ × Head)). known_by s c.in_ok-numbers.numbers heads) c.new.ensures) in
     rw (p.1, p.2) (subst (λ (r : Ruled (Unit {0})). Answers r (Err e))
     (in_passes c.args.counters (is_reached_in c.args.tables.now c.args.maps.now) c.args.classes.now c.in_ok-states.states c.in_ok-states.ensures entries rising)
     (stops_through (objects_kept entries s) (scene_kept entries) e
-    (subst (λ (numbers : List (ℕ × Bool)). Answers (objects_kept entries (known_by s numbers)) (Err e)) (sym n)
+    (subst (λ (known : Known). Answers {X = Known} (objects_kept entries known) (Err e)) (sym same)
     (c.in_err-scene.ensures.meant entries (c.in_ok-numbers.ensures.holds entries holds)))))
 
 pub returns-in_err-check_scene-clause-meant : goal.returns-in_err-check_scene-clause-meant
@@ -39,10 +43,12 @@ returns-in_err-check_scene-clause-meant g c = λ entries holds.
     let s : Known = scene_in c.args.counters c.args.classes.now c.in_ok-states.states entries in
     let t = c.in_ok-scene.scene in
     let n : numbers_from [] (within activation_kind activation_kind entries) ≡ c.in_ok-numbers.numbers = cc (c.in_ok-numbers.ensures.meant entries holds) in
+    let same : s ≡ known_by s c.in_ok-numbers.numbers c.new.result =
+    ap (λ (numbers : List (ℕ × Bool)). known_by s numbers []) n ∙ sym (ap (λ (heads : List (ℕ × Head)). known_by s c.in_ok-numbers.numbers heads) c.new.ensures) in
     let holds_1 = c.in_ok-numbers.ensures.holds entries holds in
     rw (p.1, p.2) (subst (λ (r : Ruled (Unit {0})). Answers r (Err e))
     (in_passes c.args.counters (is_reached_in c.args.tables.now c.args.maps.now) c.args.classes.now c.in_ok-states.states c.in_ok-states.ensures entries rising)
-    (next_is (objects_kept entries s) t (scene_kept entries) (ap (λ (numbers : List (ℕ × Bool)). objects_kept entries (known_by s numbers)) n ∙ c.in_ok-scene.ensures.meant entries holds_1) (Err e)
+    (next_is (objects_kept entries s) t (scene_kept entries) (ap (λ (known : Known). objects_kept entries known) same ∙ c.in_ok-scene.ensures.meant entries holds_1) (Err e)
     (c.in_err-check_scene.ensures.meant entries (c.in_ok-scene.ensures.holds entries holds_1))))
 
 pub returns-clause-meant : goal.returns-clause-meant
@@ -51,9 +57,11 @@ returns-clause-meant g c = λ entries holds.
     let rising : HasRisingKeys entries = g.met.K.Keep.rising law.0 entries law.2 in
     let s : Known = scene_in c.args.counters c.args.classes.now c.in_ok-states.states entries in
     let n : numbers_from [] (within activation_kind activation_kind entries) ≡ c.in_ok-numbers.numbers = cc (c.in_ok-numbers.ensures.meant entries holds) in
+    let same : s ≡ known_by s c.in_ok-numbers.numbers c.new.result =
+    ap (λ (numbers : List (ℕ × Bool)). known_by s numbers []) n ∙ sym (ap (λ (heads : List (ℕ × Head)). known_by s c.in_ok-numbers.numbers heads) c.new.ensures) in
     let holds_1 = c.in_ok-numbers.ensures.holds entries holds in
     sym (in_passes c.args.counters (is_reached_in c.args.tables.now c.args.maps.now) c.args.classes.now c.in_ok-states.states c.in_ok-states.ensures entries rising)
-    ∙ ap (λ (m : Ruled Known). m >>= scene_kept entries) (ap (λ (numbers : List (ℕ × Bool)). objects_kept entries (known_by s numbers)) n ∙ c.in_ok-scene.ensures.meant entries holds_1)
+    ∙ ap (λ (m : Ruled Known). m >>= scene_kept entries) (ap (λ (known : Known). objects_kept entries known) same ∙ c.in_ok-scene.ensures.meant entries holds_1)
     ∙ c.in_ok-check_scene.ensures.meant entries (c.in_ok-scene.ensures.holds entries holds_1)
 
 pub returns-in_err-check_scene-clause-looks : goal.returns-in_err-check_scene-clause-looks

@@ -7,7 +7,7 @@ use Rattle.ode_passes.specs.Walking.{within}
 use Rattle.ode_passes.proofs.Through.{stops_through}
 use Rattle.ode_value.specs.Keys.{activation_kind, entry_kind, version_kind}
 use Rattle.ode_opening_objects.specs.Known.{Known}
-use Rattle.ode_opening_objects.specs.Scenes.{heads_of, passed, waited}
+use Rattle.ode_opening_objects.specs.Scenes.{passed, waited}
 use Rattle.ode_opening_objects.specs.declared.scene.Course.{Course}
 use Rattle.ode_opening_objects.specs.declared.scene.Rule.TheVariants as rule
 use Rattle.ode_opening_objects.proofs.Checking.{next_is}
@@ -18,13 +18,13 @@ abbrev references : Course → Ruled (Unit {0})
 references d = d.references
 
 abbrev queue : Entries → Course → Ruled Course
-queue entries d = waited (heads_of entries) (within entry_kind entry_kind entries) d
+queue entries d = waited (within entry_kind entry_kind entries) d
 
 abbrev activations : Entries → Course → Ruled Course
-activations entries d = passed (heads_of entries) rule.Activations (within activation_kind activation_kind entries) d
+activations entries d = passed rule.Activations (within activation_kind activation_kind entries) d
 
 abbrev versions : Entries → Course → Ruled Course
-versions entries d = passed (heads_of entries) rule.Versions (within version_kind version_kind entries) d
+versions entries d = passed rule.Versions (within version_kind version_kind entries) d
 
 abbrev behind_activations : Entries → Course → Ruled (Unit {0})
 behind_activations entries d = queue entries d >>= references
@@ -69,6 +69,9 @@ returns-clause-meant g c = λ entries holds.
     next_is (versions entries (first c.args.scene)) s (behind_versions entries) (c.in_ok-course.ensures.meant entries holds) (Ok tt)
     (next_is (activations entries s) t (behind_activations entries) (c.in_ok-course-2.ensures.meant entries holds_1) (Ok tt)
     (next_is (queue entries t) u references (c.in_ok-course-3.ensures.meant entries holds_2) (Ok tt) c.in_ok-course-4.was))
+
+pub returns-in_err-course-2-clause-looks : goal.returns-in_err-course-2-clause-looks
+returns-in_err-course-2-clause-looks g c = looks_joined _ _ _ c.in_ok-course.ensures.looks c.in_err-course-2.ensures.looks
 
 pub returns-in_err-course-3-clause-looks : goal.returns-in_err-course-3-clause-looks
 returns-in_err-course-3-clause-looks g c = looks_joined _ _ _ c.in_ok-course.ensures.looks (looks_joined _ _ _ c.in_ok-course-2.ensures.looks c.in_err-course-3.ensures.looks)

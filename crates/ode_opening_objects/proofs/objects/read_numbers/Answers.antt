@@ -3,7 +3,7 @@ use Rattle.std.proofs.lemmas.Result.{err_from_is_err_and}
 use Rattle.ode_passes.specs.Rules.{through}
 use Rattle.ode_passes.specs.Walking.{within}
 use Rattle.ode_value.specs.Keys.{activation_kind}
-use Rattle.ode_opening_objects.specs.Scenes.{numbers_from, with_number}
+use Rattle.ode_opening_objects.specs.Numbers.{numbers_from, with_number}
 use Rattle.ode_opening_objects.proofs.Gathering.{numbers_stop, numbers_through}
 use Rattle.ode_opening_objects.proofs.objects.read_numbers.Goals as goal
 
