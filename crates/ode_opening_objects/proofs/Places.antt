@@ -117,6 +117,10 @@ module _ {X : Type 0} where
       let first : x.0 < row.0 = above_got x.0 xs i row rising.0 got in
       (omega (arith, first, below), past_gap id xs i row rising.1 (omega (arith, last)) got below)
 
+  -- a number that is read at a place stands there
+  pub read_place : (id : ℕ) (xs : List (ℕ × X)) (i : ℕ) (row : ℕ × X) → IsStrictlySortedBy nat_cmp (keys_of xs) → i < length xs → ((d : ℕ × X) → row ≡ get_or xs i d) → row.0 ≡ id → IsAt id xs i
+  read_place id xs i row rising inside read same = found_place id xs i rising inside (λ d. sym (nat_cmp_is (get_or xs i d).0 id Equal (ap (λ (r : ℕ × X). r.0) (sym (read d)) ∙ same)))
+
 -- the numbers don't fall
 all_above : {X : Type 0} (q : ℕ) (xs : List (ℕ × X)) (j : ℕ) (d : ℕ × X) → AllByRecursion (λ k. nat_cmp q k ≡ Less) (keys_of xs) → j < length xs → q < (get_or xs j d).0
 all_above q [] j d above inside = absurd (omega arith)

@@ -1,6 +1,7 @@
 //! What is known by numbers of objects and activations.
 ghost use Rattle.std.specs.Prelude.{◌≡◌, [], length, IfErr, IfOk, IsTrue, OnErr, OnOk};
 ghost use Rattle.std.specs.BTreeMap.{insert_entry};
+ghost use Rattle.std.specs.Option.{IfSome};
 ghost use Rattle.std.specs.Ordering.{nat_cmp};
 ghost use Rattle.ode_opening_objects.specs.Numbers.{IsAt, IsGap, at, has, is_twice, noted};
 
@@ -57,6 +58,17 @@ impl<X: Copy> ByNumber<X> {
         }
     }
 
+    // The place that is as far behind the first one as the number is above its number, where the number stands there.
+    // It does where no number between is left out.
+    fn guess(&self, id: u64) -> Option<usize>
+        ensures { IfSome result (IsAt id self.now) }
+    {
+        let (first, _) = self.rows.first()?;
+        let place = id.checked_sub(*first)? as usize;
+        let (number, _) = self.rows.get(place)?;
+        if *number == id { Some(place) } else { None }
+    }
+
     // Where a number stands, or where it would.
     fn search(&self, id: u64) -> Result<usize, usize>
         ensures found { IfOk result (IsAt id self.now) }
@@ -64,6 +76,9 @@ impl<X: Copy> ByNumber<X> {
     {
         if self.is_past(id) {
             return Err(self.rows.len());
+        }
+        if let Some(place) = self.guess(id) {
+            return Ok(place);
         }
         self.rows.binary_search_by_key(&id, |&(number, _)| number)
     }
