@@ -21,7 +21,7 @@ use Rattle.ode_opening.specs.Declaring.{accepted_in, adds, agrees, declares_as, 
 
 -- what stops the reading of a class stops its addition
 pub adds_stop : (read : Option ClassDecl) (known last : List Class) (number : ℕ) (head : Record) (text : List ℕ) (e : OpenError)
-    → read ≡ read_in ode text → Compiles (declares_as read known number head text) (Err e) → Leaves (adds ode known number head text) last (Err e)
+    → read ≡ read_in ode text → Compiles (declares_as read known number head text) (Err e) → Leaves {X = Unit {0}} (adds ode known number head text) last (Err e)
 adds_stop read known last number head text (error.BadFile cause) is h =
     ap (λ (d : Option ClassDecl). declares_as d known number head text >>= λ c. Ok (known ++ c ∷ [])) (sym is) ∙ ap (λ m. m >>= λ c. Ok (known ++ c ∷ [])) h
 adds_stop read known last number head text error.DiskFault is h = tt
@@ -51,7 +51,7 @@ module _ (number length : ℕ) (head : Record) (known : List Class) (fs : Found)
   cut_stops_it records classes error.Memory h = tt
 
   pub add_stops_it : (records : Found) (classes : List Class) (text : List ℕ) (at : ℕ) (e : OpenError) → Cuts (text_in number length fs) records (Ok (text, at))
-      → Leaves (adds ode known number head text) classes (Err e) → Declares (declares_by ode (Some (number, length)) head (known, fs)) classes records (Err e)
+      → Leaves {X = Unit {0}} (adds ode known number head text) classes (Err e) → Declares (declares_by ode (Some (number, length)) head (known, fs)) classes records (Err e)
   add_stops_it records classes text at (error.BadFile cause) cut h =
       ap (λ m. m >>= behind_text) cut ∙ ap (λ m. m >>= λ cs. Ok (cs, drop at records)) h
   add_stops_it records classes text at error.DiskFault cut h = tt
