@@ -6,8 +6,9 @@ transaction has to: append a frame, sync, write one byte, sync; and SQLite, wher
 turns, and the middle one of five rounds counts. Then the same calls with two triggers on, one of which fires at every third call; and
 with one that queues a firing at each call, which is one more transaction a call.
 
-Then what 100,000 objects cost: the opening of their file, beside SQLite's quick check of the same objects and versions, its memory, and
-a method call on one of them beside one of 100. These files are in memory where they can be, so that syncs don't hide the rest.
+Then what 100,000 objects cost: the opening of their file, by turns with SQLite's quick check of the same objects and versions, of which
+the shortest times count, its memory, and a method call on one of them by turns with one of 100. These files are in memory where they can
+be, so that syncs don't hide the rest.
 """
 
 import os
@@ -20,6 +21,7 @@ import time
 
 CALLS = 2000
 ROUNDS = 5
+OPENINGS = 15
 OBJECTS = 100_000
 MEMORY = "/dev/shm" if os.access("/dev/shm", os.W_OK) else None
 CLASS = "class Counter { int n; void add(int k) { n = n + k; } };\npnew Counter();\n"
@@ -125,14 +127,12 @@ def sqlite(module):
 
 
 def crowd(folder, count):
-    """Of a file with so many objects: how long it takes to open, the memory of that, and how long 2,000 calls on one take."""
+    """A file with so many objects."""
     file = f"{folder}/crowd{count}.db"
     ode("init", file)
     making = "".join("begin;" + "pnew Counter();" * min(500, count - at) + "commit;\n" for at in range(0, count, 500))
     timed(file, "class Counter { int n; void add(int k) { n = n + k; } };\n" + making)
-    opened, memory = min(timed(file, "") for _ in range(ROUNDS))
-    called = statistics.median(timed(file, f"#{count // 2}.add(1);\n" * CALLS)[0] for _ in range(ROUNDS))
-    return opened, memory, max(called - opened, 0.000001)
+    return file
 
 
 # What the records of an object and of a version have, with the rules of theirs that a table can state.
@@ -143,9 +143,10 @@ TABLES = (
 )
 
 
-def quick_check(module, folder, count):
-    """How long SQLite's quick check of the same data takes: so many objects, and a version of each."""
-    base = module.connect(f"{folder}/crowd.sqlite")
+def tables(module, folder, count):
+    """A file of SQLite with the same data: so many objects, and a version of each."""
+    file = f"{folder}/crowd.sqlite"
+    base = module.connect(file)
     for table in TABLES:
         base.execute(table)
     ids = range(1, count + 1)
@@ -153,24 +154,37 @@ def quick_check(module, folder, count):
     base.executemany("insert into version values (?, 1, 0, 0)", ((at,) for at in ids))
     base.commit()
     base.close()
-    taken = []
-    for _ in range(ROUNDS):
-        began = time.perf_counter()
-        base = module.connect(f"{folder}/crowd.sqlite")
-        base.execute("pragma quick_check").fetchall()
-        base.close()
-        taken.append(time.perf_counter() - began)
-    return min(taken)
+    return file
+
+
+def quick_check(module, file):
+    began = time.perf_counter()
+    base = module.connect(file)
+    base.execute("pragma quick_check").fetchall()
+    base.close()
+    return time.perf_counter() - began
 
 
 def crowds(module):
     with tempfile.TemporaryDirectory(dir=MEMORY) as folder:
-        opened, memory, many = crowd(folder, OBJECTS)
-        _, _, few = crowd(folder, 100)
+        files = {count: crowd(folder, count) for count in (OBJECTS, 100)}
+        other = module and tables(module, folder, OBJECTS)
+        openings, checks = [], []
+        for _ in range(OPENINGS):
+            openings.append(timed(files[OBJECTS], ""))
+            if other:
+                checks.append(quick_check(module, other))
+        opened, memory = min(openings)
         print(f"{OBJECTS:,} objects: opened in {opened:.3f} s, with at most {memory / 1024:.1f} MiB")
-        if module:
-            checked = quick_check(module, folder, OBJECTS)
-            print(f"  opening to SQLite's quick check: {opened / checked:.2f} (2 is the limit)")
+        if other:
+            print(f"  opening to SQLite's quick check: {opened / min(checks):.2f} (2 is the limit)")
+        costs = {count: [] for count in files}
+        for _ in range(ROUNDS):
+            for count, file in files.items():
+                start, _ = timed(file, "")
+                called, _ = timed(file, f"#{count // 2}.add(1);\n" * CALLS)
+                costs[count].append(called - start)
+        many, few = (max(statistics.median(all), 0.000001) for all in costs.values())
         print(f"  a call on one of them to one of 100: {many / few:.2f} (2 is the limit)")
 
 
