@@ -1,6 +1,7 @@
 -- Reading from the front of bytes: a value and the bytes behind it, or none.
 use Rattle.std.specs.Prelude.{◌≡◌, ℕ, ℤ, List, [], ◌∷◌, Bool, true, false, length, take, drop, Option, Some, None, Result, Ok, Err, nat_lt, ◌==◌, if◌then◌else◌}
 use Rattle.std.specs.Int.{Width, w64, byte_len, cast_signed, from_be_bytes}
+use Rattle.ode_codec.specs.declared.outside.OutsideGrammar.{OutsideGrammar}
 use Rattle.ode_codec.specs.declared.outside.Unread.{Unread}
 use Rattle.ode_codec.specs.declared.outside.Unread.TheVariants.{Memory, Outside}
 
@@ -20,6 +21,19 @@ Fails Outside read = read ≡ None
 abbrev pub Gives : {X Y : Type 0} → (X → Y) → Result X Unread → Option Y → Type 0
 Gives view (Ok x) read = read ≡ Some (view x)
 Gives view (Err e) read = Fails e read
+
+-- what a function that takes no memory answers, seen by view, is what is read
+abbrev pub Finds : {X Y : Type 0} → (X → Y) → Result X OutsideGrammar → Option Y → Type 0
+Finds view (Ok x) read = read ≡ Some (view x)
+Finds view (Err e) read = read ≡ None
+
+-- the bytes behind what is read
+abbrev pub behind : {X : Type 0} → Option (X × List ℕ) → Option (List ℕ)
+behind read = read >>= λ x. Some x.1
+
+-- whether something is read, and no more
+abbrev pub passed : {X : Type 0} → Option X → Option (Unit {0})
+passed read = read >>= λ _. Some tt
 
 -- a byte, and a number of several bytes
 abbrev pub byte_in : List ℕ → Option (ℕ × List ℕ)

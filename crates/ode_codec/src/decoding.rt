@@ -2,46 +2,48 @@
 ghost use Rattle.ode_codec.specs.declared.record.Record.{Record as Row};
 ghost use Rattle.std.specs.Prelude.{◌≡◌, ◌^◌, IfOk, IfSome, List as Items, None, ℕ, Some, if◌then◌else◌};
 ghost use Rattle.std.specs.Int.{w16, w32, w64};
-ghost use Rattle.ode_codec.specs.Formats.{Gives, ended, fit};
+ghost use Rattle.std.specs.Option.{is_some};
+ghost use Rattle.ode_codec.specs.Formats.{Finds, Gives, ended, fit};
 ghost use Rattle.ode_codec.specs.Rules.{IsRecord};
 ghost use Rattle.ode_codec.specs.Spelling.{spelled};
 ghost use Rattle.ode_codec.specs.Reading.{activation_under, class_head_under, class_piece_under, clock_in, counters_under};
 ghost use Rattle.ode_codec.specs.Reading.{entry_under, is_clock, is_counters, is_name, is_next, is_piece, name_in, object_under, record_under};
 ghost use Rattle.ode_codec.specs.Reading.{table_head_under, table_piece_under, version_under};
 
-use crate::outside::Unread;
-use crate::reading::{read_bool, read_i64, read_u8, read_u16, read_u32, read_u64};
+use crate::outside::{OutsideGrammar, Unread};
+use crate::passing::{pass_activation, pass_class_head, pass_entry, pass_piece, pass_version};
+use crate::reading::{read_bool, read_i64, read_part, read_u8, read_u16, read_u32, read_u64};
 use crate::record::{Activation, Counters, Entry, Record, TABLE_PLACES};
 use crate::values::{read_args, read_fields};
 use ode_value::limits::{NUMBER_LIMIT, TRANSACTION_LIMIT, VALUE_LIMIT};
 use ode_value::{Key, List, Name, OdeText, TextError};
 use std::alloc::{AllocError, Global};
 
-fn fit_u32(number: u64) -> Result<u32, Unread>
-    ensures { Gives (λ x. x) result (fit (2 ^ 32) number) }
+pub(crate) fn fit_u32(number: u64) -> Result<u32, OutsideGrammar>
+    ensures { Finds (λ x. x) result (fit (2 ^ 32) number) }
 {
     if number > u64::from(u32::MAX) {
-        return Err(Unread::Outside);
+        return Err(OutsideGrammar);
     }
     Ok(number as u32)
 }
 
-fn fit_u16(number: u64) -> Result<u16, Unread>
-    ensures { Gives (λ x. x) result (fit (2 ^ 16) number) }
+pub(crate) fn fit_u16(number: u64) -> Result<u16, OutsideGrammar>
+    ensures { Finds (λ x. x) result (fit (2 ^ 16) number) }
 {
     if number > u64::from(u16::MAX) {
-        return Err(Unread::Outside);
+        return Err(OutsideGrammar);
     }
     Ok(number as u16)
 }
 
-fn nothing_left(rest: &[u8]) -> Result<(), Unread>
-    ensures { Gives (λ x. x) result (ended rest.now) }
+pub(crate) fn nothing_left(rest: &[u8]) -> Result<(), OutsideGrammar>
+    ensures { Finds (λ x. x) result (ended rest.now) }
 {
     if rest.is_empty() {
         Ok(())
     } else {
-        Err(Unread::Outside)
+        Err(OutsideGrammar)
     }
 }
 
@@ -68,11 +70,11 @@ fn is_counters(counters: &Counters) -> bool
 }
 
 #[tactic(auto, unfolding(crate::specs::Reading::counters_under, crate::specs::Reading::clock_in))]
-fn read_counters(key: Key, bytes: &[u8]) -> Result<Record, Unread>
-    ensures { Gives (λ x. x) result (counters_under key bytes.now) }
+fn read_counters(key: Key, bytes: &[u8]) -> Result<Record, OutsideGrammar>
+    ensures { Finds (λ x. x) result (counters_under key bytes.now) }
 {
     if key.a != 0 || key.b != 0 {
-        return Err(Unread::Outside);
+        return Err(OutsideGrammar);
     }
     let (next_number, rest) = read_u64(bytes)?;
     let (next_transaction, rest) = read_u64(rest)?;
@@ -94,7 +96,7 @@ fn read_counters(key: Key, bytes: &[u8]) -> Result<Record, Unread>
     if is_counters(&counters) {
         Ok(Record::Counters(counters))
     } else {
-        Err(Unread::Outside)
+        Err(OutsideGrammar)
     }
 }
 
@@ -103,11 +105,7 @@ fn read_name(alloc: Global, bytes: &[u8]) -> Result<(Name, &[u8]), Unread>
     ensures { Gives (λ x. (x.0, x.1.now)) result (name_in bytes.now) }
 {
     let (length, rest) = read_u8(bytes)?;
-    let length = usize::from(length);
-    if rest.len() < length {
-        return Err(Unread::Outside);
-    }
-    let (name, rest) = rest.split_at(length);
+    let (name, rest) = read_part(usize::from(length), rest)?;
     let name = name_of(alloc, name)?;
     Ok((name, rest))
 }
@@ -147,7 +145,7 @@ fn read_class_head(alloc: Global, key: Key, bytes: &[u8]) -> Result<Record, Unre
 
 // What stands in a piece of a text or a table.
 #[tactic(auto, unfolding(ode_value::specs::Limits::value_limit))]
-fn is_piece(bytes: &[u8]) -> bool
+pub(crate) fn is_piece(bytes: &[u8]) -> bool
     ensures { result ≡ is_piece bytes.now }
 {
     1 <= bytes.len() && bytes.len() <= VALUE_LIMIT
@@ -171,8 +169,8 @@ fn read_class_piece(alloc: Global, key: Key, bytes: &[u8]) -> Result<Record, Unr
 }
 
 #[tactic(auto, unfolding(crate::specs::Reading::table_head_under))]
-fn read_table_head(key: Key, bytes: &[u8]) -> Result<Record, Unread>
-    ensures { Gives (λ x. x) result (table_head_under key bytes.now) }
+fn read_table_head(key: Key, bytes: &[u8]) -> Result<Record, OutsideGrammar>
+    ensures { Finds (λ x. x) result (table_head_under key bytes.now) }
 {
     let class = fit_u32(key.a)?;
     let trigger = fit_u16(key.b)?;
@@ -206,11 +204,11 @@ fn read_table_piece(alloc: Global, key: Key, bytes: &[u8]) -> Result<Record, Unr
 }
 
 #[tactic(auto, unfolding(crate::specs::Reading::object_under))]
-fn read_object(key: Key, bytes: &[u8]) -> Result<Record, Unread>
-    ensures { Gives (λ x. x) result (object_under key bytes.now) }
+fn read_object(key: Key, bytes: &[u8]) -> Result<Record, OutsideGrammar>
+    ensures { Finds (λ x. x) result (object_under key bytes.now) }
 {
     if key.b != 0 {
-        return Err(Unread::Outside);
+        return Err(OutsideGrammar);
     }
     let (class, rest) = read_u32(bytes)?;
     let (last, rest) = read_u32(rest)?;
@@ -284,10 +282,10 @@ fn read_entry(alloc: Global, key: Key, bytes: &[u8]) -> Result<Record, Unread>
 
 // An arm for each kind of records.
 macro_rules! by_kind {
-    ($key:expr; $($kind:ident => $read:expr),* $(,)?) => {
+    ($key:expr, $other:expr; $($kind:ident => $read:expr),* $(,)?) => {
         match $key.kind {
             $(Key::$kind => $read,)*
-            _ => Err(Unread::Outside),
+            _ => $other,
         }
     };
 }
@@ -296,13 +294,13 @@ macro_rules! by_kind {
 fn read_record(alloc: Global, key: Key, bytes: &[u8]) -> Result<Record, Unread>
     ensures { Gives (λ x. x) result (record_under key bytes.now) }
 {
-    by_kind!(key;
-        COUNTERS => read_counters(key, bytes),
+    by_kind!(key, Err(Unread::Outside);
+        COUNTERS => Ok(read_counters(key, bytes)?),
         CLASS_HEAD => read_class_head(alloc, key, bytes),
         CLASS_PIECE => read_class_piece(alloc, key, bytes),
-        TABLE_HEAD => read_table_head(key, bytes),
+        TABLE_HEAD => Ok(read_table_head(key, bytes)?),
         TABLE_PIECE => read_table_piece(alloc, key, bytes),
-        OBJECT => read_object(key, bytes),
+        OBJECT => Ok(read_object(key, bytes)?),
         VERSION => read_version(alloc, key, bytes),
         ACTIVATION => read_activation(alloc, key, bytes),
         ENTRY => read_entry(alloc, key, bytes),
@@ -326,4 +324,22 @@ pub fn decode(alloc: Global, key: Key, bytes: &[u8]) -> Result<Option<Record>, A
     ensures only { (r : Row) → IsRecord r → (key, bytes.now) ≡ spelled r → IfOk result (λ found. found ≡ Some r) }
 {
     decoded(alloc, key, bytes)
+}
+
+/// Whether there is a record whose spelling the key and the bytes are. It takes no memory.
+#[tactic(auto, unfolding(crate::specs::Reading::record_under))]
+pub fn is_record(key: Key, bytes: &[u8]) -> bool
+    ensures { result ≡ is_some (record_under key bytes.now) }
+{
+    by_kind!(key, false;
+        COUNTERS => read_counters(key, bytes).is_ok(),
+        CLASS_HEAD => pass_class_head(key, bytes).is_ok(),
+        CLASS_PIECE => pass_piece(key, bytes).is_ok(),
+        TABLE_HEAD => read_table_head(key, bytes).is_ok(),
+        TABLE_PIECE => pass_piece(key, bytes).is_ok(),
+        OBJECT => read_object(key, bytes).is_ok(),
+        VERSION => pass_version(key, bytes).is_ok(),
+        ACTIVATION => pass_activation(key, bytes).is_ok(),
+        ENTRY => pass_entry(key, bytes).is_ok(),
+    )
 }

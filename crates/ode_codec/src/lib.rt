@@ -5,12 +5,14 @@ mod decoding;
 mod encoding;
 mod laws;
 mod outside;
+mod passing;
 mod reading;
 mod record;
+mod skipping;
 mod stored;
 mod values;
 
-pub use decoding::decode;
+pub use decoding::{decode, is_record};
 pub use encoding::encode;
 pub use laws::one_spelling;
 pub use record::{Activation, Counters, Entry, Record, TABLE_PLACES};

@@ -11,6 +11,21 @@ pub(crate) enum Unread {
     Outside,
 }
 
+/// The bytes are outside the grammar.
+#[derive(Clone, Copy, Debug, PartialEq, Eq)]
+pub(crate) struct OutsideGrammar;
+
+impl From<OutsideGrammar> for Unread {
+    ghost use Rattle.std.specs.Prelude.{◌≡◌};
+    ghost use Rattle.ode_codec.specs.declared.outside.Unread.TheVariants.{Outside};
+
+    ghost from_gives = { λ _ e. e ≡ Outside };
+
+    fn from(_: OutsideGrammar) -> Self {
+        Unread::Outside
+    }
+}
+
 impl From<AllocError> for Unread {
     ghost use Rattle.std.specs.Prelude.{◌≡◌};
     ghost use Rattle.ode_codec.specs.declared.outside.Unread.TheVariants.{Memory};

@@ -1,9 +1,10 @@
 //! Values at the front of bytes.
-ghost use Rattle.ode_codec.specs.Formats.{Gives};
+ghost use Rattle.std.specs.Prelude.{◌≢◌};
+ghost use Rattle.ode_codec.specs.Formats.{Finds, Gives};
 ghost use Rattle.ode_codec.specs.Values.{args_in, content_in, fields_in, reference_in, text_in, value_in, values_in};
 
-use crate::outside::Unread;
-use crate::reading::{read_bool, read_i64, read_u8, read_u16, read_u32, read_u64};
+use crate::outside::{OutsideGrammar, Unread};
+use crate::reading::{read_bool, read_i64, read_part, read_u8, read_u16, read_u32, read_u64};
 use ode_value::{List, OdeText, Ref, TextError, Value};
 use std::alloc::Global;
 
@@ -13,11 +14,7 @@ fn read_text(alloc: Global, bytes: &[u8]) -> Result<(OdeText, &[u8]), Unread>
     ensures { Gives (λ x. (x.0, x.1.now)) result (text_in bytes.now) }
 {
     let (length, rest) = read_u16(bytes)?;
-    let length = usize::from(length);
-    if rest.len() < length {
-        return Err(Unread::Outside);
-    }
-    let (text, rest) = rest.split_at(length);
+    let (text, rest) = read_part(usize::from(length), rest)?;
     match OdeText::new(alloc, text) {
         Ok(text) => Ok((text, rest)),
         Err(TextError::Memory) => Err(Unread::Memory),
@@ -27,8 +24,8 @@ fn read_text(alloc: Global, bytes: &[u8]) -> Result<(OdeText, &[u8]), Unread>
 
 // Version 0 is none, and null is all zeros.
 #[tactic(auto, unfolding(crate::specs::Values::reference_in))]
-fn read_reference(bytes: &[u8]) -> Result<(Ref, &[u8]), Unread>
-    ensures { Gives (λ x. (x.0, x.1.now)) result (reference_in bytes.now) }
+fn read_reference(bytes: &[u8]) -> Result<(Ref, &[u8]), OutsideGrammar>
+    ensures { Finds (λ x. (x.0, x.1.now)) result (reference_in bytes.now) }
 {
     let (object, rest) = read_u64(bytes)?;
     let (version, rest) = read_u32(rest)?;
@@ -42,7 +39,7 @@ fn read_reference(bytes: &[u8]) -> Result<(Ref, &[u8]), Unread>
         ));
     }
     if object == 0 {
-        return Err(Unread::Outside);
+        return Err(OutsideGrammar);
     }
     Ok((
         Ref {
@@ -53,9 +50,10 @@ fn read_reference(bytes: &[u8]) -> Result<(Ref, &[u8]), Unread>
     ))
 }
 
+// What stands behind a tag that isn't a text's.
 #[tactic(auto, unfolding(crate::specs::Values::content_in))]
-fn read_content(alloc: Global, tag: u8, bytes: &[u8]) -> Result<(Value, &[u8]), Unread>
-    ensures { Gives (λ x. (x.0, x.1.now)) result (content_in tag bytes.now) }
+pub(crate) fn read_plain(tag: u8, bytes: &[u8]) -> Result<(Value, &[u8]), OutsideGrammar>
+    ensures { tag ≢ 2 → Finds (λ x. (x.0, x.1.now)) result (content_in tag bytes.now) }
 {
     match tag {
         0 => {
@@ -66,16 +64,24 @@ fn read_content(alloc: Global, tag: u8, bytes: &[u8]) -> Result<(Value, &[u8]), 
             let (truth, rest) = read_bool(bytes)?;
             Ok((Value::Bool(truth), rest))
         }
-        2 => {
-            let (text, rest) = read_text(alloc, bytes)?;
-            Ok((Value::Text(text), rest))
-        }
         3 => {
             let (reference, rest) = read_reference(bytes)?;
             Ok((Value::Reference(reference), rest))
         }
-        _ => Err(Unread::Outside),
+        _ => Err(OutsideGrammar),
     }
+}
+
+#[tactic(auto, unfolding(crate::specs::Values::content_in))]
+fn read_content(alloc: Global, tag: u8, bytes: &[u8]) -> Result<(Value, &[u8]), Unread>
+    ensures { Gives (λ x. (x.0, x.1.now)) result (content_in tag bytes.now) }
+{
+    if tag == 2 {
+        let (text, rest) = read_text(alloc, bytes)?;
+        return Ok((Value::Text(text), rest));
+    }
+    let (value, rest) = read_plain(tag, bytes)?;
+    Ok((value, rest))
 }
 
 #[tactic(auto, unfolding(crate::specs::Values::value_in))]
@@ -89,7 +95,8 @@ fn read_value(alloc: Global, bytes: &[u8]) -> Result<(Value, &[u8]), Unread>
 fn read_values(alloc: Global, count: u16, bytes: &[u8]) -> Result<(List<Value>, &[u8]), Unread>
     ensures { Gives (λ x. (x.0, x.1.now)) result (values_in count bytes.now) }
 {
-    let mut values = List::new(alloc);
+    let room = usize::from(count).min(bytes.len());
+    let mut values = List::from_vec(Vec::with_capacity(alloc, room)?);
     let mut rest = bytes;
     for _ in 0..count {
         let (value, after) = read_value(alloc, rest)?;

@@ -1,0 +1,110 @@
+//! Whether there is a record of a key and a value. Nothing is made of it.
+ghost use Rattle.std.specs.Prelude.{◌≡◌, not, position};
+ghost use Rattle.ode_value.specs.Text.{is_name_byte};
+ghost use Rattle.ode_codec.specs.Formats.{Finds, behind, passed};
+ghost use Rattle.ode_codec.specs.Reading.{activation_under, class_head_under, class_piece_under, entry_under, is_name};
+ghost use Rattle.ode_codec.specs.Reading.{name_in, table_piece_under, version_under};
+
+use crate::decoding::{fit_u32, is_piece, nothing_left};
+use crate::outside::OutsideGrammar;
+use crate::reading::{read_part, read_u8, read_u16, read_u32, read_u64};
+use crate::skipping::{skip_args, skip_fields};
+use ode_value::Key;
+use ode_value::limits::NAME_LIMIT;
+
+fn is_name_byte(byte: u8) -> bool
+    ensures { result ≡ is_name_byte byte }
+{
+    matches!(byte, b'0'..=b'9' | b'A'..=b'Z' | b'_' | b'a'..=b'z')
+}
+
+// The place of the first byte that no name has.
+fn bad_name_byte(bytes: &[u8]) -> Option<usize>
+    ensures { result ≡ position (λ b. not (is_name_byte b)) bytes.now }
+{
+    bytes.iter().position(|b| !is_name_byte(*b))
+}
+
+fn is_name(bytes: &[u8]) -> bool
+    ensures { result ≡ is_name bytes.now }
+{
+    0 < bytes.len() && bytes.len() <= NAME_LIMIT && bad_name_byte(bytes).is_none()
+}
+
+#[tactic(auto, unfolding(crate::specs::Reading::name_in))]
+fn skip_name(bytes: &[u8]) -> Result<&[u8], OutsideGrammar>
+    ensures { Finds (λ x. x.now) result (behind (name_in bytes.now)) }
+{
+    let (length, rest) = read_u8(bytes)?;
+    let (name, rest) = read_part(usize::from(length), rest)?;
+    if is_name(name) {
+        Ok(rest)
+    } else {
+        Err(OutsideGrammar)
+    }
+}
+
+#[tactic(auto, unfolding(crate::specs::Reading::class_head_under))]
+pub(crate) fn pass_class_head(key: Key, bytes: &[u8]) -> Result<(), OutsideGrammar>
+    ensures { Finds (λ x. tt) result (passed (class_head_under key bytes.now)) }
+{
+    fit_u32(key.a)?;
+    if key.b != 0 {
+        return Err(OutsideGrammar);
+    }
+    let rest = skip_name(bytes)?;
+    let (_, rest) = read_u32(rest)?;
+    let (_, rest) = read_u32(rest)?;
+    let (_, rest) = read_u16(rest)?;
+    nothing_left(rest)
+}
+
+#[tactic(auto, unfolding(crate::specs::Reading::class_piece_under, crate::specs::Reading::table_piece_under))]
+pub(crate) fn pass_piece(key: Key, bytes: &[u8]) -> Result<(), OutsideGrammar>
+    ensures class { Finds (λ x. tt) result (passed (class_piece_under key bytes.now)) }
+    ensures table { Finds (λ x. tt) result (passed (table_piece_under key bytes.now)) }
+{
+    fit_u32(key.a)?;
+    fit_u32(key.b)?;
+    if is_piece(bytes) {
+        Ok(())
+    } else {
+        Err(OutsideGrammar)
+    }
+}
+
+#[tactic(auto, unfolding(crate::specs::Reading::version_under))]
+pub(crate) fn pass_version(key: Key, bytes: &[u8]) -> Result<(), OutsideGrammar>
+    ensures { Finds (λ x. tt) result (passed (version_under key bytes.now)) }
+{
+    fit_u32(key.b)?;
+    let (_, rest) = read_u32(bytes)?;
+    let rest = skip_fields(rest)?;
+    nothing_left(rest)
+}
+
+#[tactic(auto, unfolding(crate::specs::Reading::activation_under))]
+pub(crate) fn pass_activation(key: Key, bytes: &[u8]) -> Result<(), OutsideGrammar>
+    ensures { Finds (λ x. tt) result (passed (activation_under key bytes.now)) }
+{
+    let (_, rest) = read_u32(bytes)?;
+    let (_, rest) = read_u16(rest)?;
+    let (_, rest) = read_u16(rest)?;
+    let rest = skip_args(rest)?;
+    nothing_left(rest)
+}
+
+#[tactic(auto, unfolding(crate::specs::Reading::entry_under))]
+pub(crate) fn pass_entry(key: Key, bytes: &[u8]) -> Result<(), OutsideGrammar>
+    ensures { Finds (λ x. tt) result (passed (entry_under key bytes.now)) }
+{
+    if key.b != 0 {
+        return Err(OutsideGrammar);
+    }
+    let (_, rest) = read_u64(bytes)?;
+    let (_, rest) = read_u32(rest)?;
+    let (_, rest) = read_u16(rest)?;
+    let (_, rest) = read_u8(rest)?;
+    let rest = skip_args(rest)?;
+    nothing_left(rest)
+}

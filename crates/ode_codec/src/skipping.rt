@@ -1,0 +1,85 @@
+//! Values at the front of bytes, passed over: whether they are there, and where they end. Nothing is made of them.
+ghost use Rattle.std.specs.Prelude.{◌≡◌, position};
+ghost use Rattle.ode_value.specs.Text.{is_bad_byte};
+ghost use Rattle.ode_codec.specs.Formats.{Finds, behind};
+ghost use Rattle.ode_codec.specs.Values.{args_in, content_in, fields_in, is_text, text_in, value_in, values_in};
+
+use crate::outside::OutsideGrammar;
+use crate::reading::{read_part, read_u8, read_u16};
+use crate::values::read_plain;
+use ode_value::limits::TEXT_LIMIT;
+
+// The place of the first byte that no text has.
+fn bad_byte(bytes: &[u8]) -> Option<usize>
+    ensures { result ≡ position is_bad_byte bytes.now }
+{
+    bytes.iter().position(|b| *b < 0x20 || 0x7E < *b)
+}
+
+#[tactic(auto, unfolding(ode_value::specs::Limits::text_limit))]
+fn is_text(bytes: &[u8]) -> bool
+    ensures { result ≡ is_text bytes.now }
+{
+    bytes.len() <= TEXT_LIMIT && bad_byte(bytes).is_none()
+}
+
+// The text behind its length.
+#[tactic(auto, unfolding(crate::specs::Values::text_in))]
+fn skip_text(bytes: &[u8]) -> Result<&[u8], OutsideGrammar>
+    ensures { Finds (λ x. x.now) result (behind (text_in bytes.now)) }
+{
+    let (length, rest) = read_u16(bytes)?;
+    let (text, rest) = read_part(usize::from(length), rest)?;
+    if is_text(text) {
+        Ok(rest)
+    } else {
+        Err(OutsideGrammar)
+    }
+}
+
+#[tactic(auto, unfolding(crate::specs::Values::content_in))]
+fn skip_content(tag: u8, bytes: &[u8]) -> Result<&[u8], OutsideGrammar>
+    ensures { Finds (λ x. x.now) result (behind (content_in tag bytes.now)) }
+{
+    if tag == 2 {
+        return skip_text(bytes);
+    }
+    let (_, rest) = read_plain(tag, bytes)?;
+    Ok(rest)
+}
+
+#[tactic(auto, unfolding(crate::specs::Values::value_in))]
+fn skip_value(bytes: &[u8]) -> Result<&[u8], OutsideGrammar>
+    ensures { Finds (λ x. x.now) result (behind (value_in bytes.now)) }
+{
+    let (tag, rest) = read_u8(bytes)?;
+    skip_content(tag, rest)
+}
+
+fn skip_values(count: u16, bytes: &[u8]) -> Result<&[u8], OutsideGrammar>
+    ensures { Finds (λ x. x.now) result (behind (values_in count bytes.now)) }
+{
+    let mut rest = bytes;
+    for _ in 0..count {
+        rest = skip_value(rest)?;
+    }
+    Ok(rest)
+}
+
+/// The values behind their count of two bytes.
+#[tactic(auto, unfolding(crate::specs::Values::fields_in))]
+pub(crate) fn skip_fields(bytes: &[u8]) -> Result<&[u8], OutsideGrammar>
+    ensures { Finds (λ x. x.now) result (behind (fields_in bytes.now)) }
+{
+    let (count, rest) = read_u16(bytes)?;
+    skip_values(count, rest)
+}
+
+/// The values behind their count of one byte.
+#[tactic(auto, unfolding(crate::specs::Values::args_in))]
+pub(crate) fn skip_args(bytes: &[u8]) -> Result<&[u8], OutsideGrammar>
+    ensures { Finds (λ x. x.now) result (behind (args_in bytes.now)) }
+{
+    let (count, rest) = read_u8(bytes)?;
+    skip_values(u16::from(count), rest)
+}
