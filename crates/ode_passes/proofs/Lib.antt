@@ -2,3 +2,4 @@ pub mod Keyed
 pub mod Batches
 pub mod Through
 pub mod Completing
+pub mod Others

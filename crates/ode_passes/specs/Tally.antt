@@ -22,6 +22,12 @@ abbrev pub counters_or : Option Counters → Record → Option Counters
 counters_or before (of.Counters c) = Some c
 counters_or before _ = before
 
+-- the counters behind one record more, which decodes
+abbrev pub counters_in : Option Counters → Row → Ruled (Option Counters)
+counters_in before e = do
+  r ← record_in e
+  Ok (counters_or before r)
+
 -- one record more
 abbrev pub tallied : Tally → Row → Ruled Tally
 tallied t e = do

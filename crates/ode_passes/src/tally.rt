@@ -6,7 +6,7 @@ ghost use Rattle.ode_keep.specs.Entries.{AreBytes, Entries};
 ghost use Rattle.ode_value.specs.Keys.{counters_key};
 ghost use Rattle.ode_passes.specs.Answers.{Answers, Leaves, UnlessFault, is_usable};
 ghost use Rattle.ode_passes.specs.Rules.{found};
-ghost use Rattle.ode_passes.specs.Tally.{counted, counters_or, is_light, tally_in};
+ghost use Rattle.ode_passes.specs.Tally.{counted, counters_in, counters_or, is_light, tally_in};
 ghost use Rattle.ode_passes.specs.Walking.{within};
 ghost use Rattle.ode_passes.specs.declared.cause.Cause.TheVariants as cause;
 
@@ -14,7 +14,7 @@ use crate::cause::Cause;
 use crate::error::OpenError;
 use crate::records::record_in;
 use crate::walking::{Pass, walk};
-use ode_codec::{Counters, Record};
+use ode_codec::{Counters, Record, is_record, one_spelling};
 use ode_host::Host;
 use ode_keep::{KEY_LEN, Keep};
 use ode_value::Key;
@@ -39,6 +39,28 @@ fn counters_or(before: Option<Counters>, row: &Record) -> Option<Counters>
     }
 }
 
+// The counters, where this record has them. Only they are decoded, of the others it is asked whether they are records.
+fn counters_in(
+    before: Option<Counters>,
+    alloc: Global,
+    key: Key,
+    value: &[u8],
+) -> Result<Option<Counters>, OpenError>
+    ensures meant { Answers (counters_in before (key, value.now)) result }
+    ensures calm { IsErrOf result OpenError.DiskFault → ⊥ }
+{
+    if key.kind == Key::COUNTERS {
+        let record = record_in(alloc, key, value)?;
+        return Ok(counters_or(before, &record));
+    }
+    one_spelling();
+    if is_record(key, value) {
+        Ok(before)
+    } else {
+        Err(OpenError::BadFile(Cause::Record(key)))
+    }
+}
+
 fn counted(total: u64, key: Key, value: &[u8]) -> u64
     ensures { result ≡ counted total (key, value.now) }
 {
@@ -56,9 +78,8 @@ impl Pass for Tally {
     ghost takes = { tallied };
 
     fn take(&mut self, alloc: Global, key: Key, value: &[u8]) -> Result<(), OpenError> {
-        let record = record_in(alloc, key, value)?;
+        self.counters = counters_in(self.counters, alloc, key, value)?;
         self.total = counted(self.total, key, value);
-        self.counters = counters_or(self.counters, &record);
         Ok(())
     }
 }
