@@ -19,7 +19,7 @@ use std::marker::Model;
 use std::mem::replace;
 
 // How many records a chunk has at most. It has room for one more, after which it is halved.
-const CHUNK: usize = 64;
+const CHUNK: usize = 128;
 
 /// Records in rising order of their keys.
 #[derive(Drop)]
