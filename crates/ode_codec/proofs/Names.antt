@@ -5,8 +5,8 @@ use Rattle.std.specs.List.{position_from}
 use Rattle.std.specs.Option.{is_none}
 use Rattle.std.proofs.lemmas.Bool.Decides.{nat_tests}
 use Rattle.std.proofs.lemmas.Iterator.Adapters.{position_from-zero}
-use Rattle.ode_value.specs.Text.{IsText, is_bad_byte, is_name_byte}
-use Rattle.ode_codec.specs.Reading.{is_name}
+use Rattle.ode_value.specs.Limits.{name_limit}
+use Rattle.ode_value.specs.Text.{IsText, is_bad_byte, is_name, is_name_byte}
 
 -- what no name has
 strange : ℕ → Bool
@@ -38,8 +38,8 @@ none_there (Some n) h = absurd (cc)
 pub name_text : (bs : List ℕ) → is_name bs ≡ true → IsText bs
 unfolding strange
 name_text bs is =
-    let parts = all_three (nat_lt 0 (length bs)) (nat_le (length bs) 64) (is_none (position (λ b. not (is_name_byte b)) bs)) is in
-    let short : nat_le (length bs) 64 ≡ true = parts.1 in
+    let parts = all_three (nat_lt 0 (length bs)) (nat_le (length bs) name_limit) (is_none (position (λ b. not (is_name_byte b)) bs)) is in
+    let short : nat_le (length bs) name_limit ≡ true = parts.1 in
     let none : position_from strange 0 bs ≡ None = sym (position_from-zero (λ b. not (is_name_byte b)) bs) ∙ none_there (position (λ b. not (is_name_byte b)) bs) parts.2 in
     record { short = grind (arith, nat_tests); each = position_from-zero is_bad_byte bs ∙ none_bad bs 0 none }
 

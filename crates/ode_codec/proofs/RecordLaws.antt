@@ -6,13 +6,13 @@ use Rattle.std.specs.Option.{is_none}
 use Rattle.std.specs.Ordering.{int_eq}
 use Rattle.std.proofs.lemmas.Bool.Decides.{Decides-int_eq, nat_tests}
 use Rattle.ode_value.specs.Keys.{key, counters_kind, class_head_kind, class_piece_kind, table_head_kind, table_piece_kind, object_kind, version_kind, activation_kind, entry_kind}
-use Rattle.ode_value.specs.Limits.{number_limit, transaction_limit, value_limit}
-use Rattle.ode_value.specs.Text.{IsName, is_name_byte}
+use Rattle.ode_value.specs.Limits.{name_limit, number_limit, transaction_limit, value_limit}
+use Rattle.ode_value.specs.Text.{IsName, is_name, is_name_byte}
 use Rattle.ode_value.specs.declared.key.Key.{Key}
 use Rattle.ode_value.specs.declared.value.Value.{Value}
 use Rattle.ode_codec.specs.Formats.{◌>>=◌, both, byte_in, ended, fit, holding, int_in, truth_in}
 use Rattle.ode_codec.specs.Reading
-use Rattle.ode_codec.specs.Reading.{clock_in, is_clock, is_counters, is_name, is_next, is_piece, made_counters, name_in, u16_in, u32_in, u64_in}
+use Rattle.ode_codec.specs.Reading.{clock_in, is_clock, is_counters, is_next, is_piece, made_counters, name_in, u16_in, u32_in, u64_in}
 use Rattle.ode_codec.specs.Rules.{HasRanges, IsClock, IsKept, IsKeptCounters, IsNext, IsPiece, IsRecord}
 use Rattle.ode_codec.specs.Spelling.{key_of, spelled, truth, u16, u32, u64, value_of}
 use Rattle.ode_codec.specs.Values.{args_in, fields_in}
@@ -303,17 +303,17 @@ table_piece_again class trigger piece bytes is =
 
 name_is : (bytes : List ℕ) → is_name bytes ≡ true → IsName bytes
 name_is bytes h =
-    let a = both_true (nat_lt 0 (length bytes)) (nat_le (length bytes) 64 && is_none (position (λ b. not (is_name_byte b)) bytes)) h in
-    let b = both_true (nat_le (length bytes) 64) (is_none (position (λ b. not (is_name_byte b)) bytes)) a.1 in
+    let a = both_true (nat_lt 0 (length bytes)) (nat_le (length bytes) name_limit && is_none (position (λ b. not (is_name_byte b)) bytes)) h in
+    let b = both_true (nat_le (length bytes) name_limit) (is_none (position (λ b. not (is_name_byte b)) bytes)) a.1 in
     let some : nat_lt 0 (length bytes) ≡ true = a.0 in
-    let short : nat_le (length bytes) 64 ≡ true = b.0 in
+    let short : nat_le (length bytes) name_limit ≡ true = b.0 in
     record { some = grind (arith, nat_tests); short = grind (arith, nat_tests); each = none_there (position (λ b. not (is_name_byte b)) bytes) b.1 }
 
 name_passes : (bytes : List ℕ) → IsName bytes → is_name bytes ≡ true
 name_passes bytes is =
     let some : nat_lt 0 (length bytes) ≡ true = let lt : 0 < length bytes = is.some in grind (arith, nat_tests) in
-    let short : nat_le (length bytes) 64 ≡ true = let le : length bytes ≤ 64 = is.short in grind (arith, nat_tests) in
-    ap (λ b. b && (nat_le (length bytes) 64 && is_none (position (λ b. not (is_name_byte b)) bytes))) some
+    let short : nat_le (length bytes) name_limit ≡ true = let le : length bytes ≤ name_limit = is.short in grind (arith, nat_tests) in
+    ap (λ b. b && (nat_le (length bytes) name_limit && is_none (position (λ b. not (is_name_byte b)) bytes))) some
     ∙ ap (λ b. b && is_none (position (λ b. not (is_name_byte b)) bytes)) short ∙ ap (λ (o : Option ℕ). is_none o) is.each
 
 abbrev spell_name : List ℕ → List ℕ

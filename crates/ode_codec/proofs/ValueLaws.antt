@@ -10,14 +10,14 @@ use Rattle.std.proofs.lemmas.List.{take_at, drop_at, take-append-drop, length-ap
 use Rattle.std.proofs.lemmas.List.Concat.{flat_map-cons}
 use Rattle.ode_value.specs.Limits.{text_limit}
 use Rattle.ode_value.specs.Records.{spelled_value}
-use Rattle.ode_value.specs.Text.{IsText, is_bad_byte}
+use Rattle.ode_value.specs.Text.{IsText, is_bad_byte, is_text}
 use Rattle.ode_value.specs.declared.value.Ref.{Ref}
 use Rattle.ode_value.specs.declared.value.Value.{Value}
 use Rattle.ode_value.specs.declared.value.Value.TheVariants as value
 use Rattle.ode_codec.specs.Formats.{◌>>=◌, byte_in, int_in, number_in, part_of, truth_in}
 use Rattle.ode_codec.specs.Rules.{AreInRange, AreKept, InRange, IsKeptValue}
 use Rattle.ode_codec.specs.Spelling.{values}
-use Rattle.ode_codec.specs.Values.{args_in, content_in, fields_in, is_text, reference_in, reference_of, text_in, value_in, values_in}
+use Rattle.ode_codec.specs.Values.{args_in, content_in, fields_in, reference_in, reference_of, text_in, value_in, values_in}
 use Rattle.ode_codec.proofs.FormatLaws.{IsBytes, IsFormat, Takes, bind_some, fits-drop, format8, format16, format32, format64, int_format, same, spell_byte, truth_format}
 
 -- ---- a part behind its length

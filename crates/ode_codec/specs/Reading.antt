@@ -1,11 +1,10 @@
 -- The record under a key with a value, or none outside the grammar.
-use Rattle.std.specs.Prelude.{ℕ, ℤ, pos, ◌/◌, ◌%◌, ◌^◌, List, Bool, length, Option, Some, None, nat_lt, nat_le, not, ◌==◌, ◌&&◌, ◌||◌, if◌then◌else◌, position}
+use Rattle.std.specs.Prelude.{ℕ, ℤ, pos, ◌/◌, ◌%◌, ◌^◌, List, Bool, length, Option, Some, None, nat_le, ◌==◌, ◌&&◌, ◌||◌, if◌then◌else◌}
 use Rattle.std.specs.Int.{w16, w32, w64}
-use Rattle.std.specs.Option.{is_none}
 use Rattle.std.specs.Ordering.{int_eq}
 use Rattle.ode_value.specs.Keys.{counters_kind, class_head_kind, class_piece_kind, table_head_kind, table_piece_kind, object_kind, version_kind, activation_kind, entry_kind}
 use Rattle.ode_value.specs.Limits.{number_limit, transaction_limit, value_limit}
-use Rattle.ode_value.specs.Text.{is_name_byte}
+use Rattle.ode_value.specs.Text.{is_name}
 use Rattle.ode_value.specs.declared.key.Key.{Key}
 use Rattle.ode_codec.specs.Formats.{◌>>=◌, both, byte_in, ended, fit, holding, int_in, number_in, part_of, truth_in}
 use Rattle.ode_codec.specs.Values.{args_in, fields_in}
@@ -54,10 +53,6 @@ counters_under k bytes = do
   _ ← ended f.1
   _ ← holding (is_counters (made_counters f.0.0 f.0.1.0 f.0.1.1.0 f.0.1.1.1))
   Some (of.Counters (made_counters f.0.0 f.0.1.0 f.0.1.1.0 f.0.1.1.1))
-
--- 1 to 64 name bytes
-abbrev pub is_name : List ℕ → Bool
-is_name bytes = nat_lt 0 (length bytes) && (nat_le (length bytes) 64 && is_none (position (λ b. not (is_name_byte b)) bytes))
 
 unfoldable pub name_in : List ℕ → Option (List ℕ × List ℕ)
 name_in bytes = do

@@ -1,17 +1,11 @@
 -- Reading values.
-use Rattle.std.specs.Prelude.{ℕ, zero, suc, List, [], ◌∷◌, Bool, length, Option, Some, None, nat_le, ◌==◌, ◌&&◌, if◌then◌else◌, position}
-use Rattle.std.specs.Option.{is_none}
+use Rattle.std.specs.Prelude.{ℕ, zero, suc, List, [], ◌∷◌, Option, Some, None, ◌==◌, ◌&&◌, if◌then◌else◌}
 use Rattle.std.specs.Int.{w16, w32, w64}
-use Rattle.ode_value.specs.Limits.{text_limit}
-use Rattle.ode_value.specs.Text.{is_bad_byte}
+use Rattle.ode_value.specs.Text.{is_text}
 use Rattle.ode_value.specs.declared.value.Ref.{Ref}
 use Rattle.ode_value.specs.declared.value.Value.{Value}
 use Rattle.ode_value.specs.declared.value.Value.TheVariants as value
 use Rattle.ode_codec.specs.Formats.{◌>>=◌, byte_in, int_in, number_in, part_of, truth_in}
-
--- no longer than a text, and no byte of it bad
-abbrev pub is_text : List ℕ → Bool
-is_text bytes = nat_le (length bytes) text_limit && is_none (position is_bad_byte bytes)
 
 unfoldable pub text_in : List ℕ → Option (List ℕ × List ℕ)
 text_in bytes = do

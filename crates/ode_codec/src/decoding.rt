@@ -3,11 +3,12 @@ ghost use Rattle.ode_codec.specs.declared.record.Record.{Record as Row};
 ghost use Rattle.std.specs.Prelude.{◌≡◌, ◌^◌, IfOk, IfSome, List as Items, None, ℕ, Some, if◌then◌else◌};
 ghost use Rattle.std.specs.Int.{w16, w32, w64};
 ghost use Rattle.std.specs.Option.{is_some};
+ghost use Rattle.ode_value.specs.Text.{is_name};
 ghost use Rattle.ode_codec.specs.Formats.{Finds, Gives, ended, fit};
 ghost use Rattle.ode_codec.specs.Rules.{IsRecord};
 ghost use Rattle.ode_codec.specs.Spelling.{spelled};
 ghost use Rattle.ode_codec.specs.Reading.{activation_under, class_head_under, class_piece_under, clock_in, counters_under};
-ghost use Rattle.ode_codec.specs.Reading.{entry_under, is_clock, is_counters, is_name, is_next, is_piece, name_in, object_under, record_under};
+ghost use Rattle.ode_codec.specs.Reading.{entry_under, is_clock, is_counters, is_next, is_piece, name_in, object_under, record_under};
 ghost use Rattle.ode_codec.specs.Reading.{table_head_under, table_piece_under, version_under};
 
 use crate::outside::{OutsideGrammar, Unread};

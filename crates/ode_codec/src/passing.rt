@@ -1,35 +1,14 @@
 //! Whether there is a record of a key and a value. Nothing is made of it.
-ghost use Rattle.std.specs.Prelude.{◌≡◌, not, position};
-ghost use Rattle.ode_value.specs.Text.{is_name_byte};
+ghost use Rattle.std.specs.Prelude.{◌≡◌};
 ghost use Rattle.ode_codec.specs.Formats.{Finds, behind, passed};
-ghost use Rattle.ode_codec.specs.Reading.{activation_under, class_head_under, class_piece_under, entry_under, is_name};
+ghost use Rattle.ode_codec.specs.Reading.{activation_under, class_head_under, class_piece_under, entry_under};
 ghost use Rattle.ode_codec.specs.Reading.{name_in, table_piece_under, version_under};
 
 use crate::decoding::{fit_u32, is_piece, nothing_left};
 use crate::outside::OutsideGrammar;
 use crate::reading::{read_part, read_u8, read_u16, read_u32, read_u64};
 use crate::skipping::{skip_args, skip_fields};
-use ode_value::Key;
-use ode_value::limits::NAME_LIMIT;
-
-fn is_name_byte(byte: u8) -> bool
-    ensures { result ≡ is_name_byte byte }
-{
-    matches!(byte, b'0'..=b'9' | b'A'..=b'Z' | b'_' | b'a'..=b'z')
-}
-
-// The place of the first byte that no name has.
-fn bad_name_byte(bytes: &[u8]) -> Option<usize>
-    ensures { result ≡ position (λ b. not (is_name_byte b)) bytes.now }
-{
-    bytes.iter().position(|b| !is_name_byte(*b))
-}
-
-fn is_name(bytes: &[u8]) -> bool
-    ensures { result ≡ is_name bytes.now }
-{
-    0 < bytes.len() && bytes.len() <= NAME_LIMIT && bad_name_byte(bytes).is_none()
-}
+use ode_value::{Key, is_name};
 
 #[tactic(auto, unfolding(crate::specs::Reading::name_in))]
 fn skip_name(bytes: &[u8]) -> Result<&[u8], OutsideGrammar>

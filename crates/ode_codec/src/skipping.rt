@@ -1,27 +1,12 @@
 //! Values at the front of bytes, passed over: whether they are there, and where they end. Nothing is made of them.
-ghost use Rattle.std.specs.Prelude.{◌≡◌, position};
-ghost use Rattle.ode_value.specs.Text.{is_bad_byte};
+ghost use Rattle.std.specs.Prelude.{◌≡◌};
 ghost use Rattle.ode_codec.specs.Formats.{Finds, behind};
-ghost use Rattle.ode_codec.specs.Values.{args_in, content_in, fields_in, is_text, text_in, value_in, values_in};
+ghost use Rattle.ode_codec.specs.Values.{args_in, content_in, fields_in, text_in, value_in, values_in};
 
 use crate::outside::OutsideGrammar;
 use crate::reading::{read_part, read_u8, read_u16};
 use crate::values::read_plain;
-use ode_value::limits::TEXT_LIMIT;
-
-// The place of the first byte that no text has.
-fn bad_byte(bytes: &[u8]) -> Option<usize>
-    ensures { result ≡ position is_bad_byte bytes.now }
-{
-    bytes.iter().position(|b| *b < 0x20 || 0x7E < *b)
-}
-
-#[tactic(auto, unfolding(ode_value::specs::Limits::text_limit))]
-fn is_text(bytes: &[u8]) -> bool
-    ensures { result ≡ is_text bytes.now }
-{
-    bytes.len() <= TEXT_LIMIT && bad_byte(bytes).is_none()
-}
+use ode_value::is_text;
 
 // The text behind its length.
 #[tactic(auto, unfolding(crate::specs::Values::text_in))]

@@ -45,12 +45,12 @@ pub use machine::{
     empty_transactions, once_only_triggers_after_an_abort,
 };
 pub use member::{Constraint, Method, TriggerDecl};
-pub use name::Name;
+pub use name::{Name, is_name};
 pub use operator::{BinOp, UnOp};
 pub use reason::{CheckError, Reason, Refusal};
 pub use reference::{parse_ref, ref_text};
 pub use statement::{Call, ClassDecl, Expr, Member, Rhs, Sort, Statement, Stmt};
-pub use text::{OdeText, TextError};
+pub use text::{OdeText, TextError, is_text};
 pub use tree::StateTree;
 pub use value::{Ref, Value};
 pub use words::is_free;

@@ -1,6 +1,6 @@
 ghost use Rattle.std.specs.Prelude.{◌≡◌, ◌↔◌, IfOk, IfSome, IsTrue, None, not, position};
 ghost use Rattle.std.specs.Str.{bytes_eq};
-ghost use Rattle.ode_value.specs.Text.{IsName, is_name_byte};
+ghost use Rattle.ode_value.specs.Text.{IsName, is_name, is_name_byte};
 
 use crate::limits::NAME_LIMIT;
 use crate::list::Copied;
@@ -39,10 +39,12 @@ fn bad_name_byte(bytes: &[u8]) -> Option<usize>
     bytes.iter().position(|b| !is_name_byte(*b))
 }
 
-fn is_name(bytes: &[u8]) -> bool
-    ensures { IsTrue result ↔ IsName bytes.now }
+/// Whether these are the bytes of a name.
+pub fn is_name(bytes: &[u8]) -> bool
+    ensures name { IsTrue result ↔ IsName bytes.now }
+    ensures test { result ≡ is_name bytes.now }
 {
-    !bytes.is_empty() && bytes.len() <= NAME_LIMIT && bad_name_byte(bytes).is_none()
+    0 < bytes.len() && bytes.len() <= NAME_LIMIT && bad_name_byte(bytes).is_none()
 }
 
 impl Name {

@@ -1,5 +1,5 @@
-ghost use Rattle.std.specs.Prelude.{◌≡◌, ◌≤◌, ◌<◌, ℕ, length, position, ◌↔◌, IfErr, IfOk, Some, OnOk, MatchResult, ⊤};
-ghost use Rattle.ode_value.specs.Text.{IsText, is_bad_byte};
+ghost use Rattle.std.specs.Prelude.{◌≡◌, ◌≤◌, ◌<◌, ℕ, length, position, ◌↔◌, IsTrue, IfErr, IfOk, Some, OnOk, MatchResult, ⊤};
+ghost use Rattle.ode_value.specs.Text.{IsText, is_bad_byte, is_text};
 
 use crate::limits::TEXT_LIMIT;
 use crate::list::{Copied, List};
@@ -49,6 +49,14 @@ fn bad_byte(bytes: &[u8]) -> Option<usize>
     ensures { result ≡ position is_bad_byte bytes.now }
 {
     bytes.iter().position(|b| *b < 0x20 || 0x7E < *b)
+}
+
+/// Whether these are the bytes of a text.
+pub fn is_text(bytes: &[u8]) -> bool
+    ensures text { IsTrue result ↔ IsText bytes.now }
+    ensures test { result ≡ is_text bytes.now }
+{
+    bytes.len() <= TEXT_LIMIT && bad_byte(bytes).is_none()
 }
 
 impl OdeText {
