@@ -122,7 +122,8 @@ numbered_class P (d ∷ ds) all n c is = by_test (d.class.number == n) refl is (
         (subst P it all.0, ap (λ (x : Class). x.number) (sym it) ∙ number)
     by_test false test e rest = rest e
 
-same_numbered : (cs : List Declared) (n : ℕ) → families.class_numbered (map class_of cs) n ≡ class_numbered n cs
+-- a class of a number is found among the declared classes as among their trees
+pub same_numbered : (cs : List Declared) (n : ℕ) → families.class_numbered (map class_of cs) n ≡ class_numbered n cs
 same_numbered [] n = refl
 same_numbered (c ∷ cs) n = ap (λ (o : Option Class). cond (c.class.number == n) (Some c.class) o) (same_numbered cs n)
 

@@ -1,5 +1,5 @@
 mod Values
-mod Classes
+pub mod Classes
 mod States
 mod Readable
 mod Shown

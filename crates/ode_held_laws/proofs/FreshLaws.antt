@@ -1,5 +1,5 @@
 -- What an overlay reads of an object is what the first world has.
-use Rattle.std.proofs.Common.{◌≡◌, ◌==◌, ℕ, List, [], ◌∷◌, cond, map, Option, Some, None, refl, sym, ap, subst, ◌∙◌}
+use Rattle.std.proofs.Common.{◌≡◌, ℕ, List, [], ◌∷◌, map, Option, Some, None, refl, sym, ap, subst, ◌∙◌}
 use Rattle.std.proofs.lemmas.Simd.{map-map}
 use Rattle.std.specs.Prelude.{IsSome, true}
 use Rattle.std.specs.List.{AllByRecursion}
@@ -13,6 +13,7 @@ use Rattle.ode_heap.specs.Answers.{There}
 use Rattle.ode_heap.specs.Looking.{version_in}
 use Rattle.ode_heap.specs.Objects.{object_in}
 use Rattle.ode_heap.specs.declared.object.ObjectHead.{ObjectHead}
+use Rattle.ode_heap_laws.proofs.Classes.{same_numbered}
 use Rattle.ode_heap_laws.specs.Few.{HoldsCounted}
 use Rattle.ode_held_laws.proofs.AnswerLaws.{as_read}
 use Rattle.ode_held_laws.proofs.KeptLaws.{HasStates, rows_kept, states_found}
@@ -32,7 +33,6 @@ use Rattle.ode_objects.specs.declared.tracked.Tracked.{Tracked}
 use Rattle.ode_overlay.specs.Changing.{fresh, fresh_at}
 use Rattle.ode_overlay.specs.Layers.{Layer, tracked_at}
 use Rattle.ode_overlay_laws.specs.Standing.{IsIn, Stands, kept_as, object_as}
-use Rattle.ode_types.specs.Families as families
 use Rattle.ode_value.specs.Denoting.{object_numbered}
 use Rattle.ode_value.specs.GoodWorlds.{IsActivation, IsObject}
 use Rattle.ode_value.specs.Keys.{object_key, version_key}
@@ -40,18 +40,13 @@ use Rattle.ode_value.specs.Language.{Language, ListWorld}
 use Rattle.ode_value.specs.Objects.{Activation}
 use Rattle.ode_value.specs.Pasts.{Kept}
 use Rattle.ode_value.specs.Versions.{Version, version_numbered}
-use Rattle.ode_value.specs.Worlds.{Bones, Declared, Object, class_numbered, kept_at}
+use Rattle.ode_value.specs.Worlds.{Bones, Object, class_numbered, kept_at}
 use Rattle.ode_value.specs.declared.class.Class.{Class}
 use Rattle.ode_value.specs.declared.value.Value.{Value}
 use Rattle.ode_versions.specs.Versions.{listed}
 
 abbrev NumberKept : Type 0
 NumberKept = Kept (Unit {0}) ℕ
-
--- the class of a number, in the words of the types
-same_numbered : (cs : List Declared) (n : ℕ) → families.class_numbered (map class_of cs) n ≡ class_numbered n cs
-same_numbered [] n = refl
-same_numbered (c ∷ cs) n = ap (λ (o : Option Class). cond (c.class.number == n) (Some c.class) o) (same_numbered cs n)
 
 module _ (l : Language) (records : Entries) (w : ListWorld) (held : HoldsCounted l records w) (readable : IsReadable held.world.stored)
     (object_shown : (id : ℕ) → object_in records id ≡ There (option_map head_of_object (object_numbered id w.bones.objects)))

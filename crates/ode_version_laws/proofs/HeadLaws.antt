@@ -5,7 +5,7 @@ use Rattle.std.proofs.lemmas.Bool.Decides.{nat_tests}
 use Rattle.std.specs.Prelude.{nat_le, nat_lt}
 use Rattle.std.specs.Cmp.Derive.{both_true}
 use Rattle.std.specs.List.{AllByRecursion}
-use Rattle.ode_heap.specs.Answering.{class_of, head_of_object}
+use Rattle.ode_heap.specs.Answering.{head_of_object}
 use Rattle.ode_heap.specs.declared.object.ObjectHead.{ObjectHead}
 use Rattle.ode_laws.proofs.Rows.{find_rising}
 use Rattle.ode_objects.specs.Objects as objects
@@ -15,14 +15,11 @@ use Rattle.ode_overlay.specs.Answers.{Answer, ◌>>=◌}
 use Rattle.ode_overlay.specs.Reading.{is_rising, rise_above, shown, sound}
 use Rattle.ode_overlay.specs.declared.error.OverlayError.TheVariants.{Damaged}
 use Rattle.ode_overlay_laws.specs.Standing.{object_as, version_as}
-use Rattle.ode_types.specs.Families as families
 use Rattle.ode_value.specs.GoodWorlds.{RiseFrom}
 use Rattle.ode_value.specs.Keys.{object_key}
 use Rattle.ode_value.specs.Versions as versions
 use Rattle.ode_value.specs.Versions.{newest, version_numbered, version_of}
 use Rattle.ode_value.specs.Worlds as worlds
-use Rattle.ode_value.specs.Worlds.{Declared}
-use Rattle.ode_value.specs.declared.class.Class.{Class}
 use Rattle.ode_version_laws.specs.Denoting.{HasVersions}
 use Rattle.ode_versions.specs.Versions.{found, has_number, listed, newest_number, number_of}
 use Rattle.ode_versions.specs.declared.list.Version.{Version as Listed}
@@ -109,9 +106,3 @@ denoted_found None vs v rise is =
     found_by v.number vs v
     (newest_of_all (λ w. find (λ (u : versions.Version). u.number == w.number) vs ≡ Some w) vs v (find_rising (λ (w : versions.Version). w.number) 0 vs rise) is)
 denoted_found (Some n) vs v rise is = ap (λ (m : ℕ). version_numbered m vs) (numbered_found n vs v is) ∙ is
-
--- ---- classes
-
-pub class_same : (n : ℕ) (ds : List Declared) → families.class_numbered (map class_of ds) n ≡ worlds.class_numbered n ds
-class_same n [] = refl
-class_same n (d ∷ ds) = ap (λ (c : Option Class). cond (d.class.number == n) (Some d.class) c) (class_same n ds)

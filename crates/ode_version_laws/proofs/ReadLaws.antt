@@ -6,6 +6,7 @@ use Rattle.ode_heap.specs.Answering.{class_of, head_of_object}
 use Rattle.ode_heap.specs.Answers as heap
 use Rattle.ode_heap.specs.Answers.{Found, There}
 use Rattle.ode_heap.specs.declared.object.ObjectHead.{ObjectHead}
+use Rattle.ode_heap_laws.proofs.Classes.{same_numbered}
 use Rattle.ode_keep.specs.Entries.{Entries}
 use Rattle.ode_laws.specs.Alike.{NumberTx}
 use Rattle.ode_objects.specs.Loading.{class_in, fields_in, there_at}
@@ -32,7 +33,7 @@ use Rattle.ode_value.specs.declared.arithmetic.Fault.TheVariants as fault
 use Rattle.ode_value.specs.declared.class.Class.{Class}
 use Rattle.ode_value.specs.declared.value.Ref.{Ref}
 use Rattle.ode_value.specs.declared.value.Value.{Value}
-use Rattle.ode_version_laws.proofs.HeadLaws.{class_same, denoted_found, found_of, head_same, head_shown, head_sound}
+use Rattle.ode_version_laws.proofs.HeadLaws.{denoted_found, found_of, head_same, head_shown, head_sound}
 use Rattle.ode_version_laws.proofs.VersionLaws.{gone_denotes, null_denotes, object_denotes, some_object, tracked_denotes}
 use Rattle.ode_version_laws.specs.Denoting.{HasVersionsAt}
 use Rattle.ode_version_laws.specs.Showing.{IsSettledAt, Shows, number_in, number_seen}
@@ -164,7 +165,7 @@ module _ (base : Entries) (x : Layer) (y : NumberTx) (r : Ref) (slot : ℕ) (sta
     by_declared : (f : Option Class) → worlds.class_numbered o.class y.first.bones.classes ≡ f → IsSome f → by_number o v.number ≡ seen.field_of slot v.fields
     by_declared None is some = absurd (cc)
     by_declared (Some c) is some =
-        ap (λ (f : Option Class). from_records (there_at (object_key id) f) >>= by_class v.number) (class_same o.class y.first.bones.classes ∙ is)
+        ap (λ (f : Option Class). from_records (there_at (object_key id) f) >>= by_class v.number) (same_numbered y.first.bones.classes o.class ∙ is)
         ∙ ap (λ (f : Found (Option (List Value))). from_records (heap.◌>>=◌ f (there_at (version_key id v.number))) >>= seen.field_of slot)
         (shows.version id v.number o c first is ∙ ap (λ (w : Option versions.Version). There (option_map (λ (u : versions.Version). u.fields) w)) found)
 

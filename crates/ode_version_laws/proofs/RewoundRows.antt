@@ -4,6 +4,7 @@ use Rattle.std.proofs.lemmas.Bool.{eqb-true}
 use Rattle.std.specs.List.{AllByRecursion, AllZip}
 use Rattle.std.specs.Option.{option_and_then, option_map_or}
 use Rattle.ode_heap.specs.Answering.{class_of}
+use Rattle.ode_heap_laws.proofs.Classes.{same_numbered}
 use Rattle.ode_laws.proofs.Rows.{find_rising}
 use Rattle.ode_laws.specs.Alike.{NumberWorld}
 use Rattle.ode_objects.specs.Objects.{has_number}
@@ -23,7 +24,6 @@ use Rattle.ode_value.specs.Worlds as worlds
 use Rattle.ode_value.specs.Worlds.{Bones, Declared, kept_at}
 use Rattle.ode_value.specs.declared.class.Class.{Class}
 use Rattle.ode_value.specs.declared.member.TriggerDecl.{TriggerDecl}
-use Rattle.ode_version_laws.proofs.HeadLaws.{class_same}
 
 -- ---- look-ups in what is left
 
@@ -78,7 +78,7 @@ module _ (tables : ℕ → ℕ → Table) (declared : List Declared) (now : List
 
   -- by what an activation watches for
   state_left : (a : Active) → option_map_or (λ w. states a.number w a.state) (watch_by declared (active_as a)) a.state ≡ (rewound_active classes now a).state
-  state_left a = by_class (worlds.class_numbered a.class declared) ∙ sym (ap (λ (c : Option Class). cond (sees_in c a.trigger) (state_in now a) a.state) (class_same a.class declared)) where
+  state_left a = by_class (worlds.class_numbered a.class declared) ∙ sym (ap (λ (c : Option Class). cond (sees_in c a.trigger) (state_in now a) a.state) (same_numbered declared a.class)) where
     by_trigger : (f : Option TriggerDecl)
         → option_map_or (λ w. states a.number w a.state) (option_map (λ t. watch_of t a.args) (option_map (λ t. trigger_of a.class (a.trigger, t)) f)) a.state ≡ cond (sees_whole f) (state_in now a) a.state
     by_trigger None = refl
