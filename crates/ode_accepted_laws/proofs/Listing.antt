@@ -26,7 +26,7 @@ use Rattle.ode_accepted_laws.proofs.Members.{IsParent, begun, kinds_of}
 
 -- ---- the kinds of members
 
-abbrev kinds_in : Member → List Kind
+abbrev pub kinds_in : Member → List Kind
 kinds_in (member.Events kinds) = kinds
 kinds_in (member.Field name s) = []
 kinds_in (member.Method m) = []
@@ -136,10 +136,11 @@ decl_long d =
 
 -- ---- a class
 
--- the parent's kinds, and no more own ones than the text has bytes
+-- the parent's kinds and its members', and no more own ones than the text has bytes
 record HasKinds (known : List Class) (d : ClassDecl) (c : Class) : Type 0 where
   parent : Option Class
   there : IfSome parent (IsParent known)
+  are : c.kinds ≡ kinds_of parent ++ flat_map kinds_in d.members
   few : length c.kinds ≤ length (kinds_of parent) + length (decl_text d)
 
 has_kinds : (known : List Class) (d : ClassDecl) (c : Class) → check_class known d ≡ Ok c → HasKinds known d c
@@ -157,7 +158,7 @@ has_kinds known d c h =
     let both : length (kinds_of begin.parent ++ flat_map kinds_in d.members) ≡ length (kinds_of begin.parent) + length (flat_map kinds_in d.members) = length-append (kinds_of begin.parent) (flat_map kinds_in d.members) in
     let own = decl_long d in
     let long : length c.kinds ≡ length (kinds_of begin.parent ++ flat_map kinds_in d.members) = ap (λ ks. length ks) is in
-    record { parent = begin.parent; there = begin.there; few = omega (arith, both, own, long) }
+    record { parent = begin.parent; there = begin.there; are = is; few = omega (arith, both, own, long) }
 
 -- ---- all classes
 
@@ -184,3 +185,30 @@ module _ (l : Language) (rules : HasStaticRules l) where
       let both : AllByRecursion (λ (d : Declared). Few (sum_by text_size more) d.class) more = all-append (λ (d : Declared). Few (sum_by text_size more) d.class) earlier (c ∷ []) old (here, tt) in
       let next : AreAccepted l (checked_classes more) cs = subst (λ es. AreAccepted l es cs) (sym (map-append (λ (d : Declared). d.class) earlier (c ∷ []))) accepted.1 in
       subst (λ (es : List Declared). AllByRecursion (λ (d : Declared). Few (sum_by text_size es) d.class) es) (append_assoc earlier (c ∷ []) cs) (kinds_few more cs both next)
+
+-- ---- what all kinds have
+
+-- what the kinds of a class's own members have
+abbrev pub ListsAll : (Kind → Type 0) → ClassDecl → Type 0
+ListsAll P d = AllByRecursion P (flat_map kinds_in d.members)
+
+abbrev pub HasAll : (Kind → Type 0) → Class → Type 0
+HasAll P c = AllByRecursion P c.kinds
+
+parent_all : (P : Kind → Type 0) (known : List Class) → AllByRecursion (HasAll P) known → (parent : Option Class) → IfSome parent (IsParent known) → AllByRecursion P (kinds_of parent)
+parent_all P known all None there = tt
+parent_all P known all (Some p) there = all-find (HasAll P) (λ (c : Class). bytes_eq c.name there.0) known all p there.1
+
+-- the kinds of accepted classes have it too, those that they inherit among them
+module _ (l : Language) (rules : HasStaticRules l) (P : Kind → Type 0) where
+  pub kinds_have : (earlier cs : List Declared) → AllByRecursion (λ (c : Declared). HasAll P c.class) earlier → AreAccepted l (checked_classes earlier) cs
+      → AllByRecursion (λ (c : Declared). ListsAll P c.tree) cs → AllByRecursion (λ (c : Declared). HasAll P c.class) (earlier ++ cs)
+  kinds_have earlier [] all accepted listed = subst (λ (es : List Declared). AllByRecursion (λ (c : Declared). HasAll P c.class) es) (sym (append-nil earlier)) all
+  kinds_have earlier (c ∷ cs) all accepted listed =
+      let more : List Declared = earlier ++ c ∷ [] in
+      let has = has_kinds (checked_classes earlier) c.tree c.class (ap (λ f. f (checked_classes earlier) c.tree) (sym rules.class_of) ∙ accepted.0) in
+      let above : AllByRecursion P (kinds_of has.parent) = parent_all P (checked_classes earlier) (all-map (HasAll P) (λ (d : Declared). d.class) earlier all) has.parent has.there in
+      let here : HasAll P c.class = subst (AllByRecursion P) (sym has.are) (all-append P (kinds_of has.parent) (flat_map kinds_in c.tree.members) above listed.0) in
+      let both : AllByRecursion (λ (d : Declared). HasAll P d.class) more = all-append (λ (d : Declared). HasAll P d.class) earlier (c ∷ []) all (here, tt) in
+      let next : AreAccepted l (checked_classes more) cs = subst (λ es. AreAccepted l es cs) (sym (map-append (λ (d : Declared). d.class) earlier (c ∷ []))) accepted.1 in
+      subst (λ (es : List Declared). AllByRecursion (λ (d : Declared). HasAll P d.class) es) (append_assoc earlier (c ∷ []) cs) (kinds_have more cs both next listed.1)

@@ -1,4 +1,5 @@
 pub mod Clean
 pub mod LanguageRuns
 pub mod ReadRefs
+pub mod Recurring
 pub mod Seconds

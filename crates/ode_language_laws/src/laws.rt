@@ -1,14 +1,16 @@
 //! Laws of the language of scripts.
-ghost use Rattle.std.specs.Prelude.{◌≡◌, FitsSigned, ℕ, ℤ, List as Items, Ok, Some};
+ghost use Rattle.std.specs.Prelude.{◌≡◌, ◌<◌, ◌^◌, FitsSigned, ℕ, ℤ, List as Items, Ok, Some, length};
 ghost use Rattle.std.specs.Int.{w64};
-ghost use Rattle.std.specs.List.{AllByRecursion};
+ghost use Rattle.std.specs.List.{All, AllByRecursion};
 ghost use Rattle.ode_value.specs.declared.statement.Statement.TheVariants.{Simple};
 ghost use Rattle.ode_value.specs.declared.statement.Stmt.{Stmt};
-ghost use Rattle.ode_value.specs.GoodWorlds.{IsGood};
+ghost use Rattle.ode_value.specs.GoodWorlds.{IsGood, IsPosition};
 ghost use Rattle.ode_value.specs.Language.{ListWorld};
 ghost use Rattle.ode_value.specs.References.{IsRef};
-ghost use Rattle.ode_value.specs.Worlds.{empty_world};
+ghost use Rattle.ode_value.specs.Worlds.{Position, empty_world};
 ghost use Rattle.ode_timer.specs.Dates.{instant_of};
+ghost use Rattle.ode_timer.specs.Due.{AllRecur, HasPlaces, due};
+ghost use Rattle.ode_machine.specs.TimeRows.{time_rows};
 ghost use Rattle.ode_machine.specs.Runs.{trace, worlds};
 ghost use Rattle.ode_types.specs.Literals.{literals};
 ghost use Rattle.ode_accepted_laws.specs.Languages.{HasSoundRules};
@@ -26,6 +28,14 @@ pub fn language_has_sound_rules()
 pub fn what_is_read_is_in_range()
     ensures literals { (piece : Items ℕ) (s : Stmt) → statement_of piece ≡ Ok (Simple s) → AllByRecursion IsRef (literals s) }
     ensures instants { (text : Items ℕ) (t : ℤ) → instant_of text ≡ Some t → FitsSigned w64 t }
+{}
+
+/// In a good world each kind of event that comes again does so after at least a second, a position has a place for each kind of an object,
+/// and fewer events are due up to any instant than a number of 128 bits counts.
+pub fn clock_events_are_in_range()
+    ensures recur { (w : ListWorld) → IsGood ode w → AllRecur (time_rows w.bones) }
+    ensures places { (w : ListWorld) → IsGood ode w → All HasPlaces (time_rows w.bones) }
+    ensures counts { (w : ListWorld) → IsGood ode w → (old : Position) → IsPosition old → (t : ℤ) → FitsSigned w64 t → length (due (time_rows w.bones) old t) < 2 ^ 128 }
 {}
 
 /// The language of scripts reads well: the literals of what is read are references, a class that is read is read again from its printed

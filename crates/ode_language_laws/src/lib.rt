@@ -5,6 +5,6 @@
 mod laws;
 
 pub use laws::{
-    language_has_sound_rules, language_reads_well, runs_of_the_language_stay_good,
-    what_is_read_is_in_range,
+    clock_events_are_in_range, language_has_sound_rules, language_reads_well,
+    runs_of_the_language_stay_good, what_is_read_is_in_range,
 };

@@ -28,6 +28,7 @@ use Rattle.ode_value.specs.declared.statement.Expr.{Expr}
 use Rattle.ode_value.specs.declared.statement.Expr.TheVariants as expr
 use Rattle.ode_value.specs.declared.value.Value.TheVariants as value
 use Rattle.ode_value.proofs.PrintLaws.{event-And, event-Leaf, event-masked, event-Or}
+use Rattle.ode_timer.specs.Due.{Recurs}
 use Rattle.ode_syntax.specs.declared.trees.Trees.{Trees}
 use Rattle.ode_syntax.specs.Built.{count_of, second_of}
 use Rattle.ode_syntax.specs.Kept.{kept_as, Spelled}
@@ -152,6 +153,7 @@ pub record GoodKind (place : Place) (k : Kind) : Type 0 where
   pub tokens : List Spelled
   pub spells : Spells place (kind_text k) tokens
   pub prints : KindPrints k tokens
+  pub recurs : Recurs k
 
 pub create_good : (place : Place) → GoodKind place point.Create
 create_good place = record {
@@ -159,6 +161,7 @@ create_good place = record {
   spells = words_spell place (codes "after") (codes "create") _ refl (word_spells place (codes "create") refl);
   prints = kind_prints terminal.After (item.Part part.AfterWhat) after_begins point.Create _ _ (is_after place)
       (word_tail part.AfterWhat terminal.Create action.AfterCreate point.Create create_what _ (is_create place));
+  recurs = tt;
 }
 
 pub tbegin_good : (place : Place) → GoodKind place point.TBegin
@@ -167,6 +170,7 @@ tbegin_good place = record {
   spells = words_spell place (codes "after") (codes "tbegin") _ refl (word_spells place (codes "tbegin") refl);
   prints = kind_prints terminal.After (item.Part part.AfterWhat) after_begins point.TBegin _ _ (is_after place)
       (word_tail part.AfterWhat terminal.TBegin action.AfterTBegin point.TBegin tbegin_what _ (is_tbegin place));
+  recurs = tt;
 }
 
 pub tcommit_good : (place : Place) → GoodKind place point.TCommit
@@ -175,6 +179,7 @@ tcommit_good place = record {
   spells = words_spell place (codes "after") (codes "tcommit") _ refl (word_spells place (codes "tcommit") refl);
   prints = kind_prints terminal.After (item.Part part.AfterWhat) after_begins point.TCommit _ _ (is_after place)
       (word_tail part.AfterWhat terminal.TCommit action.AfterTCommit point.TCommit tcommit_what _ (is_tcommit place));
+  recurs = tt;
 }
 
 pub tabort_good : (place : Place) → GoodKind place point.TAbort
@@ -183,6 +188,7 @@ tabort_good place = record {
   spells = words_spell place (codes "after") (codes "tabort") _ refl (word_spells place (codes "tabort") refl);
   prints = kind_prints terminal.After (item.Part part.AfterWhat) after_begins point.TAbort _ _ (is_after place)
       (word_tail part.AfterWhat terminal.TAbort action.AfterTAbort point.TAbort tabort_what _ (is_tabort place));
+  recurs = tt;
 }
 
 pub delete_good : (place : Place) → GoodKind place point.Delete
@@ -191,6 +197,7 @@ delete_good place = record {
   spells = words_spell place (codes "before") (codes "delete") _ refl (word_spells place (codes "delete") refl);
   prints = kind_prints terminal.Before (item.Part part.BeforeWhat) before_begins point.Delete _ _ (is_before place)
       (word_tail part.BeforeWhat terminal.Delete action.BeforeDelete point.Delete delete_what _ (is_delete place));
+  recurs = tt;
 }
 
 pub tcomplete_good : (place : Place) → GoodKind place point.TComplete
@@ -199,6 +206,7 @@ tcomplete_good place = record {
   spells = words_spell place (codes "before") (codes "tcomplete") _ refl (word_spells place (codes "tcomplete") refl);
   prints = kind_prints terminal.Before (item.Part part.BeforeWhat) before_begins point.TComplete _ _ (is_before place)
       (word_tail part.BeforeWhat terminal.TComplete action.BeforeTComplete point.TComplete tcomplete_what _ (is_tcomplete place));
+  recurs = tt;
 }
 
 pub after_method_good : (place : Place) (name : List ℕ) → is_free name ≡ true → GoodKind place (point.After name)
@@ -207,6 +215,7 @@ after_method_good place name h = record {
   spells = words_spell place (codes "after") name _ refl (word_spells place name (free_word name h));
   prints = kind_prints terminal.After (item.Part part.AfterWhat) after_begins (point.After name) _ _ (is_after place)
       (named_tail part.AfterWhat action.AfterMethod point.After after_method name _ (named place name h));
+  recurs = tt;
 }
 
 pub before_method_good : (place : Place) (name : List ℕ) → is_free name ≡ true → GoodKind place (point.Before name)
@@ -215,6 +224,7 @@ before_method_good place name h = record {
   spells = words_spell place (codes "before") name _ refl (word_spells place name (free_word name h));
   prints = kind_prints terminal.Before (item.Part part.BeforeWhat) before_begins (point.Before name) _ _ (is_before place)
       (named_tail part.BeforeWhat action.BeforeMethod point.Before before_method name _ (named place name h));
+  recurs = tt;
 }
 
 -- the instants that leaves say are good kinds
@@ -258,6 +268,7 @@ time_every_good place n some small = record {
   tokens = spell place kind.Word (codes "time") ∷ spell place kind.Word (codes "every") ∷ spell place (kind.Number (pos n)) (digits_of n) ∷ [];
   spells = words_spell place (codes "time") (codes "every " ++ digits_of n) _ refl (words_spell place (codes "every") (digits_of n) _ refl (number_spells place n (omega arith)));
   prints = kind_prints terminal.Time (item.Part part.TimeWhat) time_begins (point.TimeEvery n) _ _ (is_time place) (every_tail n _ _ (is_every place) (a_period place n some small));
+  recurs = omega (arith, some);
 }
 
 -- ---- event expressions

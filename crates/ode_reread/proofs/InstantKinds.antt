@@ -166,6 +166,7 @@ instant_good place s e =
       tokens = spell place kind.Word (codes "time") ∷ spell place kind.Word (codes "at") ∷ spell place kind.Text (quoted t) ∷ [];
       spells = words_spell place (codes "time") (codes "at " ++ quoted t) _ refl (words_spell place (codes "at") (quoted t) _ refl (quoted_spells place t p));
       prints = kind_prints terminal.Time (item.Part part.TimeWhat) time_begins (point.TimeAt s) _ _ (is_time place) (at_tail s _ _ (is_at place) (an_instant place t s e));
+      recurs = tt;
     }
 
 -- ---- what leaves say
