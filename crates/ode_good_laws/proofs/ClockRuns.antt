@@ -20,10 +20,10 @@ use Rattle.ode_good_laws.specs.Well.{IsWell}
 use Rattle.ode_good_laws.proofs.GoodAgain.{entry_well, entry_moves, tick_well, tick_moves, move_well, drain_number, drain_well}
 
 -- a good world with numbers for so many transactions and one more
-abbrev Has : Language → ℕ → ListWorld → Type 0
+abbrev pub Has : Language → ℕ → ListWorld → Type 0
 Has l k w = IsWell l w × (w.bones.transaction + k < transaction_limit)
 
-abbrev AllHave : Language → ℕ → Settlings → Type 0
+abbrev pub AllHave : Language → ℕ → Settlings → Type 0
 AllHave l k settled = AllByRecursion (λ (s : Settled Histories Starts). Has l k s.0) settled
 
 abbrev AllWell : Language → Settlings → Type 0
@@ -37,7 +37,7 @@ entry_room t u k moved less few = omega (arith, moved, less, few)
 tick_room : (t u n : ℕ) → u ≡ t + 1 → t + suc n < transaction_limit → u + n < transaction_limit
 tick_room t u n moved room = omega (arith, moved, room)
 
-less_room : (t n : ℕ) → t + suc n < transaction_limit → t + n < transaction_limit
+pub less_room : (t n : ℕ) → t + suc n < transaction_limit → t + n < transaction_limit
 less_room t n room = omega (arith, room)
 
 any_room : (t n : ℕ) → t + n < transaction_limit → t < transaction_limit
@@ -63,9 +63,29 @@ drain_has l k few (suc most) w h = by_queue w.bones.queue (good_typed l w h.0.go
   by_queue [] all rest = tt
   by_queue (q ∷ qs) all rest = by_room q all.0 (nat_lt w.bones.transaction number_limit) refl rest
 
-after_has : (l : Language) (k : ℕ) (w : ListWorld) (settled : Settlings) → Has l k w → AllHave l k settled → Has l k (world_after w settled)
+pub after_has : (l : Language) (k : ℕ) (w : ListWorld) (settled : Settlings) → Has l k w → AllHave l k settled → Has l k (world_after w settled)
 after_has l k w [] h all = h
 after_has l k w (s ∷ settled) h all = after_has l k s.0 settled all.0 all.1
+
+-- ---- a tick
+
+tick_settles : (l : Language) (p : Position) (k : ℕ) → IsPosition p → number_limit + k < transaction_limit → (most : ℕ) (w : ListWorld) → IsWell l w → w.bones.transaction + suc k < transaction_limit
+    → AllHave l k (with_drain lists most (tick lists p w))
+tick_settles l p k is few most w h room =
+    let left = any_room w.bones.transaction (suc k) room in
+    let ticked : Has l k (tick lists p w).0 = (tick_well l w h left p is, tick_room w.bones.transaction (tick lists p w).0.bones.transaction k (tick_moves l w h left p is) room) in
+    (ticked, drain_has l k few most (tick lists p w).0 ticked)
+
+-- a tick with its drain, where its object is there, leaves numbers for one transaction less
+pub tick_has : (l : Language) (p : Position) (k : ℕ) → IsPosition p → number_limit + k < transaction_limit → (most : ℕ) (w : ListWorld) → Has l (suc k) w
+    → Has l k (world_after w (cond (is_some (object_at w.bones p.object)) (with_drain lists most (tick lists p w)) []))
+tick_has l p k is few most w h = by_live (is_some (object_at w.bones p.object)) where
+  before : Has l k w
+  before = (h.0, less_room w.bones.transaction k h.1)
+
+  by_live : (t : Bool) → Has l k (world_after w (cond t (with_drain lists most (tick lists p w)) []))
+  by_live true = after_has l k w (with_drain lists most (tick lists p w)) before (tick_settles l p k is few most w h.0 h.1)
+  by_live false = before
 
 -- ---- the run
 
@@ -77,13 +97,8 @@ clock_well l [] last all is few most w h room =
 clock_well l (p ∷ ps) last all is few most w h room =
     by_live (is_some (object_at w.bones p.object)) (λ more v has. clock_well l ps last all.1 is (less_room number_limit (length ps) few) more v has.0 has.1)
   where
-    ticked : Has l (length ps) (tick lists p w).0
-    ticked =
-        let left = any_room w.bones.transaction (suc (length ps)) room in
-        (tick_well l w h left p all.0, tick_room w.bones.transaction (tick lists p w).0.bones.transaction (length ps) (tick_moves l w h left p all.0) room)
-
     settled : AllHave l (length ps) (with_drain lists most (tick lists p w))
-    settled = (ticked, drain_has l (length ps) (less_room number_limit (length ps) few) most (tick lists p w).0 ticked)
+    settled = tick_settles l p (length ps) all.0 (less_room number_limit (length ps) few) most w h room
 
     by_live : (t : Bool) → ((more : ℕ) (v : ListWorld) → Has l (length ps) v → AllWell l (clock_run lists ps last more v))
         → AllWell l (cond t (then_rest lists (clock_run lists ps last) most w (with_drain lists most (tick lists p w))) (clock_run lists ps last most w))

@@ -20,9 +20,9 @@ use Rattle.ode_value.specs.Acts.{Outcome, Done, Aborted}
 use Rattle.ode_value.specs.Answers.{Answer, checks, refuses}
 use Rattle.ode_value.specs.Draining.{drain, with_drain, world_after}
 use Rattle.ode_value.specs.Executing.{commands}
-use Rattle.ode_value.specs.GoodWorlds.{IsObject, IsPosition}
+use Rattle.ode_value.specs.GoodWorlds.{IsGood, IsObject, IsPosition}
 use Rattle.ode_value.specs.Language.{ListWorld, ListTx, Settlings, Language}
-use Rattle.ode_value.specs.Limits.{drain_limit, due_limit, number_limit, transaction_limit}
+use Rattle.ode_value.specs.Limits.{drain_limit, due_limit, number_limit, transaction_limit, weight_limit}
 use Rattle.ode_value.specs.Objects.{Histories, Starts}
 use Rattle.ode_value.specs.Pasts.{lists}
 use Rattle.ode_value.specs.References.{IsRef}
@@ -36,11 +36,12 @@ use Rattle.ode_machine.specs.TimeRows.{kinds_of, time_row, time_rows}
 use Rattle.ode_machine.specs.Works.{declares, clock_run}
 use Rattle.ode_script.specs.Cutting.{Ending, Pieces, Then, Ended, pieces}
 use Rattle.ode_script.specs.Cutting as cutting
+use Rattle.ode_timer.specs.declared.clock.TimeRow.{TimeRow}
 use Rattle.ode_timer.specs.Due.{behind, due}
 use Rattle.ode_machine.specs.Runs.{Item, item_of, answered, followed_by, ending_items, pieces_items, trace, worlds}
 use Rattle.ode_value.specs.Lengths.{key_length, piece_count, record_length}
 use Rattle.ode_value.specs.PrintedClasses.{decl_text}
-use Rattle.ode_value.specs.Weights.{class_weight, trigger_weight, weight}
+use Rattle.ode_value.specs.Weights.{class_weight, object_weight, trigger_weight, weight}
 use Rattle.ode_accepted_laws.specs.Languages.{HasSoundRules, text_size}
 use Rattle.ode_laws.proofs.Each.{all-append, all-map, all-then}
 use Rattle.ode_run_laws.proofs.JoinLaws.{worlds_join}
@@ -50,7 +51,7 @@ use Rattle.ode_good_laws.proofs.ClockRuns.{clock_well}
 use Rattle.ode_good_laws.proofs.GoodAgain.{drain_well, statement_well}
 use Rattle.ode_good_runs.specs.Reading.{ReadsWell}
 use Rattle.ode_good_runs.proofs.Declaring.{class_well, classes_accepted, declared_is}
-use Rattle.ode_good_runs.proofs.DueLaws.{FitsRow, behind_fits, due_fits}
+use Rattle.ode_good_runs.proofs.DueLaws.{FitsRow, behind_fits, due_few, due_fits, kind_count}
 use Rattle.ode_good_runs.proofs.Going.{Goes, IsFirst, IsGoing, begun_going, commits_well, settles_well, statement_goes, well_first}
 use Rattle.ode_good_runs.proofs.Literals.{literals_fit, then_answer, then_ok, ok_same}
 
@@ -71,6 +72,18 @@ texts_weight (c ∷ cs) =
 texts_light : (b : Bones) → sum_by text_size b.classes ≤ weight b
 unfolding weight
 texts_light b = let less = texts_weight b.classes in omega (arith, less)
+
+-- each object is part of it
+objects_weight : (os : List Object) → length os ≤ sum_by object_weight os
+objects_weight [] = omega arith
+objects_weight (o ∷ os) =
+    let whole : sum_by object_weight (o ∷ os) ≡ object_weight o + sum_by object_weight os = sum_by-cons object_weight o os in
+    let some : 1 ≤ object_weight o = omega arith in
+    omega (arith, whole, some, objects_weight os)
+
+objects_light : (b : Bones) → length b.objects ≤ weight b
+unfolding weight
+objects_light b = let less = objects_weight b.objects in omega (arith, less)
 
 module _ (l : Language) (rules : HasSoundRules l) (reads : ReadsWell l) where
   abbrev AllWell : Settlings → Type 0
@@ -163,30 +176,45 @@ module _ (l : Language) (rules : HasSoundRules l) (reads : ReadsWell l) where
 
   -- ---- the clock
 
-  time_fits : (w : ListWorld) → IsWell l w → AllByRecursion FitsRow (time_rows w.bones)
-  time_fits w h = all-map FitsRow (time_row w.bones.classes) w.bones.objects (all-then (IsObject w.bones) (λ (o : Object). FitsRow (time_row w.bones.classes o)) row w.bones.objects h.good.bones.objects) where
+  -- a class lists no more kinds than a world may weigh bytes
+  kinds_light : (w : ListWorld) → IsGood l w → AllByRecursion (λ (c : Declared). length c.class.kinds ≤ weight_limit) w.bones.classes
+  kinds_light w h =
+      all-then (λ (c : Declared). length c.class.kinds ≤ sum_by text_size w.bones.classes) (λ (c : Declared). length c.class.kinds ≤ weight_limit) (λ c few. omega (arith, few, texts_light w.bones, h.bones.light)) w.bones.classes
+      (rules.kinds w.bones.classes (classes_accepted l [] w.bones.classes h.bones.classes))
+
+  few_kinds : (n : ℕ) (cs : List Declared) → AllByRecursion (λ (c : Declared). length c.class.kinds ≤ weight_limit) cs → length (kinds_of cs n) ≤ weight_limit
+  few_kinds n [] all = omega arith
+  few_kinds n (c ∷ cs) all = by_number (c.class.number == n) all.0 (few_kinds n cs all.1) where
+    by_number : (b : Bool) → length c.class.kinds ≤ weight_limit → length (kinds_of cs n) ≤ weight_limit → length (option_map_or (λ (k : Class). k.kinds) (cond b (Some c.class) (class_numbered n cs)) []) ≤ weight_limit
+    by_number true one rest = one
+    by_number false one rest = rest
+
+  pub time_fits : (w : ListWorld) → IsGood l w → AllByRecursion FitsRow (time_rows w.bones)
+  time_fits w h = all-map FitsRow (time_row w.bones.classes) w.bones.objects (all-then (IsObject w.bones) (λ (o : Object). FitsRow (time_row w.bones.classes o)) row w.bones.objects h.bones.objects) where
     below : (o : Object) → o.id < w.bones.next → o.id < 2 ^ 64
-    below o less = omega (arith, less, h.good.bones.next.bounded)
-
-    listed : AllByRecursion (λ (c : Declared). length c.class.kinds ≤ 2 ^ 32) w.bones.classes
-    listed =
-        all-then (λ (c : Declared). length c.class.kinds ≤ sum_by text_size w.bones.classes) (λ (c : Declared). length c.class.kinds ≤ 2 ^ 32)
-        (λ c few. omega (arith, few, texts_light w.bones, h.good.bones.light)) w.bones.classes (rules.kinds w.bones.classes (classes_accepted l [] w.bones.classes h.good.bones.classes))
-
-    few_kinds : (n : ℕ) (cs : List Declared) → AllByRecursion (λ (c : Declared). length c.class.kinds ≤ 2 ^ 32) cs → length (kinds_of cs n) ≤ 2 ^ 32
-    few_kinds n [] all = omega arith
-    few_kinds n (c ∷ cs) all = by_test (c.class.number == n) (few_kinds n cs all.1) where
-      by_test : (b : Bool) → length (kinds_of cs n) ≤ 2 ^ 32 → length (option_map_or (λ (k : Class). k.kinds) (cond b (Some c.class) (class_numbered n cs)) []) ≤ 2 ^ 32
-      by_test true rest = all.0
-      by_test false rest = rest
+    below o less = omega (arith, less, h.bones.next.bounded)
 
     row : (o : Object) → IsObject w.bones o → FitsRow (time_row w.bones.classes o)
-    row o is = record { object = below o is.number; places = few_kinds o.class w.bones.classes listed }
+    row o is = let few = few_kinds o.class w.bones.classes (kinds_light w h) in record { object = below o is.number; places = omega (arith, few) }
+
+  -- ---- a counter of 128 bits counts all that is due
+
+  rows_few : (cs : List Declared) → AllByRecursion (λ (c : Declared). length c.class.kinds ≤ weight_limit) cs → (os : List Object) → kind_count (map (time_row cs) os) ≤ weight_limit * length os
+  rows_few cs all [] = omega arith
+  rows_few cs all (o ∷ os) =
+      let whole : kind_count (map (time_row cs) (o ∷ os)) ≡ length (kinds_of cs o.class) + kind_count (map (time_row cs) os) = sum_by-cons (λ (row : TimeRow). length row.kinds) (time_row cs o) (map (time_row cs) os) in
+      omega (arith, whole, few_kinds o.class cs all, rows_few cs all os)
+
+  pub due_counts : (w : ListWorld) → IsGood l w → (old : Position) → IsPosition old → (t : ℤ) → FitsSigned w64 t → length (due (time_rows w.bones) old t) < 2 ^ 128
+  due_counts w h old is t fits =
+      let objects = objects_light w.bones in
+      let kinds = rows_few w.bones.classes (kinds_light w h) w.bones.objects in
+      due_few (time_rows w.bones) (omega (arith, objects, kinds, h.bones.light)) old is t fits
 
   -- what is due up to an instant: few positions, in their range
-  record AreDue (ps : List Position) : Type 0 where
-    few : length ps ≤ due_limit
-    fit : AllByRecursion IsPosition ps
+  pub record AreDue (ps : List Position) : Type 0 where
+    pub few : length ps ≤ due_limit
+    pub fit : AllByRecursion IsPosition ps
 
   due_of : (w : ListWorld) → IsWell l w → (t : ℤ) → FitsSigned w64 t → (ps : List Position) → due_from w.bones w.bones.clock t ≡ Ok ps → AreDue ps
   due_of w h t fits ps e = by_clock w.bones.clock h.good.bones.clock e where
@@ -204,13 +232,13 @@ module _ (l : Language) (rules : HasSoundRules l) (reads : ReadsWell l) where
     by_order old is true f = absurd (cc)
     by_order old is false f =
         let qs = due (time_rows w.bones) old t in
-        by_few qs (due_fits (time_rows w.bones) (time_fits w h) old is t fits) (nat_lt due_limit (length qs)) refl f
+        by_few qs (due_fits (time_rows w.bones) (time_fits w h.good) old is t fits) (nat_lt due_limit (length qs)) refl f
 
     by_clock : (o : Option Position) → IfSome o IsPosition → due_from w.bones o t ≡ Ok ps → AreDue ps
     by_clock None is f = subst AreDue (ok_same [] ps f) none
     by_clock (Some old) is f = by_order old is (int_lt t old.instant) f
 
-  ticks_of : (w : ListWorld) → IsWell l w → (text : List ℕ) (r : ℤ × List Position) → ticks_in l w.bones text ≡ Ok r → FitsSigned w64 r.0 × AreDue r.1
+  pub ticks_of : (w : ListWorld) → IsWell l w → (text : List ℕ) (r : ℤ × List Position) → ticks_in l w.bones text ≡ Ok r → FitsSigned w64 r.0 × AreDue r.1
   ticks_of w h text r e =
       let instant = then_ok (ok_or (l.instant_of text) refusal.BadInstant) (λ t. then_answer (due_from w.bones w.bones.clock t) (λ ps. Ok (t, ps))) r e in
       let ps = then_ok (due_from w.bones w.bones.clock instant.0) (λ qs. Ok (instant.0, qs)) r instant.2 in
@@ -221,11 +249,11 @@ module _ (l : Language) (rules : HasSoundRules l) (reads : ReadsWell l) where
       some_instant (Some s) t f = ap Some (ok_same s t f)
       some_instant None t f = absurd (cc)
 
-  clock_limits : (n : ℕ) → n ≤ due_limit → number_limit + n < transaction_limit
+  pub clock_limits : (n : ℕ) → n ≤ due_limit → number_limit + n < transaction_limit
   unfolding due_limit
   clock_limits n less = omega (arith, less)
 
-  clock_room : (t n : ℕ) → t < number_limit → n ≤ due_limit → t + n < transaction_limit
+  pub clock_room : (t n : ℕ) → t < number_limit → n ≤ due_limit → t + n < transaction_limit
   clock_room t n less few = omega (arith, less, few, clock_limits n few)
 
   clock_steps : (s : Session) → IsFine s → s.world.bones.transaction < number_limit → (text : List ℕ) (a : Answer (ℤ × List Position)) → ticks_in l s.world.bones text ≡ a → AnswersWell (then_answer a (λ t. Ok (does_clock s.world t)))

@@ -16,7 +16,7 @@ ghost use Rattle.ode_overlay_laws.specs.Standing.{origin_as};
 ghost use Rattle.ode_schema.specs.Parts.{AreFit};
 ghost use Rattle.ode_value.specs.Draining.{drain, with_drain, world_after};
 ghost use Rattle.ode_value.specs.Language.{Language, ListWorld};
-ghost use Rattle.ode_value.specs.Limits.{generation_limit, number_limit};
+ghost use Rattle.ode_value.specs.Limits.{generation_limit, number_limit, transaction_limit};
 ghost use Rattle.ode_value.specs.Pasts.{lists};
 ghost use Rattle.ode_value.specs.Settling.{transaction};
 
@@ -57,8 +57,8 @@ pub fn transact<H: Host, K: Keep<H> + Drop>(
     ensures parts { IfOk result (λ after. resting_parts after ≡ resting_parts rest) }
     ensures usable { IfOk result (λ after. K.live after.keeper ≡ true) }
     ensures leaves { HostCalls (IsErrOf result EngineError.DiskFault) (IsErrOf result EngineError.WriteFault) (H.view host.old) (H.view host.new) }
-    // Over a well world with a number left nothing is damaged, where the world behind it is well.
-    ensures undamaged { OnDamaged result ((l : Language) (w : ListWorld) → IsWell l w → IsAtRest H.view K.holds K.live l w rest host.old → IsFromFront origin w → w.bones.transaction < number_limit
+    // Over a well world with a number left, if only for ticks, nothing is damaged, where the world behind it is well.
+    ensures undamaged { OnDamaged result ((l : Language) (w : ListWorld) → IsWell l w → IsAtRest H.view K.holds K.live l w rest host.old → IsFromFront origin w → w.bones.transaction < transaction_limit
         → IsWell l (transaction lists (origin_as origin) (work_of work.entry lists) w).0 → ⊥) }
 {
     let mut ctx = begin(alloc, rest, host, origin)?;
@@ -264,7 +264,7 @@ pub fn transact_and_drain<H: Host, K: Keep<H> + Drop>(
     ensures parts { IfOk result (λ r. resting_parts r.0 ≡ resting_parts rest) }
     ensures usable { IfOk result (λ r. K.live r.0.keeper ≡ true) }
     ensures leaves { HostCalls (IsErrOf result EngineError.DiskFault) (IsErrOf result EngineError.WriteFault) (H.view host.old) (H.view host.new) }
-    ensures undamaged { OnDamaged result ((l : Language) (w : ListWorld) → IsWell l w → IsAtRest H.view K.holds K.live l w rest host.old → IsFromFront origin w → w.bones.transaction < number_limit
+    ensures undamaged { OnDamaged result ((l : Language) (w : ListWorld) → IsWell l w → IsAtRest H.view K.holds K.live l w rest host.old → IsFromFront origin w → w.bones.transaction < transaction_limit
         → IsWell l (transaction lists (origin_as origin) (work_of work.entry lists) w).0 → ⊥) }
 {
     let rest = transact(alloc, rest, host, origin, work)?;

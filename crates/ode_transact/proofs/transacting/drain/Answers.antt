@@ -5,7 +5,7 @@ use Rattle.ode_host.proofs.Calls.{host_calls_as, host_calls_on}
 use Rattle.ode_host.proofs.Moments.{looks_none}
 use Rattle.ode_opened.specs.declared.opened.Opened.{Opened}
 use Rattle.ode_overlay.specs.declared.origin.Origin.TheVariants as from
-use Rattle.ode_transact.proofs.BeginLaws.{damaged_before}
+use Rattle.ode_transact.proofs.BeginLaws.{damaged_before, still_left}
 use Rattle.ode_transact.proofs.DrainSteps.{calls_look, calls_none, drain_ends, drain_goes, drain_left, drain_looks, drain_starts, drained_all, front_well, one_left, settled_entry}
 use Rattle.ode_transact.proofs.EndingLaws.{calls_as, fails_as, none_rose}
 use Rattle.ode_transact.proofs.FrontLaws.{front_left, next_runs, no_next}
@@ -13,7 +13,7 @@ use Rattle.ode_transact.proofs.transacting.drain.Goals as goal
 use Rattle.ode_transact.specs.Resting.{IsAtRest}
 use Rattle.ode_transact.specs.Working.{IsFromFront}
 use Rattle.ode_value.specs.Language.{Language, ListWorld}
-use Rattle.ode_value.specs.Limits.{number_limit}
+use Rattle.ode_value.specs.Limits.{transaction_limit}
 
 pub entries-init : goal.entries-init
 entries-init g c = record {
@@ -117,7 +117,7 @@ returns-in_err-back-clause-undamaged g c =
 
 pub returns-in_err-rest-in-Some-clause-undamaged : goal.returns-in_err-rest-in-Some-clause-undamaged
 returns-in_err-rest-in-Some-clause-undamaged g c =
-    let Before : Type 0 = (l : Language) (w : ListWorld) → IsWell l w → IsAtRest g.H.Host.view g.K.Keep.holds g.K.Keep.live l w c.in_ok-back.back c.next_entry.new.host → IsFromFront (from.Entry c.in-Some.number c.in-Some.entry.generation) w → w.bones.transaction < number_limit
+    let Before : Type 0 = (l : Language) (w : ListWorld) → IsWell l w → IsAtRest g.H.Host.view g.K.Keep.holds g.K.Keep.live l w c.in_ok-back.back c.next_entry.new.host → IsFromFront (from.Entry c.in-Some.number c.in-Some.entry.generation) w → w.bones.transaction < transaction_limit
     → IsWell l (settled_entry w c.in-Some.number c.in-Some.entry).0 → ⊥ in
     let Undamaged : Type 0 = (l : Language) (w : ListWorld) → IsWell l w → IsAtRest g.H.Host.view g.K.Keep.holds g.K.Keep.live l w c.args.rest c.args.host.now → ⊥ in
     damaged_before (Opened g.row.K.Denot) (Opened g.row.K.Denot × ℕ) c.from_residual-in_err-rest-in-Some.result c.in_err-rest-in-Some.field-0.0 (search rules) Before Undamaged (λ damaged l w well rest.
@@ -125,5 +125,5 @@ returns-in_err-rest-in-Some-clause-undamaged g c =
     let next = c.in_ok-back.ensures.is l so.now so.rest in
     let front = next_runs so.now c.in-Some.number c.in-Some.entry (sym c.in-Some.is ∙ next.1) in
     let behind = front_well l so.now c.in-Some.number c.in-Some.entry front (λ most. c.transactions_leave_good_worlds.ensures.drain l most so.now so.well) in
-    damaged l so.now so.well next.0 (front.e, front.more, front.front) (front_left so.now c.in-Some.number c.in-Some.entry front) behind)
+    damaged l so.now so.well next.0 (front.e, front.more, front.front) (still_left so.now.bones.transaction (front_left so.now c.in-Some.number c.in-Some.entry front)) behind)
     c.in_err-rest-in-Some.ensures.undamaged

@@ -6,7 +6,7 @@ use Rattle.ode_opened.specs.declared.opened.Opened.{Opened}
 use Rattle.ode_run.specs.Contexts.{ContextRuns}
 use Rattle.ode_run.specs.declared.context.Ctx.{Ctx}
 use Rattle.ode_schema.specs.Parts.{AreFit}
-use Rattle.ode_transact.proofs.BeginLaws.{damaged_before, still_left}
+use Rattle.ode_transact.proofs.BeginLaws.{damaged_before}
 use Rattle.ode_transact.proofs.DamageLaws.{damaged_so}
 use Rattle.ode_transact.proofs.EndingLaws.{fails_as, looks_then, none_rose}
 use Rattle.ode_transact.proofs.TransactLaws.{transaction_settles}
@@ -15,7 +15,7 @@ use Rattle.ode_transact.specs.Resting.{IsAtRest}
 use Rattle.ode_transact.specs.Working.{IsFromFront, settled_by, work_of}
 use Rattle.ode_good_laws.specs.Well.{IsWell}
 use Rattle.ode_value.specs.Language.{Language, ListTx, ListWorld}
-use Rattle.ode_value.specs.Limits.{number_limit, transaction_limit}
+use Rattle.ode_value.specs.Limits.{transaction_limit}
 use Rattle.ode_value.specs.Objects.{Histories, Starts}
 use Rattle.ode_value.specs.Pasts.{lists}
 use Rattle.ode_value.specs.Settling.{Settled, transaction}
@@ -79,14 +79,14 @@ returns-clause-leaves g c =
 pub returns-in_err-ctx-clause-undamaged : goal.returns-in_err-ctx-clause-undamaged
 returns-in_err-ctx-clause-undamaged g c =
     let Before : Type 0 = (l : Language) (w : ListWorld) → IsAtRest g.H.Host.view g.K.Keep.holds g.K.Keep.live l w c.args.rest c.args.host.now → IsFromFront c.args.origin w → w.bones.transaction < transaction_limit → ⊥ in
-    let Undamaged : Type 0 = (l : Language) (w : ListWorld) → IsWell l w → IsAtRest g.H.Host.view g.K.Keep.holds g.K.Keep.live l w c.args.rest c.args.host.now → IsFromFront c.args.origin w → w.bones.transaction < number_limit
+    let Undamaged : Type 0 = (l : Language) (w : ListWorld) → IsWell l w → IsAtRest g.H.Host.view g.K.Keep.holds g.K.Keep.live l w c.args.rest c.args.host.now → IsFromFront c.args.origin w → w.bones.transaction < transaction_limit
     → IsWell l (transaction lists (origin_as c.args.origin) (work_of c.args.work lists) w).0 → ⊥ in
-    damaged_before (Ctx g.row.K.Denot) (Opened g.row.K.Denot) c.from_residual.result c.in_err-ctx.field-0.0 (search rules) Before Undamaged (λ damaged l w well rest front left behind. damaged l w rest front (still_left w.bones.transaction left)) c.in_err-ctx.ensures.undamaged
+    damaged_before (Ctx g.row.K.Denot) (Opened g.row.K.Denot) c.from_residual.result c.in_err-ctx.field-0.0 (search rules) Before Undamaged (λ damaged l w well rest front left behind. damaged l w rest front left) c.in_err-ctx.ensures.undamaged
 
 pub returns-in_err-ending-clause-undamaged : goal.returns-in_err-ending-clause-undamaged
 returns-in_err-ending-clause-undamaged g c =
     let Before : Type 0 = (l : Language) (w : ListWorld) (x : ListTx) → ContextRuns g.H.Host.view g.K.Keep.holds g.K.Keep.live l w c.in_ok-ctx.ctx c.begin.new.host x → ⊥ in
-    let Undamaged : Type 0 = (l : Language) (w : ListWorld) → IsWell l w → IsAtRest g.H.Host.view g.K.Keep.holds g.K.Keep.live l w c.args.rest c.args.host.now → IsFromFront c.args.origin w → w.bones.transaction < number_limit
+    let Undamaged : Type 0 = (l : Language) (w : ListWorld) → IsWell l w → IsAtRest g.H.Host.view g.K.Keep.holds g.K.Keep.live l w c.args.rest c.args.host.now → IsFromFront c.args.origin w → w.bones.transaction < transaction_limit
     → IsWell l (transaction lists (origin_as c.args.origin) (work_of c.args.work lists) w).0 → ⊥ in
     damaged_before (Option Reason) (Opened g.row.K.Denot) c.from_residual-in_err-ending.result c.in_err-ending.field-0.0 (search rules) Before Undamaged
     (λ damaged l w well rest front left behind. damaged l w (begun (origin_as c.args.origin) w) (c.in_ok-ctx.ensures.begun l w rest front)) c.in_err-ending.ensures.undamaged
@@ -94,7 +94,7 @@ returns-in_err-ending-clause-undamaged g c =
 pub returns-clause-undamaged : goal.returns-clause-undamaged
 returns-clause-undamaged g c =
     let Before : Type 0 = (l : Language) (w : ListWorld) (t : ListTx) → ContextRuns g.H.Host.view g.K.Keep.holds g.K.Keep.live l w c.run.new.ctx c.run.new.host t → IsWell l (settled_by c.in_ok-ending.ending t).0 → ⊥ in
-    let Undamaged : Type 0 = (l : Language) (w : ListWorld) → IsWell l w → IsAtRest g.H.Host.view g.K.Keep.holds g.K.Keep.live l w c.args.rest c.args.host.now → IsFromFront c.args.origin w → w.bones.transaction < number_limit
+    let Undamaged : Type 0 = (l : Language) (w : ListWorld) → IsWell l w → IsAtRest g.H.Host.view g.K.Keep.holds g.K.Keep.live l w c.args.rest c.args.host.now → IsFromFront c.args.origin w → w.bones.transaction < transaction_limit
     → IsWell l (transaction lists (origin_as c.args.origin) (work_of c.args.work lists) w).0 → ⊥ in
     damaged_so c.end.result Before Undamaged (λ damaged l w well rest front left behind.
     let begins = c.in_ok-ctx.ensures.begun l w rest front in

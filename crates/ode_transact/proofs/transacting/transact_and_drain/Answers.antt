@@ -15,7 +15,7 @@ use Rattle.ode_transact.specs.Resting.{HoldsBy, IsAtRest}
 use Rattle.ode_transact.specs.Working.{IsFromFront, work_of}
 use Rattle.ode_value.specs.Draining.{drain}
 use Rattle.ode_value.specs.Language.{Language, ListWorld}
-use Rattle.ode_value.specs.Limits.{number_limit}
+use Rattle.ode_value.specs.Limits.{transaction_limit}
 use Rattle.ode_value.specs.Pasts.{lists}
 use Rattle.ode_value.specs.Settling.{transaction}
 use Rattle.ode_transact.proofs.transacting.transact_and_drain.Goals as goal
@@ -53,14 +53,14 @@ returns-clause-leaves g c = host_calls_on _ _ _ _ _ _ _ (λ failed. cc (failed))
 
 pub returns-in_err-rest-clause-undamaged : goal.returns-in_err-rest-clause-undamaged
 returns-in_err-rest-clause-undamaged g c =
-    let Undamaged : Type 0 = (l : Language) (w : ListWorld) → IsWell l w → IsAtRest g.H.Host.view g.K.Keep.holds g.K.Keep.live l w c.args.rest c.args.host.now → IsFromFront c.args.origin w → w.bones.transaction < number_limit
+    let Undamaged : Type 0 = (l : Language) (w : ListWorld) → IsWell l w → IsAtRest g.H.Host.view g.K.Keep.holds g.K.Keep.live l w c.args.rest c.args.host.now → IsFromFront c.args.origin w → w.bones.transaction < transaction_limit
     → IsWell l (transaction lists (origin_as c.args.origin) (work_of c.args.work lists) w).0 → ⊥ in
     damaged_before (Opened g.row.K.Denot) (Opened g.row.K.Denot × ℕ) c.from_residual.result c.in_err-rest.field-0.0 (search rules) Undamaged Undamaged (λ damaged. damaged) c.in_err-rest.ensures.undamaged
 
 pub returns-clause-undamaged : goal.returns-clause-undamaged
 returns-clause-undamaged g c =
     let Before : Type 0 = (l : Language) (w : ListWorld) → IsWell l w → IsAtRest g.H.Host.view g.K.Keep.holds g.K.Keep.live l w c.in_ok-rest.rest c.transact.new.host → ⊥ in
-    let Undamaged : Type 0 = (l : Language) (w : ListWorld) → IsWell l w → IsAtRest g.H.Host.view g.K.Keep.holds g.K.Keep.live l w c.args.rest c.args.host.now → IsFromFront c.args.origin w → w.bones.transaction < number_limit
+    let Undamaged : Type 0 = (l : Language) (w : ListWorld) → IsWell l w → IsAtRest g.H.Host.view g.K.Keep.holds g.K.Keep.live l w c.args.rest c.args.host.now → IsFromFront c.args.origin w → w.bones.transaction < transaction_limit
     → IsWell l (transaction lists (origin_as c.args.origin) (work_of c.args.work lists) w).0 → ⊥ in
     damaged_so c.drain.result Before Undamaged (λ damaged l w well rest front left behind.
     damaged l (transaction lists (origin_as c.args.origin) (work_of c.args.work lists) w).0 behind (c.in_ok-rest.ensures.done l w rest front behind).0)
