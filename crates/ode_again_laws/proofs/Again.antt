@@ -1,7 +1,8 @@
 -- A class that is read is read again from its printed text.
-use Rattle.std.proofs.Common.{◌≡◌, ◌≤◌, ℕ, ◌+◌, Bool, true, false, ◌&&◌, ◌||◌, cond, codes, List, [], ◌∷◌, ◌++◌, map, Ok, Err, arith, refl, sym, ◌∙◌, ap, subst}
+use Rattle.std.proofs.Common.{◌≡◌, ◌≤◌, ℕ, Bool, true, false, ◌&&◌, cond, codes, List, [], ◌∷◌, ◌++◌, map, None, Ok, Err, arith, refl, sym, ◌∙◌, ap, subst}
 use Rattle.std.specs.Str.{bytes_eq}
 use Rattle.std.proofs.lemmas.Bool.{false≢true}
+use Rattle.std.proofs.lemmas.Option.{none-some}
 use Rattle.std.proofs.lemmas.Slice.Eq.{bytes_eq-Decides}
 use Rattle.ode_lex.specs.Tokens.{lexed, Tokens}
 use Rattle.ode_lex.specs.declared.token.Mark.TheVariants as mark
@@ -36,13 +37,12 @@ use Rattle.ode_syntax.specs.Built.{built, built_class, built_event, built_kind, 
 use Rattle.ode_syntax.specs.Kept.{kept_as, spelled, Spelled}
 use Rattle.ode_eventsyn.specs.Parsing.{AreTree}
 use Rattle.ode_language.specs.Languages.{statement_by, statement_in, statement_of}
-use Rattle.ode_language.specs.Marks.{has_parent, has_unbuilt_word, is_unbuilt, is_word}
+use Rattle.ode_language.specs.Marks.{has_parent, is_unbuilt, is_word}
 use Rattle.ode_language.specs.Reading.{read}
 use Rattle.ode_language.proofs.ReadingLaws.{tree_is_read}
 use Rattle.ode_reread.proofs.Both.{Both, its_heights, its_trees, keep, lifted, make}
 use Rattle.ode_reread.proofs.Cuts.{spell}
 use Rattle.ode_reread.proofs.CutTexts.{cut_text}
-use Rattle.ode_relex.proofs.WordTokens.{either_false}
 use Rattle.ode_reread.proofs.Effects.{spelt}
 use Rattle.ode_reread.proofs.Marked.{marked}
 use Rattle.ode_reread.proofs.Prints.{Ds}
@@ -56,13 +56,10 @@ use Rattle.ode_reread_classes.proofs.MemberRows.{declared}
 use Rattle.ode_reread_classes.proofs.Pieces.{closing_mark, join, of_spells, to_spells}
 use Rattle.ode_reread_classes.proofs.Puts.{with_class}
 use Rattle.ode_reread_classes.proofs.Readings.{cut_whole, plain_own}
-use Rattle.ode_again_laws.proofs.Counts.{class_count, count, script_count, seven, total}
-use Rattle.ode_again_laws.proofs.Derived.{heats}
 use Rattle.ode_again_laws.proofs.First.{first_of, opened, IsFirst, Third, WithParent, Without}
 use Rattle.ode_again_laws.proofs.Lexed.{colon_kind, mark_bytes, text_reads, AllRead}
 use Rattle.ode_again_laws.proofs.Reading.{statement_is}
-use Rattle.ode_again_laws.proofs.Rows.{heat}
-use Rattle.ode_again_laws.proofs.Words.{class_bytes, cold_tokens, colon_mark, name_word, no_unbuilt_word}
+use Rattle.ode_again_laws.proofs.Words.{class_bytes, colon_mark, name_word}
 
 -- ---- how it was read
 
@@ -100,7 +97,7 @@ in_class place text (u ∷ tokens) t more e f =
     let same : spelled place text u ≡ t = ap (front t) e in
     ap (λ b. cond b Class Script) (class_bytes place (slice_of text u) u.kind (ap (λ (s : Spelled). s.terminal) same ∙ f))
 
-record IsClassRead (text : List ℕ) (d : ClassDecl) : Type 0 where
+pub record IsClassRead (text : List ℕ) (d : ClassDecl) : Type 0 where
   tokens : List Token
   lexed_as : lexed text ≡ Tokens tokens
   is_built : is_unbuilt text tokens ≡ false
@@ -108,7 +105,7 @@ record IsClassRead (text : List ℕ) (d : ClassDecl) : Type 0 where
   is_tree : AreTree start.Statement Class text tokens made
   same : script_tree made.scripts ≡ statement.Class d
 
-class_read : (text : List ℕ) (d : ClassDecl) → statement_of text ≡ Ok (statement.Class d) → IsClassRead text d
+pub class_read : (text : List ℕ) (d : ClassDecl) → statement_of text ≡ Ok (statement.Class d) → IsClassRead text d
 class_read text d e =
     let s = statement_is text (statement.Class d) e in
     let f = tree_first (place_of text s.tokens) text s.tokens s.made d s.is_tree s.same in
@@ -174,23 +171,13 @@ not_marked text (t ∷ u ∷ v ∷ ts) a b c more r e h =
     by_test true false z f = refl
     by_test false y z f = refl
 
-last_zero : (k l e p m c x t : ℕ) → seven k l e p m c (x + t) ≡ 0 → x ≡ 0
-last_zero k l e p m c x t f = omega (arith, f)
-
-class_zero : (k l e p m c : ℕ) (scripts : List Statement) (d : ClassDecl) → script_tree scripts ≡ statement.Class d → seven k l e p m c (total script_count scripts) ≡ 0 → class_count d ≡ 0
-class_zero k l e p m c [] d f z = absurd (cc)
-class_zero k l e p m c (x ∷ xs) d f z = sym (ap script_count f) ∙ last_zero k l e p m c (script_count x) (total script_count xs) z
-
-last_cold : (a b c more : ℕ) → a + (b + (c + more)) ≡ 0 → more ≡ 0
-last_cold a b c more e = omega (arith, e)
-
 -- ---- a class that is read
 
-record IsGoodRead (d : ClassDecl) : Type 0 where
-  high : ℕ
-  good : GoodClass Class high d
+pub record IsGoodRead (d : ClassDecl) : Type 0 where
+  pub high : ℕ
+  pub good : GoodClass Class high d
   within : high ≤ HEIGHT_LIMIT
-  built_whole : class_count d ≡ 0
+  parentless : d.parent ≡ None
 
 -- what a statement of a class comes to
 abbrev declares : ClassDecl → ℕ → Both
@@ -204,10 +191,6 @@ declares_high : (d : ClassDecl) (n : ℕ) → (declares d n).heights ≡ record 
 unfolding raised
 declares_high d n = refl
 
-declares_count : (d : ClassDecl) (n : ℕ) → class_count d ≡ 0 → count (declares d n).trees ≡ 0
-unfolding built built_right_side built_statement built_event built_kind built_class built_member built_script
-declares_count d n z = ap (λ k. seven 0 0 0 0 0 0 (k + 0)) z
-
 same_class : (c d : ClassDecl) → statement.Class c ≡ statement.Class d → c ≡ d
 same_class c d e = ap class_of_statement e where
   class_of_statement : Statement → ClassDecl
@@ -218,18 +201,15 @@ semi_kept : (m : Both) (kd : TokenKind) (bytes : List ℕ) → keep (spelt termi
 unfolding kept_as
 semi_kept m kd bytes = refl
 
-good_read : (text : List ℕ) (d : ClassDecl) → IsClassRead text d → IsGoodRead d
+pub good_read : (text : List ℕ) (d : ClassDecl) → IsClassRead text d → IsGoodRead d
 good_read text d c =
     let x = lifted_tree text c.tokens c.made c.is_tree in
     let out : Both = record { trees = c.made; heights = x.heights } in
     let f = first_of (map (spelled Class text) c.tokens) out d x.derives c.same in
-    let o = opened f.more out f.rest in
-    let reads = text_reads text c.tokens c.lexed_as in
-    let marks = either_false (has_unbuilt_word text c.tokens) (has_parent text c.tokens) c.is_built in
-    let all : map (spelled Class text) c.tokens ≡ f.first ∷ o.name ∷ o.third ∷ o.more = f.is ∙ ap (λ us. f.first ∷ us) o.is in
-    let cold : heats (f.first ∷ o.name ∷ o.third ∷ o.more) ≡ 0 = ap heats (sym all) ∙ cold_tokens Class text c.tokens marks.0 in
-    let zero = by_third out f.first o.name o.third o.more f.class o.named reads all marks.1 (last_cold (heat f.first.terminal) (heat o.name.terminal) (heat o.third.terminal) (heats o.more) cold) o.opens in
     let sounds = subst (Sounds Class) f.is (text_sounds Class text c.tokens c.lexed_as) in
+    let o = opened out d c.same f.more f.rest sounds.1 in
+    let reads = text_reads text c.tokens c.lexed_as in
+    let all : map (spelled Class text) c.tokens ≡ f.first ∷ o.name ∷ o.third ∷ o.more = f.is ∙ ap (λ us. f.first ∷ us) o.is in
     let made = declared Class (item.Token terminal.Semi ∷ item.Build action.Declare ∷ []) at_start out (does Class f.rest sounds.1) in
     let a = made.class in
     let b = made.behind in
@@ -240,14 +220,14 @@ good_read text d c =
       high = a.n;
       good = subst (GoodClass Class a.n) same a.good;
       within = plain_own a.n HEIGHT_LIMIT high;
-      built_whole = class_zero _ _ _ _ _ _ c.made.scripts d c.same zero;
+      parentless = by_third f.first o.name o.third o.more f.class o.named reads all o.opens;
     }
   where
-    by_third : (out : Both) (first name third : Spelled) (more : List Spelled) → first.terminal ≡ terminal.Class → name.terminal ≡ terminal.Name → AllRead text c.tokens
-        → map (spelled Class text) c.tokens ≡ first ∷ name ∷ third ∷ more → has_parent text c.tokens ≡ false → heats more ≡ 0 → Third third more out → count out.trees ≡ 0
-    by_third out first name third more k n reads all plain cold (WithParent colon some) =
-        absurd (false≢true (sym plain ∙ with_parent_marked text c.tokens first name third more reads all k n colon))
-    by_third out first name third more k n reads all plain cold (Without brace same) = same ∙ cold
+    by_third : (first name third : Spelled) (more : List Spelled) → first.terminal ≡ terminal.Class → name.terminal ≡ terminal.Name → AllRead text c.tokens
+        → map (spelled Class text) c.tokens ≡ first ∷ name ∷ third ∷ more → Third third d → d.parent ≡ None
+    by_third first name third more k n reads all (WithParent colon parent some) =
+        absurd (false≢true (sym c.is_built ∙ with_parent_marked text c.tokens first name third more reads all k n colon))
+    by_third first name third more k n reads all (Without brace bare) = bare
 
 -- ---- its printed text
 
@@ -282,31 +262,19 @@ module _ (d : ClassDecl) (g : IsGoodRead d) where
 
   -- the text has the tokens, and nothing that isn't built
   module _ (tokens : List Token) (is : lexed text ≡ Tokens tokens) (same : map (spelled Class text) tokens ≡ ts) where
-    zero : count out.trees ≡ 0
-    zero = declares_count d p.low g.built_whole
-
     reads : AllRead text tokens
     reads = text_reads text tokens is
 
-    by_third : (first name third : Spelled) (more : List Spelled) → map (spelled Class text) tokens ≡ first ∷ name ∷ third ∷ more → first.terminal ≡ terminal.Class → name.terminal ≡ terminal.Name
-        → Third third more out → (has_parent text tokens ≡ false) × (heats (map (spelled Class text) tokens) ≡ 0)
-    by_third first name third more all k n (WithParent colon some) = absurd (omega (arith, some, zero))
-    by_third first name third more all k n (Without brace counted) = (
-      not_marked text tokens first name third more reads all brace,
-      ap heats all ∙ cold (heat first.terminal) (heat name.terminal) (heat third.terminal) (heats more) (ap heat k) (ap heat n) (ap heat brace) (sym counted ∙ zero),
-    )
-      where
-        cold : (a b c more : ℕ) → a ≡ 0 → b ≡ 0 → c ≡ 0 → more ≡ 0 → a + (b + (c + more)) ≡ 0
-        cold a b c more e f g h = omega (arith, e, f, g, h)
-
-    bare : (has_parent text tokens ≡ false) × (heats (map (spelled Class text) tokens) ≡ 0)
-    bare =
-        let f = first_of ts out d derives (declares_class d p.low) in
-        let o = opened f.more out f.rest in
-        by_third f.first o.name o.third o.more (same ∙ (f.is ∙ ap (λ us. f.first ∷ us) o.is)) f.class o.named o.opens
+    by_third : (first name third : Spelled) (more : List Spelled) → map (spelled Class text) tokens ≡ first ∷ name ∷ third ∷ more → Third third d → is_unbuilt text tokens ≡ false
+    by_third first name third more all (WithParent colon parent some) = absurd (none-some parent (sym g.parentless ∙ some))
+    by_third first name third more all (Without brace bare) = not_marked text tokens first name third more reads all brace
 
     built_again : is_unbuilt text tokens ≡ false
-    built_again = ap (λ b. b || has_parent text tokens) (no_unbuilt_word Class text tokens reads bare.1) ∙ bare.0
+    built_again =
+        let f = first_of ts out d derives (declares_class d p.low) in
+        let sounds = subst (Sounds Class) (same ∙ f.is) (text_sounds Class text tokens is) in
+        let o = opened out d (declares_class d p.low) f.more f.rest sounds.1 in
+        by_third f.first o.name o.third o.more (same ∙ (f.is ∙ ap (λ us. f.first ∷ us) o.is)) o.opens
 
     tree_again : AreTree start.Statement Class text tokens out.trees
     unfolding items_of

@@ -172,27 +172,6 @@ first_byte (suc n) x b xs rest e = cc
 same_kind : (k j : TokenKind) (n m : ℕ) → ◌≡◌ {A = Option (TokenKind × ℕ)} (Some (k, n)) (Some (j, m)) → k ≡ j
 same_kind k j n m e = ap (λ (p : TokenKind × ℕ). p.0) (same_Some {A = TokenKind × ℕ} (k, n) (j, m) e)
 
-found_word : (rest : List ℕ) (k : TokenKind) (n : ℕ) → word_at rest ≡ Some (k, n) → k ≡ kind.Word
-unfolding word_at
-found_word rest k n = by_test (nat_le (1 + prefix_len is_name_byte rest) 64) where
-  by_test : (b : Bool) → cond {A = Option (TokenKind × ℕ)} b (Some (kind.Word, 1 + prefix_len is_name_byte rest)) None ≡ Some (k, n) → k ≡ kind.Word
-  by_test true e = sym (same_kind kind.Word k (1 + prefix_len is_name_byte rest) n e)
-  by_test false e = absurd (none-some (k, n) e)
-
-if_first : (b : Bool) (x y : Option (TokenKind × ℕ)) (found : TokenKind × ℕ) → b ≡ true → cond b x y ≡ Some found → x ≡ Some found
-if_first true x y found e f = f
-if_first false x y found e f = absurd (false≢true e)
-
-word_by : (bytes : List ℕ) (k : TokenKind) (n b : ℕ) (rest : List ℕ) → token_at bytes ≡ Some (k, n) → take n bytes ≡ b ∷ rest → begins_word b ≡ true → k ≡ kind.Word
-unfolding token_at
-word_by [] k n b rest e f g = absurd (none-some (k, n) e)
-word_by (x ∷ xs) k n b rest e f g =
-    let letter : begins_word x ≡ true = ap begins_word (first_byte n x b xs rest f) ∙ g in
-    found_word xs k n (if_first (begins_word x) (word_at xs) _ (k, n) letter e)
-
-pub word_kind : (text : List ℕ) (t : Token) (b : ℕ) (rest : List ℕ) → Reads text t → slice_of text t ≡ b ∷ rest → begins_word b ≡ true → t.kind ≡ kind.Word
-word_kind text t b rest r e g = word_by (drop t.start text) t.kind (t.end - t.start) b rest r e g
-
 colon_found : (rest : List ℕ) → token_at (58 ∷ rest) ≡ Some (kind.Mark mark.Colon, 1)
 unfolding token_at mark_at
 colon_found rest = refl

@@ -1,8 +1,4 @@
 pub mod Reading
-pub mod Counts
-pub mod Counting
-pub mod Rows
-pub mod Derived
 pub mod Lexed
 pub mod Words
 pub mod First

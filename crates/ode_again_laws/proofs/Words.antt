@@ -1,30 +1,22 @@
 -- Words, and what the grammar sees of them.
-use Rattle.std.proofs.Common.{◌≡◌, ℕ, ℤ, pos, negsuc, ◌^◌, ◌+◌, Bool, true, false, not, ◌&&◌, ◌||◌, ◌==◌, cond, nat_le, arith, codes, List, [], ◌∷◌, map, Option, Some, None, refl, sym, ◌∙◌, ap, subst}
-use Rattle.std.specs.List.{list_all, list_any}
+use Rattle.std.proofs.Common.{◌≡◌, ℕ, ℤ, pos, negsuc, ◌^◌, Bool, true, false, not, ◌||◌, ◌==◌, cond, nat_le, codes, List, [], ◌∷◌, Option, Some, None, refl, sym, ◌∙◌, ap, subst}
+use Rattle.std.specs.List.{list_all}
 use Rattle.std.specs.Str.{bytes_eq}
 use Rattle.std.proofs.lemmas.Bool.{and_parts, false≢true}
 use Rattle.std.proofs.lemmas.Slice.Eq.{bytes_eq-Decides}
-use Rattle.ode_lex.specs.Tokens.{begins_word}
 use Rattle.ode_lex.specs.declared.token.Mark.{Mark}
 use Rattle.ode_lex.specs.declared.token.Mark.TheVariants as mark
-use Rattle.ode_lex.specs.declared.token.Token.{Token}
 use Rattle.ode_lex.specs.declared.token.TokenKind.{TokenKind}
 use Rattle.ode_lex.specs.declared.token.TokenKind.TheVariants as kind
 use Rattle.ode_grammar.specs.declared.terminal.Terminal.{Terminal}
 use Rattle.ode_grammar.specs.declared.terminal.Terminal.TheVariants as terminal
 use Rattle.ode_terminals.specs.declared.seen.Place.{Place}
 use Rattle.ode_terminals.specs.declared.seen.Place.TheVariants as place_of
-use Rattle.ode_terminals.specs.Seen.{between_quotes, instant_terminal, mark_terminal, number_terminal, reference_terminal, seen, slice_of, this_terminal}
+use Rattle.ode_terminals.specs.Seen.{between_quotes, instant_terminal, mark_terminal, number_terminal, reference_terminal, seen, this_terminal}
 use Rattle.ode_terminals.specs.Words.{looked_up, rows, word_terminal}
 use Rattle.ode_timer.specs.Dates.{instant_of}
 use Rattle.ode_value.specs.Limits.{choose_limit}
-use Rattle.ode_syntax.specs.Kept.{spelled}
-use Rattle.ode_relex.proofs.WordTokens.{either_false}
 use Rattle.ode_reread.proofs.Sounds.{either}
-use Rattle.ode_language.specs.Marks.{has_unbuilt_word, is_unbuilt_word, unbuilt_words}
-use Rattle.ode_again_laws.proofs.Derived.{heats}
-use Rattle.ode_again_laws.proofs.Lexed.{AllRead, Reads, word_kind}
-use Rattle.ode_again_laws.proofs.Rows.{heat, is_hot}
 
 -- ---- the table of words
 
@@ -90,89 +82,6 @@ module _ (p : Terminal → Bool) (is : IsSpecial p) where
   shown place bytes kind.Text e = absurd (false≢true (sym (text_none (instant_of (between_quotes bytes))) ∙ e))
   shown place bytes (kind.Reference r) e = absurd (false≢true (sym (reference_none place) ∙ e))
   shown place bytes (kind.Mark m) e = AMark m e
-
--- ---- the words of the clock
-
-unbuilt_special : IsSpecial is_hot
-unbuilt_special = record { leaf = refl; stray = refl; number = refl; count = refl; seconds = refl; text = refl; instant = refl }
-
-unbuilt_table : list_all (λ (r : List ℕ × Terminal). not (is_hot r.1) || is_unbuilt_word r.0) rows ≡ true
-unfolding unbuilt_words
-unbuilt_table = refl
-
-no_unbuilt_mark : (m : Mark) → is_hot (mark_terminal m) ≡ false
-no_unbuilt_mark mark.Semi = refl
-no_unbuilt_mark other = refl
-
-unbuilt_shown : (bytes : List ℕ) {k : TokenKind} → Shown is_hot bytes k → is_unbuilt_word bytes ≡ true
-unfolding word_terminal
-unbuilt_shown bytes (AWord e) = looked_test is_hot is_unbuilt_word rows bytes unbuilt_table refl e
-unbuilt_shown bytes (AMark n e) = absurd (false≢true (sym (no_unbuilt_mark n) ∙ e))
-
-begins_none : (place : Place) (bytes : List ℕ) (k : TokenKind) → is_unbuilt_word bytes ≡ false → is_hot (seen place bytes k) ≡ false
-begins_none place bytes k none = by_test (is_hot (seen place bytes k)) refl where
-  by_test : (b : Bool) → is_hot (seen place bytes k) ≡ b → b ≡ false
-  by_test true e = absurd (false≢true (sym none ∙ unbuilt_shown bytes (shown is_hot unbuilt_special place bytes k e)))
-  by_test false e = refl
-
-no_heat : (place : Place) (bytes : List ℕ) (k : TokenKind) → is_unbuilt_word bytes ≡ false → heat (seen place bytes k) ≡ 0
-no_heat place bytes k none = ap (λ b. cond b 1 0) (begins_none place bytes k none)
-
-no_more : (h more : ℕ) → h ≡ 0 → more ≡ 0 → h + more ≡ 0
-no_more h more e f = omega (arith, e, f)
-
--- where no word is unbuilt, no token is the clock's
-pub cold_tokens : (place : Place) (text : List ℕ) (tokens : List Token) → has_unbuilt_word text tokens ≡ false → heats (map (spelled place text) tokens) ≡ 0
-cold_tokens place text [] e = refl
-cold_tokens place text (t ∷ ts) e =
-    let x = either_false (is_unbuilt_word (slice_of text t)) (has_unbuilt_word text ts) e in
-    no_more (heat (seen place (slice_of text t) t.kind)) (heats (map (spelled place text) ts)) (no_heat place (slice_of text t) t.kind x.0) (cold_tokens place text ts x.1)
-
--- ---- and back
-
-abbrev is_letter : List ℕ → Bool
-is_letter [] = false
-is_letter (b ∷ bytes) = begins_word b
-
--- the word begins with a letter, and is seen as such a token
-abbrev burns : Place → List ℕ → Bool
-burns place w = is_letter w && is_hot (seen place w kind.Word)
-
-all_burn : (place : Place) → list_all (burns place) unbuilt_words ≡ true
-unfolding unbuilt_words word_terminal
-all_burn place = refl
-
-among : (test : List ℕ → Bool) (ws : List (List ℕ)) (w : List ℕ) → list_all test ws ≡ true → list_any (λ one. bytes_eq one w) ws ≡ true → test w ≡ true
-among test [] w all e = absurd (false≢true e)
-among test (u ∷ us) w all e = let x = and_parts (test u) (list_all test us) all in by_test (bytes_eq u w) refl x.0 e (among test us w x.1) where
-  by_test : (b : Bool) → bytes_eq u w ≡ b → test u ≡ true → (b || list_any (λ one. bytes_eq one w) us) ≡ true → (list_any (λ one. bytes_eq one w) us ≡ true → test w ≡ true) → test w ≡ true
-  by_test true f one g past = subst (λ v. test v ≡ true) ((bytes_eq-Decides u w).0 f) one
-  by_test false f one g past = past g
-
--- such a word is such a token
-burnt : (place : Place) (text : List ℕ) (t : Token) → Reads text t → burns place (slice_of text t) ≡ true → is_hot (seen place (slice_of text t) t.kind) ≡ true
-burnt place text t r e =
-    let x = and_parts (is_letter (slice_of text t)) (is_hot (seen place (slice_of text t) kind.Word)) e in
-    subst (λ k. is_hot (seen place (slice_of text t) k) ≡ true) (sym (word (slice_of text t) refl x.0)) x.1
-  where
-    word : (bytes : List ℕ) → slice_of text t ≡ bytes → is_letter bytes ≡ true → t.kind ≡ kind.Word
-    word [] e f = absurd (false≢true f)
-    word (b ∷ rest) e f = word_kind text t b rest r e f
-
-cold : (place : Place) (text : List ℕ) (t : Token) → Reads text t → is_hot (seen place (slice_of text t) t.kind) ≡ false → (test : Bool) → (test ≡ true → burns place (slice_of text t) ≡ true) → test ≡ false
-cold place text t r none true f = absurd (false≢true (sym none ∙ burnt place text t r (f refl)))
-cold place text t r none false f = refl
-
-is_cold : (b : Bool) (more : ℕ) → cond b 1 0 + more ≡ 0 → (b ≡ false) × (more ≡ 0)
-is_cold true more e = absurd (omega (arith, e))
-is_cold false more e = (refl, omega (arith, e))
-
-pub no_unbuilt_word : (place : Place) (text : List ℕ) (tokens : List Token) → AllRead text tokens → heats (map (spelled place text) tokens) ≡ 0 → has_unbuilt_word text tokens ≡ false
-no_unbuilt_word place text [] reads e = refl
-no_unbuilt_word place text (t ∷ ts) reads e =
-    let x = is_cold (is_hot (seen place (slice_of text t) t.kind)) (heats (map (spelled place text) ts)) e in
-    let none = cold place text t reads.0 x.0 (is_unbuilt_word (slice_of text t)) (λ f. among (burns place) unbuilt_words (slice_of text t) (all_burn place) f) in
-    ap (λ b. b || has_unbuilt_word text ts) none ∙ no_unbuilt_word place text ts reads.1 x.1
 
 -- ---- `class` and `:`
 

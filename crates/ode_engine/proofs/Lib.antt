@@ -4,5 +4,6 @@ pub mod ServeLaws
 pub mod RunLaws
 pub mod PlaceLaws
 pub mod ClassLaws
+pub mod ClockLaws
 pub mod RefusingLaws
 pub mod EngineLaws

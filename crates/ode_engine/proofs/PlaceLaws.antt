@@ -1,8 +1,8 @@
 -- Where a statement stands, and what it is answered there.
-use Rattle.std.proofs.Common.{◌≡◌, ◌∙◌, ◌<◌, ◌≤◌, Bool, true, false, Ok, Err, ap, arith, refl}
+use Rattle.std.proofs.Common.{◌≡◌, ◌∙◌, ◌<◌, ◌≤◌, ℕ, List, Bool, true, false, Ok, Err, ap, arith, refl}
 use Rattle.std.specs.Prelude.{◌&&◌, nat_lt, not}
 use Rattle.std.proofs.lemmas.Bool.Decides.{nat_tests}
-use Rattle.ode_engine.specs.Serving.{IsServed, answer_to}
+use Rattle.ode_engine.specs.Serving.{answer_to}
 use Rattle.ode_language.specs.Languages.{ode}
 use Rattle.ode_machine.specs.Commands.{Step, carried}
 use Rattle.ode_machine.specs.Refusals.{is_lone, place_of}
@@ -67,11 +67,12 @@ empty_inside (statement.Class d) place commit abort simple = absurd (cc (place))
 empty_inside (statement.Clock text) place commit abort simple = absurd (cc (place))
 empty_inside (statement.Simple t) place commit abort simple = absurd (simple t refl)
 
-pub empty_outside : (s : Statement) → IsServed s → place_of s false ≡ Ok tt → (s ≡ statement.Begin → ⊥) → ((d : ClassDecl) → s ≡ statement.Class d → ⊥) → ((t : Stmt) → s ≡ statement.Simple t → ⊥) → s ≡ statement.Empty
-empty_outside statement.Empty served place begins class simple = refl
-empty_outside statement.Begin served place begins class simple = absurd (begins refl)
-empty_outside statement.Commit served place begins class simple = absurd (cc (place))
-empty_outside statement.Abort served place begins class simple = absurd (cc (place))
-empty_outside (statement.Class d) served place begins class simple = absurd (class d refl)
-empty_outside (statement.Clock text) served place begins class simple = absurd served
-empty_outside (statement.Simple t) served place begins class simple = absurd (simple t refl)
+pub empty_outside : (s : Statement) → place_of s false ≡ Ok tt → (s ≡ statement.Begin → ⊥) → ((d : ClassDecl) → s ≡ statement.Class d → ⊥) → ((text : List ℕ) → s ≡ statement.Clock text → ⊥) → ((t : Stmt) → s ≡ statement.Simple t → ⊥)
+    → s ≡ statement.Empty
+empty_outside statement.Empty place begins class clock simple = refl
+empty_outside statement.Begin place begins class clock simple = absurd (begins refl)
+empty_outside statement.Commit place begins class clock simple = absurd (cc (place))
+empty_outside statement.Abort place begins class clock simple = absurd (cc (place))
+empty_outside (statement.Class d) place begins class clock simple = absurd (class d refl)
+empty_outside (statement.Clock text) place begins class clock simple = absurd (clock text refl)
+empty_outside (statement.Simple t) place begins class clock simple = absurd (simple t refl)

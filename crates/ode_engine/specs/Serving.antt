@@ -75,11 +75,6 @@ module _ {K : Type 0} (live : K → Bool) where
     pub lives : e.live ≡ true
     pub one : IsOneOf e.rest e.running
 
--- What isn't built yet is the clock: its statement isn't served.
-abbrev pub IsServed : Statement → Type 0
-IsServed (statement.Clock text) = ⊥
-IsServed s = Unit {0}
-
 -- ---- sessions
 
 module _ (l : Language) where

@@ -4,7 +4,7 @@ ghost use Rattle.ode_compile.specs.Compiling.{HaveNumbers};
 ghost use Rattle.ode_declare.specs.Texts.{HasText};
 ghost use Rattle.ode_declared_laws.specs.Adding.{AreAligned};
 ghost use Rattle.ode_engine.specs.Refusing.{turned_down};
-ghost use Rattle.ode_engine.specs.Serving.{IsServed, IsSession, IsUsable, Serves, StandsIn, answer_to};
+ghost use Rattle.ode_engine.specs.Serving.{IsSession, IsUsable, Serves, StandsIn, answer_to};
 ghost use Rattle.ode_good_laws.specs.Well.{IsWell};
 ghost use Rattle.ode_host.specs.Causes.{RoseIf};
 ghost use Rattle.ode_host.specs.Host.{HostCalls, LeavesOnly, Looks, Printed};
@@ -29,6 +29,7 @@ ghost use Rattle.ode_value.specs.declared.statement.Statement.TheVariants as sta
 
 use crate::engine::Done;
 use crate::refusing::{Turned, checked, place_of, takes_number};
+use ode_clock::set_clock;
 use ode_declare::declare;
 use ode_host::Host;
 use ode_keep::Keep;
@@ -39,7 +40,7 @@ use ode_transact::{
     EngineError, Work, begin, drain, end, fault_of, next_number, put_back, run, run_completion,
 };
 use ode_value::limits::{DRAIN_LIMIT, NUMBER_LIMIT};
-use ode_value::{ClassDecl, Reason, Refusal, Statement, Stmt};
+use ode_value::{ClassDecl, OdeText, Reason, Refusal, Statement, Stmt};
 use std::alloc::Global;
 
 /// An opened file, or the context of an open transaction.
@@ -334,6 +335,30 @@ fn class<H: Host, K: Keep<H> + Drop>(
     }
 }
 
+// The clock, with the drain behind each of its ticks.
+fn clock<H: Host, K: Keep<H> + Drop>(
+    alloc: Global,
+    rest: Opened<K>,
+    host: &mut H,
+    text: &OdeText,
+) -> Result<(State<K>, Done), EngineError>
+    requires live { IsTrue (K.live rest.keeper) }
+    requires fit { AreFit (resting_parts rest) }
+    requires aligned { AreAligned (resting_parts rest) }
+    ensures serves { (w : ListWorld) → IsWell ode w → IsAtRest H.view K.holds K.live ode w rest host.old → w.bones.transaction < number_limit
+        → Serves H.view K.holds K.live K.means ode (closed w) (carried ode (closed w) (statement.Clock text.now)) result host.old host.new }
+    ensures usable { IfOk result (λ r. IsUsable K.live r.0) }
+    ensures leaves { HostCalls (IsErrOf result EngineError.DiskFault) (IsErrOf result EngineError.WriteFault) (H.view host.old) (H.view host.new) }
+{
+    match set_clock(alloc, rest, host, text) {
+        Ok((rest, found)) => match found {
+            Ok(settled) => Ok((State::Rest(rest), Done::Settled(settled))),
+            Err(why) => Ok((State::Rest(rest), Done::Refused(why))),
+        },
+        Err(error) => Err(error),
+    }
+}
+
 // A transaction begins, and stays open.
 fn leave_open<H: Host, K: Keep<H> + Drop>(
     alloc: Global,
@@ -365,7 +390,6 @@ fn carry_out<H: Host, K: Keep<H> + Drop>(
     requires fit { AreFit (resting_parts rest) }
     requires aligned { AreAligned (resting_parts rest) }
     requires text { HasText ode s.now }
-    requires served { IsServed s.now }
     ensures serves { (w : ListWorld) → IsWell ode w → IsAtRest H.view K.holds K.live ode w rest host.old → w.bones.transaction < number_limit → place_of s.now false ≡ Ok tt
         → Serves H.view K.holds K.live K.means ode (closed w) (carried ode (closed w) s.now) result host.old host.new }
     ensures usable { IfOk result (λ r. IsUsable K.live r.0) }
@@ -374,6 +398,7 @@ fn carry_out<H: Host, K: Keep<H> + Drop>(
     match s {
         Statement::Begin => leave_open(alloc, rest, host),
         Statement::Class(decl) => class(alloc, rest, host, decl),
+        Statement::Clock(text) => clock(alloc, rest, host, text),
         Statement::Simple(s) => simple(alloc, rest, host, s),
         _ => Ok((State::Rest(rest), Done::Settled(0))),
     }
@@ -390,7 +415,6 @@ fn numbered<H: Host, K: Keep<H> + Drop>(
     requires fit { AreFit (resting_parts rest) }
     requires aligned { AreAligned (resting_parts rest) }
     requires text { HasText ode s.now }
-    requires served { IsServed s.now }
     ensures serves { (w : ListWorld) → IsWell ode w → IsAtRest H.view K.holds K.live ode w rest host.old → place_of s.now false ≡ Ok tt → is_lone s.now ≡ false
         → Serves H.view K.holds K.live K.means ode (closed w) (answer_to ode (closed w) s.now) result host.old host.new }
     ensures usable { IfOk result (λ r. IsUsable K.live r.0) }
@@ -414,7 +438,6 @@ fn command_at_rest<H: Host, K: Keep<H> + Drop>(
     requires fit { AreFit (resting_parts rest) }
     requires aligned { AreAligned (resting_parts rest) }
     requires text { HasText ode s.now }
-    requires served { IsServed s.now }
     ensures serves { (w : ListWorld) → IsWell ode w → IsAtRest H.view K.holds K.live ode w rest host.old
         → Serves H.view K.holds K.live K.means ode (closed w) (answer_to ode (closed w) s.now) result host.old host.new }
     ensures usable { IfOk result (λ r. IsUsable K.live r.0) }
@@ -438,7 +461,6 @@ pub(crate) fn command_in<H: Host, K: Keep<H> + Drop>(
 ) -> Result<(State<K>, Done), EngineError>
     requires usable { IsUsable K.live state }
     requires text { HasText ode s.now }
-    requires served { IsServed s.now }
     ensures serves { (session : Session) → IsSession ode session → StandsIn H.view K.holds K.live ode session state host.old
         → Serves H.view K.holds K.live K.means ode session (answer_to ode session s.now) result host.old host.new }
     ensures usable { IfOk result (λ r. IsUsable K.live r.0) }

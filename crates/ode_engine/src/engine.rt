@@ -2,7 +2,7 @@
 ghost use Rattle.std.specs.Prelude.{◌≡◌, ◌++◌, ℕ, List as Items, Err, IfOk, IsErrOf, None, OnErr, OnOk, Ok, Some, false, length, true};
 ghost use Rattle.ode_declare.specs.Texts.{HasText};
 ghost use Rattle.ode_declared_laws.specs.Adding.{AreAligned};
-ghost use Rattle.ode_engine.specs.Serving.{IsAnswer, IsLive, IsServed, StandsFor, answer_to, done_in, rest_in, running_in, session_after, settlings, state_in};
+ghost use Rattle.ode_engine.specs.Serving.{IsAnswer, IsLive, StandsFor, answer_to, done_in, rest_in, running_in, session_after, settlings, state_in};
 ghost use Rattle.ode_host.specs.Host.{HostCalls, LeavesOnly, Printed};
 ghost use Rattle.ode_language.specs.Languages.{ode};
 ghost use Rattle.ode_machine.specs.Commands.{after, finish};
@@ -134,7 +134,6 @@ impl<K: Drop> Engine<K> {
         K: Keep<H>,
         requires live { IsLive K.live self.old }
         requires text { HasText ode s.now }
-        requires served { IsServed s.now }
         // It is refused exactly where the machine refuses it, and else as many transactions are settled as the machine settles.
         ensures answer { (session : Session) → StandsFor H.view K.holds K.live ode session self.old host.old → IfOk result (λ done. IsAnswer done (answer_to ode session s.now)) }
         // Then it stands for the session behind the machine's answer; at a refusal that is the same one.

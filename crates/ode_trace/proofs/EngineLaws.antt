@@ -1,7 +1,7 @@
 -- What an engine stands for over a host, and what its calls come to as pieces.
 use Rattle.std.proofs.Common.{◌≡◌, ◌∙◌, ℕ, List, [], ◌∷◌, ◌++◌, Bool, true, false, Option, Result, Some, None, Ok, Err, append-nil, ap, refl, subst, sym}
-use Rattle.std.specs.Prelude.{IsTrue, OnOk}
-use Rattle.ode_engine.specs.Serving.{IsAnswer, IsLive, IsOneOf, IsServed, StandsBy, StandsFor, answer_to, settlings}
+use Rattle.std.specs.Prelude.{IsTrue}
+use Rattle.ode_engine.specs.Serving.{IsAnswer, IsLive, IsOneOf, StandsBy, StandsFor, answer_to, settlings}
 use Rattle.ode_engine.specs.declared.engine.Done.{Done}
 use Rattle.ode_engine.specs.declared.engine.Done.TheVariants as done
 use Rattle.ode_engine.specs.declared.engine.Engine.{Engine}
@@ -39,7 +39,6 @@ use Rattle.ode_value.specs.Language.{ListWorld}
 use Rattle.ode_value.specs.Texts.{refused_line}
 use Rattle.ode_value.specs.declared.reason.Refusal.{Refusal}
 use Rattle.ode_value.specs.declared.statement.Statement.{Statement}
-use Rattle.ode_value.specs.declared.statement.Statement.TheVariants as statement
 
 -- a print leaves the file that stands, whatever was printed before
 pub stands_printed : (piece file : List ℕ) (old new : View) → Prints piece old new → Stands file old → Stands file new
@@ -50,25 +49,11 @@ stands_printed piece file old new prints stands = record {
 
 -- ---- what a piece is read as
 
--- a statement that is read is served
-pub read_served : ((piece instant : List ℕ) → statement_of piece ≡ Ok (statement.Clock instant) → ⊥) → (piece : List ℕ) (s : Statement) → statement_of piece ≡ Ok s → IsServed s
-read_served never piece (statement.Clock instant) is = never piece instant is
-read_served never piece statement.Empty is = tt
-read_served never piece statement.Begin is = tt
-read_served never piece statement.Commit is = tt
-read_served never piece statement.Abort is = tt
-read_served never piece (statement.Class d) is = tt
-read_served never piece (statement.Simple s) is = tt
-
 read_command : (session : Session) (piece : List ℕ) (s : Statement) → statement_of piece ≡ Ok s → command ode session piece ≡ answer_to ode session s
 read_command session piece s is = ap (λ (a : Answer Statement). a >>= λ t. placed session t >> carried ode session t) is
 
 unread_command : (session : Session) (piece : List ℕ) (why : Refusal) → statement_of piece ≡ Err why → command ode session piece ≡ Err why
 unread_command session piece why is = ap (λ (a : Answer Statement). a >>= λ t. placed session t >> carried ode session t) is
-
-pub on_any : {R E : Type 0} (r : Result R E) (P : Type 0) → P → OnOk r P
-on_any (Ok x) P is = is
-on_any (Err e) P is = tt
 
 -- nothing more
 pub no_more : (holds : Holding) (items : List Item) (w : ListWorld) (text : List ℕ) (old new : View) → LeavesOnly old new (IsAfterSome holds (items ++ []) w text) → LeavesOnly old new (IsAfterSome holds items w text)

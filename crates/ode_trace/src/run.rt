@@ -20,7 +20,6 @@ ghost use Rattle.ode_value.specs.Language.{ListWorld};
 ghost use Rattle.ode_value.specs.Limits.{statement_limit};
 ghost use Rattle.ode_value.specs.Texts.{refused_line};
 
-use ode_built_laws::read_statements_are_built;
 use ode_engine::{Done, Engine, EngineError};
 use ode_host::{Failed, Host, Source, Status};
 use ode_keep::Keep;
@@ -75,7 +74,6 @@ fn command_piece<H: Host, K: Keep<H> + Drop>(
     ensures leaves { HostCalls (IsErrOf result EngineError.DiskFault) (IsErrOf result EngineError.WriteFault) (H.view host.old) (H.view host.new) }
     ensures live { OnOk result (IsLive K.live engine.new) }
 {
-    read_statements_are_built();
     match read_statement(alloc, text) {
         Ok(statement) => {
             let statement = Boxed::new(alloc, statement)?;
