@@ -121,12 +121,14 @@ const MAKING: Case = Case {
 // What is said of a wrong one.
 const LINE: &str = "bad file class 1\n";
 
-// Texts of a class `P` that is kept with them: two are right, and of the others one isn't as it is printed, one is no class, one
-// isn't accepted, one has another name, one has a trigger that its head doesn't tell, and two aren't built.
+// Texts of a class `P` that is kept with them: three are right, and of the others one isn't as it is printed, two are no class, one
+// isn't accepted, one has another name, one has a trigger that its head doesn't tell, and one isn't built.
 const CLASSES: &[Act] = &[
     Act::Make(Made::Class("class P { int n; }")),
     Act::Case(MAKING),
     Act::Make(Made::Class("class P { event after create; }")),
+    Act::Case(MAKING),
+    Act::Make(Made::Class("class P { event time every 60, time at \"1970-01-01T00:00:05Z\"; }")),
     Act::Case(MAKING),
     Act::Make(Made::Class("class P {int n;}")),
     Act::Refused("a class as it isn't printed", LINE),
@@ -138,8 +140,8 @@ const CLASSES: &[Act] = &[
     Act::Refused("a class of another name", LINE),
     Act::Make(Made::Class("class P { trigger t(): after create ==> { } }")),
     Act::Refused("a class with a trigger", LINE),
-    Act::Make(Made::Class("class P { event time every 60; }")),
-    Act::Refused("a class with a timer", LINE),
+    Act::Make(Made::Class("class P { event time every 0; }")),
+    Act::Refused("a class with a time that never comes", LINE),
     Act::Make(Made::Class("class P : P { int n; }")),
     Act::Refused("a class above itself", LINE),
 ];

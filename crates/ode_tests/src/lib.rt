@@ -35,6 +35,8 @@ mod stops;
 #[cfg(test)]
 mod stored_triggers;
 #[cfg(test)]
+mod ticks;
+#[cfg(test)]
 mod trial;
 #[cfg(test)]
 mod words;
