@@ -13,7 +13,7 @@ import sys
 import tempfile
 
 CASES = os.path.join(os.path.dirname(os.path.abspath(__file__)), "..", "crates", "ode_cases")
-SKIPPED = re.compile(r'//[^\n]*|"(?:\\[^\n]|[^"\\\n])*|[{};]')
+SKIPPED = re.compile(r'//[^\n]*|"(?:\\[^\n]|[^"\\\n])*"?|[{};]')
 
 
 def text_of(name):

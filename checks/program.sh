@@ -160,21 +160,23 @@ is 'the long file is as it was' cmp long.db <(zeros 8193)
 
 # --- a clock that is set
 
-# the same file, but for the clock: it is set, and stands at second 2, object 3 and place 4
 {
-    cat slot
-    zeros $((4096 - 57))
-    head -c 43 counters
-    printf '\1\0\0\0\0\0\0\0\2\0\0\0\0\0\0\0\3\0\0\0\4'
-    zeros 1
-} > set.db
+    printf '%s\n' 'class A { event time every 10; trigger initial perpetual t(): time every 10 ==> { say "t"; } };'
+    printf '%s\n' 'pnew A();' 'clock "1970-01-01T00:00:02Z";'
+} > set.ode
+printf '%s\n' 'clock "1970-01-01T00:00:01Z";' 'clock "1970-01-01T00:00:10Z";' > later.ode
+# of its record: the clock is set, and stands at second 2, behind every object and place
+printf '\1\0\0\0\0\0\0\0\2\xFF\xFF\xFF\xFF\xFF\xFF\xFF\xFF\xFF\xFF\xFF\xFF' > position
+fresh set.db
+run run set.db < set.ode
+said 'a script sets the clock' 0 $'class A\ntx 1 committed\nnew #1\nactive 2\ntx 2 committed\ntx 3 committed\n'
+is 'its position is in the last frame' cmp position <(tail -c 22 set.db | head -c 21)
 cp set.db set.before
 run run set.db < /dev/null
 said 'a file whose clock is set is opened' 0 ''
 is 'it is left as it was' cmp set.db set.before
-run run set.db < declare.ode
-run run set.db < declare.ode
-said 'a class is declared in it' 1 $'refused 1 duplicate P\n'
+run run set.db < later.ode
+said 'the clock goes on, and never back' 1 $'refused 1 clock back\nfired t on #1\nsaid t\ntx 4 committed\ntx 5 committed\n'
 
 # --- the examples
 

@@ -16,7 +16,7 @@ CLASSES = """class Item { int n; text name; ref Item next; constraint small: n <
     void both(int k) { add(k); next.add(k); } void copy() { let v = newversion this; v.add(2); show v; }
     int sum(int depth) { if (depth <= 0) { return n; } let rest = this.sum(depth - 1); return rest + n; }
     void check(int k) { if (n > k) { say "too many in " + name; tabort; } else { say "fine"; } }
-    event after add, before twice, after link, after create, before delete, after tbegin, before tcomplete, after tcommit, after tabort;
+    event after add, before twice, after link, after create, before delete, after tbegin, before tcomplete, after tcommit, after tabort, time every 10;
     trigger perpetual low(int k): after add && n < k ==> { say "low"; show n; }
     trigger third(): choose 3 (after add) ==> { twice(); }
     trigger perpetual whole often(): every 4 (after add or before twice) ==> { say "often"; }
@@ -24,7 +24,9 @@ CLASSES = """class Item { int n; text name; ref Item next; constraint small: n <
     trigger perpetual dependent later(int k): after add && k > n ==> { say "later"; add(2); }
     trigger perpetual whole independent kept(ref Item log): prior(before twice, after tabort) ==> { log.add(2); }
     trigger perpetual gap(): fa(after tbegin, after link, after add) and !before delete ==> { say "linked first"; }
-    trigger once loop(): relative(before twice, after add) ==> { add(-2); } };
+    trigger once loop(): relative(before twice, after add) ==> { add(-2); }
+    trigger initial perpetual dependent tick(): time every 10 && n < 40 ==> { add(4); }
+    trigger perpetual whole tock(): every 2 (time every 10) ==> { say "tock"; check(8); } };
 class Bag { bool open; ref Item item; ref Bag outer; void set(ref Item i) { item = i; open = !open; } void fill() { let i = pnew Item(n = 4); item = i; }
     void empty() { pdelete item; item = null; } bool full() { return item != null && item.n > 10; } };
 """
@@ -38,10 +40,13 @@ class Writer:
         self.drawn = 0
         self.items = []
         self.bags = []
+        self.now = 0
 
     def new(self, numbers, statement):
         self.drawn += 1
         numbers.append(self.drawn)
+        # an item has a trigger that is on from the start
+        self.drawn += numbers is self.items
         return statement
 
     def reference(self, numbers):
@@ -50,6 +55,10 @@ class Writer:
 
     def number(self):
         return self.random.choice(["0", "2", "4", "4", "10", "40", "1 + 1", "-6", "7", "600", "9223372036854775807", "1 / 0"])
+
+    def clock(self):
+        self.now = max(self.now + self.random.choice([0, 1, 9, 10, 25, -1]), 0)
+        return f'clock "1970-01-01T00:{self.now // 60 % 60:02}:{self.now % 60:02}Z";'
 
     def statement(self):
         item, other, bag, n = self.reference(self.items), self.reference(self.items), self.reference(self.bags), self.number()
@@ -61,8 +70,10 @@ class Writer:
             return self.new(self.items, f"{bag}.fill();")
         if self.random.random() < 0.12:
             self.drawn += 1
-            trigger = self.random.choice(["low(20)", "third()", "often()", "pair()", "later(30)", f"kept({other})", "gap()", "loop()", "low(true)", "none()"])
+            trigger = self.random.choice(["low(20)", "third()", "often()", "pair()", "later(30)", f"kept({other})", "gap()", "loop()", "tock()", "tock()", "low(true)", "none()"])
             return f"activate {item}.{trigger};"
+        if self.random.random() < 0.1:
+            return self.clock()
         if self.random.random() < 0.04:
             return f"deactivate {item}, {self.random.randint(1, self.drawn + 2)};"
         return self.random.choice([
