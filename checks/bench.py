@@ -6,9 +6,9 @@ transaction has to: append a frame, sync, write one byte, sync; and SQLite, wher
 turns, and the middle one of five rounds counts. Then the same calls with two triggers on, one of which fires at every third call; and
 with one that queues a firing at each call, which is one more transaction a call.
 
-Then what 100,000 objects cost: the opening of their file, by turns with SQLite's quick check of the same objects and versions, of which
-the shortest times count, its memory, and a method call on one of them by turns with one of 100. These files are in memory where they can
-be, so that syncs don't hide the rest.
+Then what 100,000 objects cost: the opening of their file, with the frames of 2,000 shows behind them, by turns with SQLite's quick check
+of the same objects and versions, of which the shortest times count, its memory, and a method call on one of them by turns with one of
+100. These files are in memory where they can be, so that syncs don't hide the rest.
 """
 
 import os
@@ -23,6 +23,7 @@ CALLS = 2000
 ROUNDS = 5
 OPENINGS = 15
 OBJECTS = 100_000
+SHOWS = 2000
 MEMORY = "/dev/shm" if os.access("/dev/shm", os.W_OK) else None
 CLASS = "class Counter { int n; void add(int k) { n = n + k; } };\npnew Counter();\n"
 SCRIPT = "#1.add(1);\n" * CALLS
@@ -127,11 +128,12 @@ def sqlite(module):
 
 
 def crowd(folder, count):
-    """A file with so many objects."""
+    """A file with so many objects, and behind them the frames of some transactions that only show a field."""
     file = f"{folder}/crowd{count}.db"
     ode("init", file)
     making = "".join("begin;" + "pnew Counter();" * min(500, count - at) + "commit;\n" for at in range(0, count, 500))
     timed(file, "class Counter { int n; void add(int k) { n = n + k; } };\n" + making)
+    timed(file, "show #1.n;\n" * SHOWS)
     return file
 
 
