@@ -1,9 +1,5 @@
 -- A class that is read is read again from its printed text.
-use Rattle.std.proofs.Common.{◌≡◌, ◌≤◌, ℕ, Bool, true, false, ◌&&◌, cond, codes, List, [], ◌∷◌, ◌++◌, map, None, Ok, Err, arith, refl, sym, ◌∙◌, ap, subst}
-use Rattle.std.specs.Str.{bytes_eq}
-use Rattle.std.proofs.lemmas.Bool.{false≢true}
-use Rattle.std.proofs.lemmas.Option.{none-some}
-use Rattle.std.proofs.lemmas.Slice.Eq.{bytes_eq-Decides}
+use Rattle.std.proofs.Common.{◌≡◌, ◌≤◌, ℕ, cond, codes, List, [], ◌∷◌, ◌++◌, map, Ok, arith, refl, sym, ◌∙◌, ap, subst}
 use Rattle.ode_lex.specs.Tokens.{lexed, Tokens}
 use Rattle.ode_lex.specs.declared.token.Mark.TheVariants as mark
 use Rattle.ode_lex.specs.declared.token.Token.{Token}
@@ -28,7 +24,6 @@ use Rattle.ode_terminals.specs.Seen.{place_of, seen, slice_of, terminal_of}
 use Rattle.ode_terminals.specs.Words.{word_terminal}
 use Rattle.ode_value.specs.PrintedClasses.{decl_text}
 use Rattle.ode_value.specs.Answers.{Answer, ◌>>=◌}
-use Rattle.ode_value.specs.declared.reason.Refusal.TheVariants as refusal
 use Rattle.ode_value.specs.declared.statement.ClassDecl.{ClassDecl}
 use Rattle.ode_value.specs.declared.statement.Statement.{Statement}
 use Rattle.ode_value.specs.declared.statement.Statement.TheVariants as statement
@@ -37,7 +32,6 @@ use Rattle.ode_syntax.specs.Built.{built, built_class, built_event, built_kind, 
 use Rattle.ode_syntax.specs.Kept.{kept_as, spelled, Spelled}
 use Rattle.ode_eventsyn.specs.Parsing.{AreTree}
 use Rattle.ode_language.specs.Languages.{statement_by, statement_in, statement_of}
-use Rattle.ode_language.specs.Marks.{has_parent, is_unbuilt, is_word}
 use Rattle.ode_language.specs.Reading.{read}
 use Rattle.ode_language.proofs.ReadingLaws.{tree_is_read}
 use Rattle.ode_reread.proofs.Both.{Both, its_heights, its_trees, keep, lifted, make}
@@ -56,10 +50,9 @@ use Rattle.ode_reread_classes.proofs.MemberRows.{declared}
 use Rattle.ode_reread_classes.proofs.Pieces.{closing_mark, join, of_spells, to_spells}
 use Rattle.ode_reread_classes.proofs.Puts.{with_class}
 use Rattle.ode_reread_classes.proofs.Readings.{cut_whole, plain_own}
-use Rattle.ode_again_laws.proofs.First.{first_of, opened, IsFirst, Third, WithParent, Without}
-use Rattle.ode_again_laws.proofs.Lexed.{colon_kind, mark_bytes, text_reads, AllRead}
+use Rattle.ode_again_laws.proofs.First.{first_of, IsFirst}
 use Rattle.ode_again_laws.proofs.Reading.{statement_is}
-use Rattle.ode_again_laws.proofs.Words.{class_bytes, colon_mark, name_word}
+use Rattle.ode_again_laws.proofs.Words.{class_bytes}
 
 -- ---- how it was read
 
@@ -100,7 +93,6 @@ in_class place text (u ∷ tokens) t more e f =
 pub record IsClassRead (text : List ℕ) (d : ClassDecl) : Type 0 where
   tokens : List Token
   lexed_as : lexed text ≡ Tokens tokens
-  is_built : is_unbuilt text tokens ≡ false
   made : Trees
   is_tree : AreTree start.Statement Class text tokens made
   same : script_tree made.scripts ≡ statement.Class d
@@ -113,63 +105,10 @@ class_read text d e =
     record {
       tokens = s.tokens;
       lexed_as = s.lexed_as;
-      is_built = s.is_built;
       made = s.made;
       is_tree = subst (λ p. AreTree start.Statement p text s.tokens s.made) place s.is_tree;
       same = s.same;
     }
-
--- ---- what it has of what isn't built: nothing
-
--- the first three tokens
-abbrev second : Spelled → List Spelled → Spelled
-second t [] = t
-second t (u ∷ us) = front t us
-
-abbrev third_of : Spelled → List Spelled → Spelled
-third_of t [] = t
-third_of t (u ∷ us) = second t us
-
-with_parent_marked : (text : List ℕ) (tokens : List Token) (a b c : Spelled) (more : List Spelled) → AllRead text tokens → map (spelled Class text) tokens ≡ a ∷ b ∷ c ∷ more
-    → a.terminal ≡ terminal.Class → b.terminal ≡ terminal.Name → c.terminal ≡ terminal.Colon → has_parent text tokens ≡ true
-with_parent_marked text [] a b c more r e f g h = absurd (cc)
-with_parent_marked text (t ∷ []) a b c more r e f g h = absurd (cc)
-with_parent_marked text (t ∷ u ∷ []) a b c more r e f g h = absurd (cc)
-with_parent_marked text (t ∷ u ∷ v ∷ ts) a b c more r e f g h =
-    let first = class_bytes Class (slice_of text t) t.kind (ap (λ s. (front a s).terminal) e ∙ f) in
-    let name = name_word Class (slice_of text u) u.kind (ap (λ s. (second b s).terminal) e ∙ g) in
-    let colon = colon_mark Class (slice_of text v) v.kind (ap (λ s. (third_of c s).terminal) e ∙ h) in
-    let bytes : slice_of text v ≡ codes ":" = mark_bytes text v mark.Colon r.1.1.0 colon in
-    all_three (bytes_eq (slice_of text t) (codes "class")) (is_word u.kind) (bytes_eq (slice_of text v) (codes ":")) first (ap is_word name) ((bytes_eq-Decides (slice_of text v) (codes ":")).1 bytes)
-  where
-    all_three : (x y z : Bool) → x ≡ true → y ≡ true → z ≡ true → (x && y && z) ≡ true
-    all_three true true z p q s = s
-    all_three true false z p q s = absurd (false≢true q)
-    all_three false y z p q s = absurd (false≢true p)
-
-not_marked : (text : List ℕ) (tokens : List Token) (a b c : Spelled) (more : List Spelled) → AllRead text tokens → map (spelled Class text) tokens ≡ a ∷ b ∷ c ∷ more
-    → c.terminal ≡ terminal.OpenBrace → has_parent text tokens ≡ false
-not_marked text [] a b c more r e h = refl
-not_marked text (t ∷ []) a b c more r e h = refl
-not_marked text (t ∷ u ∷ []) a b c more r e h = refl
-not_marked text (t ∷ u ∷ v ∷ ts) a b c more r e h =
-    by_test (bytes_eq (slice_of text t) (codes "class")) (is_word u.kind) (bytes_eq (slice_of text v) (codes ":")) (λ f. (bytes_eq-Decides (slice_of text v) (codes ":")).0 f)
-  where
-    no_colon : slice_of text v ≡ codes ":" → ⊥
-    no_colon f =
-        let k = colon_kind text v [] r.1.1.0 f in
-        let brace : terminal_of Class text v ≡ terminal.OpenBrace = ap (λ s. (third_of c s).terminal) e ∙ h in
-        let colon : terminal_of Class text v ≡ terminal.Colon = ap (λ j. seen Class (slice_of text v) j) k in
-        brace_colon (sym brace ∙ colon)
-      where
-        brace_colon : terminal.OpenBrace ≡ terminal.Colon → ⊥
-        brace_colon e = absurd (cc)
-
-    by_test : (x y z : Bool) → (z ≡ true → slice_of text v ≡ codes ":") → (x && y && z) ≡ false
-    by_test true true true f = absurd (no_colon (f refl))
-    by_test true true false f = refl
-    by_test true false z f = refl
-    by_test false y z f = refl
 
 -- ---- a class that is read
 
@@ -177,7 +116,6 @@ pub record IsGoodRead (d : ClassDecl) : Type 0 where
   pub high : ℕ
   pub good : GoodClass Class high d
   within : high ≤ HEIGHT_LIMIT
-  parentless : d.parent ≡ None
 
 -- what a statement of a class comes to
 abbrev declares : ClassDecl → ℕ → Both
@@ -207,9 +145,6 @@ good_read text d c =
     let out : Both = record { trees = c.made; heights = x.heights } in
     let f = first_of (map (spelled Class text) c.tokens) out d x.derives c.same in
     let sounds = subst (Sounds Class) f.is (text_sounds Class text c.tokens c.lexed_as) in
-    let o = opened out d c.same f.more f.rest sounds.1 in
-    let reads = text_reads text c.tokens c.lexed_as in
-    let all : map (spelled Class text) c.tokens ≡ f.first ∷ o.name ∷ o.third ∷ o.more = f.is ∙ ap (λ us. f.first ∷ us) o.is in
     let made = declared Class (item.Token terminal.Semi ∷ item.Build action.Declare ∷ []) at_start out (does Class f.rest sounds.1) in
     let a = made.class in
     let b = made.behind in
@@ -220,14 +155,7 @@ good_read text d c =
       high = a.n;
       good = subst (GoodClass Class a.n) same a.good;
       within = plain_own a.n HEIGHT_LIMIT high;
-      parentless = by_third f.first o.name o.third o.more f.class o.named reads all o.opens;
     }
-  where
-    by_third : (first name third : Spelled) (more : List Spelled) → first.terminal ≡ terminal.Class → name.terminal ≡ terminal.Name → AllRead text c.tokens
-        → map (spelled Class text) c.tokens ≡ first ∷ name ∷ third ∷ more → Third third d → d.parent ≡ None
-    by_third first name third more k n reads all (WithParent colon parent some) =
-        absurd (false≢true (sym c.is_built ∙ with_parent_marked text c.tokens first name third more reads all k n colon))
-    by_third first name third more k n reads all (Without brace bare) = bare
 
 -- ---- its printed text
 
@@ -260,22 +188,8 @@ module _ (d : ClassDecl) (g : IsGoodRead d) where
       Rule part.Statement (class_rest ++ item.Token terminal.Semi ∷ item.Build action.Declare ∷ []) refl
       (p.does (item.Token terminal.Semi ∷ item.Build action.Declare ∷ []) at_start (marked mark.Semi ∷ []) out (next_mark mark.Semi refl (Make action.Declare Done)))
 
-  -- the text has the tokens, and nothing that isn't built
+  -- the text has the tokens
   module _ (tokens : List Token) (is : lexed text ≡ Tokens tokens) (same : map (spelled Class text) tokens ≡ ts) where
-    reads : AllRead text tokens
-    reads = text_reads text tokens is
-
-    by_third : (first name third : Spelled) (more : List Spelled) → map (spelled Class text) tokens ≡ first ∷ name ∷ third ∷ more → Third third d → is_unbuilt text tokens ≡ false
-    by_third first name third more all (WithParent colon parent some) = absurd (none-some parent (sym g.parentless ∙ some))
-    by_third first name third more all (Without brace bare) = not_marked text tokens first name third more reads all brace
-
-    built_again : is_unbuilt text tokens ≡ false
-    built_again =
-        let f = first_of ts out d derives (declares_class d p.low) in
-        let sounds = subst (Sounds Class) (same ∙ f.is) (text_sounds Class text tokens is) in
-        let o = opened out d (declares_class d p.low) f.more f.rest sounds.1 in
-        by_third f.first o.name o.third o.more (same ∙ (f.is ∙ ap (λ us. f.first ∷ us) o.is)) o.opens
-
     tree_again : AreTree start.Statement Class text tokens out.trees
     unfolding items_of
     tree_again =
@@ -296,7 +210,7 @@ module _ (d : ClassDecl) (g : IsGoodRead d) where
         ap (λ (a : Answer Trees). a >>= λ (made : Trees). Ok (script_tree made.scripts)) found ∙ ap (λ s. Ok s) (declares_class d p.low)
 
     read_again : statement_of text ≡ Ok (statement.Class d)
-    read_again = ap (statement_by text) is ∙ (ap (λ b. cond b (Err refusal.NotBuilt) (statement_in text tokens)) built_again ∙ in_again)
+    read_again = ap (statement_by text) is ∙ in_again
 
   printed_again : statement_of text ≡ Ok (statement.Class d)
   printed_again = let x = cut_text Class text ts (cut_whole Class text ts spells) in read_again x.0 x.1 x.2

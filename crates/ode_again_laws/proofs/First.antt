@@ -1,5 +1,5 @@
--- A statement that is a class, taken apart: `class`, its name, and a colon or a brace.
-use Rattle.std.proofs.Common.{◌≡◌, ℕ, Bool, true, false, ◌||◌, List, [], ◌∷◌, ◌++◌, append-nil, Option, Some, None, refl, sym, ◌∙◌, ap, subst}
+-- A statement that is a class begins with the word `class`.
+use Rattle.std.proofs.Common.{◌≡◌, Bool, true, false, ◌||◌, List, [], ◌∷◌, ◌++◌, append-nil, Option, Some, None, refl, sym, ◌∙◌, ap, subst}
 use Rattle.std.proofs.lemmas.Bool.{false≢true}
 use Rattle.std.proofs.lemmas.Option.{none-some, same_Some}
 use Rattle.ode_grammar.specs.declared.item.Action.{Action}
@@ -10,7 +10,6 @@ use Rattle.ode_grammar.specs.declared.item.Part.TheVariants as part
 use Rattle.ode_grammar.specs.declared.terminal.Terminal.{Terminal}
 use Rattle.ode_grammar.specs.declared.terminal.Terminal.TheVariants as terminal
 use Rattle.ode_grammar.specs.Grammar.{after, skipped}
-use Rattle.ode_grammar.specs.Stacks.{top}
 use Rattle.ode_grammar.specs.Statements.{class_rest}
 use Rattle.ode_grammar.specs.Texts.{Derives, Done, Next, Make, Rule, Skip}
 use Rattle.ode_value.specs.declared.statement.ClassDecl.{ClassDecl}
@@ -18,18 +17,14 @@ use Rattle.ode_value.specs.declared.statement.Statement.{Statement}
 use Rattle.ode_value.specs.declared.statement.Statement.TheVariants as statement
 use Rattle.ode_syntax.specs.declared.trees.Trees.{Trees}
 use Rattle.ode_syntax.specs.Built.{built, built_class, built_event, built_kind, built_member, built_right_side, built_script, built_statement, script_tree}
-use Rattle.ode_syntax.specs.Kept.{kept_as, name_of, Spelled}
+use Rattle.ode_syntax.specs.Kept.{kept_as, Spelled}
 use Rattle.ode_syntax.specs.Trees.{no_trees, trees}
-use Rattle.ode_heights.specs.Heights.{none, raised}
+use Rattle.ode_heights.specs.Heights.{none}
 use Rattle.ode_terminals.specs.declared.seen.Place.TheVariants.{Class}
-use Rattle.ode_reread.proofs.Both.{Both, its_trees, keep, make}
-use Rattle.ode_reread.proofs.Effects.{spelt}
+use Rattle.ode_reread.proofs.Both.{Both, its_trees, keep}
 use Rattle.ode_reread.proofs.Prints.{Ds}
 use Rattle.ode_reread.proofs.Readings.{at_start}
-use Rattle.ode_reread.proofs.Sounds.{Sounds}
-use Rattle.ode_reread_classes.proofs.AllParts.{does}
 use Rattle.ode_reread_classes.proofs.Derivations.{view, with_items, Left, Ruled, View}
-use Rattle.ode_reread_classes.proofs.Does.{Does}
 use Rattle.ode_again_laws.proofs.Words.{is_class}
 
 -- ---- the last action
@@ -159,85 +154,3 @@ first_view out d (Left a e x) f = absurd (no_skip a e)
 
 pub first_of : (ts : List Spelled) (out : Both) (d : ClassDecl) → Ds (item.Part part.Statement ∷ []) at_start ts out → script_tree out.trees.scripts ≡ statement.Class d → IsFirst ts out
 first_of ts out d x f = first_view out d (view x) f
-
--- ---- the name, and a colon or a brace
-
--- behind the brace
-abbrev inside_class : List Item
-inside_class =
-    item.Build action.Members ∷ item.Part part.Members ∷ item.Token terminal.CloseBrace ∷ item.Build action.Class ∷ item.Token terminal.Semi
-    ∷ item.Build action.Declare ∷ []
-
--- the parent of a statement that is a class
-abbrev parent_of : Statement → Option (List ℕ)
-parent_of (statement.Class c) = c.parent
-parent_of other = None
-
--- what is read inside the braces leaves the parent as it was
-parent_read : (b out : Both) (d : ClassDecl) → Does Class (item.Token terminal.OpenBrace ∷ inside_class) b out → script_tree out.trees.scripts ≡ statement.Class d
-    → d.parent ≡ top None b.trees.parents
-unfolding kept_as built built_right_side built_statement built_event built_kind built_class built_member built_script raised
-parent_read b out d l f =
-    let inside = l.3 in
-    let members = inside.1.1 [] 0 b refl tt in
-    let made = ap (λ (v : Both). make action.Declare (make action.Class v)) (sym members.is) ∙ inside.2.3.3 in
-    sym (ap (λ (v : Both). parent_of (script_tree v.trees.scripts)) made ∙ ap parent_of f)
-
--- behind a colon stands the parent's name, and with a brace at once there is none
-colon_parent : (b out : Both) (d : ClassDecl) → Does Class (item.Token terminal.Name ∷ item.Build action.Parent ∷ item.Token terminal.OpenBrace ∷ inside_class) b out
-    → script_tree out.trees.scripts ≡ statement.Class d → (name : List ℕ) × (d.parent ≡ Some name)
-unfolding kept_as built built_right_side built_statement built_event built_kind built_class
-colon_parent b out d l f = (name_of l.1, parent_read (make action.Parent (keep (spelt terminal.Name l.0 l.1) b)) out d l.3 f)
-
-brace_parent : (b out : Both) (d : ClassDecl) → Does Class (item.Token terminal.OpenBrace ∷ inside_class) (make action.NoParent b) out
-    → script_tree out.trees.scripts ≡ statement.Class d → d.parent ≡ None
-unfolding built built_right_side built_statement built_event built_kind built_class
-brace_parent b out d l f = parent_read (make action.NoParent b) out d l f
-
--- what the third token of a class says of it
-pub data Third (third : Spelled) (d : ClassDecl) : Type 0 where
-  WithParent : third.terminal ≡ terminal.Colon → (name : List ℕ) → d.parent ≡ Some name → Third third d
-  Without : third.terminal ≡ terminal.OpenBrace → d.parent ≡ None → Third third d
-
-pub record IsOpened (ts : List Spelled) (d : ClassDecl) : Type 0 where
-  pub name : Spelled
-  pub third : Spelled
-  pub more : List Spelled
-  pub is : ts ≡ name ∷ third ∷ more
-  pub named : name.terminal ≡ terminal.Name
-  pub opens : Third third d
-
-data NextView (k : Terminal) (items : List Item) (b : Both) (out : Both) : List Spelled → Type 0 where
-  Got : {ts : List Spelled} (t : Spelled) → t.terminal ≡ k → Ds items (keep t b) ts out → NextView k items b out (t ∷ ts)
-
-next_view : {k : Terminal} {items : List Item} {b : Both} {ts : List Spelled} {out : Both} → Ds (item.Token k ∷ items) b ts out → NextView k items b out ts
-next_view (Next {t = t} k e d) = Got t e d
-
-parent_token : (k : Terminal) (row : List Item) → after part.Parent k ≡ Some row → (k ≡ terminal.Colon) × (row ≡ item.Token terminal.Name ∷ item.Build action.Parent ∷ [])
-unfolding after
-parent_token terminal.Colon row e = (refl, sym (same_Some (item.Token terminal.Name ∷ item.Build action.Parent ∷ []) row e))
-parent_token other row e = absurd (none-some row e)
-
-parent_skip : (a : Action) → skipped part.Parent ≡ Some a → action.NoParent ≡ a
-unfolding skipped
-parent_skip a e = same_Some action.NoParent a e
-
-module _ (out : Both) (d : ClassDecl) (is : script_tree out.trees.scripts ≡ statement.Class d) where
-  brace_view : {b : Both} {ts : List Spelled} (name : Spelled) → name.terminal ≡ terminal.Name → NextView terminal.OpenBrace inside_class b out ts → d.parent ≡ None → IsOpened (name ∷ ts) d
-  brace_view name named (Got {ts = ts} t e x) none = record { name = name; third = t; more = ts; is = refl; named = named; opens = Without e none }
-
-  third_view : {ts : List Spelled} (name : Spelled) → name.terminal ≡ terminal.Name → View part.Parent (item.Token terminal.OpenBrace ∷ inside_class) (keep name at_start) out ts
-      → Sounds Class ts → IsOpened (name ∷ ts) d
-  third_view name named (Ruled {ts = ts} t row e x) s =
-      let k = parent_token t.terminal row e in
-      let p = colon_parent (keep t (keep name at_start)) out d (does Class (with_items (ap (λ r. r ++ item.Token terminal.OpenBrace ∷ inside_class) k.1) x) s.1) is in
-      record { name = name; third = t; more = ts; is = refl; named = named; opens = WithParent k.0 p.0 p.1 }
-  third_view name named (Left a e x) s =
-      let none = subst (λ a. Does Class (item.Token terminal.OpenBrace ∷ inside_class) (make a (keep name at_start)) out) (sym (parent_skip a e)) (does Class x s) in
-      brace_view name named (next_view x) (brace_parent (keep name at_start) out d none is)
-
-  opened_view : {ts : List Spelled} → NextView terminal.Name (item.Part part.Parent ∷ item.Token terminal.OpenBrace ∷ inside_class) at_start out ts → Sounds Class ts → IsOpened ts d
-  opened_view (Got t e x) s = third_view t e (view x) s.1
-
-  pub opened : (ts : List Spelled) → Ds (class_rest ++ item.Token terminal.Semi ∷ item.Build action.Declare ∷ []) at_start ts out → Sounds Class ts → IsOpened ts d
-  opened ts x s = opened_view (next_view x) s

@@ -1,5 +1,4 @@
 pub mod Reading
-pub mod Lexed
 pub mod Words
 pub mod First
 pub mod Again

@@ -32,8 +32,7 @@ use Rattle.ode_syntax.specs.Built.{script_tree}
 use Rattle.ode_syntax.specs.Kept.{Spelled, spelled}
 use Rattle.ode_syntax.specs.Trees.{Makes, no_trees, trees}
 use Rattle.ode_eventsyn.specs.Parsing.{AreTree, byte_of, seen}
-use Rattle.ode_language.specs.Languages.{statement_by, statement_in, statement_of}
-use Rattle.ode_language.specs.Marks.{is_unbuilt}
+use Rattle.ode_language.specs.Languages.{statement_by, statement_of}
 use Rattle.ode_language.specs.Reading.{deep_at, is_deep, is_text, read, trees_of, wrong_at}
 
 pub ok_same : {X : Type 0} (x y : X) → ◌≡◌ {A = Answer X} (Ok x) (Ok y) → x ≡ y
@@ -121,30 +120,24 @@ module _ (s : Start) (place : Place) (text : List ℕ) (tokens : List Token) whe
 pub record IsStatement (text : List ℕ) (s : Statement) : Type 0 where
   pub tokens : List Token
   pub lexed_as : lexed text ≡ Tokens tokens
-  pub is_built : is_unbuilt text tokens ≡ false
   pub made : Trees
   pub is_tree : AreTree start.Statement (place_of text tokens) text tokens made
   pub same : script_tree made.scripts ≡ s
 
 pub statement_is : (text : List ℕ) (s : Statement) → statement_of text ≡ Ok s → IsStatement text s
 statement_is text s e = by_lexed (lexed text) refl e where
-  by_read : (tokens : List Token) → lexed text ≡ Tokens tokens → is_unbuilt text tokens ≡ false → (a : Answer Trees) → read start.Statement (place_of text tokens) text tokens ≡ a
+  by_read : (tokens : List Token) → lexed text ≡ Tokens tokens → (a : Answer Trees) → read start.Statement (place_of text tokens) text tokens ≡ a
       → (a >>= λ (made : Trees). Ok (script_tree made.scripts)) ≡ Ok s → IsStatement text s
-  by_read tokens is built (Ok made) r e =
+  by_read tokens is (Ok made) r e =
       record {
         tokens = tokens;
         lexed_as = is;
-        is_built = built;
         made = made;
         is_tree = read_is_tree start.Statement (place_of text tokens) text tokens made r;
         same = ok_same (script_tree made.scripts) s e;
       }
-  by_read tokens is built (Err why) r e = absurd (cc)
-
-  by_marks : (tokens : List Token) → lexed text ≡ Tokens tokens → (b : Bool) → is_unbuilt text tokens ≡ b → cond b (Err refusal.NotBuilt) (statement_in text tokens) ≡ Ok s → IsStatement text s
-  by_marks tokens is true built e = absurd (cc)
-  by_marks tokens is false built e = by_read tokens is built (read start.Statement (place_of text tokens) text tokens) refl e
+  by_read tokens is (Err why) r e = absurd (cc)
 
   by_lexed : (l : Lexed) → lexed text ≡ l → statement_by text l ≡ Ok s → IsStatement text s
   by_lexed (NoToken at) is e = absurd (cc)
-  by_lexed (Tokens tokens) is e = by_marks tokens is (is_unbuilt text tokens) refl e
+  by_lexed (Tokens tokens) is e = by_read tokens is (read start.Statement (place_of text tokens) text tokens) refl e

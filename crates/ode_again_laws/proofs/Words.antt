@@ -83,21 +83,14 @@ module _ (p : Terminal → Bool) (is : IsSpecial p) where
   shown place bytes (kind.Reference r) e = absurd (false≢true (sym (reference_none place) ∙ e))
   shown place bytes (kind.Mark m) e = AMark m e
 
--- ---- `class` and `:`
+-- ---- `class`
 
 abbrev pub is_class : Terminal → Bool
 is_class terminal.Class = true
 is_class other = false
 
-abbrev pub is_colon : Terminal → Bool
-is_colon terminal.Colon = true
-is_colon other = false
-
 class_special : IsSpecial is_class
 class_special = record { leaf = refl; stray = refl; number = refl; count = refl; seconds = refl; text = refl; instant = refl }
-
-colon_special : IsSpecial is_colon
-colon_special = record { leaf = refl; stray = refl; number = refl; count = refl; seconds = refl; text = refl; instant = refl }
 
 no_class_mark : (m : Mark) → is_class (mark_terminal m) ≡ false
 no_class_mark mark.Semi = refl
@@ -110,37 +103,3 @@ class_shown bytes (AMark n e) = absurd (false≢true (sym (no_class_mark n) ∙ 
 
 pub class_bytes : (place : Place) (bytes : List ℕ) (k : TokenKind) → seen place bytes k ≡ terminal.Class → bytes_eq bytes (codes "class") ≡ true
 class_bytes place bytes k e = class_shown bytes (shown is_class class_special place bytes k (ap is_class e))
-
-colon_marks : (m : Mark) → is_colon (mark_terminal m) ≡ true → m ≡ mark.Colon
-colon_marks mark.Colon e = refl
-colon_marks other e = absurd (false≢true e)
-
-colon_table : list_all (λ (r : List ℕ × Terminal). not (is_colon r.1) || false) rows ≡ true
-colon_table = refl
-
-colon_shown : (bytes : List ℕ) {k : TokenKind} → Shown is_colon bytes k → k ≡ kind.Mark mark.Colon
-unfolding word_terminal
-colon_shown bytes (AWord e) = absurd (false≢true (looked_test is_colon (λ w. false) rows bytes colon_table refl e))
-colon_shown bytes (AMark n e) = ap kind.Mark (colon_marks n e)
-
-pub colon_mark : (place : Place) (bytes : List ℕ) (k : TokenKind) → seen place bytes k ≡ terminal.Colon → k ≡ kind.Mark mark.Colon
-colon_mark place bytes k e = colon_shown bytes (shown is_colon colon_special place bytes k (ap is_colon e))
-
--- a name is a word
-abbrev is_name : Terminal → Bool
-is_name terminal.Name = true
-is_name other = false
-
-name_special : IsSpecial is_name
-name_special = record { leaf = refl; stray = refl; number = refl; count = refl; seconds = refl; text = refl; instant = refl }
-
-no_name_mark : (m : Mark) → is_name (mark_terminal m) ≡ false
-no_name_mark mark.Semi = refl
-no_name_mark other = refl
-
-name_shown : (bytes : List ℕ) {k : TokenKind} → Shown is_name bytes k → k ≡ kind.Word
-name_shown bytes (AWord e) = refl
-name_shown bytes (AMark n e) = absurd (false≢true (sym (no_name_mark n) ∙ e))
-
-pub name_word : (place : Place) (bytes : List ℕ) (k : TokenKind) → seen place bytes k ≡ terminal.Name → k ≡ kind.Word
-name_word place bytes k e = name_shown bytes (shown is_name name_special place bytes k (ap is_name e))

@@ -11,8 +11,7 @@ ghost use Rattle.ode_value.specs.declared.member.TriggerDecl.{TriggerDecl};
 ghost use Rattle.ode_value.specs.declared.statement.ClassDecl.{ClassDecl};
 ghost use Rattle.ode_value.specs.declared.statement.Statement.TheVariants.{Class};
 
-/// A class that is read from a piece is read from its printed text with a semicolon behind it: that text is no higher, and it has the mark
-/// of nothing that isn't built.
+/// A class that is read from a piece is read from its printed text with a semicolon behind it: that text is no higher.
 #[tactic(auto, using(crate::proofs::Again::again))]
 pub fn statements_of_classes_are_read_again()
     ensures { (piece : Items ℕ) (d : ClassDecl) → statement_of piece ≡ Ok (Class d) → statement_of (decl_text d ++ codes ";") ≡ Ok (Class d) }

@@ -1,4 +1,3 @@
-pub mod Marks
 pub mod Reading
 pub mod Languages
 pub mod Answers

@@ -1,7 +1,6 @@
 //! The language of scripts: the statement of a piece, or the first refusal of its bytes.
 #![tactic(auto)]
 
-mod marks;
 mod reading;
 
 pub use reading::{ReadStop, read_statement};

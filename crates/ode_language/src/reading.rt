@@ -6,7 +6,6 @@ ghost use Rattle.ode_language.specs.Answers.{Answers};
 ghost use Rattle.ode_language.specs.Languages.{statement_by, statement_in, statement_of};
 ghost use Rattle.ode_language.specs.Reading.{read};
 
-use crate::marks::is_unbuilt;
 use ode_eventsyn::{SyntaxError, whole};
 use ode_grammar::Start;
 use ode_lex::{LexError, Token, tokens};
@@ -47,9 +46,6 @@ fn statement_in(alloc: Global, text: &[u8], tokens: &[Token]) -> Result<Statemen
     requires { length text.now < 2 ^ 32 }
     ensures { Answers (statement_by text.now (lexing.Tokens tokens.now)) result }
 {
-    if is_unbuilt(text, tokens) {
-        return Err(ReadStop::Refused(Refusal::NotBuilt));
-    }
     let made = read(
         alloc,
         Start::Statement,
@@ -60,8 +56,8 @@ fn statement_in(alloc: Global, text: &[u8], tokens: &[Token]) -> Result<Statemen
     Ok(made.into_statement())
 }
 
-/// The statement of a piece of fewer than 2^32 bytes, with the semicolon that ends it, or the first refusal of its bytes: no token, a
-/// form that isn't built, no text of the grammar, one that is too high. In time linear in its tokens.
+/// The statement of a piece of fewer than 2^32 bytes, with the semicolon that ends it, or the first refusal of its bytes: no token, no
+/// text of the grammar, one that is too high. In time linear in its tokens.
 pub fn read_statement(alloc: Global, text: &[u8]) -> Result<Statement, ReadStop>
     requires { length text.now < 2 ^ 32 }
     ensures { Answers (statement_of text.now) result }

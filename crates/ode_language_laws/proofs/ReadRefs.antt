@@ -28,7 +28,6 @@ use Rattle.ode_types.specs.Literals.{literals}
 use Rattle.ode_value.specs.References.{IsRef}
 use Rattle.ode_reread.proofs.Sounds.{Sound, Sounds, text_sounds}
 use Rattle.ode_language.specs.Languages.{statement_by, statement_in, statement_of}
-use Rattle.ode_language.specs.Marks.{is_unbuilt}
 use Rattle.ode_language.specs.Reading.{deep_at, is_text, trees_of, wrong_at}
 use Rattle.ode_language_laws.proofs.Clean.{CleanScript, IsClean, keep_clean, make_clean}
 
@@ -107,13 +106,9 @@ in_clean text tokens is = by_text (is_text start.Statement (seen place text toke
 
 clean_of : (text : List ℕ) → CleanAnswer (statement_of text)
 clean_of text = by_lexed (lexed text) refl where
-  by_marks : (tokens : List Token) → lexed text ≡ Tokens tokens → (b : Bool) → CleanAnswer (cond b (Err refusal.NotBuilt) (statement_in text tokens))
-  by_marks tokens is true = tt
-  by_marks tokens is false = in_clean text tokens is
-
   by_lexed : (l : Lexed) → lexed text ≡ l → CleanAnswer (statement_by text l)
   by_lexed (NoToken at) is = tt
-  by_lexed (Tokens tokens) is = by_marks tokens is (is_unbuilt text tokens)
+  by_lexed (Tokens tokens) is = in_clean text tokens is
 
 pub literals_are : (text : List ℕ) (s : Stmt) → statement_of text ≡ Ok (statement.Simple s) → AllByRecursion IsRef (literals s)
 literals_are text s is = subst CleanAnswer is (clean_of text)

@@ -31,7 +31,6 @@ use Rattle.ode_syntax.specs.Kept.{Spelled, kept_as, name_of, spelled}
 use Rattle.ode_syntax.specs.Trees.{no_trees, trees}
 use Rattle.ode_eventsyn.specs.Parsing.{byte_of, seen}
 use Rattle.ode_language.specs.Languages.{statement_by, statement_in, statement_of}
-use Rattle.ode_language.specs.Marks.{is_unbuilt}
 use Rattle.ode_language.specs.Reading.{deep_at, is_text, trees_of, wrong_at}
 
 abbrev IsFree : List ℕ → Type 0
@@ -280,13 +279,9 @@ named_in text tokens = by_text (is_text start.Statement (seen place text tokens)
 
 named_of : (text : List ℕ) → NamedAnswer (statement_of text)
 named_of text = by_lexed (lexed text) where
-  by_marks : (tokens : List Token) (b : Bool) → NamedAnswer (cond b (Err refusal.NotBuilt) (statement_in text tokens))
-  by_marks tokens true = tt
-  by_marks tokens false = named_in text tokens
-
   by_lexed : (l : Lexed) → NamedAnswer (statement_by text l)
   by_lexed (NoToken at) = tt
-  by_lexed (Tokens tokens) = by_marks tokens (is_unbuilt text tokens)
+  by_lexed (Tokens tokens) = named_in text tokens
 
 pub class_is_named : (text : List ℕ) (d : ClassDecl) → statement_of text ≡ Ok (statement.Class d) → is_free d.name ≡ true
 class_is_named text d is = subst NamedAnswer is (named_of text)
