@@ -122,7 +122,7 @@ const MAKING: Case = Case {
 const LINE: &str = "bad file class 1\n";
 
 // Texts of a class `P` that is kept with them: three are right, and of the others one isn't as it is printed, two are no class, one
-// isn't accepted, one has another name, one has a trigger that its head doesn't tell, and one isn't built.
+// isn't accepted, one has another name, one has a trigger that its head doesn't tell, and one is its own parent.
 const CLASSES: &[Act] = &[
     Act::Make(Made::Class("class P { int n; }")),
     Act::Case(MAKING),
