@@ -27,6 +27,10 @@ CLASSES = """class Item { int n; text name; ref Item next; constraint small: n <
     trigger once loop(): relative(before twice, after add) ==> { add(-2); }
     trigger initial perpetual dependent tick(): time every 10 && n < 40 ==> { add(4); }
     trigger perpetual whole tock(): every 2 (time every 10) ==> { say "tock"; check(8); } };
+class Rare : Item { int worth; constraint dear: worth >= 0; void add(int k) { n = n + k; worth = worth + 2 * k; } void swap(ref Rare with) { worth = with.worth; }
+    event before add, after swap, time every 25;
+    trigger perpetual rise(): before add ==> { say "rise"; }
+    trigger initial perpetual whole deferred worthy(): every 3 (after add or time every 25) ==> { show worth; } };
 class Bag { bool open; ref Item item; ref Bag outer; void set(ref Item i) { item = i; open = !open; } void fill() { let i = pnew Item(n = 4); item = i; }
     void empty() { pdelete item; item = null; } bool full() { return item != null && item.n > 10; } };
 """
@@ -45,8 +49,8 @@ class Writer:
     def new(self, numbers, statement):
         self.drawn += 1
         numbers.append(self.drawn)
-        # an item has a trigger that is on from the start
-        self.drawn += numbers is self.items
+        # an item has a trigger that is on from the start, and a rare one has two
+        self.drawn += (numbers is self.items) + ("Rare" in statement)
         return statement
 
     def reference(self, numbers):
@@ -63,14 +67,14 @@ class Writer:
     def statement(self):
         item, other, bag, n = self.reference(self.items), self.reference(self.items), self.reference(self.bags), self.number()
         if self.random.random() < 0.2 or not self.items:
-            return self.new(self.items, self.random.choice([f"pnew Item(n = {2 * self.random.randint(0, 40)});", 'pnew Item(name = "a" + "b");']))
+            return self.new(self.items, self.random.choice([f"pnew Item(n = {2 * self.random.randint(0, 40)});", 'pnew Item(name = "a" + "b");', "pnew Rare(worth = 9, n = 2);"]))
         if self.random.random() < 0.05 or not self.bags:
             return self.new(self.bags, self.random.choice([f"pnew Bag(item = {item});", "pnew Bag();"]))
         if self.random.random() < 0.05:
             return self.new(self.items, f"{bag}.fill();")
         if self.random.random() < 0.12:
             self.drawn += 1
-            trigger = self.random.choice(["low(20)", "third()", "often()", "pair()", "later(30)", f"kept({other})", "gap()", "loop()", "tock()", "tock()", "low(true)", "none()"])
+            trigger = self.random.choice(["low(20)", "third()", "often()", "pair()", "later(30)", f"kept({other})", "gap()", "loop()", "tock()", "tock()", "rise()", "rise()", "low(true)", "none()"])
             return f"activate {item}.{trigger};"
         if self.random.random() < 0.1:
             return self.clock()
@@ -78,7 +82,7 @@ class Writer:
             return f"deactivate {item}, {self.random.randint(1, self.drawn + 2)};"
         return self.random.choice([
             f"{item}.add({n});", f"{item}.add({n});", f"{item}.twice();", f"{item}.link({other});", f"{item}.both({n});", f"{item}.copy();",
-            f"show {item}.sum(3);", f"{item}.check({n});", f"{bag}.set({item});", f"{bag}.empty();", f"show {bag}.full();",
+            f"show {item}.sum(3);", f"{item}.check({n});", f"{item}.swap({other});", f"show {item}.worth;", f"{bag}.set({item});", f"{bag}.empty();", f"show {bag}.full();",
             f"show {item}.n;", f"show {item}.next;", f"show {bag}.item.n;", f"show version({item});", f"newversion {item};", f"newversion {bag};",
             f"delversion {item};", f"pdelete {item};", 'say "x" + "y";', f"show {n};", ";", "begin;", "commit;", "show $;", "say 1 +;",
         ])
