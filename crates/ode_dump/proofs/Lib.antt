@@ -1,0 +1,4 @@
+pub mod Joining
+pub mod Searching
+pub mod Passed
+pub mod Tallied
