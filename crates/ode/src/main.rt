@@ -1,4 +1,4 @@
-//! The program: `ode init FILE` and `ode run FILE`, with the script on standard input.
+//! The program: `ode init FILE`, `ode run FILE`, with the script on standard input, `ode check FILE` and `ode dump FILE`.
 #![tactic(auto)]
 
 use ode_host::{FileHost, Status, StdSource};

@@ -24,7 +24,7 @@ use Rattle.ode_value.specs.Language.{ListWorld}
 use Rattle.ode_top.specs.Answers.{BreaksRule, IsMachineRun, IsNoRun, IsSilent, SaidFront, SaysWhy}
 use Rattle.ode_top.specs.Claims.{Finds, RunsNone, RunsWorld}
 use Rattle.ode_top.specs.Holds.{Holds, OpensTo}
-use Rattle.ode_top.proofs.Calling.{exit_cut, never_bad, none_cut, now_leaves, tells_same}
+use Rattle.ode_top.proofs.Calling.{exit_cut, none_cut, now_leaves, tells_same}
 use Rattle.ode_top.proofs.Leaving.{idle_looks, idle_on, line_idle, told_by}
 
 -- a file that holds a world breaks no rule

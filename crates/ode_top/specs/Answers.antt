@@ -1,26 +1,33 @@
 -- What a call of the program is answered with.
-use Rattle.std.specs.Prelude.{◌≡◌, ◌⊎◌, ℕ, List, [], ◌++◌, take, Option, Some, Err, codes}
+use Rattle.std.specs.Prelude.{◌≡◌, ◌⊎◌, ℕ, List, [], ◌++◌, take, Option, Some, Ok, Err, codes}
+use Rattle.ode_areas.specs.Image.{AreasMean}
 use Rattle.ode_causes.specs.Lines.{cause_line, format_line}
+use Rattle.ode_dump.specs.Dumping.{check_text, dump_text}
 use Rattle.ode_host.specs.Host.{Spares, Stands, Tells}
 use Rattle.ode_host.specs.View.{View}
 use Rattle.ode_host.specs.declared.status.Status.{Status}
 use Rattle.ode_host.specs.declared.status.Status.TheVariants as status
+use Rattle.ode_keep.specs.Entries.{Entries}
 use Rattle.ode_language.specs.Languages.{ode}
 use Rattle.ode_machine.specs.Runs.{run_status, run_text, run_world}
 use Rattle.ode_make.specs.Making.{IsInUse, IsInitialised, first_rows}
 use Rattle.ode_open.specs.Opening.{IsOpenedTo}
 use Rattle.ode_open.specs.declared.error.OpenError.{OpenError}
 use Rattle.ode_open.specs.declared.error.OpenError.TheVariants.{Memory, DiskFault, NoDatabase, NewerFormat, BadFile}
+use Rattle.ode_opening_records.specs.Reading.{AreOpened}
+use Rattle.ode_opening_records.specs.declared.base.Base.{Base}
 use Rattle.ode_trace.specs.Running.{LeavesNothing}
 use Rattle.ode_value.specs.Language.{ListWorld}
 use Rattle.ode_value.specs.Records.{snapshot}
 use Rattle.ode_value.specs.Texts.{line}
 use Rattle.ode_value.specs.Worlds.{empty_world}
+use Rattle.ode_value.specs.declared.class.Class.{Class}
 use Rattle.ode_top.specs.Calls.{call_of}
 use Rattle.ode_top.specs.Holds.{Holds}
 use Rattle.ode_top.specs.declared.call.Mode.{Mode}
+use Rattle.ode_top.specs.declared.call.Mode.TheVariants as mode
 
--- the words are `init FILE`, or `run FILE`
+-- the words are this mode's, and a file
 abbrev pub Asks : Mode → List (List ℕ) → Type 0
 Asks mode words = (file : List ℕ) × (call_of words ≡ Some (mode, file))
 
@@ -96,6 +103,34 @@ pub record IsBadFileCut (image text : List ℕ) (view : View) : Type 0 where
   pub reason : SaysWhy image said
   pub front : SaidFront said text view
 
+-- what `check` and `dump` print of records, by the classes that they declare
+abbrev pub mode_text : Mode → List Class → Entries → List ℕ
+mode_text mode.Check classes entries = check_text entries
+mode_text mode.Dump classes entries = dump_text classes entries
+mode_text mode.Init classes entries = []
+mode_text mode.Run classes entries = []
+
+-- The records of a file, and what they are opened to; this is said of them.
+pub record SaysRecords (m : Mode) (image said : List ℕ) : Type 0 where
+  pub entries : Entries
+  pub base : Base
+  pub means : AreasMean image entries
+  pub opened : AreOpened ode entries (Ok base)
+  pub is : said ≡ mode_text m base.classes entries
+
+-- The file was opened, stayed as it was, and this was said of its records.
+pub record IsInspected (m : Mode) (image text : List ℕ) (view : View) : Type 0 where
+  pub tells : Tells view image
+  pub said : List ℕ
+  pub records : SaysRecords m image said
+  pub printed : view.text ≡ Some (text ++ said)
+
+-- The print failed of what is said of a file's records, or of the line that says which way the file breaks a rule.
+pub record IsInspectedCut (m : Mode) (image text : List ℕ) (view : View) : Type 0 where
+  pub said : List ℕ
+  pub reason : SaysRecords m image said ⊎ SaysWhy image said
+  pub front : SaidFront said text view
+
 -- the statuses that `init` may end with
 abbrev pub IsInitStatus : Status → Type 0
 IsInitStatus status.Ok = Unit {0}
@@ -121,6 +156,27 @@ IsNoRun status.Usage = ⊥
 IsNoRun status.ReadFault = ⊥
 IsNoRun status.LongStatement = ⊥
 IsNoRun status.LongScript = ⊥
+
+-- the statuses that a `check` or a `dump` may end with
+abbrev pub IsInspectStatus : Status → Type 0
+IsInspectStatus status.Ok = Unit {0}
+IsInspectStatus status.BadFile = Unit {0}
+IsInspectStatus status.DiskFault = Unit {0}
+IsInspectStatus status.WriteFault = Unit {0}
+IsInspectStatus status.Memory = Unit {0}
+IsInspectStatus status.Refused = ⊥
+IsInspectStatus status.Usage = ⊥
+IsInspectStatus status.ReadFault = ⊥
+IsInspectStatus status.LongStatement = ⊥
+IsInspectStatus status.LongScript = ⊥
+
+-- the statuses of a file that isn't opened for this reason, where its line may lack memory or fail to be printed
+abbrev pub EndsFor : OpenError → Status → Type 0
+EndsFor Memory s = s ≡ status.Memory
+EndsFor DiskFault s = s ≡ status.DiskFault
+EndsFor NoDatabase s = (s ≡ status.BadFile) ⊎ (s ≡ status.WriteFault)
+EndsFor (NewerFormat found) s = (s ≡ status.Memory) ⊎ ((s ≡ status.BadFile) ⊎ (s ≡ status.WriteFault))
+EndsFor (BadFile cause) s = (s ≡ status.Memory) ⊎ ((s ≡ status.BadFile) ⊎ (s ≡ status.WriteFault))
 
 -- the statuses that have no line of their own, where nothing was run
 abbrev pub IsSilent : Status → Type 0

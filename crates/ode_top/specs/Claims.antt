@@ -1,5 +1,5 @@
--- What a call of the program claims, each field a claim: of a run where the file holds a world, of one where it breaks a rule, and
--- of `init`. The views are the host's at the start and at the end, and so is what is left of the script.
+-- What a call of the program claims, each field a claim: of a run where the file holds a world, of one where it breaks a rule, of
+-- `init`, and of `check` and `dump`. The views are the host's at the start and at the end, and so is what is left of the script.
 use Rattle.std.specs.Prelude.{◌≡◌, ◌≢◌, ℕ, List, Option, Some}
 use Rattle.ode_host.specs.FirstSync.{SyncedRun}
 use Rattle.ode_host.specs.Host.{Tells}
@@ -12,9 +12,10 @@ use Rattle.ode_machine.specs.Runs.{trace}
 use Rattle.ode_make.specs.Making.{IsInUse}
 use Rattle.ode_trace.specs.Statuses.{IsEnding, IsRunStatus}
 use Rattle.ode_value.specs.Language.{ListWorld}
-use Rattle.ode_top.specs.Answers.{BreaksRule, IsBadFile, IsBadFileCut, IsIdle, IsInitCut, IsInitStatus, IsMachineRun, IsMade, IsNoRun, IsRefused, IsSilent}
+use Rattle.ode_top.specs.Answers.{BreaksRule, IsBadFile, IsBadFileCut, IsIdle, IsInitCut, IsInitStatus, IsInspectStatus, IsInspected, IsInspectedCut, IsMachineRun, IsMade, IsNoRun, IsRefused, IsSilent}
 use Rattle.ode_top.specs.Holds.{Holds}
 use Rattle.ode_top.specs.Stops.{CutShort, IsCut}
+use Rattle.ode_top.specs.declared.call.Mode.{Mode}
 
 -- At the start the script is this one, the disk tells this file, which holds this world, and this was printed.
 pub record Finds (script image text : List ℕ) (w : ListWorld) (before : Option (List ℕ)) (old : View) : Type 0 where
@@ -58,3 +59,14 @@ pub record Initialises (old new : View) (result : Status) : Type 0 where
   pub init_cut : result ≡ WriteFault → (file text : List ℕ) → Tells old file → old.text ≡ Some text → IsInitCut file text new
   pub spared : (file : List ℕ) → Tells old file → IsInUse file → IsIdle result old new
   pub silent : IsSilent result → new.text ≡ old.text
+
+-- A `check` or a `dump`. The file stays as it was, whatever the status.
+pub record Inspects (mode : Mode) (old new : View) (result : Status) : Type 0 where
+  pub said : result ≡ Ok → (image text : List ℕ) → Tells old image → old.text ≡ Some text → IsInspected mode image text new
+  pub bad_file : result ≡ BadFile → (image text : List ℕ) → Tells old image → old.text ≡ Some text → IsBadFile image text new
+  pub cut : result ≡ WriteFault → (image text : List ℕ) → Tells old image → old.text ≡ Some text → IsInspectedCut mode image text new
+  pub keeps : (image : List ℕ) → Tells old image → ¬ BreaksRule image → result ≢ BadFile
+  pub breaks : (image : List ℕ) → Tells old image → BreaksRule image → result ≢ Ok
+  pub answers : IsInspectStatus result
+  -- Nothing is written, and nothing is printed where the status has no line.
+  pub idle : IsIdle result old new

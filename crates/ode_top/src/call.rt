@@ -10,6 +10,10 @@ pub enum Mode {
     Init,
     /// Runs a script on a file.
     Run,
+    /// Counts the records of a file.
+    Check,
+    /// Prints the records of a file.
+    Dump,
 }
 
 /// What a right list of words asks for.
@@ -35,6 +39,10 @@ fn mode_named(word: &str) -> Option<Mode>
         Some(Mode::Init)
     } else if word == "run" {
         Some(Mode::Run)
+    } else if word == "check" {
+        Some(Mode::Check)
+    } else if word == "dump" {
+        Some(Mode::Dump)
     } else {
         None
     }
@@ -57,7 +65,7 @@ pub fn call_of(words: &[String]) -> Option<Call<'_>>
     }
 }
 
-/// The name of the file, where the words are a right list: `init FILE` or `run FILE`.
+/// The name of the file, where the words are a right list: `init FILE`, `run FILE`, `check FILE` or `dump FILE`.
 pub fn file_word(words: &Vec<String>) -> Option<&str>
     ensures { option_copied result ≡ option_map (λ call. call.1) (call_of (bytes_of words.now.items)) }
 {

@@ -1,24 +1,29 @@
 //! The call of the whole program.
-ghost use Rattle.std.specs.Prelude.{◌≡◌, ◌≢◌, ◌⊎◌, ◌↔◌, ◌++◌, ℕ, List as Items, Some, None, IsTrue};
-ghost use Rattle.ode_areas.specs.Holding.{is_live};
+ghost use Rattle.std.specs.Prelude.{◌≡◌, ◌≢◌, ◌⊎◌, ◌↔◌, ◌++◌, ℕ, List as Items, Some, None, IfOk, IsErrOf, IsTrue};
+ghost use Rattle.ode_areas.specs.Holding.{AreasHold, is_live};
 ghost use Rattle.ode_declared_laws.specs.Adding.{AreAligned};
+ghost use Rattle.ode_dump.specs.Dumping.{AreRecords};
 ghost use Rattle.ode_host.specs.Causes.{RoseIf};
-ghost use Rattle.ode_host.specs.Host.{HostCalls, LeavesOnly, Prints};
+ghost use Rattle.ode_host.specs.Host.{HostCalls, LeavesOnly, Looks, Prints, Tells};
+ghost use Rattle.ode_keep.specs.Entries.{Entries};
 ghost use Rattle.ode_language.specs.Languages.{ode};
 ghost use Rattle.ode_machine.specs.Moments.{IsAfterSome};
 ghost use Rattle.ode_machine.specs.Runs.{trace};
+ghost use Rattle.ode_open.specs.Opening.{IsRefused};
+ghost use Rattle.ode_passes.specs.Answers.{OnBroken};
 ghost use Rattle.ode_schema.specs.Parts.{AreFit};
 ghost use Rattle.ode_trace.specs.Statuses.{IsEnding, IsRunStatus};
 ghost use Rattle.ode_transact.specs.Resting.{resting_parts};
 ghost use Rattle.ode_value.specs.Language.{ListWorld};
-ghost use Rattle.ode_top.specs.Answers.{Asks, IsIdle, IsMachineRun, SaidFront, usage_line};
+ghost use Rattle.ode_top.specs.Answers.{Asks, BreaksRule, EndsFor, IsIdle, IsMachineRun, IsSilent, SaidFront, SaysRecords, mode_text, usage_line, why_line};
 ghost use Rattle.ode_top.specs.Calls.{bytes_of, call_of};
-ghost use Rattle.ode_top.specs.Claims.{Initialises, RunsNone, RunsWorld};
+ghost use Rattle.ode_top.specs.Claims.{Initialises, Inspects, RunsNone, RunsWorld};
 ghost use Rattle.ode_top.specs.Holds.{Holds, OpensTo};
 
 use crate::call::{Mode, call_of};
 use ode_areas::Areas;
 use ode_causes::{cause_line, format_line};
+use ode_dump::{check_text, dump_text, tallied_records_decode};
 use ode_file_laws::files_of_worlds_are_opened;
 use ode_good_runs::runs_stay_good;
 use ode_host::{Failed, Host, Source, Status};
@@ -26,10 +31,10 @@ use ode_language_laws::language_has_sound_rules;
 use ode_make::{InitError, initialise};
 use ode_open::{OpenError, open_base};
 use ode_opened::Opened;
-use ode_passes::Cause;
+use ode_passes::{Cause, OpenError as ReadError};
 use ode_start_laws::opened_files_are_at_rest;
 use ode_trace::run_script;
-use ode_value::Key;
+use ode_value::{Key, List};
 use std::alloc::Global;
 
 const USAGE: &[u8] = b"usage: ode (init|run|check|dump) FILE | ode gen FILE N\n";
@@ -103,6 +108,32 @@ fn run_opened<H: Host, S: Source>(
     }
 }
 
+// Says why a file isn't opened, where there is a line for it, and memory for the line.
+fn refuse<H: Host>(alloc: Global, host: &mut H, why: OpenError) -> Status
+    ensures ends { EndsFor why result }
+    ensures still { IsSilent result → host.new ≡ host.old }
+    ensures prints { (IsSilent result → ⊥) → Prints (why_line why) (H.view host.old) (H.view host.new) }
+    ensures printed { result ≡ Status.BadFile → (text : Items ℕ) → (H.view host.old).text ≡ Some text
+        → (H.view host.new).text ≡ Some (text ++ why_line why) }
+    ensures cut { result ≡ Status.WriteFault → (text : Items ℕ) → (H.view host.old).text ≡ Some text
+        → SaidFront (why_line why) text (H.view host.new) }
+    ensures cause { RoseIf (result ≡ Status.WriteFault) (H.view host.old).print_faults (H.view host.new).print_faults }
+{
+    match why {
+        OpenError::NoDatabase => end_with(host, b"no database\n", Status::BadFile),
+        OpenError::NewerFormat { found } => match format_line(alloc, found) {
+            Ok(text) => end_with(host, text.as_bytes(), Status::BadFile),
+            Err(_) => Status::Memory,
+        },
+        OpenError::BadFile(cause) => match cause_line(alloc, &cause) {
+            Ok(text) => end_with(host, text.as_bytes(), Status::BadFile),
+            Err(_) => Status::Memory,
+        },
+        OpenError::DiskFault => Status::DiskFault,
+        OpenError::Memory => Status::Memory,
+    }
+}
+
 // A run begins with the opening, which begins with a sync, so that what it reads is what a stop leaves.
 fn run<H: Host, S: Source>(alloc: Global, script: &mut S, host: &mut H) -> Status
     ensures world { RunsWorld (S.left script.old) (S.left script.new) (H.view host.old) (H.view host.new) result }
@@ -114,22 +145,63 @@ fn run<H: Host, S: Source>(alloc: Global, script: &mut S, host: &mut H) -> Statu
     files_of_worlds_are_opened();
     match open_base(alloc, host) {
         Ok(opened) => run_opened(alloc, script, host, opened),
-        Err(OpenError::NoDatabase) => end_with(host, b"no database\n", Status::BadFile),
-        Err(OpenError::NewerFormat { found }) => match format_line(alloc, found) {
-            Ok(text) => end_with(host, text.as_bytes(), Status::BadFile),
-            Err(_) => Status::Memory,
-        },
-        Err(OpenError::BadFile(cause)) => match cause_line(alloc, &cause) {
-            Ok(text) => end_with(host, text.as_bytes(), Status::BadFile),
-            Err(_) => Status::Memory,
-        },
-        Err(OpenError::DiskFault) => Status::DiskFault,
-        Err(OpenError::Memory) => Status::Memory,
+        Err(why) => refuse(alloc, host, why),
     }
 }
 
-/// Does what the words ask for: `init FILE` makes a database in the host's file, `run FILE` runs the script on it.
-/// Wrong words and `init` take no memory.
+// The text of a mode, of the records of an opened file.
+fn text_of<H: Host>(
+    alloc: Global,
+    host: &mut H,
+    mode: Mode,
+    opened: Opened<Areas>,
+) -> Result<List<u8>, ReadError>
+    requires live { IsTrue (is_live opened.keeper) }
+    ensures text { IfOk result (λ text. (entries : Entries) → AreasHold opened.keeper (H.view host.old) entries
+        → text ≡ mode_text mode opened.classes entries) }
+    ensures broken { OnBroken result ((entries : Entries) → AreasHold opened.keeper (H.view host.old) entries → AreRecords entries → ⊥) }
+    ensures looks { Looks (H.view host.old) (H.view host.new) }
+    ensures cause { RoseIf (IsErrOf result ReadError.DiskFault) (H.view host.old).disk_faults (H.view host.new).disk_faults }
+{
+    let Opened {
+        mut keeper,
+        classes,
+        ..
+    } = opened;
+    match mode {
+        Mode::Check => check_text(alloc, &mut keeper, host),
+        Mode::Dump => dump_text(alloc, &mut keeper, host, &classes),
+        Mode::Init | Mode::Run => Ok(List::new(alloc)),
+    }
+}
+
+// The text of a mode, of the records of a file, or why the file isn't opened.
+fn read_text<H: Host>(alloc: Global, host: &mut H, mode: Mode) -> Result<List<u8>, OpenError>
+    ensures text { IfOk result (λ text. (image : Items ℕ) → Tells (H.view host.old) image → SaysRecords mode image text) }
+    ensures rules { IfOk result (λ _. (image : Items ℕ) → Tells (H.view host.old) image → BreaksRule image → ⊥) }
+    ensures answer { (image : Items ℕ) → Tells (H.view host.old) image → IsRefused image result }
+    ensures looks { Looks (H.view host.old) (H.view host.new) }
+    ensures cause { RoseIf (IsErrOf result OpenError.DiskFault) (H.view host.old).disk_faults (H.view host.new).disk_faults }
+{
+    tallied_records_decode();
+    let opened = open_base(alloc, host)?;
+    let text = text_of(alloc, host, mode, opened)?;
+    Ok(text)
+}
+
+// Says what the records of a file are, or which rule it breaks.
+fn inspect<H: Host>(alloc: Global, host: &mut H, mode: Mode) -> Status
+    ensures claims { Inspects mode (H.view host.old) (H.view host.new) result }
+    ensures leaves { HostCalls (result ≡ Status.DiskFault) (result ≡ Status.WriteFault) (H.view host.old) (H.view host.new) }
+{
+    match read_text(alloc, host, mode) {
+        Ok(text) => end_with(host, text.as_slice(), Status::Ok),
+        Err(why) => refuse(alloc, host, why),
+    }
+}
+
+/// Does what the words ask for: `init FILE` makes a database in the host's file, `run FILE` runs the script on it, `check FILE` counts its
+/// records and `dump FILE` prints them. Wrong words and `init` take no memory.
 pub fn run_ode<H: Host, S: Source>(
     alloc: Global,
     words: &Vec<String>,
@@ -145,6 +217,9 @@ pub fn run_ode<H: Host, S: Source>(
         → RunsNone (S.left script.old) (S.left script.new) (H.view host.old) (H.view host.new) result }
     // `init` makes a database, or leaves a file in use as it was.
     ensures init { Asks Mode.Init (bytes_of words.now.items) → Initialises (H.view host.old) (H.view host.new) result }
+    // `check` and `dump` say what a file's records are, or which rule it breaks, and change nothing.
+    ensures check { Asks Mode.Check (bytes_of words.now.items) → Inspects Mode.Check (H.view host.old) (H.view host.new) result }
+    ensures dump { Asks Mode.Dump (bytes_of words.now.items) → Inspects Mode.Dump (H.view host.old) (H.view host.new) result }
     ensures unread { ¬ Asks Mode.Run (bytes_of words.now.items) → S.left script.new ≡ S.left script.old }
 
     // Wrong words are answered with the usage line, and change nothing.
@@ -162,6 +237,8 @@ pub fn run_ode<H: Host, S: Source>(
         Some(call) => match call.mode {
             Mode::Init => init(host),
             Mode::Run => run(alloc, script, host),
+            Mode::Check => inspect(alloc, host, Mode::Check),
+            Mode::Dump => inspect(alloc, host, Mode::Dump),
         },
         None => end_with(host, USAGE, Status::Usage),
     }
