@@ -223,7 +223,7 @@ is 'the file that is cut short is as it was' cmp cut.db cut.before
 
 # --- wrong words
 
-for words in '' 'run' 'run -x' 'fly f' 'check f' 'dump f' 'gen f 1' 'init' 'init -f' 'init f f' 'run f f' 'run f -x'; do
+for words in '' 'run' 'run -x' 'fly f' 'check' 'dump -f' 'gen f 1' 'init' 'init -f' 'init f f' 'run f f' 'run f -x'; do
     # shellcheck disable=SC2086 # the words are cut at blanks
     run $words < /dev/null
     said "wrong words: ode $words" 2 "$usage"
