@@ -135,6 +135,12 @@ run run new.db < /dev/null
 said 'an empty script prints nothing' 0 ''
 is 'an empty script leaves the file as it was' cmp new.db expected.db
 
+run check new.db < /dev/null
+said 'a check counts the records' 0 $'good classes 0 objects 0 activations 0 entries 0\n'
+run dump new.db < /dev/null
+said 'a dump prints the records' 0 $'counters next 1 tx 1 entry 1\nclock none\n'
+is 'a check and a dump leave the file as it was' cmp new.db expected.db
+
 run init new.db < /dev/null
 said 'a second init is refused' 3 $'file exists\n'
 is 'a second init leaves the file as it was' cmp new.db expected.db
@@ -287,6 +293,8 @@ else
     read -ra as <<< "$bound"
     run run kept.db < declare.ode
     said 'run on a file that may only be read' 4 ''
+    run check kept.db < /dev/null
+    said 'check on a file that may only be read' 0 $'good classes 0 objects 0 activations 0 entries 0\n'
     chmod 000 kept.db
     run run kept.db < declare.ode
     said 'run on a file that may not be read' 4 ''
