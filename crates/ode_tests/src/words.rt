@@ -35,11 +35,13 @@ fn names(rt: &impl Abort, alloc: Global, words: &[&str], file: Option<&str>) {
     );
 }
 
-const NAMELESS: [&[&str]; 5] = [
+const NAMELESS: [&[&str]; 7] = [
     &[],
     &["run"],
     &["run", "-x"],
-    &["check", "f"],
+    &["check"],
+    &["dump", "-f"],
+    &["gen", "f", "1"],
     &["init", ""],
 ];
 
@@ -50,10 +52,12 @@ fn wrong_words_name_no_file(rt: HostRuntime) {
     }
 }
 
-const NAMED: [&[&str]; 4] = [
+const NAMED: [&[&str]; 6] = [
     &["init", "f"],
     &["run", "f"],
     &["run", "run"],
+    &["check", "f"],
+    &["dump", "f"],
     &["init", "a b/c-d.db"],
 ];
 
