@@ -14,14 +14,17 @@ use Rattle.ode_opened.specs.declared.opened.Opened.{Opened}
 use Rattle.ode_transact.proofs.DrainLaws.{all_drained, drained_no_more, nothing_drained, one_more_drained}
 use Rattle.ode_transact.proofs.EndingLaws.{looks_then}
 use Rattle.ode_transact.proofs.FrontLaws.{IsFront, front_leaves_well}
-use Rattle.ode_transact.proofs.JoinLaws.{final_is, moments_join, printed_join, text_is}
+use Rattle.ode_transact.proofs.JoinLaws.{final_is, moments_join, printed_join, text_is, texts_join}
+use Rattle.ode_transact.proofs.OutputLaws.{all_heard_append, counting_append, counting_none, world_heard}
 use Rattle.ode_transact.proofs.RestLaws.{image_holds}
 use Rattle.ode_transact.proofs.Settles.{same_text}
 use Rattle.ode_transact.specs.Drained.{IsDrained}
 use Rattle.ode_transact.specs.Items.{items_of, texts_of}
+use Rattle.ode_transact.specs.Output.{all_heard, counting, heard, heard_of}
 use Rattle.ode_transact.specs.Resting.{HoldsBy, IsAtRest}
 use Rattle.ode_transact.specs.Settling.{Meaning}
 use Rattle.ode_transact.specs.Working.{entry_of}
+use Rattle.ode_transact.specs.declared.output.Output.{Output}
 use Rattle.ode_good_laws.specs.Well.{IsWell}
 use Rattle.ode_value.specs.Draining.{drain, entry_settled, runs_entry, world_after}
 use Rattle.ode_value.specs.Language.{Language, ListWorld, Settlings}
@@ -47,6 +50,10 @@ items_more : (settled rest : Settlings) (more : List Item) → items_of (settled
 items_more [] rest more = refl
 items_more (s ∷ settled) rest more = ap (λ (items : List Item). item_of s ∷ items) (items_more settled rest more)
 
+-- with what is heard of them
+pub heard_more : (quiet : Bool) (settled rest : Settlings) (more : List Item) → items_of (all_heard quiet (settled ++ rest)) ++ more ≡ items_of (all_heard quiet settled) ++ (items_of (all_heard quiet rest) ++ more)
+heard_more quiet settled rest more = ap (λ (all : Settlings). items_of all ++ more) (all_heard_append quiet settled rest) ∙ items_more (all_heard quiet settled) (all_heard quiet rest) more
+
 pub calls_none : (v : View) → HostCalls ⊥ ⊥ v v
 calls_none v = record {
   keeps = (looks_none v).keeps;
@@ -59,51 +66,61 @@ pub calls_look : (before mid now : View) → HostCalls ⊥ ⊥ before mid → Lo
 calls_look before mid now calls looks calm = host_calls_on ⊥ ⊥ ⊥ ⊥ before mid now (λ none. none) (λ none. none) calls (looks_then ⊥ ⊥ mid now now looks calm (calls_none now))
 
 module _ {H K : Type 0} (seen : H → View) (held : K → View → Entries → Type 0) (live : K → Bool) (means : Meaning) where
-  -- So many entries ran over the file that there was before: it holds the world that they left, their texts are printed, and no stop so far
-  -- left anything else.
-  pub record HasDrained (l : Language) (w : ListWorld) (o : Opened K) (before after : H) (most ran : ℕ) : Type 0 where
+  -- So many entries ran over the file that there was before: it holds the world that they left, what is heard of their texts is printed,
+  -- these are counted, and no stop so far left anything else.
+  pub record HasDrained (l : Language) (w : ListWorld) (o : Opened K) (before after : H) (first last : Output) (most ran : ℕ) : Type 0 where
     pub now : ListWorld
     pub settled : Settlings
     pub well : IsWell l now
     pub rest : IsAtRest seen held live l now o after
     pub is : IsDrained most ran w now settled
-    pub printed : Printed (texts_of settled) (seen before) (seen after)
-    pub moments : (said : List ℕ) (more : List Item) → (seen before).text ≡ Some said → LeavesOnly (seen before) (seen after) (IsAfterSome (HoldsBy l means) (items_of settled ++ more) w said)
+    pub printed : Printed (texts_of (all_heard first.quiet settled)) (seen before) (seen after)
+    pub counts : last ≡ counting first (texts_of settled)
+    pub moments : (said : List ℕ) (more : List Item) → (seen before).text ≡ Some said → LeavesOnly (seen before) (seen after) (IsAfterSome (HoldsBy l means) (items_of (all_heard first.quiet settled) ++ more) w said)
 
   -- none yet
-  pub drain_starts : (l : Language) (w : ListWorld) (o : Opened K) (host : H) (most : ℕ) → IsWell l w → IsAtRest seen held live l w o host → HasDrained l w o host host most 0
-  drain_starts l w o host most well rest = record {
+  pub drain_starts : (l : Language) (w : ListWorld) (o : Opened K) (host : H) (output : Output) (most : ℕ) → IsWell l w → IsAtRest seen held live l w o host → HasDrained l w o host host output output most 0
+  drain_starts l w o host output most well rest = record {
     now = w;
     settled = [];
     well = well;
     rest = rest;
     is = nothing_drained most w;
     printed = λ text said. said ∙ ap (λ (t : List ℕ). Some t) (sym (append-nil text));
+    counts = counting_none output;
     moments = λ said more printed. started (seen host) (IsAfterSome (HoldsBy l means) more w said);
   }
 
   module _ (stands : (k : K) (h : H) (entries : Entries) → held k (seen h) entries → (file : List ℕ) × Stands file (seen h) × means file entries)
       (text_stands : (h : H) (c o : List ℕ) → (seen h).left (seen h).moment c o → (seen h).text ≡ Some o) where
-    module _ (l : Language) (w : ListWorld) (o : Opened K) (before after : H) (most ran : ℕ) (so : HasDrained l w o before after most ran) where
+    module _ (l : Language) (w : ListWorld) (o : Opened K) (before after : H) (first last : Output) (most ran : ℕ) (so : HasDrained l w o before after first last most ran) where
+      -- what is heard of them
+      abbrev heard_so : Settlings
+      heard_so = all_heard first.quiet so.settled
+
+      -- the output is as quiet as it was
+      as_quiet : last.quiet ≡ first.quiet
+      as_quiet = ap (λ (output : Output). output.quiet) so.counts
+
       -- what a stop leaves now
-      now_left : (said : List ℕ) (more : List Item) → (seen before).text ≡ Some said → (c out : List ℕ) → (seen after).left (seen after).moment c out → IsAfterSome (HoldsBy l means) (items_of so.settled ++ more) w said c out
+      now_left : (said : List ℕ) (more : List Item) → (seen before).text ≡ Some said → (c out : List ℕ) → (seen after).left (seen after).moment c out → IsAfterSome (HoldsBy l means) (items_of heard_so ++ more) w said c out
       now_left said more printed c out left =
           let there = stands o.keeper after so.rest.entries so.rest.records in
           let image : HoldsBy l means c so.now = image_holds l means c so.rest.entries so.now (subst (λ (f : List ℕ). means f so.rest.entries) (sym (there.1.only c out left)) there.2) so.rest.world so.well.ones in
-          let text : out ≡ said ++ texts_of so.settled = same_text out (said ++ texts_of so.settled) (sym (text_stands after c out left) ∙ so.printed said printed) in
-          let world : final w (items_of so.settled) ≡ so.now = final_is w so.settled ∙ so.is.world in
-          let here : IsAfterSome (HoldsBy l means) more (final w (items_of so.settled)) out c out =
-          at_start (HoldsBy l means) more (final w (items_of so.settled)) out c (subst (λ (v : ListWorld). HoldsBy l means c v) (sym world) image) in
-          let text_until : out ≡ said ++ text_of (items_of so.settled) = text ∙ ap (λ (t : List ℕ). said ++ t) (sym (text_is so.settled)) in
-          behind (HoldsBy l means) (items_of so.settled) more w said c out
-          (subst (λ (t : List ℕ). IsAfterSome (HoldsBy l means) more (final w (items_of so.settled)) t c out) text_until here)
+          let text : out ≡ said ++ texts_of heard_so = same_text out (said ++ texts_of heard_so) (sym (text_stands after c out left) ∙ so.printed said printed) in
+          let world : final w (items_of heard_so) ≡ so.now = final_is w heard_so ∙ world_heard first.quiet w so.settled ∙ so.is.world in
+          let here : IsAfterSome (HoldsBy l means) more (final w (items_of heard_so)) out c out =
+          at_start (HoldsBy l means) more (final w (items_of heard_so)) out c (subst (λ (v : ListWorld). HoldsBy l means c v) (sym world) image) in
+          let text_until : out ≡ said ++ text_of (items_of heard_so) = text ∙ ap (λ (t : List ℕ). said ++ t) (sym (text_is heard_so)) in
+          behind (HoldsBy l means) (items_of heard_so) more w said c out
+          (subst (λ (t : List ℕ). IsAfterSome (HoldsBy l means) more (final w (items_of heard_so)) t c out) text_until here)
 
       -- the host only looked, and the file holds the same
-      pub moments_on : (mid : H) → Looks (seen after) (seen mid) → (said : List ℕ) (more : List Item) → (seen before).text ≡ Some said → LeavesOnly (seen before) (seen mid) (IsAfterSome (HoldsBy l means) (items_of so.settled ++ more) w said)
+      pub moments_on : (mid : H) → Looks (seen after) (seen mid) → (said : List ℕ) (more : List Item) → (seen before).text ≡ Some said → LeavesOnly (seen before) (seen mid) (IsAfterSome (HoldsBy l means) (items_of heard_so ++ more) w said)
       moments_on mid looks said more printed =
-          looks_on (seen before) (seen after) (seen mid) (IsAfterSome (HoldsBy l means) (items_of so.settled ++ more) w said) (so.moments said more printed) (now_left said more printed) looks
+          looks_on (seen before) (seen after) (seen mid) (IsAfterSome (HoldsBy l means) (items_of heard_so ++ more) w said) (so.moments said more printed) (now_left said more printed) looks
 
-      abbrev pub drain_looks : (p : Opened K) (mid : H) → Looks (seen after) (seen mid) → IsAtRest seen held live l so.now p mid → HasDrained l w p before mid most ran
+      abbrev pub drain_looks : (p : Opened K) (mid : H) → Looks (seen after) (seen mid) → IsAtRest seen held live l so.now p mid → HasDrained l w p before mid first last most ran
       drain_looks p mid looks rest = record {
         now = so.now;
         settled = so.settled;
@@ -111,19 +128,21 @@ module _ {H K : Type 0} (seen : H → View) (held : K → View → Entries → T
         rest = rest;
         is = so.is;
         printed = λ text said. looks.text ∙ so.printed text said;
+        counts = so.counts;
         moments = moments_on mid looks;
       }
 
       -- as moments of the whole drain
-      whole : (said : List ℕ) (more : List Item) (mid : View) → LeavesOnly (seen before) mid (IsAfterSome (HoldsBy l means) (items_of so.settled ++ (items_of (drain lists (most - ran) so.now) ++ more)) w said)
-          → LeavesOnly (seen before) mid (IsAfterSome (HoldsBy l means) (items_of (drain lists most w) ++ more) w said)
+      whole : (said : List ℕ) (more : List Item) (mid : View)
+          → LeavesOnly (seen before) mid (IsAfterSome (HoldsBy l means) (items_of heard_so ++ (items_of (all_heard first.quiet (drain lists (most - ran) so.now)) ++ more)) w said)
+          → LeavesOnly (seen before) mid (IsAfterSome (HoldsBy l means) (items_of (all_heard first.quiet (drain lists most w)) ++ more) w said)
       whole said more mid run =
           subst (λ (items : List Item). LeavesOnly (seen before) mid (IsAfterSome (HoldsBy l means) items w said))
-          (sym (ap (λ (all : Settlings). items_of all ++ more) so.is.whole ∙ items_more so.settled (drain lists (most - ran) so.now) more)) run
+          (sym (ap (λ (all : Settlings). items_of (all_heard first.quiet all) ++ more) so.is.whole ∙ heard_more first.quiet so.settled (drain lists (most - ran) so.now) more)) run
 
       pub drain_left : (mid : H) → Looks (seen after) (seen mid) → (said : List ℕ) (more : List Item) → (seen before).text ≡ Some said
-          → LeavesOnly (seen before) (seen mid) (IsAfterSome (HoldsBy l means) (items_of (drain lists most w) ++ more) w said)
-      drain_left mid looks said more printed = whole said more (seen mid) (moments_on mid looks said (items_of (drain lists (most - ran) so.now) ++ more) printed)
+          → LeavesOnly (seen before) (seen mid) (IsAfterSome (HoldsBy l means) (items_of (all_heard first.quiet (drain lists most w)) ++ more) w said)
+      drain_left mid looks said more printed = whole said more (seen mid) (moments_on mid looks said (items_of (all_heard first.quiet (drain lists (most - ran) so.now)) ++ more) printed)
 
       -- one more entry runs
       module _ (number : ℕ) (entry : stored.Entry) (front : IsFront so.now number entry) (less : ran < most) (new : View) where
@@ -136,44 +155,73 @@ module _ {H K : Type 0} (seen : H → View) (held : K → View → Entries → T
         drained : IsDrained most (ran + 1) w one.0 (so.settled ++ one ∷ [])
         drained = subst (λ (s : Settled Histories Starts). IsDrained most (ran + 1) w s.0 (so.settled ++ s ∷ [])) (sym one_is) (one_more_drained most ran w so.now so.settled (number, front.e) front.more less so.is front.front front.left)
 
-        moved : (said : List ℕ) (more : List Item) → (seen before).text ≡ Some said → ((text : List ℕ) → (seen after).text ≡ Some text → LeavesOnly (seen after) new (LeavesSettling (HoldsBy l means) so.now one.0 text one.1))
-            → LeavesOnly (seen before) new (IsAfterSome (HoldsBy l means) (items_of (so.settled ++ one ∷ []) ++ more) w said)
+        -- what is heard of them, and of it
+        heard_both : all_heard first.quiet (so.settled ++ one ∷ []) ≡ heard_so ++ heard_of first.quiet one ∷ []
+        heard_both = all_heard_append first.quiet so.settled (one ∷ [])
+
+        moved : (said : List ℕ) (more : List Item) → (seen before).text ≡ Some said
+            → ((text : List ℕ) → (seen after).text ≡ Some text → LeavesOnly (seen after) new (LeavesSettling (HoldsBy l means) so.now one.0 text (heard last.quiet one.1)))
+            → LeavesOnly (seen before) new (IsAfterSome (HoldsBy l means) (items_of (all_heard first.quiet (so.settled ++ one ∷ [])) ++ more) w said)
         moved said more printed run =
-            moments_join (HoldsBy l means) so.settled one more w so.now said (seen before) (seen after) new so.is.world
-            (λ items. so.moments said items printed) (run (said ++ texts_of so.settled) (so.printed said printed))
+            let text : List ℕ = said ++ texts_of heard_so in
+            let here : LeavesOnly (seen after) new (LeavesSettling (HoldsBy l means) so.now one.0 text (heard first.quiet one.1)) =
+            subst (λ (quiet : Bool). LeavesOnly (seen after) new (LeavesSettling (HoldsBy l means) so.now one.0 text (heard quiet one.1))) as_quiet (run text (so.printed said printed)) in
+            subst (λ (all : Settlings). LeavesOnly (seen before) new (IsAfterSome (HoldsBy l means) (items_of all ++ more) w said)) (sym heard_both)
+            (moments_join (HoldsBy l means) heard_so (heard_of first.quiet one) more w so.now said (seen before) (seen after) new (world_heard first.quiet w so.settled ∙ so.is.world)
+            (λ items. so.moments said items printed) here)
 
         -- what a stop leaves of it
-        pub one_left : (said : List ℕ) (more : List Item) → (seen before).text ≡ Some said → ((text : List ℕ) → (seen after).text ≡ Some text → LeavesOnly (seen after) new (LeavesSettling (HoldsBy l means) so.now one.0 text one.1))
-            → LeavesOnly (seen before) new (IsAfterSome (HoldsBy l means) (items_of (drain lists most w) ++ more) w said)
+        pub one_left : (said : List ℕ) (more : List Item) → (seen before).text ≡ Some said
+            → ((text : List ℕ) → (seen after).text ≡ Some text → LeavesOnly (seen after) new (LeavesSettling (HoldsBy l means) so.now one.0 text (heard last.quiet one.1)))
+            → LeavesOnly (seen before) new (IsAfterSome (HoldsBy l means) (items_of (all_heard first.quiet (drain lists most w)) ++ more) w said)
         one_left said more printed run =
             subst (λ (items : List Item). LeavesOnly (seen before) new (IsAfterSome (HoldsBy l means) items w said))
-            (sym (ap (λ (all : Settlings). items_of all ++ more) drained.whole ∙ items_more (so.settled ++ one ∷ []) (drain lists (most - (ran + 1)) one.0) more))
-            (moved said (items_of (drain lists (most - (ran + 1)) one.0) ++ more) printed run)
+            (sym (ap (λ (all : Settlings). items_of (all_heard first.quiet all) ++ more) drained.whole ∙ heard_more first.quiet (so.settled ++ one ∷ []) (drain lists (most - (ran + 1)) one.0) more))
+            (moved said (items_of (all_heard first.quiet (drain lists (most - (ran + 1)) one.0)) ++ more) printed run)
+
+        -- and what is heard and counted of it
+        one_printed : Printed (heard last.quiet one.1) (seen after) new → Printed (texts_of (all_heard first.quiet (so.settled ++ one ∷ []))) (seen before) new
+        one_printed printed =
+            subst (λ (all : Settlings). Printed (texts_of all) (seen before) new) (sym heard_both)
+            (printed_join heard_so (heard_of first.quiet one) (seen before) (seen after) new so.printed (subst (λ (quiet : Bool). Printed (heard quiet one.1) (seen after) new) as_quiet printed))
+
+        one_counts : (behind : Output) → behind ≡ counting last one.1 → behind ≡ counting first (texts_of (so.settled ++ one ∷ []))
+        one_counts behind counts =
+            counts ∙ ap (λ (output : Output). counting output one.1) so.counts ∙ counting_append first (texts_of so.settled) one.1
+            ∙ ap (λ (text : List ℕ). counting first text) (sym (texts_join so.settled one))
 
       -- and is done
-      pub drain_goes : (number : ℕ) (entry : stored.Entry) (front : IsFront so.now number entry) → ran < most → (p : Opened K) (end : H) → IsWell l (settled_entry so.now number entry).0
-          → IsAtRest seen held live l (settled_entry so.now number entry).0 p end → Printed (settled_entry so.now number entry).1 (seen after) (seen end)
-          → ((text : List ℕ) → (seen after).text ≡ Some text → LeavesOnly (seen after) (seen end) (LeavesSettling (HoldsBy l means) so.now (settled_entry so.now number entry).0 text (settled_entry so.now number entry).1))
-          → HasDrained l w p before end most (ran + 1)
-      drain_goes number entry front less p end well rest printed run = record {
+      pub drain_goes : (number : ℕ) (entry : stored.Entry) (front : IsFront so.now number entry) → ran < most → (p : Opened K) (end : H) (output : Output) → IsWell l (settled_entry so.now number entry).0
+          → IsAtRest seen held live l (settled_entry so.now number entry).0 p end → Printed (heard last.quiet (settled_entry so.now number entry).1) (seen after) (seen end)
+          → output ≡ counting last (settled_entry so.now number entry).1
+          → ((text : List ℕ) → (seen after).text ≡ Some text → LeavesOnly (seen after) (seen end) (LeavesSettling (HoldsBy l means) so.now (settled_entry so.now number entry).0 text (heard last.quiet (settled_entry so.now number entry).1)))
+          → HasDrained l w p before end first output most (ran + 1)
+      drain_goes number entry front less p end output well rest printed counts run = record {
         now = (settled_entry so.now number entry).0;
         settled = so.settled ++ settled_entry so.now number entry ∷ [];
         well = well;
         rest = rest;
         is = drained number entry front less (seen end);
-        printed = printed_join so.settled (settled_entry so.now number entry) (seen before) (seen after) (seen end) so.printed printed;
+        printed = one_printed number entry front less (seen end) printed;
+        counts = one_counts number entry front less (seen end) output counts;
         moments = λ said more is. moved number entry front less (seen end) said more is run;
       }
 
   -- where none is left to run, or nothing runs, that is the whole drain
-  pub drain_ends : (l : Language) (w : ListWorld) (o : Opened K) (before after : H) (most ran : ℕ) (so : HasDrained l w o before after most ran) → drain lists (most - ran) so.now ≡ []
-      → IsAtRest seen held live l (world_after w (drain lists most w)) o after × (ran ≡ length (drain lists most w)) × Printed (texts_of (drain lists most w)) (seen before) (seen after)
-  drain_ends l w o before after most ran so none =
+  pub drain_ends : (l : Language) (w : ListWorld) (o : Opened K) (before after : H) (first last : Output) (most ran : ℕ) (so : HasDrained l w o before after first last most ran) → drain lists (most - ran) so.now ≡ []
+      → IsAtRest seen held live l (world_after w (drain lists most w)) o after × (ran ≡ length (drain lists most w)) × Printed (texts_of (all_heard first.quiet (drain lists most w))) (seen before) (seen after)
+  drain_ends l w o before after first last most ran so none =
       let all : drain lists most w ≡ so.settled = all_drained most ran w so.now so.settled so.is none in (
         subst (λ (v : ListWorld). IsAtRest seen held live l v o after) (sym (ap (λ (s : Settlings). world_after w s) all ∙ so.is.world)) so.rest,
         sym (ap (λ (s : Settlings). length s) all ∙ so.is.count),
-        subst (λ (s : Settlings). Printed (texts_of s) (seen before) (seen after)) (sym all) so.printed,
+        subst (λ (s : Settlings). Printed (texts_of (all_heard first.quiet s)) (seen before) (seen after)) (sym all) so.printed,
       )
+
+  -- and all of it is counted
+  pub drain_counts : (l : Language) (w : ListWorld) (o : Opened K) (before after : H) (first last : Output) (most ran : ℕ) (so : HasDrained l w o before after first last most ran) → drain lists (most - ran) so.now ≡ []
+      → last ≡ counting first (texts_of (drain lists most w))
+  drain_counts l w o before after first last most ran so none =
+      so.counts ∙ ap (λ (s : Settlings). counting first (texts_of s)) (sym (all_drained most ran w so.now so.settled so.is none))
 
 -- so many ran as may
 pub drained_all : (most ran : ℕ) (w : ListWorld) → most ≤ ran → drain lists (most - ran) w ≡ []

@@ -6,5 +6,6 @@ pub mod Going
 pub mod Working
 pub mod Ending
 pub mod Items
+pub mod Output
 pub mod Draining
 pub mod Drained

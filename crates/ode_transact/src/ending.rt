@@ -2,6 +2,7 @@
 ghost use Rattle.std.specs.Prelude.{◌≡◌, ◌<◌, ◌≤◌, ◌++◌, ◌^◌, ◌+ℤ◌, ℕ, List as Items, IfOk, IsErrOf, IsTrue, OnOk, Some, length, pos, true};
 ghost use Rattle.ode_transact.specs.Ending.{line_of};
 ghost use Rattle.ode_transact.specs.Errors.{OnDamaged, fault_of};
+ghost use Rattle.ode_transact.specs.Output.{counting, heard};
 ghost use Rattle.ode_transact.specs.Resting.{HoldsBy, IsAtRest, resting_parts};
 ghost use Rattle.ode_transact.specs.Settling.{LeavesBatch};
 ghost use Rattle.ode_transact.specs.Working.{settled_by};
@@ -18,6 +19,7 @@ ghost use Rattle.ode_settled_laws.specs.Holding.{SettledOver};
 ghost use Rattle.ode_value.specs.Language.{Language, ListTx, ListWorld};
 
 use crate::error::EngineError;
+use crate::output::Output;
 use crate::settling::hand_over;
 use ode_heap::Heap;
 use ode_heap_laws::heaps_show_held_worlds;
@@ -134,10 +136,11 @@ fn changes_of<H: Host, K: Keep<H>>(
     }
 }
 
-// A context goes back to a file: these changes are made, and its text is printed with its last line.
+// A context goes back to a file: these changes are made, and its text with its last line goes to the output.
 fn close<H: Host, K: Keep<H> + Drop>(
     ctx: Ctx<K>,
     host: &mut H,
+    output: &mut Output,
     batch: &Batch,
     line: &[u8],
 ) -> Result<Opened<K>, EngineError>
@@ -146,9 +149,10 @@ fn close<H: Host, K: Keep<H> + Drop>(
     requires short { HasShortValues batch.now }
     ensures done { IfOk result (λ rest. (entries : Entries) → K.holds ctx.heap (H.view host.old) entries
         → K.holds rest.keeper (H.view host.new) (applied batch.now entries)) }
-    ensures printed { OnOk result (Printed (ctx.text ++ line.now) (H.view host.old) (H.view host.new)) }
+    ensures printed { OnOk result (Printed (heard output.old.quiet (ctx.text ++ line.now)) (H.view host.old) (H.view host.new)) }
+    ensures counts { OnOk result (output.new ≡ counting output.old (ctx.text ++ line.now)) }
     ensures any_moment { (entries : Entries) (said : Items ℕ) → K.holds ctx.heap (H.view host.old) entries → (H.view host.old).text ≡ Some said
-        → LeavesOnly (H.view host.old) (H.view host.new) (LeavesBatch K.means entries batch.now said (ctx.text ++ line.now)) }
+        → LeavesOnly (H.view host.old) (H.view host.new) (LeavesBatch K.means entries batch.now said (heard output.old.quiet (ctx.text ++ line.now))) }
     ensures parts { IfOk result (λ rest. resting_parts rest ≡ parts_of ctx) }
     ensures bytes { IfOk result (λ rest. (sum : ℕ) → pos ctx.bytes +ℤ growth_told ctx.overlay ≡ pos sum → sum < 2 ^ 64 → rest.bytes ≡ sum) }
     ensures usable { IfOk result (λ rest. K.live rest.keeper ≡ true) }
@@ -169,7 +173,7 @@ fn close<H: Host, K: Keep<H> + Drop>(
     } = ctx;
     let growth = growth_of(&overlay, &classes, &mut heap, host);
     let text = with_line(text, line)?;
-    hand_over(host, &mut heap, batch, text.as_slice())?;
+    hand_over(host, &mut heap, output, batch, text.as_slice())?;
     Ok(Opened {
         keeper: heap.into_keeper(),
         classes,
@@ -180,24 +184,27 @@ fn close<H: Host, K: Keep<H> + Drop>(
     })
 }
 
-/// A transaction settles, by commit, or by an abort for this reason; and its text is printed, with its last line.
+/// A transaction settles, by commit, or by an abort for this reason; and its text with its last line goes to the output.
 pub fn end<H: Host, K: Keep<H> + Drop>(
     alloc: Global,
     ctx: Ctx<K>,
     host: &mut H,
+    output: &mut Output,
     ending: Option<Reason>,
 ) -> Result<Opened<K>, EngineError>
     requires live { IsTrue (K.live ctx.heap) }
     requires fit { AreFit (parts_of ctx) }
-    // Then the file holds the world that the machine's transaction leaves, and its text is printed.
+    // Then the file holds the world that the machine's transaction leaves, and its text is printed where the output isn't quiet.
     ensures done { (l : Language) (w : ListWorld) (t : ListTx) → ContextRuns H.view K.holds K.live l w ctx host.old t → IsWell l (settled_by ending t).0
         → IfOk result (λ rest. IsAtRest H.view K.holds K.live l (settled_by ending t).0 rest host.new) }
     ensures printed { (l : Language) (w : ListWorld) (t : ListTx) → ContextRuns H.view K.holds K.live l w ctx host.old t
-        → OnOk result (Printed (settled_by ending t).1 (H.view host.old) (H.view host.new)) }
-    // A stop leaves the world before and none of the text, or the one behind and a front of it.
+        → OnOk result (Printed (heard output.old.quiet (settled_by ending t).1) (H.view host.old) (H.view host.new)) }
+    ensures counts { (l : Language) (w : ListWorld) (t : ListTx) → ContextRuns H.view K.holds K.live l w ctx host.old t
+        → OnOk result (output.new ≡ counting output.old (settled_by ending t).1) }
+    // A stop leaves the world before and none of the text, or the one behind and a front of what is printed of it.
     ensures any_moment { (l : Language) (w : ListWorld) (t : ListTx) (said : Items ℕ) → IsWell l w → ContextRuns H.view K.holds K.live l w ctx host.old t → IsWell l (settled_by ending t).0
         → (H.view host.old).text ≡ Some said
-        → LeavesOnly (H.view host.old) (H.view host.new) (LeavesSettling (HoldsBy l K.means) w (settled_by ending t).0 said (settled_by ending t).1) }
+        → LeavesOnly (H.view host.old) (H.view host.new) (LeavesSettling (HoldsBy l K.means) w (settled_by ending t).0 said (heard output.old.quiet (settled_by ending t).1)) }
     ensures parts { IfOk result (λ rest. resting_parts rest ≡ parts_of ctx) }
     ensures usable { IfOk result (λ rest. K.live rest.keeper ≡ true) }
     ensures leaves { HostCalls (IsErrOf result EngineError.DiskFault) (IsErrOf result EngineError.WriteFault) (H.view host.old) (H.view host.new) }
@@ -208,5 +215,5 @@ pub fn end<H: Host, K: Keep<H> + Drop>(
     let number = number_of(alloc, &mut ctx, host)?;
     let line = last_line(alloc, number, &ending)?;
     let batch = changes_of(alloc, &mut ctx, host, &ending)?;
-    close(ctx, host, &batch, line.as_slice())
+    close(ctx, host, output, &batch, line.as_slice())
 }

@@ -1,21 +1,24 @@
 //! A transaction is settled: its changes first, then its text.
 ghost use Rattle.std.specs.Prelude.{◌≡◌, ◌≤◌, ℕ, List as Items, IsErrOf, IsTrue, OnOk, Some, length};
 ghost use Rattle.ode_transact.specs.Errors.{OnDamaged};
+ghost use Rattle.ode_transact.specs.Output.{counting, heard};
 ghost use Rattle.ode_transact.specs.Settling.{LeavesBatch};
 ghost use Rattle.ode_host.specs.Host.{HostCalls, LeavesOnly, Printed};
 ghost use Rattle.ode_keep.specs.Entries.{Entries, applied, record_bytes};
 ghost use Rattle.ode_keep.specs.ShortValues.{HasShortValues};
 
 use crate::error::EngineError;
+use crate::output::Output;
 use ode_heap::Heap;
 use ode_host::Host;
 use ode_keep::{Batch, Keep, MAX_CHANGES, MAX_RECORD_BYTES};
 
-/// Settles a transaction by one commit, and then prints its text. A stop on the way leaves the records before it and no text, or those
-/// after it and a front of its text.
+/// Settles a transaction by one commit, and then prints its text, where the output isn't quiet, and counts it. A stop on the way leaves
+/// the records before it and no text, or those after it and a front of what is printed.
 pub fn hand_over<H: Host, K: Keep<H>>(
     host: &mut H,
     heap: &mut Heap<K>,
+    output: &mut Output,
     batch: &Batch,
     text: &[u8],
 ) -> Result<(), EngineError>
@@ -24,15 +27,17 @@ pub fn hand_over<H: Host, K: Keep<H>>(
     requires short { HasShortValues batch.now }
     ensures done { OnOk result ((entries : Entries) → K.holds heap.old (H.view host.old) entries
         → K.holds heap.new (H.view host.new) (applied batch.now entries)) }
-    ensures printed { OnOk result (Printed text.now (H.view host.old) (H.view host.new)) }
+    ensures printed { OnOk result (Printed (heard output.old.quiet text.now) (H.view host.old) (H.view host.new)) }
+    ensures counts { OnOk result (output.new ≡ counting output.old text.now) }
     ensures any_moment { (entries : Entries) (said : Items ℕ) → K.holds heap.old (H.view host.old) entries → (H.view host.old).text ≡ Some said
-        → LeavesOnly (H.view host.old) (H.view host.new) (LeavesBatch K.means entries batch.now said text.now) }
+        → LeavesOnly (H.view host.old) (H.view host.new) (LeavesBatch K.means entries batch.now said (heard output.old.quiet text.now)) }
     ensures live { OnOk result (IsTrue (K.live heap.new)) }
     ensures undamaged { OnDamaged result ((entries : Entries) → K.holds heap.old (H.view host.old) entries
         → record_bytes (applied batch.now entries) ≤ MAX_RECORD_BYTES → ⊥) }
     ensures leaves { HostCalls (IsErrOf result EngineError.DiskFault) (IsErrOf result EngineError.WriteFault) (H.view host.old) (H.view host.new) }
 {
     heap.stage(host, batch)?;
-    host.print(text)?;
+    output.say(host, text)?;
+    output.count(text);
     Ok(())
 }

@@ -5,6 +5,7 @@ ghost use Rattle.ode_transact.specs.Draining.{front_of};
 ghost use Rattle.ode_transact.specs.Errors.{OnDamaged};
 ghost use Rattle.ode_transact.specs.Resting.{HoldsBy, IsAtRest, resting_parts};
 ghost use Rattle.ode_transact.specs.Items.{items_of, texts_of};
+ghost use Rattle.ode_transact.specs.Output.{all_heard, counting, heard};
 ghost use Rattle.ode_transact.specs.Working.{IsFromFront, work_of};
 ghost use Rattle.ode_good_laws.specs.Well.{IsWell};
 ghost use Rattle.ode_host.specs.Causes.{RoseIf};
@@ -23,6 +24,7 @@ ghost use Rattle.ode_value.specs.Settling.{transaction};
 use crate::beginning::begin;
 use crate::ending::end;
 use crate::error::EngineError;
+use crate::output::Output;
 use crate::work::Work;
 use crate::working::run;
 use ode_codec::Entry;
@@ -41,6 +43,7 @@ pub fn transact<H: Host, K: Keep<H> + Drop>(
     alloc: Global,
     rest: Opened<K>,
     host: &mut H,
+    output: &mut Output,
     origin: Origin,
     work: Work<'_>,
 ) -> Result<Opened<K>, EngineError>
@@ -49,11 +52,14 @@ pub fn transact<H: Host, K: Keep<H> + Drop>(
     requires generation { IsGeneration origin }
     ensures done { (l : Language) (w : ListWorld) → IsAtRest H.view K.holds K.live l w rest host.old → IsFromFront origin w
         → let s = transaction lists (origin_as origin) (work_of work.entry lists) w in
-        IsWell l s.0 → IfOk result (λ after. IsAtRest H.view K.holds K.live l s.0 after host.new) × OnOk result (Printed s.1 (H.view host.old) (H.view host.new)) }
+        IsWell l s.0 → IfOk result (λ after. IsAtRest H.view K.holds K.live l s.0 after host.new) × OnOk result (Printed (heard output.old.quiet s.1) (H.view host.old) (H.view host.new)) }
+    ensures counts { (l : Language) (w : ListWorld) → IsAtRest H.view K.holds K.live l w rest host.old → IsFromFront origin w
+        → let s = transaction lists (origin_as origin) (work_of work.entry lists) w in
+        IsWell l s.0 → OnOk result (output.new ≡ counting output.old s.1) }
     ensures any_moment { (l : Language) (w : ListWorld) (said : Items ℕ) → IsWell l w → IsAtRest H.view K.holds K.live l w rest host.old → IsFromFront origin w
         → let s = transaction lists (origin_as origin) (work_of work.entry lists) w in
         IsWell l s.0 → (H.view host.old).text ≡ Some said
-        → LeavesOnly (H.view host.old) (H.view host.new) (LeavesSettling (HoldsBy l K.means) w s.0 said s.1) }
+        → LeavesOnly (H.view host.old) (H.view host.new) (LeavesSettling (HoldsBy l K.means) w s.0 said (heard output.old.quiet s.1)) }
     ensures parts { IfOk result (λ after. resting_parts after ≡ resting_parts rest) }
     ensures usable { IfOk result (λ after. K.live after.keeper ≡ true) }
     ensures leaves { HostCalls (IsErrOf result EngineError.DiskFault) (IsErrOf result EngineError.WriteFault) (H.view host.old) (H.view host.new) }
@@ -63,7 +69,7 @@ pub fn transact<H: Host, K: Keep<H> + Drop>(
 {
     let mut ctx = begin(alloc, rest, host, origin)?;
     let ending = run(alloc, &mut ctx, host, work)?;
-    end(alloc, ctx, host, ending)
+    end(alloc, ctx, host, output, ending)
 }
 
 /// The number of the next transaction.
@@ -203,6 +209,7 @@ pub fn drain<H: Host, K: Keep<H> + Drop>(
     alloc: Global,
     rest: Opened<K>,
     host: &mut H,
+    output: &mut Output,
     most: u32,
 ) -> Result<(Opened<K>, u32), EngineError>
     requires live { IsTrue (K.live rest.keeper) }
@@ -210,10 +217,12 @@ pub fn drain<H: Host, K: Keep<H> + Drop>(
     ensures done { (l : Language) (w : ListWorld) → IsWell l w → IsAtRest H.view K.holds K.live l w rest host.old
         → let settled = drain lists most w in
         IfOk result (λ r. IsAtRest H.view K.holds K.live l (world_after w settled) r.0 host.new × (r.1 ≡ length settled))
-        × OnOk result (Printed (texts_of settled) (H.view host.old) (H.view host.new)) }
+        × OnOk result (Printed (texts_of (all_heard output.old.quiet settled)) (H.view host.old) (H.view host.new)) }
+    ensures counts { (l : Language) (w : ListWorld) → IsWell l w → IsAtRest H.view K.holds K.live l w rest host.old
+        → OnOk result (output.new ≡ counting output.old (texts_of (drain lists most w))) }
     // A stop leaves what some of them left, with any more behind them.
     ensures any_moment { (l : Language) (w : ListWorld) (said : Items ℕ) (more : Items Item) → IsWell l w → IsAtRest H.view K.holds K.live l w rest host.old → (H.view host.old).text ≡ Some said
-        → LeavesOnly (H.view host.old) (H.view host.new) (IsAfterSome (HoldsBy l K.means) (items_of (drain lists most w) ++ more) w said) }
+        → LeavesOnly (H.view host.old) (H.view host.new) (IsAfterSome (HoldsBy l K.means) (items_of (all_heard output.old.quiet (drain lists most w)) ++ more) w said) }
     ensures few { IfOk result (λ r. r.1 ≤ most) }
     ensures parts { IfOk result (λ r. resting_parts r.0 ≡ resting_parts rest) }
     ensures usable { IfOk result (λ r. K.live r.0.keeper ≡ true) }
@@ -232,7 +241,7 @@ pub fn drain<H: Host, K: Keep<H> + Drop>(
                     number,
                     generation: entry.generation,
                 };
-                rest = transact(alloc, back, host, origin, Work::Entry(&entry))?;
+                rest = transact(alloc, back, host, output, origin, Work::Entry(&entry))?;
                 ran += 1;
             }
         }
@@ -245,6 +254,7 @@ pub fn transact_and_drain<H: Host, K: Keep<H> + Drop>(
     alloc: Global,
     rest: Opened<K>,
     host: &mut H,
+    output: &mut Output,
     origin: Origin,
     work: Work<'_>,
     most: u32,
@@ -256,10 +266,13 @@ pub fn transact_and_drain<H: Host, K: Keep<H> + Drop>(
         → let settled = with_drain lists most (transaction lists (origin_as origin) (work_of work.entry lists) w) in
         IsWell l (transaction lists (origin_as origin) (work_of work.entry lists) w).0
         → IfOk result (λ r. IsAtRest H.view K.holds K.live l (world_after w settled) r.0 host.new × (r.1 + 1 ≡ length settled))
-        × OnOk result (Printed (texts_of settled) (H.view host.old) (H.view host.new)) }
+        × OnOk result (Printed (texts_of (all_heard output.old.quiet settled)) (H.view host.old) (H.view host.new)) }
+    ensures counts { (l : Language) (w : ListWorld) → IsWell l w → IsAtRest H.view K.holds K.live l w rest host.old → IsFromFront origin w
+        → IsWell l (transaction lists (origin_as origin) (work_of work.entry lists) w).0
+        → OnOk result (output.new ≡ counting output.old (texts_of (with_drain lists most (transaction lists (origin_as origin) (work_of work.entry lists) w)))) }
     ensures any_moment { (l : Language) (w : ListWorld) (said : Items ℕ) (more : Items Item) → IsWell l w → IsAtRest H.view K.holds K.live l w rest host.old → IsFromFront origin w
         → IsWell l (transaction lists (origin_as origin) (work_of work.entry lists) w).0 → (H.view host.old).text ≡ Some said
-        → LeavesOnly (H.view host.old) (H.view host.new) (IsAfterSome (HoldsBy l K.means) (items_of (with_drain lists most (transaction lists (origin_as origin) (work_of work.entry lists) w)) ++ more) w said) }
+        → LeavesOnly (H.view host.old) (H.view host.new) (IsAfterSome (HoldsBy l K.means) (items_of (all_heard output.old.quiet (with_drain lists most (transaction lists (origin_as origin) (work_of work.entry lists) w))) ++ more) w said) }
     ensures few { IfOk result (λ r. r.1 ≤ most) }
     ensures parts { IfOk result (λ r. resting_parts r.0 ≡ resting_parts rest) }
     ensures usable { IfOk result (λ r. K.live r.0.keeper ≡ true) }
@@ -267,6 +280,6 @@ pub fn transact_and_drain<H: Host, K: Keep<H> + Drop>(
     ensures undamaged { OnDamaged result ((l : Language) (w : ListWorld) → IsWell l w → IsAtRest H.view K.holds K.live l w rest host.old → IsFromFront origin w → w.bones.transaction < transaction_limit
         → IsWell l (transaction lists (origin_as origin) (work_of work.entry lists) w).0 → ⊥) }
 {
-    let rest = transact(alloc, rest, host, origin, work)?;
-    drain(alloc, rest, host, most)
+    let rest = transact(alloc, rest, host, output, origin, work)?;
+    drain(alloc, rest, host, output, most)
 }

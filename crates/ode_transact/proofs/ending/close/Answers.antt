@@ -1,4 +1,4 @@
-use Rattle.std.proofs.Common.{rules, ◌∙◌, ◌≤◌}
+use Rattle.std.proofs.Common.{rules, ◌∙◌, ◌≤◌, ℕ, List, ap}
 use Rattle.ode_keep.specs.Entries.{Entries, applied, record_bytes}
 use Rattle.ode_keep.specs.declared.limits.TheConstants.{MAX_RECORD_BYTES}
 use Rattle.ode_opened.specs.declared.opened.Opened.{Opened}
@@ -6,16 +6,17 @@ use Rattle.ode_transact.proofs.BeginLaws.{damaged_before}
 use Rattle.ode_transact.proofs.DamageLaws.{memory_undamaged}
 use Rattle.ode_transact.proofs.EndingLaws.{batch_runs, heap_back}
 use Rattle.ode_transact.proofs.ending.close.Goals as goal
+use Rattle.ode_transact.specs.Output.{heard}
 
 pub returns-in_err-hand_over-clause-any_moment : goal.returns-in_err-hand_over-clause-any_moment
 returns-in_err-hand_over-clause-any_moment g c = λ entries said.
     batch_runs g.H.Host.view g.K.Keep.holds g.K.Keep.means entries c.args.batch.now said _ _ c.args.ctx.heap c.growth_of-growth.new.heap c.args.host.now c.growth_of-growth.new.host c.hand_over.new.host
-    c.growth_of-growth.ensures.same.0 c.growth_of-growth.ensures.same.1 (c.as_slice.ensures ∙ c.in_ok-text.ensures) (c.hand_over.ensures.any_moment entries said)
+    c.growth_of-growth.ensures.same.0 c.growth_of-growth.ensures.same.1 (ap (λ (text : List ℕ). heard c.args.output.now.quiet text) (c.as_slice.ensures ∙ c.in_ok-text.ensures)) (c.hand_over.ensures.any_moment entries said)
 
 pub returns-clause-any_moment : goal.returns-clause-any_moment
 returns-clause-any_moment g c = λ entries said.
     batch_runs g.H.Host.view g.K.Keep.holds g.K.Keep.means entries c.args.batch.now said _ _ c.args.ctx.heap c.growth_of-growth.new.heap c.args.host.now c.growth_of-growth.new.host c.hand_over.new.host
-    c.growth_of-growth.ensures.same.0 c.growth_of-growth.ensures.same.1 (c.as_slice.ensures ∙ c.in_ok-text.ensures) (c.hand_over.ensures.any_moment entries said)
+    c.growth_of-growth.ensures.same.0 c.growth_of-growth.ensures.same.1 (ap (λ (text : List ℕ). heard c.args.output.now.quiet text) (c.as_slice.ensures ∙ c.in_ok-text.ensures)) (c.hand_over.ensures.any_moment entries said)
 
 pub returns-in_err-text-clause-undamaged : goal.returns-in_err-text-clause-undamaged
 returns-in_err-text-clause-undamaged g c = memory_undamaged c.from_residual.result _ (search rules)

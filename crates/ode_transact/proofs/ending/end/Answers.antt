@@ -9,8 +9,10 @@ use Rattle.ode_run.specs.Contexts.{ContextRuns}
 use Rattle.ode_transact.proofs.BeginLaws.{damaged_before}
 use Rattle.ode_transact.proofs.DamageLaws.{damaged_so, memory_undamaged}
 use Rattle.ode_transact.proofs.EndingLaws.{batch_leaves, before_leaves, ends_at_rest, fails_apart, fails_as, looks_leave, looks_then, none_rose, printed_behind}
+use Rattle.ode_transact.proofs.OutputLaws.{counted_as}
 use Rattle.ode_transact.proofs.RecordLaws.{records_are_light}
 use Rattle.ode_transact.specs.Ending.{line_of}
+use Rattle.ode_transact.specs.Output.{heard, heard_of}
 use Rattle.ode_transact.specs.Resting.{HoldsBy}
 use Rattle.ode_transact.specs.Working.{settled_by}
 use Rattle.ode_transact.specs.declared.error.EngineError.TheVariants as engine
@@ -19,7 +21,7 @@ use Rattle.ode_value.specs.Language.{Language, ListTx, ListWorld}
 
 pub returns-in_err-number-clause-any_moment : goal.returns-in_err-number-clause-any_moment
 returns-in_err-number-clause-any_moment g c = λ l w t said well runs behind printed.
-    let s = settled_by c.args.ending t in
+    let s = heard_of c.args.output.now.quiet (settled_by c.args.ending t) in
     looks_leave (g.H.Host.view c.args.host.now) _ (LeavesSettling (HoldsBy l g.K.Keep.means) w s.0 said s.1)
     (before_leaves l g.K.Keep.means runs.entries w s.0 said s.1 (g.H.Host.view c.args.host.now) (g.met.K.Keep.stands c.args.ctx.heap c.args.host.now runs.entries runs.context.state.records)
     (g.met.H.Host.text_stands c.args.host.now) printed runs.world well.ones)
@@ -31,7 +33,7 @@ returns-in_err-number-clause-leaves g c =
 
 pub returns-in_err-line-clause-any_moment : goal.returns-in_err-line-clause-any_moment
 returns-in_err-line-clause-any_moment g c = λ l w t said well runs behind printed.
-    let s = settled_by c.args.ending t in
+    let s = heard_of c.args.output.now.quiet (settled_by c.args.ending t) in
     looks_leave (g.H.Host.view c.args.host.now) _ (LeavesSettling (HoldsBy l g.K.Keep.means) w s.0 said s.1)
     (before_leaves l g.K.Keep.means runs.entries w s.0 said s.1 (g.H.Host.view c.args.host.now) (g.met.K.Keep.stands c.args.ctx.heap c.args.host.now runs.entries runs.context.state.records)
     (g.met.H.Host.text_stands c.args.host.now) printed runs.world well.ones)
@@ -43,7 +45,7 @@ returns-in_err-line-clause-leaves g c =
 
 pub returns-in_err-batch-clause-any_moment : goal.returns-in_err-batch-clause-any_moment
 returns-in_err-batch-clause-any_moment g c = λ l w t said well runs behind printed.
-    let s = settled_by c.args.ending t in
+    let s = heard_of c.args.output.now.quiet (settled_by c.args.ending t) in
     looks_leave (g.H.Host.view c.args.host.now) _ (LeavesSettling (HoldsBy l g.K.Keep.means) w s.0 said s.1)
     (before_leaves l g.K.Keep.means runs.entries w s.0 said s.1 (g.H.Host.view c.args.host.now) (g.met.K.Keep.stands c.args.ctx.heap c.args.host.now runs.entries runs.context.state.records)
     (g.met.H.Host.text_stands c.args.host.now) printed runs.world well.ones)
@@ -69,12 +71,20 @@ returns-clause-printed g c = λ l w t runs.
     let line = c.in_ok-line.ensures ∙ ap (λ (n : ℕ). line_of n c.args.ending) (c.in_ok-number.ensures.is l w t runs) in
     printed_behind c.close.result _ _ (g.H.Host.view c.args.host.now) (g.H.Host.view c.changes_of.new.host) (g.H.Host.view c.close.new.host)
     (looks_joined _ _ _ c.number_of.ensures.looks c.changes_of.ensures.looks)
-    (ap (λ (b : List ℕ). c.changes_of.new.ctx.text ++ b) (c.as_slice.ensures ∙ line) ∙ sym (c.in_ok-batch.ensures.settles l w t on).prints)
+    (ap (λ (text : List ℕ). heard c.args.output.now.quiet text) (ap (λ (b : List ℕ). c.changes_of.new.ctx.text ++ b) (c.as_slice.ensures ∙ line) ∙ sym (c.in_ok-batch.ensures.settles l w t on).prints))
     c.close.ensures.printed
+
+pub returns-clause-counts : goal.returns-clause-counts
+returns-clause-counts g c = λ l w t runs.
+    let on = c.in_ok-number.ensures.stays l w t runs in
+    let line = c.in_ok-line.ensures ∙ ap (λ (n : ℕ). line_of n c.args.ending) (c.in_ok-number.ensures.is l w t runs) in
+    counted_as c.close.result c.args.output.now c.close.new.output _ _
+    (ap (λ (b : List ℕ). c.changes_of.new.ctx.text ++ b) (c.as_slice.ensures ∙ line) ∙ sym (c.in_ok-batch.ensures.settles l w t on).prints)
+    c.close.ensures.counts
 
 pub returns-clause-any_moment : goal.returns-clause-any_moment
 returns-clause-any_moment g c = λ l w t said well runs behind printed.
-    let s = settled_by c.args.ending t in
+    let s = heard_of c.args.output.now.quiet (settled_by c.args.ending t) in
     let on = c.in_ok-number.ensures.stays l w t runs in
     let looks = looks_joined _ _ _ c.number_of.ensures.looks c.changes_of.ensures.looks in
     let line = c.in_ok-line.ensures ∙ ap (λ (n : ℕ). line_of n c.args.ending) (c.in_ok-number.ensures.is l w t runs) in
@@ -86,7 +96,7 @@ returns-clause-any_moment g c = λ l w t said well runs behind printed.
     (g.met.H.Host.text_stands c.args.host.now) printed runs.world well.ones)
     looks)
     (batch_leaves l g.K.Keep.means on.entries c.in_ok-batch.batch w s.0 said _ s.1 (g.H.Host.view c.changes_of.new.host) (g.H.Host.view c.close.new.host) on.world well.ones (over.holds behind.good).held behind.ones
-    (ap (λ (b : List ℕ). c.changes_of.new.ctx.text ++ b) (c.as_slice.ensures ∙ line) ∙ sym over.prints)
+    (ap (λ (text : List ℕ). heard c.args.output.now.quiet text) (ap (λ (b : List ℕ). c.changes_of.new.ctx.text ++ b) (c.as_slice.ensures ∙ line) ∙ sym over.prints))
     (c.close.ensures.any_moment on.entries said context.state.records (looks.text ∙ printed)))
 
 pub returns-clause-leaves : goal.returns-clause-leaves

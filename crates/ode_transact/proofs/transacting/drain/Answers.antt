@@ -6,7 +6,7 @@ use Rattle.ode_host.proofs.Moments.{looks_none}
 use Rattle.ode_opened.specs.declared.opened.Opened.{Opened}
 use Rattle.ode_overlay.specs.declared.origin.Origin.TheVariants as from
 use Rattle.ode_transact.proofs.BeginLaws.{damaged_before, still_left}
-use Rattle.ode_transact.proofs.DrainSteps.{calls_look, calls_none, drain_ends, drain_goes, drain_left, drain_looks, drain_starts, drained_all, front_well, one_left, settled_entry}
+use Rattle.ode_transact.proofs.DrainSteps.{calls_look, calls_none, drain_counts, drain_ends, drain_goes, drain_left, drain_looks, drain_starts, drained_all, front_well, one_left, settled_entry}
 use Rattle.ode_transact.proofs.EndingLaws.{calls_as, fails_as, none_rose}
 use Rattle.ode_transact.proofs.FrontLaws.{front_left, next_runs, no_next}
 use Rattle.ode_transact.proofs.transacting.drain.Goals as goal
@@ -17,7 +17,7 @@ use Rattle.ode_value.specs.Limits.{transaction_limit}
 
 pub entries-init : goal.entries-init
 entries-init g c = record {
-  drained = λ lang w well rest. drain_starts g.H.Host.view g.K.Keep.holds g.K.Keep.live g.K.Keep.means lang w c.args.rest c.args.host.now c.args.most well rest;
+  drained = λ lang w well rest. drain_starts g.H.Host.view g.K.Keep.holds g.K.Keep.live g.K.Keep.means lang w c.args.rest c.args.host.now c.args.output.now c.args.most well rest;
   few = omega arith;
   usable = c.requires.live;
   parts = refl;
@@ -26,7 +26,7 @@ entries-init g c = record {
 
 pub returns-in_err-back-clause-any_moment : goal.returns-in_err-back-clause-any_moment
 returns-in_err-back-clause-any_moment g c = λ l w said more well rest printed.
-    drain_left g.H.Host.view g.K.Keep.holds g.K.Keep.live g.K.Keep.means g.met.K.Keep.stands g.met.H.Host.text_stands l w c.entries.rest c.args.host.now c.entries.host c.args.most c.entries.ran
+    drain_left g.H.Host.view g.K.Keep.holds g.K.Keep.live g.K.Keep.means g.met.K.Keep.stands g.met.H.Host.text_stands l w c.entries.rest c.args.host.now c.entries.host c.args.output.now c.entries.output c.args.most c.entries.ran
     (c.entries.invariant.drained l w well rest) c.next_entry.new.host c.next_entry.ensures.looks said more printed
 
 pub returns-in_err-back-clause-leaves : goal.returns-in_err-back-clause-leaves
@@ -38,14 +38,20 @@ pub returns-in-None-clause-done : goal.returns-in-None-clause-done
 returns-in-None-clause-done g c = λ l w well rest.
     let so = c.entries.invariant.drained l w well rest in
     let next = c.in_ok-back.ensures.is l so.now so.rest in
-    let on = drain_looks g.H.Host.view g.K.Keep.holds g.K.Keep.live g.K.Keep.means g.met.K.Keep.stands g.met.H.Host.text_stands l w c.entries.rest c.args.host.now c.entries.host c.args.most c.entries.ran so
+    let on = drain_looks g.H.Host.view g.K.Keep.holds g.K.Keep.live g.K.Keep.means g.met.K.Keep.stands g.met.H.Host.text_stands l w c.entries.rest c.args.host.now c.entries.host c.args.output.now c.entries.output c.args.most c.entries.ran so
     c.in_ok-back.back c.next_entry.new.host c.next_entry.ensures.looks next.0 in
-    let ends = drain_ends g.H.Host.view g.K.Keep.holds g.K.Keep.live g.K.Keep.means l w c.in_ok-back.back c.args.host.now c.next_entry.new.host c.args.most c.entries.ran on (no_next so.now _ (sym c.in-None.is ∙ next.1)) in
+    let ends = drain_ends g.H.Host.view g.K.Keep.holds g.K.Keep.live g.K.Keep.means l w c.in_ok-back.back c.args.host.now c.next_entry.new.host c.args.output.now c.entries.output c.args.most c.entries.ran on (no_next so.now _ (sym c.in-None.is ∙ next.1)) in
     ((ends.0, ends.1), ends.2)
+
+pub returns-in-None-clause-counts : goal.returns-in-None-clause-counts
+returns-in-None-clause-counts g c = λ l w well rest.
+    let so = c.entries.invariant.drained l w well rest in
+    let next = c.in_ok-back.ensures.is l so.now so.rest in
+    drain_counts g.H.Host.view g.K.Keep.holds g.K.Keep.live g.K.Keep.means l w c.entries.rest c.args.host.now c.entries.host c.args.output.now c.entries.output c.args.most c.entries.ran so (no_next so.now _ (sym c.in-None.is ∙ next.1))
 
 pub returns-in-None-clause-any_moment : goal.returns-in-None-clause-any_moment
 returns-in-None-clause-any_moment g c = λ l w said more well rest printed.
-    drain_left g.H.Host.view g.K.Keep.holds g.K.Keep.live g.K.Keep.means g.met.K.Keep.stands g.met.H.Host.text_stands l w c.entries.rest c.args.host.now c.entries.host c.args.most c.entries.ran
+    drain_left g.H.Host.view g.K.Keep.holds g.K.Keep.live g.K.Keep.means g.met.K.Keep.stands g.met.H.Host.text_stands l w c.entries.rest c.args.host.now c.entries.host c.args.output.now c.entries.output c.args.most c.entries.ran
     (c.entries.invariant.drained l w well rest) c.next_entry.new.host c.next_entry.ensures.looks said more printed
 
 pub returns-in-None-clause-leaves : goal.returns-in-None-clause-leaves
@@ -57,11 +63,11 @@ pub returns-in_err-rest-in-Some-clause-any_moment : goal.returns-in_err-rest-in-
 returns-in_err-rest-in-Some-clause-any_moment g c = λ l w said more well rest printed.
     let so = c.entries.invariant.drained l w well rest in
     let next = c.in_ok-back.ensures.is l so.now so.rest in
-    let on = drain_looks g.H.Host.view g.K.Keep.holds g.K.Keep.live g.K.Keep.means g.met.K.Keep.stands g.met.H.Host.text_stands l w c.entries.rest c.args.host.now c.entries.host c.args.most c.entries.ran so
+    let on = drain_looks g.H.Host.view g.K.Keep.holds g.K.Keep.live g.K.Keep.means g.met.K.Keep.stands g.met.H.Host.text_stands l w c.entries.rest c.args.host.now c.entries.host c.args.output.now c.entries.output c.args.most c.entries.ran so
     c.in_ok-back.back c.next_entry.new.host c.next_entry.ensures.looks next.0 in
     let front = next_runs so.now c.in-Some.number c.in-Some.entry (sym c.in-Some.is ∙ next.1) in
     let behind = front_well l so.now c.in-Some.number c.in-Some.entry front (λ most. c.transactions_leave_good_worlds.ensures.drain l most so.now so.well) in
-    one_left g.H.Host.view g.K.Keep.holds g.K.Keep.live g.K.Keep.means g.met.K.Keep.stands g.met.H.Host.text_stands l w c.in_ok-back.back c.args.host.now c.next_entry.new.host c.args.most c.entries.ran on
+    one_left g.H.Host.view g.K.Keep.holds g.K.Keep.live g.K.Keep.means g.met.K.Keep.stands g.met.H.Host.text_stands l w c.in_ok-back.back c.args.host.now c.next_entry.new.host c.args.output.now c.entries.output c.args.most c.entries.ran on
     c.in-Some.number c.in-Some.entry front c.entries-test.true (g.H.Host.view c.transact.new.host) said more printed
     (λ text is. c.transact.ensures.any_moment l so.now text so.well next.0 (front.e, front.more, front.front) behind is)
 
@@ -76,13 +82,14 @@ entries-preserved g c = record {
   drained = λ lang w well rest.
       let so = c.entries.invariant.drained lang w well rest in
       let next = c.in_ok-back.ensures.is lang so.now so.rest in
-      let on = drain_looks g.H.Host.view g.K.Keep.holds g.K.Keep.live g.K.Keep.means g.met.K.Keep.stands g.met.H.Host.text_stands lang w c.entries.rest c.args.host.now c.entries.host c.args.most c.entries.ran so
+      let on = drain_looks g.H.Host.view g.K.Keep.holds g.K.Keep.live g.K.Keep.means g.met.K.Keep.stands g.met.H.Host.text_stands lang w c.entries.rest c.args.host.now c.entries.host c.args.output.now c.entries.output c.args.most c.entries.ran so
       c.in_ok-back.back c.next_entry.new.host c.next_entry.ensures.looks next.0 in
       let front = next_runs so.now c.in-Some.number c.in-Some.entry (sym c.in-Some.is ∙ next.1) in
       let behind = front_well lang so.now c.in-Some.number c.in-Some.entry front (λ most. c.transactions_leave_good_worlds.ensures.drain lang most so.now so.well) in
       let done = c.in_ok-rest-in-Some.ensures.done lang so.now next.0 (front.e, front.more, front.front) behind in
-      drain_goes g.H.Host.view g.K.Keep.holds g.K.Keep.live g.K.Keep.means g.met.K.Keep.stands g.met.H.Host.text_stands lang w c.in_ok-back.back c.args.host.now c.next_entry.new.host c.args.most c.entries.ran on
-      c.in-Some.number c.in-Some.entry front c.entries-test.true c.in_ok-rest-in-Some.rest c.transact.new.host behind done.0 done.1
+      drain_goes g.H.Host.view g.K.Keep.holds g.K.Keep.live g.K.Keep.means g.met.K.Keep.stands g.met.H.Host.text_stands lang w c.in_ok-back.back c.args.host.now c.next_entry.new.host c.args.output.now c.entries.output c.args.most c.entries.ran on
+      c.in-Some.number c.in-Some.entry front c.entries-test.true c.in_ok-rest-in-Some.rest c.transact.new.host c.transact.new.output behind done.0 done.1
+      (c.in_ok-rest-in-Some.ensures.counts lang so.now next.0 (front.e, front.more, front.front) behind)
       (λ text is. c.in_ok-rest-in-Some.ensures.any_moment lang so.now text so.well next.0 (front.e, front.more, front.front) behind is);
   few = let less = c.entries-test.true in omega (arith, less);
   usable = c.in_ok-rest-in-Some.ensures.usable;
@@ -97,12 +104,19 @@ pub returns-clause-done : goal.returns-clause-done
 returns-clause-done g c = λ l w well rest.
     let so = c.entries.invariant.drained l w well rest in
     let all = c.entries-test.false in
-    let ends = drain_ends g.H.Host.view g.K.Keep.holds g.K.Keep.live g.K.Keep.means l w c.entries.rest c.args.host.now c.entries.host c.args.most c.entries.ran so (drained_all c.args.most c.entries.ran so.now (omega (arith, all))) in
+    let ends = drain_ends g.H.Host.view g.K.Keep.holds g.K.Keep.live g.K.Keep.means l w c.entries.rest c.args.host.now c.entries.host c.args.output.now c.entries.output c.args.most c.entries.ran so (drained_all c.args.most c.entries.ran so.now (omega (arith, all))) in
     ((ends.0, ends.1), ends.2)
+
+pub returns-clause-counts : goal.returns-clause-counts
+returns-clause-counts g c = λ l w well rest.
+    let so = c.entries.invariant.drained l w well rest in
+    let all = c.entries-test.false in
+    drain_counts g.H.Host.view g.K.Keep.holds g.K.Keep.live g.K.Keep.means l w c.entries.rest c.args.host.now c.entries.host c.args.output.now c.entries.output c.args.most c.entries.ran so
+    (drained_all c.args.most c.entries.ran so.now (omega (arith, all)))
 
 pub returns-clause-any_moment : goal.returns-clause-any_moment
 returns-clause-any_moment g c = λ l w said more well rest printed.
-    drain_left g.H.Host.view g.K.Keep.holds g.K.Keep.live g.K.Keep.means g.met.K.Keep.stands g.met.H.Host.text_stands l w c.entries.rest c.args.host.now c.entries.host c.args.most c.entries.ran
+    drain_left g.H.Host.view g.K.Keep.holds g.K.Keep.live g.K.Keep.means g.met.K.Keep.stands g.met.H.Host.text_stands l w c.entries.rest c.args.host.now c.entries.host c.args.output.now c.entries.output c.args.most c.entries.ran
     (c.entries.invariant.drained l w well rest) c.entries.host (looks_none (g.H.Host.view c.entries.host)) said more printed
 
 pub returns-clause-leaves : goal.returns-clause-leaves

@@ -1,4 +1,4 @@
-use Rattle.std.proofs.Common.{rules, ◌∙◌, ◌<◌, Option, subst, sym}
+use Rattle.std.proofs.Common.{rules, ◌∙◌, ◌<◌, Option, ap, subst, sym}
 use Rattle.std.proofs.lemmas.Result.{IfOk-weaker}
 use Rattle.ode_host.proofs.Moments.{looks_joined}
 use Rattle.ode_overlay_laws.specs.Standing.{origin_as}
@@ -11,6 +11,8 @@ use Rattle.ode_transact.proofs.DamageLaws.{damaged_so}
 use Rattle.ode_transact.proofs.EndingLaws.{fails_as, looks_then, none_rose}
 use Rattle.ode_transact.proofs.TransactLaws.{transaction_settles}
 use Rattle.ode_transact.proofs.TransactSteps.{transact_done, transact_leaves, transact_looks}
+use Rattle.ode_transact.proofs.OutputLaws.{counted_as}
+use Rattle.ode_transact.specs.Output.{heard_of}
 use Rattle.ode_transact.specs.Resting.{IsAtRest}
 use Rattle.ode_transact.specs.Working.{IsFromFront, settled_by, work_of}
 use Rattle.ode_good_laws.specs.Well.{IsWell}
@@ -26,7 +28,7 @@ use Rattle.ode_transact.proofs.transacting.transact.Goals as goal
 pub returns-in_err-ctx-clause-any_moment : goal.returns-in_err-ctx-clause-any_moment
 returns-in_err-ctx-clause-any_moment g c = λ l w said well rest front behind printed.
     transact_looks g.H.Host.view g.K.Keep.holds g.K.Keep.live g.K.Keep.means g.met.K.Keep.stands g.met.H.Host.text_stands l w c.args.rest c.args.host.now rest well
-    (transaction lists (origin_as c.args.origin) (work_of c.args.work lists) w) said printed _ c.begin.ensures.looks
+    (heard_of c.args.output.now.quiet (transaction lists (origin_as c.args.origin) (work_of c.args.work lists) w)) said printed _ c.begin.ensures.looks
 
 pub returns-in_err-ctx-clause-leaves : goal.returns-in_err-ctx-clause-leaves
 returns-in_err-ctx-clause-leaves g c =
@@ -35,7 +37,7 @@ returns-in_err-ctx-clause-leaves g c =
 pub returns-in_err-ending-clause-any_moment : goal.returns-in_err-ending-clause-any_moment
 returns-in_err-ending-clause-any_moment g c = λ l w said well rest front behind printed.
     transact_looks g.H.Host.view g.K.Keep.holds g.K.Keep.live g.K.Keep.means g.met.K.Keep.stands g.met.H.Host.text_stands l w c.args.rest c.args.host.now rest well
-    (transaction lists (origin_as c.args.origin) (work_of c.args.work lists) w) said printed _
+    (heard_of c.args.output.now.quiet (transaction lists (origin_as c.args.origin) (work_of c.args.work lists) w)) said printed _
     (looks_joined _ _ _ c.begin.ensures.looks (c.run.ensures.looks c.in_ok-ctx.ensures.usable))
 
 pub returns-in_err-ending-clause-leaves : goal.returns-in_err-ending-clause-leaves
@@ -52,9 +54,16 @@ returns-clause-done g c = λ l w rest front well.
     let begins = c.in_ok-ctx.ensures.begun l w rest front in
     let so = transaction_settles (origin_as c.args.origin) (work_of c.args.work lists) w c.in_ok-ending.ending (ContextRuns g.H.Host.view g.K.Keep.holds g.K.Keep.live l w c.run.new.ctx c.run.new.host)
     (c.in_ok-ending.ensures.runs l w (begun (origin_as c.args.origin) w) begins) in
-    transact_done c.end.result (λ v after. IsAtRest g.H.Host.view g.K.Keep.holds g.K.Keep.live l v after c.end.new.host) l (transaction lists (origin_as c.args.origin) (work_of c.args.work lists) w) c.in_ok-ending.ending so.0
+    transact_done c.end.result (λ v after. IsAtRest g.H.Host.view g.K.Keep.holds g.K.Keep.live l v after c.end.new.host) l c.args.output.now.quiet (transaction lists (origin_as c.args.origin) (work_of c.args.work lists) w) c.in_ok-ending.ending so.0
     (g.H.Host.view c.args.host.now) (g.H.Host.view c.run.new.host) (g.H.Host.view c.end.new.host) so.2 (c.end.ensures.done l w so.0 so.1) (c.end.ensures.printed l w so.0 so.1)
     (looks_joined _ _ _ c.begin.ensures.looks (c.run.ensures.looks c.in_ok-ctx.ensures.usable)) well
+
+pub returns-clause-counts : goal.returns-clause-counts
+returns-clause-counts g c = λ l w rest front well.
+    let begins = c.in_ok-ctx.ensures.begun l w rest front in
+    let so = transaction_settles (origin_as c.args.origin) (work_of c.args.work lists) w c.in_ok-ending.ending (ContextRuns g.H.Host.view g.K.Keep.holds g.K.Keep.live l w c.run.new.ctx c.run.new.host)
+    (c.in_ok-ending.ensures.runs l w (begun (origin_as c.args.origin) w) begins) in
+    counted_as c.end.result c.args.output.now c.end.new.output _ _ (ap (λ (v : Settled Histories Starts). v.1) (sym so.2)) (c.end.ensures.counts l w so.0 so.1)
 
 pub returns-clause-any_moment : goal.returns-clause-any_moment
 returns-clause-any_moment g c = λ l w said well rest front behind printed.
@@ -63,7 +72,8 @@ returns-clause-any_moment g c = λ l w said well rest front behind printed.
     let so = transaction_settles (origin_as c.args.origin) (work_of c.args.work lists) w c.in_ok-ending.ending (ContextRuns g.H.Host.view g.K.Keep.holds g.K.Keep.live l w c.run.new.ctx c.run.new.host)
     (c.in_ok-ending.ensures.runs l w (begun (origin_as c.args.origin) w) begins) in
     transact_leaves g.H.Host.view g.K.Keep.holds g.K.Keep.live g.K.Keep.means g.met.K.Keep.stands g.met.H.Host.text_stands l w c.args.rest c.args.host.now rest well
-    (transaction lists (origin_as c.args.origin) (work_of c.args.work lists) w) said printed c.in_ok-ending.ending so.0 (g.H.Host.view c.run.new.host) (g.H.Host.view c.end.new.host) so.2 looks
+    (heard_of c.args.output.now.quiet (transaction lists (origin_as c.args.origin) (work_of c.args.work lists) w)) said printed (heard_of c.args.output.now.quiet (settled_by c.in_ok-ending.ending so.0)) (g.H.Host.view c.run.new.host) (g.H.Host.view c.end.new.host)
+    (ap (λ (v : Settled Histories Starts). heard_of c.args.output.now.quiet v) so.2) looks
     (c.end.ensures.any_moment l w so.0 said well so.1 (subst (λ (v : Settled Histories Starts). IsWell l v.0) so.2 behind) (looks.text ∙ printed))
 
 pub returns-clause-parts : goal.returns-clause-parts

@@ -9,8 +9,10 @@ use Rattle.ode_good_laws.specs.Well.{IsWell}
 use Rattle.ode_transact.proofs.BeginLaws.{damaged_before}
 use Rattle.ode_transact.proofs.DamageLaws.{damaged_so}
 use Rattle.ode_transact.proofs.EndingLaws.{calls_as}
-use Rattle.ode_transact.proofs.TransactSteps.{drain_then, moments_then}
-use Rattle.ode_transact.specs.Items.{items_of}
+use Rattle.ode_transact.proofs.OutputLaws.{counted_then}
+use Rattle.ode_transact.proofs.TransactSteps.{drain_leaves, drain_then}
+use Rattle.ode_transact.specs.Items.{items_of, texts_of}
+use Rattle.ode_transact.specs.Output.{all_heard, heard}
 use Rattle.ode_transact.specs.Resting.{HoldsBy, IsAtRest}
 use Rattle.ode_transact.specs.Working.{IsFromFront, work_of}
 use Rattle.ode_value.specs.Draining.{drain}
@@ -23,7 +25,7 @@ use Rattle.ode_transact.proofs.transacting.transact_and_drain.Goals as goal
 pub returns-in_err-rest-clause-any_moment : goal.returns-in_err-rest-clause-any_moment
 returns-in_err-rest-clause-any_moment g c = λ l w said more well rest front behind printed.
     let s = transaction lists (origin_as c.args.origin) (work_of c.args.work lists) w in
-    settling_leaves (HoldsBy l g.K.Keep.means) s.1 (items_of (drain lists c.args.most s.0) ++ more) w s.0 said _ _ (c.transact.ensures.any_moment l w said well rest front behind printed)
+    settling_leaves (HoldsBy l g.K.Keep.means) (heard c.args.output.now.quiet s.1) (items_of (all_heard c.args.output.now.quiet (drain lists c.args.most s.0)) ++ more) w s.0 said _ _ (c.transact.ensures.any_moment l w said well rest front behind printed)
 
 pub returns-in_err-rest-clause-leaves : goal.returns-in_err-rest-clause-leaves
 returns-in_err-rest-clause-leaves g c = calls_as c.transact.result c.from_residual.result c.in_err-rest.field-0.0 _ _ (search rules) (search rules) c.transact.ensures.leaves
@@ -35,15 +37,23 @@ pub returns-clause-done : goal.returns-clause-done
 returns-clause-done g c = λ l w well rest front behind.
     let s = transaction lists (origin_as c.args.origin) (work_of c.args.work lists) w in
     let first = c.in_ok-rest.ensures.done l w rest front behind in
-    drain_then c.drain.result (λ v k. IsAtRest g.H.Host.view g.K.Keep.holds g.K.Keep.live l v k c.drain.new.host) w s (drain lists c.args.most s.0) (g.H.Host.view c.args.host.now) (g.H.Host.view c.transact.new.host) (g.H.Host.view c.drain.new.host)
-    first.1 (c.drain.ensures.done l s.0 behind first.0)
+    drain_then c.args.output.now c.transact.new.output w s (drain lists c.args.most s.0) (g.H.Host.view c.args.host.now) (g.H.Host.view c.transact.new.host) (g.H.Host.view c.drain.new.host)
+    (c.in_ok-rest.ensures.counts l w rest front behind) c.drain.result (λ v k. IsAtRest g.H.Host.view g.K.Keep.holds g.K.Keep.live l v k c.drain.new.host) first.1 (c.drain.ensures.done l s.0 behind first.0)
+
+pub returns-clause-counts : goal.returns-clause-counts
+returns-clause-counts g c = λ l w well rest front behind.
+    let s = transaction lists (origin_as c.args.origin) (work_of c.args.work lists) w in
+    let first = c.in_ok-rest.ensures.done l w rest front behind in
+    counted_then c.drain.result c.args.output.now c.transact.new.output c.drain.new.output s.1 (texts_of (drain lists c.args.most s.0)) (c.in_ok-rest.ensures.counts l w rest front behind)
+    (c.drain.ensures.counts l s.0 behind first.0)
 
 pub returns-clause-any_moment : goal.returns-clause-any_moment
 returns-clause-any_moment g c = λ l w said more well rest front behind printed.
     let s = transaction lists (origin_as c.args.origin) (work_of c.args.work lists) w in
     let first = c.in_ok-rest.ensures.done l w rest front behind in
-    moments_then (HoldsBy l g.K.Keep.means) s (items_of (drain lists c.args.most s.0) ++ more) w said (g.H.Host.view c.args.host.now) (g.H.Host.view c.transact.new.host) (g.H.Host.view c.drain.new.host)
-    (c.transact.ensures.any_moment l w said well rest front behind printed) (c.drain.ensures.any_moment l s.0 (said ++ s.1) more behind first.0 (first.1 said printed))
+    drain_leaves c.args.output.now c.transact.new.output w s (drain lists c.args.most s.0) (g.H.Host.view c.args.host.now) (g.H.Host.view c.transact.new.host) (g.H.Host.view c.drain.new.host)
+    (c.in_ok-rest.ensures.counts l w rest front behind) (HoldsBy l g.K.Keep.means) more said (c.transact.ensures.any_moment l w said well rest front behind printed)
+    (c.drain.ensures.any_moment l s.0 (said ++ heard c.args.output.now.quiet s.1) more behind first.0 (first.1 said printed))
 
 pub returns-clause-parts : goal.returns-clause-parts
 returns-clause-parts g c = IfOk-weaker c.drain.result _ _ (λ r is. is ∙ c.in_ok-rest.ensures.parts) c.drain.ensures.parts
