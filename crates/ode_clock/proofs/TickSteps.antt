@@ -28,10 +28,13 @@ use Rattle.ode_overlay_laws.specs.Standing.{origin_as}
 use Rattle.ode_transact.proofs.DrainLaws.{drained_no_more}
 use Rattle.ode_transact.proofs.DrainSteps.{drain_left, drain_starts}
 use Rattle.ode_transact.proofs.JoinLaws.{final_is, text_is}
+use Rattle.ode_transact.proofs.OutputLaws.{all_heard_append, counting_append, counting_none, world_heard}
 use Rattle.ode_transact.specs.Items.{items_of, texts_of}
+use Rattle.ode_transact.specs.Output.{all_heard, counting}
 use Rattle.ode_transact.specs.Resting.{HoldsBy, IsAtRest}
 use Rattle.ode_transact.specs.Settling.{Meaning}
 use Rattle.ode_transact.specs.Working.{IsFromFront}
+use Rattle.ode_transact.specs.declared.output.Output.{Output}
 use Rattle.ode_value.specs.Denoting.{object_at}
 use Rattle.ode_value.specs.Draining.{with_drain, world_after}
 use Rattle.ode_value.specs.GoodWorlds.{IsPosition}
@@ -90,8 +93,8 @@ count_fits many left n ran few room = omega (arith, few, room)
 
 module _ {H K : Type 0} (seen : H → View) (held : K → View → Entries → Type 0) (live : K → Bool) (means : Meaning) where
   -- Of all these positions these are left, and so many entries may still run: the file holds the world that so many settled transactions
-  -- left, their texts are printed, and no stop so far left anything else.
-  pub record HasTicked (l : Language) (w : ListWorld) (all due : List Position) (last : Position) (o : Opened K) (before after : H) (left many : ℕ) : Type 0 where
+  -- left, what is heard of their texts is printed, these are counted, and no stop so far left anything else.
+  pub record HasTicked (l : Language) (w : ListWorld) (all due : List Position) (last : Position) (o : Opened K) (before after : H) (start output : Output) (left many : ℕ) : Type 0 where
     pub now : ListWorld
     pub settled : Settlings
     pub has : Has l (length due) now
@@ -101,13 +104,14 @@ module _ {H K : Type 0} (seen : H → View) (held : K → View → Entries → T
     pub is : IsTicked all due last drain_limit left w now settled
     pub count : many ≡ length settled
     pub room : many + left + length due ≤ drain_limit + due_limit
-    pub printed : Printed (texts_of settled) (seen before) (seen after)
-    pub moments : (said : List ℕ) (more : List Item) → (seen before).text ≡ Some said → LeavesOnly (seen before) (seen after) (IsAfterSome (HoldsBy l means) (items_of settled ++ more) w said)
+    pub printed : Printed (texts_of (all_heard start.quiet settled)) (seen before) (seen after)
+    pub counts : output ≡ counting start (texts_of settled)
+    pub moments : (said : List ℕ) (more : List Item) → (seen before).text ≡ Some said → LeavesOnly (seen before) (seen after) (IsAfterSome (HoldsBy l means) (items_of (all_heard start.quiet settled) ++ more) w said)
 
   -- none yet
-  pub ticks_begin : (l : Language) (w : ListWorld) (all : List Position) (last : Position) (o : Opened K) (host : H) → Has l (length all) w → AllByRecursion IsPosition all → length all ≤ due_limit
-      → IsAtRest seen held live l w o host → HasTicked l w all all last o host host drain_limit 0
-  ticks_begin l w all last o host has fit few rest = record {
+  pub ticks_begin : (l : Language) (w : ListWorld) (all : List Position) (last : Position) (o : Opened K) (host : H) (output : Output) → Has l (length all) w → AllByRecursion IsPosition all → length all ≤ due_limit
+      → IsAtRest seen held live l w o host → HasTicked l w all all last o host host output output drain_limit 0
+  ticks_begin l w all last o host output has fit few rest = record {
     now = w;
     settled = [];
     has = has;
@@ -118,20 +122,21 @@ module _ {H K : Type 0} (seen : H → View) (held : K → View → Entries → T
     count = refl;
     room = first_room (length all) few;
     printed = λ text said. said ∙ ap (λ (t : List ℕ). Some t) (sym (append-nil text));
+    counts = counting_none output;
     moments = λ said more printed. started (seen host) (IsAfterSome (HoldsBy l means) more w said);
   }
 
   -- the next of them is at a place, or none is left
-  pub next_tick : (l : Language) (w : ListWorld) (all : List Position) (at : ℕ) (p : Position) (last : Position) (o : Opened K) (before after : H) (left many : ℕ) → at < length all → p ≡ get_or all at p
-      → HasTicked l w all (drop at all) last o before after left many → HasTicked l w all (p ∷ drop (at + 1) all) last o before after left many
-  next_tick l w all at p last o before after left many less here so =
+  pub next_tick : (l : Language) (w : ListWorld) (all : List Position) (at : ℕ) (p : Position) (last : Position) (o : Opened K) (before after : H) (start output : Output) (left many : ℕ) → at < length all → p ≡ get_or all at p
+      → HasTicked l w all (drop at all) last o before after start output left many → HasTicked l w all (p ∷ drop (at + 1) all) last o before after start output left many
+  next_tick l w all at p last o before after start output left many less here so =
       let next : suc at ≡ at + 1 = omega arith in
-      subst (λ (due : List Position). HasTicked l w all due last o before after left many)
+      subst (λ (due : List Position). HasTicked l w all due last o before after start output left many)
       (drop-cons all at p less ∙ ap (λ (q : Position). q ∷ drop (suc at) all) (sym here) ∙ ap (λ (n : ℕ). p ∷ drop n all) next) so
 
-  pub no_tick : (l : Language) (w : ListWorld) (all : List Position) (at : ℕ) (last : Position) (o : Opened K) (before after : H) (left many : ℕ) → drop at all ≡ []
-      → HasTicked l w all (drop at all) last o before after left many → HasTicked l w all [] last o before after left many
-  no_tick l w all at last o before after left many none so = subst (λ (due : List Position). HasTicked l w all due last o before after left many) none so
+  pub no_tick : (l : Language) (w : ListWorld) (all : List Position) (at : ℕ) (last : Position) (o : Opened K) (before after : H) (start output : Output) (left many : ℕ) → drop at all ≡ []
+      → HasTicked l w all (drop at all) last o before after start output left many → HasTicked l w all [] last o before after start output left many
+  no_tick l w all at last o before after start output left many none so = subst (λ (due : List Position). HasTicked l w all due last o before after start output left many) none so
 
   -- what a stop leaves of transactions that settle over a file at rest
   abbrev pub StopsIn : Language → Settlings → ListWorld → (before after : View) → Type 0
@@ -143,9 +148,45 @@ module _ {H K : Type 0} (seen : H → View) (held : K → View → Entries → T
   stops_whole l w all settled rest said more old new is run =
       subst (λ (items : List Item). LeavesOnly old new (IsAfterSome (HoldsBy l means) items w said)) (items_both settled rest more ∙ ap (λ (s : Settlings). items_of s ++ more) (sym is)) run
 
+  -- what settles behind them
+  module _ (l : Language) (w : ListWorld) (all due : List Position) (last : Position) (o : Opened K) (before after : H) (start output : Output) (left many : ℕ)
+      (so : HasTicked l w all due last o before after start output left many) (next : Settlings) where
+    -- what is heard of those so far
+    abbrev heard_so : Settlings
+    heard_so = all_heard start.quiet so.settled
+
+    -- the output is as quiet as it was
+    as_quiet : output.quiet ≡ start.quiet
+    as_quiet = ap (λ (o : Output). o.quiet) so.counts
+
+    heard_both : all_heard start.quiet (so.settled ++ next) ≡ heard_so ++ all_heard start.quiet next
+    heard_both = all_heard_append start.quiet so.settled next
+
+    -- what a stop leaves of it
+    next_stops : (new : View) → StopsIn l (all_heard output.quiet next) so.now (seen after) new → StopsIn l (all_heard start.quiet (so.settled ++ next)) w (seen before) new
+    next_stops new run said more printed =
+        let text : List ℕ = said ++ texts_of heard_so in
+        let here : LeavesOnly (seen after) new (IsAfterSome (HoldsBy l means) (items_of (all_heard start.quiet next) ++ more) so.now text) =
+        subst (λ (quiet : Bool). LeavesOnly (seen after) new (IsAfterSome (HoldsBy l means) (items_of (all_heard quiet next) ++ more) so.now text)) as_quiet (run text more (so.printed said printed)) in
+        subst (λ (s : Settlings). LeavesOnly (seen before) new (IsAfterSome (HoldsBy l means) (items_of s ++ more) w said)) (sym heard_both)
+        (moments_both (HoldsBy l means) heard_so (all_heard start.quiet next) more w so.now said (seen before) (seen after) new (world_heard start.quiet w so.settled ∙ so.is.world)
+        (λ items. so.moments said items printed) here)
+
+    -- what is heard and counted of it
+    next_printed : (new : View) → Printed (texts_of (all_heard output.quiet next)) (seen after) new → Printed (texts_of (all_heard start.quiet (so.settled ++ next))) (seen before) new
+    next_printed new printed =
+        subst (λ (s : Settlings). Printed (texts_of s) (seen before) new) (sym heard_both)
+        (printed_both heard_so (all_heard start.quiet next) (seen before) (seen after) new so.printed
+        (subst (λ (quiet : Bool). Printed (texts_of (all_heard quiet next)) (seen after) new) as_quiet printed))
+
+    next_counts : (behind : Output) → behind ≡ counting output (texts_of next) → behind ≡ counting start (texts_of (so.settled ++ next))
+    next_counts behind counts =
+        counts ∙ ap (λ (o : Output). counting o (texts_of next)) so.counts ∙ counting_append start (texts_of so.settled) (texts_of next)
+        ∙ ap (λ (text : List ℕ). counting start text) (sym (flat_map-append (λ s. s.1) so.settled next))
+
   -- a tick
-  module _ (l : Language) (w : ListWorld) (all : List Position) (p : Position) (ps : List Position) (last : Position) (o : Opened K) (before after : H) (left many : ℕ)
-      (so : HasTicked l w all (p ∷ ps) last o before after left many) where
+  module _ (l : Language) (w : ListWorld) (all : List Position) (p : Position) (ps : List Position) (last : Position) (o : Opened K) (before after : H) (start output : Output) (left many : ℕ)
+      (so : HasTicked l w all (p ∷ ps) last o before after start output left many) where
     abbrev pub ticked : Settlings
     ticked = tick_settled p left so.now
 
@@ -156,25 +197,25 @@ module _ {H K : Type 0} (seen : H → View) (held : K → View → Entries → T
     pub tick_left : so.now.bones.transaction < transaction_limit
     tick_left = tick_number so.now.bones.transaction (length ps) so.has.1
 
-    moments_then : (new : View) → StopsIn l ticked so.now (seen after) new → StopsIn l (so.settled ++ ticked) w (seen before) new
-    moments_then new run said more printed =
-        moments_both (HoldsBy l means) so.settled ticked more w so.now said (seen before) (seen after) new so.is.world (λ items. so.moments said items printed)
-        (run (said ++ texts_of so.settled) more (so.printed said printed))
-
     -- what a stop leaves of it
-    pub tick_stops : (new : View) → StopsIn l ticked so.now (seen after) new → StopsIn l (clock_run lists all last drain_limit w) w (seen before) new
+    tick_leaves : (new : View) → StopsIn l (all_heard output.quiet ticked) so.now (seen after) new → StopsIn l (all_heard start.quiet (so.settled ++ ticked)) w (seen before) new
+    tick_leaves new run = next_stops l w all (p ∷ ps) last o before after start output left many so ticked new run
+
+    pub tick_stops : (new : View) → StopsIn l (all_heard output.quiet ticked) so.now (seen after) new → StopsIn l (all_heard start.quiet (clock_run lists all last drain_limit w)) w (seen before) new
     tick_stops new run said more printed =
         let rest : Settlings = clock_run lists ps last (left - (length ticked - 1)) (world_after so.now ticked) in
-        stops_whole l w (clock_run lists all last drain_limit w) (so.settled ++ ticked) rest said more (seen before) new on.whole (moments_then new run said (items_of rest ++ more) printed)
+        stops_whole l w (all_heard start.quiet (clock_run lists all last drain_limit w)) (all_heard start.quiet (so.settled ++ ticked)) (all_heard start.quiet rest) said more (seen before) new
+        (ap (λ (s : Settlings). all_heard start.quiet s) on.whole ∙ all_heard_append start.quiet (so.settled ++ ticked) rest)
+        (tick_leaves new run said (items_of (all_heard start.quiet rest) ++ more) printed)
 
     pub tick_counts : (ran : Option ℕ) → IfSome ran (λ n. n ≤ left) → many + settled_with ran < 2 ^ 32
     tick_counts ran most = tick_fits many left (length ps) ran most so.room
 
     -- and is done
-    pub tick_goes : (q : Opened K) (end : H) (ran : Option ℕ) → IfSome ran (λ n. n ≤ left) → IsAtRest seen held live l (world_after so.now ticked) q end × (settled_with ran ≡ length ticked)
-        → Printed (texts_of ticked) (seen after) (seen end) → StopsIn l ticked so.now (seen after) (seen end)
-        → HasTicked l w all ps last q before end (left - (settled_with ran - 1)) (many + settled_with ran)
-    tick_goes q end ran most done printed run = record {
+    pub tick_goes : (q : Opened K) (end : H) (behind : Output) (ran : Option ℕ) → IfSome ran (λ n. n ≤ left) → IsAtRest seen held live l (world_after so.now ticked) q end × (settled_with ran ≡ length ticked)
+        → Printed (texts_of (all_heard output.quiet ticked)) (seen after) (seen end) → behind ≡ counting output (texts_of ticked) → StopsIn l (all_heard output.quiet ticked) so.now (seen after) (seen end)
+        → HasTicked l w all ps last q before end start behind (left - (settled_with ran - 1)) (many + settled_with ran)
+    tick_goes q end behind ran most done printed counts run = record {
       now = world_after so.now ticked;
       settled = so.settled ++ ticked;
       has = tick_has l p (length ps) so.fit.0 (clock_limits ode sound_rules reads_well (length ps) (fewer (length ps) so.few)) left so.now so.has;
@@ -184,12 +225,13 @@ module _ {H K : Type 0} (seen : H → View) (held : K → View → Entries → T
       is = subst (λ (n : ℕ). IsTicked all ps last drain_limit (left - (n - 1)) w (world_after so.now ticked) (so.settled ++ ticked)) (sym done.1) on;
       count = ap (λ (n : ℕ). n + settled_with ran) so.count ∙ ap (λ (n : ℕ). length so.settled + n) done.1 ∙ sym (length-append so.settled ticked);
       room = tick_room many left (length ps) ran most so.room;
-      printed = printed_both so.settled ticked (seen before) (seen after) (seen end) so.printed printed;
-      moments = moments_then (seen end) run;
+      printed = next_printed l w all (p ∷ ps) last o before after start output left many so ticked (seen end) printed;
+      counts = next_counts l w all (p ∷ ps) last o before after start output left many so ticked behind counts;
+      moments = tick_leaves (seen end) run;
     }
 
   -- the move behind all of them
-  module _ (l : Language) (w : ListWorld) (all : List Position) (last : Position) (o : Opened K) (before after : H) (left many : ℕ) (so : HasTicked l w all [] last o before after left many) where
+  module _ (l : Language) (w : ListWorld) (all : List Position) (last : Position) (o : Opened K) (before after : H) (start output : Output) (left many : ℕ) (so : HasTicked l w all [] last o before after start output left many) where
     abbrev pub ending : Settlings
     ending = with_drain lists left (move lists last so.now)
 
@@ -198,27 +240,31 @@ module _ {H K : Type 0} (seen : H → View) (held : K → View → Entries → T
     move_left = let room = so.has.1 in omega (arith, room)
 
     -- what a stop leaves of it
-    pub move_stops : (new : View) → StopsIn l ending so.now (seen after) new → StopsIn l (clock_run lists all last drain_limit w) w (seen before) new
+    pub move_stops : (new : View) → StopsIn l (all_heard output.quiet ending) so.now (seen after) new → StopsIn l (all_heard start.quiet (clock_run lists all last drain_limit w)) w (seen before) new
     move_stops new run said more printed =
-        subst (λ (s : Settlings). LeavesOnly (seen before) new (IsAfterSome (HoldsBy l means) (items_of s ++ more) w said)) (sym so.is.whole)
-        (moments_both (HoldsBy l means) so.settled ending more w so.now said (seen before) (seen after) new so.is.world (λ items. so.moments said items printed)
-        (run (said ++ texts_of so.settled) more (so.printed said printed)))
+        subst (λ (s : Settlings). LeavesOnly (seen before) new (IsAfterSome (HoldsBy l means) (items_of (all_heard start.quiet s) ++ more) w said)) (sym so.is.whole)
+        (next_stops l w all [] last o before after start output left many so ending new run said more printed)
 
     -- and is done
-    pub move_goes : (q : Opened K) (end : H) (ran : ℕ) → ran ≤ left → IsAtRest seen held live l (world_after so.now ending) q end × (ran + 1 ≡ length ending) → Printed (texts_of ending) (seen after) (seen end)
+    pub move_goes : (q : Opened K) (end : H) (ran : ℕ) → ran ≤ left → IsAtRest seen held live l (world_after so.now ending) q end × (ran + 1 ≡ length ending) → Printed (texts_of (all_heard output.quiet ending)) (seen after) (seen end)
         → (IsAtRest seen held live l (world_after w (clock_run lists all last drain_limit w)) q end × (many + ran + 1 ≡ length (clock_run lists all last drain_limit w)))
-        × Printed (texts_of (clock_run lists all last drain_limit w)) (seen before) (seen end)
+        × Printed (texts_of (all_heard start.quiet (clock_run lists all last drain_limit w))) (seen before) (seen end)
     move_goes q end ran most done printed =
-        subst (λ (s : Settlings). (IsAtRest seen held live l (world_after w s) q end × (many + ran + 1 ≡ length s)) × Printed (texts_of s) (seen before) (seen end)) (sym so.is.whole) (
+        subst (λ (s : Settlings). (IsAtRest seen held live l (world_after w s) q end × (many + ran + 1 ≡ length s)) × Printed (texts_of (all_heard start.quiet s)) (seen before) (seen end)) (sym so.is.whole) (
           (
             subst (λ (v : ListWorld). IsAtRest seen held live l v q end) (sym (after_both w so.settled ending ∙ ap (λ (v : ListWorld). world_after v ending) so.is.world)) done.0,
             count,
           ),
-          printed_both so.settled ending (seen before) (seen after) (seen end) so.printed printed,
+          next_printed l w all [] last o before after start output left many so ending (seen end) printed,
         )
       where
         count : many + ran + 1 ≡ length (so.settled ++ ending)
         count = let all = length-append so.settled ending in let first = so.count in let second = done.1 in omega (arith, all, first, second)
+
+    -- and all of it is counted
+    pub move_counts : (behind : Output) → behind ≡ counting output (texts_of ending) → behind ≡ counting start (texts_of (clock_run lists all last drain_limit w))
+    move_counts behind counts =
+        subst (λ (s : Settlings). behind ≡ counting start (texts_of s)) (sym so.is.whole) (next_counts l w all [] last o before after start output left many so ending behind counts)
 
     pub move_fits : (ran : ℕ) → ran ≤ left → many + ran + 1 < 2 ^ 32
     move_fits ran most = count_fits many left 0 ran most so.room
@@ -229,8 +275,12 @@ module _ {H K : Type 0} (seen : H → View) (held : K → View → Entries → T
     pub look_stops : (l : Language) (w : ListWorld) (o : Opened K) (before after : H) → IsWell l w → IsAtRest seen held live l w o before → Looks (seen before) (seen after) → (settled : Settlings)
         → StopsIn l settled w (seen before) (seen after)
     look_stops l w o before after well rest looks settled said more printed =
-        subst (λ (none : Settlings). LeavesOnly (seen before) (seen after) (IsAfterSome (HoldsBy l means) (items_of none ++ (items_of settled ++ more)) w said)) (drained_no_more w)
-        (drain_left seen held live means stands text_stands l w o before before 0 0 (drain_starts seen held live means l w o before 0 well rest) after looks said (items_of settled ++ more) printed)
+        subst (λ (none : Settlings). LeavesOnly (seen before) (seen after) (IsAfterSome (HoldsBy l means) (items_of (all_heard none_yet.quiet none) ++ (items_of settled ++ more)) w said)) (drained_no_more w)
+        (drain_left seen held live means stands text_stands l w o before before none_yet none_yet 0 0 (drain_starts seen held live means l w o before none_yet 0 well rest) after looks said (items_of settled ++ more) printed)
+      where
+        -- of nothing nothing is heard, whatever the output
+        none_yet : Output
+        none_yet = record { quiet = false; counted = 0 }
 
 -- the texts of none
 pub none_printed : (old new : View) → Looks old new → Printed [] old new

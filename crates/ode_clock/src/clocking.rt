@@ -11,6 +11,7 @@ ghost use Rattle.ode_machine.specs.Runs.{Item};
 ghost use Rattle.ode_schema.specs.Parts.{AreFit};
 ghost use Rattle.ode_transact.specs.Errors.{OnDamaged};
 ghost use Rattle.ode_transact.specs.Items.{items_of, texts_of};
+ghost use Rattle.ode_transact.specs.Output.{all_heard, counting};
 ghost use Rattle.ode_transact.specs.Resting.{HoldsBy, IsAtRest, resting_parts};
 ghost use Rattle.ode_value.specs.Draining.{world_after};
 ghost use Rattle.ode_value.specs.GoodWorlds.{IsPosition};
@@ -26,7 +27,7 @@ use ode_keep::Keep;
 use ode_opened::Opened;
 use ode_overlay::Origin;
 use ode_timer::Clock;
-use ode_transact::{EngineError, Work, transact_and_drain};
+use ode_transact::{EngineError, Output, Work, transact_and_drain};
 use ode_value::limits::DRAIN_LIMIT;
 use ode_value::{OdeText, Refusal};
 use std::alloc::Global;
@@ -56,6 +57,7 @@ fn run_clock<H: Host, K: Keep<H> + Drop>(
     alloc: Global,
     rest: Opened<K>,
     host: &mut H,
+    output: &mut Output,
     due: &[Clock],
     to: i64,
 ) -> Result<(Opened<K>, u32), EngineError>
@@ -64,10 +66,12 @@ fn run_clock<H: Host, K: Keep<H> + Drop>(
     ensures done { (w : ListWorld) → IsWell ode w → AllByRecursion IsPosition due.now → length due.now ≤ due_limit → w.bones.transaction < number_limit → IsAtRest H.view K.holds K.live ode w rest host.old
         → let settled = clock_settled w (to, due.now) in
         IfOk result (λ r. IsAtRest H.view K.holds K.live ode (world_after w settled) r.0 host.new × (r.1 ≡ length settled))
-        × OnOk result (Printed (texts_of settled) (H.view host.old) (H.view host.new)) }
+        × OnOk result (Printed (texts_of (all_heard output.old.quiet settled)) (H.view host.old) (H.view host.new)) }
+    ensures counts { (w : ListWorld) → IsWell ode w → AllByRecursion IsPosition due.now → length due.now ≤ due_limit → w.bones.transaction < number_limit → IsAtRest H.view K.holds K.live ode w rest host.old
+        → OnOk result (output.new ≡ counting output.old (texts_of (clock_settled w (to, due.now)))) }
     ensures any_moment { (w : ListWorld) (said : Items ℕ) (more : Items Item) → IsWell ode w → AllByRecursion IsPosition due.now → length due.now ≤ due_limit → w.bones.transaction < number_limit
         → IsAtRest H.view K.holds K.live ode w rest host.old → (H.view host.old).text ≡ Some said
-        → LeavesOnly (H.view host.old) (H.view host.new) (IsAfterSome (HoldsBy ode K.means) (items_of (clock_settled w (to, due.now)) ++ more) w said) }
+        → LeavesOnly (H.view host.old) (H.view host.new) (IsAfterSome (HoldsBy ode K.means) (items_of (all_heard output.old.quiet (clock_settled w (to, due.now))) ++ more) w said) }
     ensures parts { IfOk result (λ r. resting_parts r.0 ≡ resting_parts rest) }
     ensures usable { IfOk result (λ r. K.live r.0.keeper ≡ true) }
     ensures leaves { HostCalls (IsErrOf result EngineError.DiskFault) (IsErrOf result EngineError.WriteFault) (H.view host.old) (H.view host.new) }
@@ -79,13 +83,13 @@ fn run_clock<H: Host, K: Keep<H> + Drop>(
     let mut left = DRAIN_LIMIT;
     let mut settled = 0u32;
     'ticks: for at in due {
-        let (back, ran) = tick(alloc, rest, host, at, left)?;
+        let (back, ran) = tick(alloc, rest, host, output, at, left)?;
         rest = back;
         left = left_behind(left, ran);
         settled = settled_behind(settled, ran);
     }
     let origin = Origin::Move { instant: to };
-    let (rest, ran) = transact_and_drain(alloc, rest, host, origin, Work::Move, left)?;
+    let (rest, ran) = transact_and_drain(alloc, rest, host, output, origin, Work::Move, left)?;
     Ok((rest, settled.saturating_add(ran).saturating_add(1)))
 }
 
@@ -94,6 +98,7 @@ pub fn set_clock<H: Host, K: Keep<H> + Drop>(
     alloc: Global,
     rest: Opened<K>,
     host: &mut H,
+    output: &mut Output,
     text: &OdeText,
 ) -> Result<(Opened<K>, Result<u32, Refusal>), EngineError>
     requires live { IsTrue (K.live rest.keeper) }
@@ -102,14 +107,16 @@ pub fn set_clock<H: Host, K: Keep<H> + Drop>(
     ensures done { (w : ListWorld) → IsWell ode w → w.bones.transaction < number_limit → IsAtRest H.view K.holds K.live ode w rest host.old
         → IfOk result (λ r. Clocks (ticks_in ode w.bones text.now) r.1 (IsAtRest H.view K.holds K.live ode w r.0 host.new)
         (λ t count. (count ≡ length (clock_settled w t)) × IsAtRest H.view K.holds K.live ode (world_after w (clock_settled w t)) r.0 host.new
-        × Printed (texts_of (clock_settled w t)) (H.view host.old) (H.view host.new))) }
+        × Printed (texts_of (all_heard output.old.quiet (clock_settled w t))) (H.view host.old) (H.view host.new))) }
+    ensures counts { (w : ListWorld) → IsWell ode w → w.bones.transaction < number_limit → IsAtRest H.view K.holds K.live ode w rest host.old
+        → IfOk result (λ r. Clocks (ticks_in ode w.bones text.now) r.1 (output.new ≡ output.old) (λ t count. output.new ≡ counting output.old (texts_of (clock_settled w t)))) }
     // Where it is refused the host only looked, and where the machine refuses it too, even at an error.
     ensures refused { IfOk result (λ r. IfErr r.1 (λ why. Looks (H.view host.old) (H.view host.new))) }
     ensures declined { (w : ListWorld) (why : Refusal) → IsAtRest H.view K.holds K.live ode w rest host.old → ticks_in ode w.bones text.now ≡ Err why → Looks (H.view host.old) (H.view host.new) }
     // A stop leaves the world that some of the settled transactions left, and a front of the text up to the next one; whatever comes behind.
     ensures any_moment { (w : ListWorld) (t : ℤ × Items Position) (said : Items ℕ) (more : Items Item) → IsWell ode w → w.bones.transaction < number_limit → IsAtRest H.view K.holds K.live ode w rest host.old
         → ticks_in ode w.bones text.now ≡ Ok t → (H.view host.old).text ≡ Some said
-        → LeavesOnly (H.view host.old) (H.view host.new) (IsAfterSome (HoldsBy ode K.means) (items_of (clock_settled w t) ++ more) w said) }
+        → LeavesOnly (H.view host.old) (H.view host.new) (IsAfterSome (HoldsBy ode K.means) (items_of (all_heard output.old.quiet (clock_settled w t)) ++ more) w said) }
     ensures parts { IfOk result (λ r. resting_parts r.0 ≡ resting_parts rest) }
     ensures usable { IfOk result (λ r. K.live r.0.keeper ≡ true) }
     ensures leaves { HostCalls (IsErrOf result EngineError.DiskFault) (IsErrOf result EngineError.WriteFault) (H.view host.old) (H.view host.new) }
@@ -119,7 +126,7 @@ pub fn set_clock<H: Host, K: Keep<H> + Drop>(
     let (rest, found) = ticks(alloc, rest, host, text)?;
     match found {
         Ok((to, due)) => {
-            let (rest, settled) = run_clock(alloc, rest, host, due.as_slice(), to)?;
+            let (rest, settled) = run_clock(alloc, rest, host, output, due.as_slice(), to)?;
             Ok((rest, Ok(settled)))
         }
         Err(why) => Ok((rest, Err(why))),

@@ -10,6 +10,7 @@ ghost use Rattle.ode_machine.specs.Runs.{Item};
 ghost use Rattle.ode_schema.specs.Parts.{AreFit};
 ghost use Rattle.ode_transact.specs.Errors.{OnDamaged};
 ghost use Rattle.ode_transact.specs.Items.{items_of, texts_of};
+ghost use Rattle.ode_transact.specs.Output.{all_heard, counting};
 ghost use Rattle.ode_transact.specs.Resting.{HoldsBy, IsAtRest, resting_parts};
 ghost use Rattle.ode_value.specs.Denoting.{object_at};
 ghost use Rattle.ode_value.specs.Draining.{world_after};
@@ -25,7 +26,7 @@ use ode_keep::Keep;
 use ode_opened::Opened;
 use ode_overlay::Origin;
 use ode_timer::Clock;
-use ode_transact::{EngineError, Work, transact_and_drain};
+use ode_transact::{EngineError, Output, Work, transact_and_drain};
 use std::alloc::Global;
 
 // Whether an object is there.
@@ -86,6 +87,7 @@ pub(crate) fn tick<H: Host, K: Keep<H> + Drop>(
     alloc: Global,
     rest: Opened<K>,
     host: &mut H,
+    output: &mut Output,
     at: &Clock,
     most: u32,
 ) -> Result<(Opened<K>, Option<u32>), EngineError>
@@ -94,10 +96,12 @@ pub(crate) fn tick<H: Host, K: Keep<H> + Drop>(
     ensures done { (l : Language) (w : ListWorld) → IsWell l w → IsPosition at.now → w.bones.transaction < transaction_limit → IsAtRest H.view K.holds K.live l w rest host.old
         → let settled = tick_settled at.now most w in
         IfOk result (λ r. IsAtRest H.view K.holds K.live l (world_after w settled) r.0 host.new × (settled_with r.1 ≡ length settled))
-        × OnOk result (Printed (texts_of settled) (H.view host.old) (H.view host.new)) }
+        × OnOk result (Printed (texts_of (all_heard output.old.quiet settled)) (H.view host.old) (H.view host.new)) }
+    ensures counts { (l : Language) (w : ListWorld) → IsWell l w → IsPosition at.now → w.bones.transaction < transaction_limit → IsAtRest H.view K.holds K.live l w rest host.old
+        → OnOk result (output.new ≡ counting output.old (texts_of (tick_settled at.now most w))) }
     ensures any_moment { (l : Language) (w : ListWorld) (said : Items ℕ) (more : Items Item) → IsWell l w → IsPosition at.now → w.bones.transaction < transaction_limit → IsAtRest H.view K.holds K.live l w rest host.old
         → (H.view host.old).text ≡ Some said
-        → LeavesOnly (H.view host.old) (H.view host.new) (IsAfterSome (HoldsBy l K.means) (items_of (tick_settled at.now most w) ++ more) w said) }
+        → LeavesOnly (H.view host.old) (H.view host.new) (IsAfterSome (HoldsBy l K.means) (items_of (all_heard output.old.quiet (tick_settled at.now most w)) ++ more) w said) }
     ensures few { IfOk result (λ r. IfSome r.1 (λ ran. ran ≤ most)) }
     ensures parts { IfOk result (λ r. resting_parts r.0 ≡ resting_parts rest) }
     ensures usable { IfOk result (λ r. K.live r.0.keeper ≡ true) }
@@ -110,6 +114,6 @@ pub(crate) fn tick<H: Host, K: Keep<H> + Drop>(
         return Ok((rest, None));
     }
     let origin = tick_origin(at);
-    let (rest, ran) = transact_and_drain(alloc, rest, host, origin, Work::Tick(at), most)?;
+    let (rest, ran) = transact_and_drain(alloc, rest, host, output, origin, Work::Tick(at), most)?;
     Ok((rest, Some(ran)))
 }

@@ -15,6 +15,7 @@ use Rattle.ode_machine.specs.Refusals.{ticks_in}
 use Rattle.ode_opened.specs.declared.opened.Opened.{Opened}
 use Rattle.ode_transact.proofs.BeginLaws.{damaged_before}
 use Rattle.ode_transact.specs.Items.{items_of, texts_of}
+use Rattle.ode_transact.specs.Output.{all_heard, counting}
 use Rattle.ode_transact.specs.Resting.{HoldsBy, IsAtRest}
 use Rattle.ode_value.specs.Answers.{Answer}
 use Rattle.ode_value.specs.Draining.{world_after}
@@ -26,7 +27,7 @@ use Rattle.ode_value.specs.declared.reason.Refusal.{Refusal}
 
 pub returns-in_err-rest-clause-any_moment : goal.returns-in_err-rest-clause-any_moment
 returns-in_err-rest-clause-any_moment g c = λ w t said more well left rest is printed.
-    look_stops g.H.Host.view g.K.Keep.holds g.K.Keep.live g.K.Keep.means g.met.K.Keep.stands g.met.H.Host.text_stands ode w c.args.rest c.args.host.now c.ticks.new.host well rest c.ticks.ensures.looks (clock_settled w t) said more printed
+    look_stops g.H.Host.view g.K.Keep.holds g.K.Keep.live g.K.Keep.means g.met.K.Keep.stands g.met.H.Host.text_stands ode w c.args.rest c.args.host.now c.ticks.new.host well rest c.ticks.ensures.looks (all_heard c.args.output.now.quiet (clock_settled w t)) said more printed
 
 pub returns-in_err-rest-clause-undamaged : goal.returns-in_err-rest-clause-undamaged
 returns-in_err-rest-clause-undamaged g c =
@@ -42,11 +43,11 @@ returns-in_err-rest-in-Ok-clause-any_moment g c = λ w t said more well left res
     let due = due_are w well c.args.text.now (c.in-Ok.to, c.as_slice.result.now) (sym here) in
     let to = to_z w64 (of_z w64 c.in-Ok.to) in
     let there : Ok (to, c.as_slice.result.now) ≡ ticks_in ode w.bones c.args.text.now = ap (λ (t : ℤ). Ok (t, c.as_slice.result.now)) (to_z-of_z due.0) ∙ here in
-    subst (λ (t : ℤ × List Position). LeavesOnly (g.H.Host.view c.args.host.now) (g.H.Host.view c.run_clock.new.host) (IsAfterSome (HoldsBy ode g.K.Keep.means) (items_of (clock_settled w t) ++ more) w said))
+    subst (λ (t : ℤ × List Position). LeavesOnly (g.H.Host.view c.args.host.now) (g.H.Host.view c.run_clock.new.host) (IsAfterSome (HoldsBy ode g.K.Keep.means) (items_of (all_heard c.args.output.now.quiet (clock_settled w t)) ++ more) w said))
     (ok_same (to, c.as_slice.result.now) t (there ∙ is))
-    (joined (g.H.Host.view c.args.host.now) (g.H.Host.view c.ticks.new.host) (g.H.Host.view c.run_clock.new.host) (IsAfterSome (HoldsBy ode g.K.Keep.means) (items_of (clock_settled w (to, c.as_slice.result.now)) ++ more) w said)
+    (joined (g.H.Host.view c.args.host.now) (g.H.Host.view c.ticks.new.host) (g.H.Host.view c.run_clock.new.host) (IsAfterSome (HoldsBy ode g.K.Keep.means) (items_of (all_heard c.args.output.now.quiet (clock_settled w (to, c.as_slice.result.now))) ++ more) w said)
     (look_stops g.H.Host.view g.K.Keep.holds g.K.Keep.live g.K.Keep.means g.met.K.Keep.stands g.met.H.Host.text_stands ode w c.args.rest c.args.host.now c.ticks.new.host well rest c.ticks.ensures.looks
-    (clock_settled w (to, c.as_slice.result.now)) said more printed)
+    (all_heard c.args.output.now.quiet (clock_settled w (to, c.as_slice.result.now))) said more printed)
     (c.run_clock.ensures.any_moment w said more well due.1 due.2 left at.0 (c.ticks.ensures.looks.text ∙ printed)))
 
 pub returns-in_err-rest-in-Ok-clause-undamaged : goal.returns-in_err-rest-in-Ok-clause-undamaged
@@ -70,8 +71,18 @@ returns-in_ok-rest-in-Ok-clause-done g c = λ w well left rest.
     let done = c.in_ok-rest-in-Ok.ensures.done w well due.1 due.2 left at.0 in
     subst (λ (a : Answer (ℤ × List Position)). Clocks a (Ok c.in_ok-rest-in-Ok.settled) (IsAtRest g.H.Host.view g.K.Keep.holds g.K.Keep.live ode w c.in_ok-rest-in-Ok.rest c.run_clock.new.host)
     (λ t count. (count ≡ length (clock_settled w t)) × IsAtRest g.H.Host.view g.K.Keep.holds g.K.Keep.live ode (world_after w (clock_settled w t)) c.in_ok-rest-in-Ok.rest c.run_clock.new.host
-    × Printed (texts_of (clock_settled w t)) (g.H.Host.view c.args.host.now) (g.H.Host.view c.run_clock.new.host))) there
+    × Printed (texts_of (all_heard c.args.output.now.quiet (clock_settled w t))) (g.H.Host.view c.args.host.now) (g.H.Host.view c.run_clock.new.host))) there
     (done.0.1, done.0.0, λ text said. done.1 text (c.ticks.ensures.looks.text ∙ said))
+
+pub returns-in_ok-rest-in-Ok-clause-counts : goal.returns-in_ok-rest-in-Ok-clause-counts
+returns-in_ok-rest-in-Ok-clause-counts g c = λ w well left rest.
+    let at = c.in_ok-rest.ensures.is w rest in
+    let here : Ok (c.in-Ok.to, c.as_slice.result.now) ≡ ticks_in ode w.bones c.args.text.now = ap (λ (ps : List Position). Ok (c.in-Ok.to, ps)) c.as_slice.ensures ∙ sym c.in-Ok.is ∙ at.1 in
+    let due = due_are w well c.args.text.now (c.in-Ok.to, c.as_slice.result.now) (sym here) in
+    let to = to_z w64 (of_z w64 c.in-Ok.to) in
+    let there : Ok (to, c.as_slice.result.now) ≡ ticks_in ode w.bones c.args.text.now = ap (λ (t : ℤ). Ok (t, c.as_slice.result.now)) (to_z-of_z due.0) ∙ here in
+    subst (λ (a : Answer (ℤ × List Position)). Clocks a (Ok c.in_ok-rest-in-Ok.settled) (c.run_clock.new.output ≡ c.args.output.now) (λ t count. c.run_clock.new.output ≡ counting c.args.output.now (texts_of (clock_settled w t)))) there
+    (c.in_ok-rest-in-Ok.ensures.counts w well due.1 due.2 left at.0)
 
 pub returns-in_ok-rest-in-Ok-clause-any_moment : goal.returns-in_ok-rest-in-Ok-clause-any_moment
 returns-in_ok-rest-in-Ok-clause-any_moment g c = λ w t said more well left rest is printed.
@@ -80,9 +91,9 @@ returns-in_ok-rest-in-Ok-clause-any_moment g c = λ w t said more well left rest
     let due = due_are w well c.args.text.now (c.in-Ok.to, c.as_slice.result.now) (sym here) in
     let to = to_z w64 (of_z w64 c.in-Ok.to) in
     let there : Ok (to, c.as_slice.result.now) ≡ ticks_in ode w.bones c.args.text.now = ap (λ (t : ℤ). Ok (t, c.as_slice.result.now)) (to_z-of_z due.0) ∙ here in
-    subst (λ (t : ℤ × List Position). LeavesOnly (g.H.Host.view c.args.host.now) (g.H.Host.view c.run_clock.new.host) (IsAfterSome (HoldsBy ode g.K.Keep.means) (items_of (clock_settled w t) ++ more) w said))
+    subst (λ (t : ℤ × List Position). LeavesOnly (g.H.Host.view c.args.host.now) (g.H.Host.view c.run_clock.new.host) (IsAfterSome (HoldsBy ode g.K.Keep.means) (items_of (all_heard c.args.output.now.quiet (clock_settled w t)) ++ more) w said))
     (ok_same (to, c.as_slice.result.now) t (there ∙ is))
-    (joined (g.H.Host.view c.args.host.now) (g.H.Host.view c.ticks.new.host) (g.H.Host.view c.run_clock.new.host) (IsAfterSome (HoldsBy ode g.K.Keep.means) (items_of (clock_settled w (to, c.as_slice.result.now)) ++ more) w said)
+    (joined (g.H.Host.view c.args.host.now) (g.H.Host.view c.ticks.new.host) (g.H.Host.view c.run_clock.new.host) (IsAfterSome (HoldsBy ode g.K.Keep.means) (items_of (all_heard c.args.output.now.quiet (clock_settled w (to, c.as_slice.result.now))) ++ more) w said)
     (look_stops g.H.Host.view g.K.Keep.holds g.K.Keep.live g.K.Keep.means g.met.K.Keep.stands g.met.H.Host.text_stands ode w c.args.rest c.args.host.now c.ticks.new.host well rest c.ticks.ensures.looks
-    (clock_settled w (to, c.as_slice.result.now)) said more printed)
+    (all_heard c.args.output.now.quiet (clock_settled w (to, c.as_slice.result.now))) said more printed)
     (c.run_clock.ensures.any_moment w said more well due.1 due.2 left at.0 (c.ticks.ensures.looks.text ∙ printed)))

@@ -10,7 +10,9 @@ use Rattle.ode_machine.specs.Works.{ticks}
 use Rattle.ode_opened.specs.declared.opened.Opened.{Opened}
 use Rattle.ode_overlay_laws.specs.Standing.{origin_as}
 use Rattle.ode_transact.proofs.BeginLaws.{damaged_before}
+use Rattle.ode_transact.proofs.OutputLaws.{counting_none}
 use Rattle.ode_transact.specs.Items.{items_of, texts_of}
+use Rattle.ode_transact.specs.Output.{all_heard, counting}
 use Rattle.ode_transact.specs.Resting.{HoldsBy, IsAtRest}
 use Rattle.ode_transact.specs.Working.{IsFromFront}
 use Rattle.ode_value.specs.Denoting.{object_at}
@@ -26,7 +28,7 @@ use Rattle.std.specs.Prelude.{is_some}
 pub returns-in_err-rest-clause-any_moment : goal.returns-in_err-rest-clause-any_moment
 returns-in_err-rest-clause-any_moment g c = λ l w said more well is left rest printed.
     look_stops g.H.Host.view g.K.Keep.holds g.K.Keep.live g.K.Keep.means g.met.K.Keep.stands g.met.H.Host.text_stands l w c.args.rest c.args.host.now c.is_there.new.host well rest c.is_there.ensures.looks
-    (tick_settled c.args.at.now c.args.most w) said more printed
+    (all_heard c.args.output.now.quiet (tick_settled c.args.at.now c.args.most w)) said more printed
 
 pub returns-in_err-rest-clause-undamaged : goal.returns-in_err-rest-clause-undamaged
 returns-in_err-rest-clause-undamaged g c =
@@ -40,13 +42,20 @@ returns-then-not-there-clause-done g c = λ l w well is left rest.
     let here : is_some (object_at w.bones c.at.inside.object) ≡ is_some (object_at w.bones c.args.at.now.object) = ap (λ (p : Position). is_some (object_at w.bones p.object)) c.at.view_is in
     let at = c.in_ok-rest.ensures.is l w rest in
     let none : c.in_ok-rest.there ≡ false = search rules in
-    subst (λ (s : Settlings). (IsAtRest g.H.Host.view g.K.Keep.holds g.K.Keep.live l (world_after w s) c.in_ok-rest.rest c.is_there.new.host × (0 ≡ length s)) × Printed (texts_of s) (g.H.Host.view c.args.host.now) (g.H.Host.view c.is_there.new.host))
+    subst (λ (s : Settlings). (IsAtRest g.H.Host.view g.K.Keep.holds g.K.Keep.live l (world_after w s) c.in_ok-rest.rest c.is_there.new.host × (0 ≡ length s)) × Printed (texts_of (all_heard c.args.output.now.quiet s)) (g.H.Host.view c.args.host.now) (g.H.Host.view c.is_there.new.host))
     (sym (settled_gone c.args.at.now c.args.most w c.in_ok-rest.there (at.1 ∙ here) none)) ((at.0, refl), none_printed _ _ c.is_there.ensures.looks)
+
+pub returns-then-not-there-clause-counts : goal.returns-then-not-there-clause-counts
+returns-then-not-there-clause-counts g c = λ l w well is left rest.
+    let here : is_some (object_at w.bones c.at.inside.object) ≡ is_some (object_at w.bones c.args.at.now.object) = ap (λ (p : Position). is_some (object_at w.bones p.object)) c.at.view_is in
+    let at = c.in_ok-rest.ensures.is l w rest in
+    let none : c.in_ok-rest.there ≡ false = search rules in
+    subst (λ (s : Settlings). c.args.output.now ≡ counting c.args.output.now (texts_of s)) (sym (settled_gone c.args.at.now c.args.most w c.in_ok-rest.there (at.1 ∙ here) none)) (counting_none c.args.output.now)
 
 pub returns-then-not-there-clause-any_moment : goal.returns-then-not-there-clause-any_moment
 returns-then-not-there-clause-any_moment g c = λ l w said more well is left rest printed.
     look_stops g.H.Host.view g.K.Keep.holds g.K.Keep.live g.K.Keep.means g.met.K.Keep.stands g.met.H.Host.text_stands l w c.args.rest c.args.host.now c.is_there.new.host well rest c.is_there.ensures.looks
-    (tick_settled c.args.at.now c.args.most w) said more printed
+    (all_heard c.args.output.now.quiet (tick_settled c.args.at.now c.args.most w)) said more printed
 
 pub returns-in_err-rest-2-clause-any_moment : goal.returns-in_err-rest-2-clause-any_moment
 returns-in_err-rest-2-clause-any_moment g c = λ l w said more well is left rest printed.
@@ -56,10 +65,10 @@ returns-in_err-rest-2-clause-any_moment g c = λ l w said more well is left rest
     let front = tick_front c.tick_origin-origin.result c.args.at.now w c.tick_origin-origin.ensures in
     let behind = tick_behind l c.tick_origin-origin.result c.args.at.now w c.tick_origin-origin.ensures (c.transactions_leave_good_worlds.ensures.tick l w well left c.args.at.now is) in
     let settled = settled_there c.args.at.now c.args.most w c.in_ok-rest.there (at.1 ∙ here) c.tick_origin-origin.result c.tick_origin-origin.ensures some in
-    joined (g.H.Host.view c.args.host.now) (g.H.Host.view c.is_there.new.host) (g.H.Host.view c.transact_and_drain.new.host) (IsAfterSome (HoldsBy l g.K.Keep.means) (items_of (tick_settled c.args.at.now c.args.most w) ++ more) w said)
+    joined (g.H.Host.view c.args.host.now) (g.H.Host.view c.is_there.new.host) (g.H.Host.view c.transact_and_drain.new.host) (IsAfterSome (HoldsBy l g.K.Keep.means) (items_of (all_heard c.args.output.now.quiet (tick_settled c.args.at.now c.args.most w)) ++ more) w said)
     (look_stops g.H.Host.view g.K.Keep.holds g.K.Keep.live g.K.Keep.means g.met.K.Keep.stands g.met.H.Host.text_stands l w c.args.rest c.args.host.now c.is_there.new.host well rest c.is_there.ensures.looks
-    (tick_settled c.args.at.now c.args.most w) said more printed)
-    (subst (λ (s : Settlings). LeavesOnly (g.H.Host.view c.is_there.new.host) (g.H.Host.view c.transact_and_drain.new.host) (IsAfterSome (HoldsBy l g.K.Keep.means) (items_of s ++ more) w said)) (sym settled)
+    (all_heard c.args.output.now.quiet (tick_settled c.args.at.now c.args.most w)) said more printed)
+    (subst (λ (s : Settlings). LeavesOnly (g.H.Host.view c.is_there.new.host) (g.H.Host.view c.transact_and_drain.new.host) (IsAfterSome (HoldsBy l g.K.Keep.means) (items_of (all_heard c.args.output.now.quiet s) ++ more) w said)) (sym settled)
     (c.transact_and_drain.ensures.any_moment l w said more well at.0 front behind (c.is_there.ensures.looks.text ∙ printed)))
 
 pub returns-in_err-rest-2-clause-undamaged : goal.returns-in_err-rest-2-clause-undamaged
@@ -79,8 +88,19 @@ returns-clause-done g c = λ l w well is left rest.
     let front = tick_front c.tick_origin-origin.result c.args.at.now w c.tick_origin-origin.ensures in
     let behind = tick_behind l c.tick_origin-origin.result c.args.at.now w c.tick_origin-origin.ensures (c.transactions_leave_good_worlds.ensures.tick l w well left c.args.at.now is) in
     let done = c.in_ok-rest-2.ensures.done l w well at.0 front behind in
-    subst (λ (s : Settlings). (IsAtRest g.H.Host.view g.K.Keep.holds g.K.Keep.live l (world_after w s) c.in_ok-rest-2.rest c.transact_and_drain.new.host × (c.in_ok-rest-2.ran + 1 ≡ length s)) × Printed (texts_of s) (g.H.Host.view c.args.host.now) (g.H.Host.view c.transact_and_drain.new.host))
+    subst (λ (s : Settlings). (IsAtRest g.H.Host.view g.K.Keep.holds g.K.Keep.live l (world_after w s) c.in_ok-rest-2.rest c.transact_and_drain.new.host × (c.in_ok-rest-2.ran + 1 ≡ length s)) × Printed (texts_of (all_heard c.args.output.now.quiet s)) (g.H.Host.view c.args.host.now) (g.H.Host.view c.transact_and_drain.new.host))
     (sym (settled_there c.args.at.now c.args.most w c.in_ok-rest.there (at.1 ∙ here) c.tick_origin-origin.result c.tick_origin-origin.ensures some)) (done.0, λ text said. done.1 text (c.is_there.ensures.looks.text ∙ said))
+
+pub returns-clause-counts : goal.returns-clause-counts
+returns-clause-counts g c = λ l w well is left rest.
+    let here : is_some (object_at w.bones c.at.inside.object) ≡ is_some (object_at w.bones c.args.at.now.object) = ap (λ (p : Position). is_some (object_at w.bones p.object)) c.at.view_is in
+    let at = c.in_ok-rest.ensures.is l w rest in
+    let some : c.in_ok-rest.there ≡ true = search rules in
+    let front = tick_front c.tick_origin-origin.result c.args.at.now w c.tick_origin-origin.ensures in
+    let behind = tick_behind l c.tick_origin-origin.result c.args.at.now w c.tick_origin-origin.ensures (c.transactions_leave_good_worlds.ensures.tick l w well left c.args.at.now is) in
+    subst (λ (s : Settlings). c.transact_and_drain.new.output ≡ counting c.args.output.now (texts_of s))
+    (sym (settled_there c.args.at.now c.args.most w c.in_ok-rest.there (at.1 ∙ here) c.tick_origin-origin.result c.tick_origin-origin.ensures some))
+    (c.in_ok-rest-2.ensures.counts l w well at.0 front behind)
 
 pub returns-clause-any_moment : goal.returns-clause-any_moment
 returns-clause-any_moment g c = λ l w said more well is left rest printed.
@@ -90,8 +110,8 @@ returns-clause-any_moment g c = λ l w said more well is left rest printed.
     let front = tick_front c.tick_origin-origin.result c.args.at.now w c.tick_origin-origin.ensures in
     let behind = tick_behind l c.tick_origin-origin.result c.args.at.now w c.tick_origin-origin.ensures (c.transactions_leave_good_worlds.ensures.tick l w well left c.args.at.now is) in
     let settled = settled_there c.args.at.now c.args.most w c.in_ok-rest.there (at.1 ∙ here) c.tick_origin-origin.result c.tick_origin-origin.ensures some in
-    joined (g.H.Host.view c.args.host.now) (g.H.Host.view c.is_there.new.host) (g.H.Host.view c.transact_and_drain.new.host) (IsAfterSome (HoldsBy l g.K.Keep.means) (items_of (tick_settled c.args.at.now c.args.most w) ++ more) w said)
+    joined (g.H.Host.view c.args.host.now) (g.H.Host.view c.is_there.new.host) (g.H.Host.view c.transact_and_drain.new.host) (IsAfterSome (HoldsBy l g.K.Keep.means) (items_of (all_heard c.args.output.now.quiet (tick_settled c.args.at.now c.args.most w)) ++ more) w said)
     (look_stops g.H.Host.view g.K.Keep.holds g.K.Keep.live g.K.Keep.means g.met.K.Keep.stands g.met.H.Host.text_stands l w c.args.rest c.args.host.now c.is_there.new.host well rest c.is_there.ensures.looks
-    (tick_settled c.args.at.now c.args.most w) said more printed)
-    (subst (λ (s : Settlings). LeavesOnly (g.H.Host.view c.is_there.new.host) (g.H.Host.view c.transact_and_drain.new.host) (IsAfterSome (HoldsBy l g.K.Keep.means) (items_of s ++ more) w said)) (sym settled)
+    (all_heard c.args.output.now.quiet (tick_settled c.args.at.now c.args.most w)) said more printed)
+    (subst (λ (s : Settlings). LeavesOnly (g.H.Host.view c.is_there.new.host) (g.H.Host.view c.transact_and_drain.new.host) (IsAfterSome (HoldsBy l g.K.Keep.means) (items_of (all_heard c.args.output.now.quiet s) ++ more) w said)) (sym settled)
     (c.transact_and_drain.ensures.any_moment l w said more well at.0 front behind (c.is_there.ensures.looks.text ∙ printed)))
