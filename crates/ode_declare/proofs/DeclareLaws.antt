@@ -22,6 +22,7 @@ use Rattle.ode_language.specs.Languages.{ode}
 use Rattle.ode_machine.specs.Refusals.{classes_in, declared_in}
 use Rattle.ode_machine.specs.Works.{declares}
 use Rattle.ode_opened.specs.declared.opened.Opened.{Opened}
+use Rattle.ode_transact.specs.Output.{heard}
 use Rattle.ode_transact.specs.Resting.{IsAtRest}
 use Rattle.ode_value.specs.Answers.{Answer, ◌>>=◌, ◌>>◌, checks, refuses}
 use Rattle.ode_value.specs.ClassLimits.{limits_class, limits_triggers}
@@ -124,15 +125,22 @@ module _ (known : List Class) (d : ClassDecl) (made : Compiled) (answers : compi
         subst (λ (k : Declared). AllByRecursion HasFewParams k.class.triggers → IsMade ode w k made) (same_declared (declared_in ode w.bones d) own c meant is)
         (λ few. made_is rules reads text (parts few))
 
-module _ {H K : Type 0} (seen : H → View) (held : K → View → Entries → Type 0) (live : K → Bool) (w : ListWorld) (d : ClassDecl) (after : Opened K) (old new : H) where
+module _ {H K : Type 0} (seen : H → View) (held : K → View → Entries → Type 0) (live : K → Bool) (w : ListWorld) (d : ClassDecl) (after : Opened K) (quiet : Bool) (old new : H) where
   -- what is left where a class is declared
   abbrev pub LeavesDeclared : Declared → Type 0
   LeavesDeclared c =
       AllByRecursion HasFewParams c.class.triggers → let s = transaction lists Script (declares c) w in
-      IsWell ode s.0 → IsAtRest seen held live ode s.0 after new × Printed s.1 (seen old) (seen new)
+      IsWell ode s.0 → IsAtRest seen held live ode s.0 after new × Printed (heard quiet s.1) (seen old) (seen new)
 
   pub declares_made : (c : Declared) → declared_in ode w.bones d ≡ Ok c → LeavesDeclared c → Declares (declared_in ode w.bones d) None (IsAtRest seen held live ode w after new) LeavesDeclared
   declares_made c is done = subst (λ (m : Answer Declared). Declares m None (IsAtRest seen held live ode w after new) LeavesDeclared) (sym is) done
 
   pub declares_refused : (why : Refusal) → declared_in ode w.bones d ≡ Err why → IsAtRest seen held live ode w after new → Declares (declared_in ode w.bones d) (Some why) (IsAtRest seen held live ode w after new) LeavesDeclared
   declares_refused why is same = subst (λ (m : Answer Declared). Declares m (Some why) (IsAtRest seen held live ode w after new) LeavesDeclared) (sym is) (refl, same)
+
+-- a declaration's answer, in other words
+pub declares_so : (m : Answer Declared) (c : Declared) (P : Type 0) (Q : Declared → Type 0) → m ≡ Ok c → Q c → Declares m None P Q
+declares_so m c P Q is holds = subst (λ (a : Answer Declared). Declares a None P Q) (sym is) holds
+
+pub refuses_so : (m : Answer Declared) (why : Refusal) (P : Type 0) (Q : Declared → Type 0) → m ≡ Err why → P → Declares m (Some why) P Q
+refuses_so m why P Q is holds = subst (λ (a : Answer Declared). Declares a (Some why) P Q) (sym is) (refl, holds)

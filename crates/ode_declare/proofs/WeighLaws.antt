@@ -18,9 +18,11 @@ use Rattle.ode_keep.specs.Entries.{Changes, Entries}
 use Rattle.ode_keep.specs.Growth.{put_bytes}
 use Rattle.ode_machine.specs.Moments.{LeavesSettling}
 use Rattle.ode_opened.specs.declared.opened.Opened.{Opened}
+use Rattle.ode_transact.specs.Output.{counting, heard}
 use Rattle.ode_transact.specs.Resting.{HoldsBy, IsAtRest}
 use Rattle.ode_transact.specs.Settling.{Meaning}
 use Rattle.ode_transact.specs.declared.error.EngineError.{EngineError}
+use Rattle.ode_transact.specs.declared.output.Output.{Output}
 use Rattle.ode_good_laws.specs.Well.{IsWell}
 use Rattle.ode_value.specs.Language.{Language, ListWorld}
 use Rattle.ode_value.specs.Lengths.{class_records}
@@ -89,14 +91,20 @@ module _ (l : Language) (w : ListWorld) (c : Declared) (made : Compiled) (is : I
 
 module _ {H K : Type 0} (seen : H → View) (held : K → View → Entries → Type 0) (live : K → Bool) (means : Meaning) where
   -- what is behind a settled transaction that is another one
-  pub done_as : (result : Result (Opened K) EngineError) (l : Language) (old new : H) (s t : Settled Histories Starts) → s ≡ t
-      → (IsWell l t.0 → IfOk result (λ after. IsAtRest seen held live l t.0 after new) × OnOk result (Printed t.1 (seen old) (seen new)))
-      → IsWell l s.0 → IfOk result (λ after. IsAtRest seen held live l s.0 after new) × OnOk result (Printed s.1 (seen old) (seen new))
-  done_as result l old new s t same done =
-      subst (λ (x : Settled Histories Starts). IsWell l x.0 → IfOk result (λ after. IsAtRest seen held live l x.0 after new) × OnOk result (Printed x.1 (seen old) (seen new))) (sym same) done
+  pub done_as : (result : Result (Opened K) EngineError) (l : Language) (quiet : Bool) (old new : H) (s t : Settled Histories Starts) → s ≡ t
+      → (IsWell l t.0 → IfOk result (λ after. IsAtRest seen held live l t.0 after new) × OnOk result (Printed (heard quiet t.1) (seen old) (seen new)))
+      → IsWell l s.0 → IfOk result (λ after. IsAtRest seen held live l s.0 after new) × OnOk result (Printed (heard quiet s.1) (seen old) (seen new))
+  done_as result l quiet old new s t same done =
+      subst (λ (x : Settled Histories Starts). IsWell l x.0 → IfOk result (λ after. IsAtRest seen held live l x.0 after new) × OnOk result (Printed (heard quiet x.1) (seen old) (seen new))) (sym same) done
 
-  pub leaves_as : (l : Language) (w : ListWorld) (old new : H) (said : List ℕ) (s t : Settled Histories Starts) → s ≡ t
-      → (IsWell l t.0 → (seen old).text ≡ Some said → LeavesOnly (seen old) (seen new) (LeavesSettling (HoldsBy l means) w t.0 said t.1))
-      → IsWell l s.0 → (seen old).text ≡ Some said → LeavesOnly (seen old) (seen new) (LeavesSettling (HoldsBy l means) w s.0 said s.1)
-  leaves_as l w old new said s t same leaves =
-      subst (λ (x : Settled Histories Starts). IsWell l x.0 → (seen old).text ≡ Some said → LeavesOnly (seen old) (seen new) (LeavesSettling (HoldsBy l means) w x.0 said x.1)) (sym same) leaves
+  pub leaves_as : (l : Language) (w : ListWorld) (quiet : Bool) (old new : H) (said : List ℕ) (s t : Settled Histories Starts) → s ≡ t
+      → (IsWell l t.0 → (seen old).text ≡ Some said → LeavesOnly (seen old) (seen new) (LeavesSettling (HoldsBy l means) w t.0 said (heard quiet t.1)))
+      → IsWell l s.0 → (seen old).text ≡ Some said → LeavesOnly (seen old) (seen new) (LeavesSettling (HoldsBy l means) w s.0 said (heard quiet s.1))
+  leaves_as l w quiet old new said s t same leaves =
+      subst (λ (x : Settled Histories Starts). IsWell l x.0 → (seen old).text ≡ Some said → LeavesOnly (seen old) (seen new) (LeavesSettling (HoldsBy l means) w x.0 said (heard quiet x.1))) (sym same) leaves
+
+-- and what is counted of it
+pub counts_as : {R : Type 0} (result : Result R EngineError) (l : Language) (output behind : Output) (s t : Settled Histories Starts) → s ≡ t
+    → (IsWell l t.0 → OnOk result (behind ≡ counting output t.1)) → IsWell l s.0 → OnOk result (behind ≡ counting output s.1)
+counts_as result l output behind s t same counts =
+    subst (λ (x : Settled Histories Starts). IsWell l x.0 → OnOk result (behind ≡ counting output x.1)) (sym same) counts

@@ -15,6 +15,7 @@ ghost use Rattle.ode_machine.specs.Refusals.{declared_in};
 ghost use Rattle.ode_machine.specs.Works.{declares};
 ghost use Rattle.ode_schema.specs.Parts.{AreFit};
 ghost use Rattle.ode_transact.specs.Errors.{OnDamaged};
+ghost use Rattle.ode_transact.specs.Output.{counting, heard};
 ghost use Rattle.ode_transact.specs.Resting.{HoldsBy, IsAtRest, resting_parts};
 ghost use Rattle.ode_value.specs.Language.{ListWorld};
 ghost use Rattle.ode_value.specs.Limits.{number_limit};
@@ -31,7 +32,7 @@ use ode_host::Host;
 use ode_keep::Keep;
 use ode_language_laws::{language_has_sound_rules, language_reads_well};
 use ode_opened::Opened;
-use ode_transact::EngineError;
+use ode_transact::{EngineError, Output};
 use ode_value::{ClassDecl, Refusal};
 use std::alloc::Global;
 
@@ -40,6 +41,7 @@ pub fn declare<H: Host, K: Keep<H> + Drop>(
     alloc: Global,
     rest: Opened<K>,
     host: &mut H,
+    output: &mut Output,
     decl: &ClassDecl,
 ) -> Result<(Opened<K>, Option<Refusal>), EngineError>
     requires live { IsTrue (K.live rest.keeper) }
@@ -50,17 +52,21 @@ pub fn declare<H: Host, K: Keep<H> + Drop>(
     ensures done { (w : ListWorld) → IsWell ode w → HasText ode (statement.Class decl.now) → IsAtRest H.view K.holds K.live ode w rest host.old
         → IfOk result (λ r. Declares (declared_in ode w.bones decl.now) r.1 (IsAtRest H.view K.holds K.live ode w r.0 host.new)
         (λ c. AllByRecursion HasFewParams c.class.triggers → let s = transaction lists Script (declares c) w in
-        IsWell ode s.0 → IsAtRest H.view K.holds K.live ode s.0 r.0 host.new × Printed s.1 (H.view host.old) (H.view host.new))) }
+        IsWell ode s.0 → IsAtRest H.view K.holds K.live ode s.0 r.0 host.new × Printed (heard output.old.quiet s.1) (H.view host.old) (H.view host.new))) }
+    ensures counts { (w : ListWorld) → IsWell ode w → HasText ode (statement.Class decl.now) → IsAtRest H.view K.holds K.live ode w rest host.old
+        → IfOk result (λ r. Declares (declared_in ode w.bones decl.now) r.1 (output.new ≡ output.old)
+        (λ c. AllByRecursion HasFewParams c.class.triggers → let s = transaction lists Script (declares c) w in
+        IsWell ode s.0 → output.new ≡ counting output.old s.1)) }
     // Where it is refused nothing was done.
     ensures refused { IfOk result (λ r. IfSome r.1 (λ why. (r.0 ≡ rest) × (host.new ≡ host.old))) }
     // Where the machine refuses it, it may still end by want of memory, before any call of the host.
     ensures declined { (w : ListWorld) (why : Refusal) → IsAtRest H.view K.holds K.live ode w rest host.old → declared_in ode w.bones decl.now ≡ Err why → host.new ≡ host.old }
-    // A stop leaves the world before and none of the text, or the one behind and a front of it.
+    // A stop leaves the world before and none of the text, or the one behind and a front of what is printed of it.
     ensures any_moment { (w : ListWorld) (c : Declared) (said : Items ℕ) → IsWell ode w → HasText ode (statement.Class decl.now) → IsAtRest H.view K.holds K.live ode w rest host.old
         → declared_in ode w.bones decl.now ≡ Ok c → AllByRecursion HasFewParams c.class.triggers
         → let s = transaction lists Script (declares c) w in
         IsWell ode s.0 → (H.view host.old).text ≡ Some said
-        → LeavesOnly (H.view host.old) (H.view host.new) (LeavesSettling (HoldsBy ode K.means) w s.0 said s.1) }
+        → LeavesOnly (H.view host.old) (H.view host.new) (LeavesSettling (HoldsBy ode K.means) w s.0 said (heard output.old.quiet s.1)) }
     ensures fit { IfOk result (λ r. AreFit (resting_parts r.0)) }
     ensures aligned { IfOk result (λ r. AreAligned (resting_parts r.0)) }
     ensures usable { IfOk result (λ r. IsTrue (K.live r.0.keeper)) }
@@ -76,7 +82,7 @@ pub fn declare<H: Host, K: Keep<H> + Drop>(
     let _known = rest.classes.as_slice();
     match compile(alloc, &rest.classes, decl) {
         Ok(made) => {
-            let after = bring_in(alloc, rest, host, made)?;
+            let after = bring_in(alloc, rest, host, output, made)?;
             Ok((after, None))
         }
         Err(CompileStop::Memory) => Err(EngineError::Memory),

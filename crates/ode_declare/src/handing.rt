@@ -9,6 +9,7 @@ ghost use Rattle.ode_keep.specs.ShortValues.{HasShortValues};
 ghost use Rattle.ode_laws.specs.Alike.{NumberWorld};
 ghost use Rattle.ode_overlay.specs.declared.origin.Origin.TheVariants as from;
 ghost use Rattle.ode_transact.specs.Errors.{OnDamaged};
+ghost use Rattle.ode_transact.specs.Output.{counting, heard};
 ghost use Rattle.ode_transact.specs.Resting.{resting_parts};
 ghost use Rattle.ode_transact.specs.Settling.{LeavesBatch};
 ghost use Rattle.ode_value.specs.Language.{Language, ListWorld};
@@ -25,7 +26,7 @@ use ode_keep::{Batch, Keep, MAX_CHANGES, MAX_RECORD_BYTES};
 use ode_lines::{class_line, committed_line};
 use ode_opened::Opened;
 use ode_overlay::Overlay;
-use ode_transact::{EngineError, hand_over};
+use ode_transact::{EngineError, Output, hand_over};
 use ode_value::{Key, List, Name};
 use std::alloc::{AllocError, Global};
 
@@ -120,6 +121,7 @@ pub(crate) fn gather(
 pub(crate) fn settle<H: Host, K: Keep<H> + Drop>(
     rest: Opened<K>,
     host: &mut H,
+    output: &mut Output,
     batch: &Batch,
     text: &[u8],
 ) -> Result<Opened<K>, EngineError>
@@ -128,9 +130,10 @@ pub(crate) fn settle<H: Host, K: Keep<H> + Drop>(
     requires short { HasShortValues batch.now }
     ensures same { IfOk result (λ after. (resting_parts after ≡ resting_parts rest) × (after.bytes ≡ rest.bytes)) }
     ensures done { IfOk result (λ after. (entries : Entries) → K.holds rest.keeper (H.view host.old) entries → K.holds after.keeper (H.view host.new) (applied batch.now entries)) }
-    ensures printed { OnOk result (Printed text.now (H.view host.old) (H.view host.new)) }
+    ensures printed { OnOk result (Printed (heard output.old.quiet text.now) (H.view host.old) (H.view host.new)) }
+    ensures counts { OnOk result (output.new ≡ counting output.old text.now) }
     ensures any_moment { (entries : Entries) (said : Items ℕ) → K.holds rest.keeper (H.view host.old) entries → (H.view host.old).text ≡ Some said
-        → LeavesOnly (H.view host.old) (H.view host.new) (LeavesBatch K.means entries batch.now said text.now) }
+        → LeavesOnly (H.view host.old) (H.view host.new) (LeavesBatch K.means entries batch.now said (heard output.old.quiet text.now)) }
     ensures usable { IfOk result (λ after. IsTrue (K.live after.keeper)) }
     ensures leaves { HostCalls (IsErrOf result EngineError.DiskFault) (IsErrOf result EngineError.WriteFault) (H.view host.old) (H.view host.new) }
     ensures undamaged { OnDamaged result ((entries : Entries) → K.holds rest.keeper (H.view host.old) entries → record_bytes (applied batch.now entries) ≤ MAX_RECORD_BYTES → ⊥) }
@@ -144,7 +147,7 @@ pub(crate) fn settle<H: Host, K: Keep<H> + Drop>(
         bytes,
     } = rest;
     let mut heap = Heap::new(keeper);
-    hand_over(host, &mut heap, batch, text)?;
+    hand_over(host, &mut heap, output, batch, text)?;
     Ok(Opened {
         keeper: heap.into_keeper(),
         classes,

@@ -13,6 +13,7 @@ ghost use Rattle.ode_machine.specs.Moments.{LeavesSettling};
 ghost use Rattle.ode_machine.specs.Works.{declares};
 ghost use Rattle.ode_schema.specs.Parts.{AreFit};
 ghost use Rattle.ode_transact.specs.Errors.{OnDamaged};
+ghost use Rattle.ode_transact.specs.Output.{counting, heard};
 ghost use Rattle.ode_transact.specs.Resting.{HoldsBy, IsAtRest, resting_parts, resting_tables};
 ghost use Rattle.ode_types.specs.Checked.{IsChecked};
 ghost use Rattle.ode_value.specs.Language.{Language, ListWorld};
@@ -31,7 +32,7 @@ use ode_host::Host;
 use ode_keep::{Batch, Keep, MAX_CHANGES};
 use ode_opened::Opened;
 use ode_overlay::Origin;
-use ode_transact::{EngineError, begin, put_back};
+use ode_transact::{EngineError, Output, begin, put_back};
 use std::alloc::Global;
 
 // A class's transaction up to its settling.
@@ -80,6 +81,7 @@ pub(crate) fn take_in<H: Host, K: Keep<H> + Drop>(
     alloc: Global,
     rest: Opened<K>,
     host: &mut H,
+    output: &mut Output,
     made: Compiled,
     changes: Batch,
     bytes: u64,
@@ -93,12 +95,15 @@ pub(crate) fn take_in<H: Host, K: Keep<H> + Drop>(
     // Where the changes are those of a declared class for which there is room, the file holds what the machine's transaction leaves.
     ensures done { (l : Language) (w : ListWorld) (c : Declared) → IsAtRest H.view K.holds K.live l w rest host.old → IsTaken l w c made changes bytes
         → let s = transaction lists Script (declares c) w in
-        IsWell l s.0 → IfOk result (λ after. IsAtRest H.view K.holds K.live l s.0 after host.new) × OnOk result (Printed s.1 (H.view host.old) (H.view host.new)) }
-    // A stop leaves the world before and none of the text, or the one behind and a front of it.
+        IsWell l s.0 → IfOk result (λ after. IsAtRest H.view K.holds K.live l s.0 after host.new) × OnOk result (Printed (heard output.old.quiet s.1) (H.view host.old) (H.view host.new)) }
+    ensures counts { (l : Language) (w : ListWorld) (c : Declared) → IsAtRest H.view K.holds K.live l w rest host.old → IsTaken l w c made changes bytes
+        → let s = transaction lists Script (declares c) w in
+        IsWell l s.0 → OnOk result (output.new ≡ counting output.old s.1) }
+    // A stop leaves the world before and none of the text, or the one behind and a front of what is printed of it.
     ensures any_moment { (l : Language) (w : ListWorld) (c : Declared) (said : Items ℕ) → IsWell l w → IsAtRest H.view K.holds K.live l w rest host.old → IsTaken l w c made changes bytes
         → let s = transaction lists Script (declares c) w in
         IsWell l s.0 → (H.view host.old).text ≡ Some said
-        → LeavesOnly (H.view host.old) (H.view host.new) (LeavesSettling (HoldsBy l K.means) w s.0 said s.1) }
+        → LeavesOnly (H.view host.old) (H.view host.new) (LeavesSettling (HoldsBy l K.means) w s.0 said (heard output.old.quiet s.1)) }
     ensures fit { IfOk result (λ after. AreFit (resting_parts after)) }
     ensures aligned { IfOk result (λ after. AreAligned (resting_parts after)) }
     ensures usable { IfOk result (λ after. IsTrue (K.live after.keeper)) }
@@ -109,5 +114,11 @@ pub(crate) fn take_in<H: Host, K: Keep<H> + Drop>(
 {
     let prepared = prepare(alloc, rest, host, made, changes, bytes)?;
     let (after, gathered) = prepared;
-    settle(after, host, &gathered.batch, gathered.text.as_slice())
+    settle(
+        after,
+        host,
+        output,
+        &gathered.batch,
+        gathered.text.as_slice(),
+    )
 }

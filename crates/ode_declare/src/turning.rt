@@ -5,6 +5,7 @@ ghost use Rattle.ode_host.specs.Host.{HostCalls, LeavesOnly, Printed};
 ghost use Rattle.ode_machine.specs.Moments.{LeavesSettling};
 ghost use Rattle.ode_schema.specs.Parts.{AreFit};
 ghost use Rattle.ode_transact.specs.Errors.{OnDamaged};
+ghost use Rattle.ode_transact.specs.Output.{counting, heard};
 ghost use Rattle.ode_transact.specs.Resting.{HoldsBy, IsAtRest, resting_parts};
 ghost use Rattle.ode_value.specs.Acts.{with_line};
 ghost use Rattle.ode_value.specs.Language.{Language, ListWorld};
@@ -19,7 +20,7 @@ use ode_keep::Keep;
 use ode_lines::class_line;
 use ode_opened::Opened;
 use ode_overlay::Origin;
-use ode_transact::{EngineError, begin, end};
+use ode_transact::{EngineError, Output, begin, end};
 use ode_value::{Name, Reason};
 use std::alloc::Global;
 
@@ -28,17 +29,21 @@ pub(crate) fn turn_away<H: Host, K: Keep<H> + Drop>(
     alloc: Global,
     rest: Opened<K>,
     host: &mut H,
+    output: &mut Output,
     name: &Name,
 ) -> Result<Opened<K>, EngineError>
     requires live { IsTrue (K.live rest.keeper) }
     requires fit { AreFit (resting_parts rest) }
     ensures done { (l : Language) (w : ListWorld) → IsAtRest H.view K.holds K.live l w rest host.old
         → let s = abort lists Reason.Space (with_line (class_line name.now) (begun Script w)) in
-        IsWell l s.0 → IfOk result (λ after. IsAtRest H.view K.holds K.live l s.0 after host.new) × OnOk result (Printed s.1 (H.view host.old) (H.view host.new)) }
+        IsWell l s.0 → IfOk result (λ after. IsAtRest H.view K.holds K.live l s.0 after host.new) × OnOk result (Printed (heard output.old.quiet s.1) (H.view host.old) (H.view host.new)) }
+    ensures counts { (l : Language) (w : ListWorld) → IsAtRest H.view K.holds K.live l w rest host.old
+        → let s = abort lists Reason.Space (with_line (class_line name.now) (begun Script w)) in
+        IsWell l s.0 → OnOk result (output.new ≡ counting output.old s.1) }
     ensures any_moment { (l : Language) (w : ListWorld) (said : Items ℕ) → IsWell l w → IsAtRest H.view K.holds K.live l w rest host.old
         → let s = abort lists Reason.Space (with_line (class_line name.now) (begun Script w)) in
         IsWell l s.0 → (H.view host.old).text ≡ Some said
-        → LeavesOnly (H.view host.old) (H.view host.new) (LeavesSettling (HoldsBy l K.means) w s.0 said s.1) }
+        → LeavesOnly (H.view host.old) (H.view host.new) (LeavesSettling (HoldsBy l K.means) w s.0 said (heard output.old.quiet s.1)) }
     ensures parts { IfOk result (λ after. resting_parts after ≡ resting_parts rest) }
     ensures usable { IfOk result (λ after. K.live after.keeper ≡ true) }
     ensures leaves { HostCalls (IsErrOf result EngineError.DiskFault) (IsErrOf result EngineError.WriteFault) (H.view host.old) (H.view host.new) }
@@ -48,5 +53,5 @@ pub(crate) fn turn_away<H: Host, K: Keep<H> + Drop>(
     let mut ctx = begin(alloc, rest, host, Origin::Script)?;
     let line = class_line(alloc, name)?;
     ctx.text = line;
-    end(alloc, ctx, host, Some(Reason::Space))
+    end(alloc, ctx, host, output, Some(Reason::Space))
 }

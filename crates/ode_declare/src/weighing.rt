@@ -13,6 +13,7 @@ ghost use Rattle.ode_machine.specs.Moments.{LeavesSettling};
 ghost use Rattle.ode_machine.specs.Works.{declares};
 ghost use Rattle.ode_schema.specs.Parts.{AreFit};
 ghost use Rattle.ode_transact.specs.Errors.{OnDamaged};
+ghost use Rattle.ode_transact.specs.Output.{counting, heard};
 ghost use Rattle.ode_transact.specs.Resting.{HoldsBy, IsAtRest, resting_parts};
 ghost use Rattle.ode_types.specs.Checked.{IsChecked};
 ghost use Rattle.ode_value.specs.Language.{Language, ListWorld};
@@ -33,7 +34,7 @@ use ode_declared_laws::{classes_weigh_their_records, declarations_settle};
 use ode_host::Host;
 use ode_keep::{Batch, Keep};
 use ode_opened::Opened;
-use ode_transact::EngineError;
+use ode_transact::{EngineError, Output};
 use ode_value::limits::WEIGHT_LIMIT;
 use std::alloc::{AllocError, Global};
 
@@ -60,6 +61,7 @@ pub(crate) fn bring_in<H: Host, K: Keep<H> + Drop>(
     alloc: Global,
     rest: Opened<K>,
     host: &mut H,
+    output: &mut Output,
     made: Compiled,
 ) -> Result<Opened<K>, EngineError>
     requires live { IsTrue (K.live rest.keeper) }
@@ -71,12 +73,15 @@ pub(crate) fn bring_in<H: Host, K: Keep<H> + Drop>(
     // Where it is a declared class of the file's world, the file holds what the machine's transaction leaves.
     ensures done { (l : Language) (w : ListWorld) (c : Declared) → IsWell l w → IsAtRest H.view K.holds K.live l w rest host.old → IsMade l w c made
         → let s = transaction lists Script (declares c) w in
-        IsWell l s.0 → IfOk result (λ after. IsAtRest H.view K.holds K.live l s.0 after host.new) × OnOk result (Printed s.1 (H.view host.old) (H.view host.new)) }
-    // A stop leaves the world before and none of the text, or the one behind and a front of it.
+        IsWell l s.0 → IfOk result (λ after. IsAtRest H.view K.holds K.live l s.0 after host.new) × OnOk result (Printed (heard output.old.quiet s.1) (H.view host.old) (H.view host.new)) }
+    ensures counts { (l : Language) (w : ListWorld) (c : Declared) → IsWell l w → IsAtRest H.view K.holds K.live l w rest host.old → IsMade l w c made
+        → let s = transaction lists Script (declares c) w in
+        IsWell l s.0 → OnOk result (output.new ≡ counting output.old s.1) }
+    // A stop leaves the world before and none of the text, or the one behind and a front of what is printed of it.
     ensures any_moment { (l : Language) (w : ListWorld) (c : Declared) (said : Items ℕ) → IsWell l w → IsAtRest H.view K.holds K.live l w rest host.old → IsMade l w c made
         → let s = transaction lists Script (declares c) w in
         IsWell l s.0 → (H.view host.old).text ≡ Some said
-        → LeavesOnly (H.view host.old) (H.view host.new) (LeavesSettling (HoldsBy l K.means) w s.0 said s.1) }
+        → LeavesOnly (H.view host.old) (H.view host.new) (LeavesSettling (HoldsBy l K.means) w s.0 said (heard output.old.quiet s.1)) }
     ensures fit { IfOk result (λ after. AreFit (resting_parts after)) }
     ensures aligned { IfOk result (λ after. AreAligned (resting_parts after)) }
     ensures usable { IfOk result (λ after. IsTrue (K.live after.keeper)) }
@@ -92,8 +97,8 @@ pub(crate) fn bring_in<H: Host, K: Keep<H> + Drop>(
     let weighed = weigh(alloc, &made, rest.bytes)?;
     let (changes, bytes) = weighed;
     if bytes > WEIGHT_LIMIT {
-        turn_away(alloc, rest, host, &made.class.name)
+        turn_away(alloc, rest, host, output, &made.class.name)
     } else {
-        take_in(alloc, rest, host, made, changes, bytes)
+        take_in(alloc, rest, host, output, made, changes, bytes)
     }
 }

@@ -1,7 +1,7 @@
 use Rattle.std.proofs.Common.{rules, Err, ◌≡◌, refl, subst, ◌∙◌}
 use Rattle.ode_compile.specs.Answers.{Stops}
 use Rattle.ode_compile.specs.Compiling.{compiled}
-use Rattle.ode_declare.proofs.DeclareLaws.{declares_compiled, declares_made, declares_refused, few_made, made_as, meant, none_refused}
+use Rattle.ode_declare.proofs.DeclareLaws.{declares_compiled, declares_made, declares_refused, declares_so, few_made, made_as, meant, none_refused, refuses_so}
 use Rattle.std.proofs.lemmas.Result.{err_from_is_err_and}
 use Rattle.ode_declare.proofs.TakeLaws.{classes_are, damaged_as}
 use Rattle.ode_declare.proofs.declaring.declare.Goals as goal
@@ -13,6 +13,7 @@ use Rattle.ode_machine.specs.Refusals.{declared_in}
 use Rattle.ode_machine.specs.Works.{declares}
 use Rattle.ode_transact.proofs.BeginLaws.{still_left}
 use Rattle.ode_transact.proofs.EndingLaws.{before_leaves, calls_as, fails_apart, looks_fail, looks_leave}
+use Rattle.ode_transact.specs.Output.{heard_of}
 use Rattle.ode_transact.specs.Resting.{HoldsBy}
 use Rattle.ode_transact.specs.declared.error.EngineError.TheVariants as engine
 use Rattle.ode_value.specs.Pasts.{lists}
@@ -52,10 +53,19 @@ returns-in_ok-after-in-Ok-clause-done g c = λ w well text rest.
     let known = classes_are g.H.Host.view g.K.Keep.holds g.K.Keep.live ode w c.args.rest c.args.host.now rest in
     let own : Declared = record { class = c.in-Ok.made.class; tree = c.args.decl.now } in
     let is = meant c.args.rest.classes c.args.decl.now c.in-Ok.made c.in-Ok.ensures.answers c.in-Ok.ensures.text w known in
-    declares_made g.H.Host.view g.K.Keep.holds g.K.Keep.live w c.args.decl.now c.in_ok-after-in-Ok.after c.args.host.now c.bring_in.new.host own is
+    declares_made g.H.Host.view g.K.Keep.holds g.K.Keep.live w c.args.decl.now c.in_ok-after-in-Ok.after c.args.output.now.quiet c.args.host.now c.bring_in.new.host own is
     (λ few.
     let made = made_as c.args.rest.classes c.args.decl.now c.in-Ok.made c.in-Ok.ensures.answers c.in-Ok.ensures.text w known c.language_has_sound_rules.ensures c.language_reads_well.ensures text (λ few. c.checked_classes_have_few_parts.ensures c.args.rest.classes own c.as_slice-known.ensures.checked c.in-Ok.ensures.checked few) own is few in
     c.in_ok-after-in-Ok.ensures.done ode w own well rest made)
+
+pub returns-in_ok-after-in-Ok-clause-counts : goal.returns-in_ok-after-in-Ok-clause-counts
+returns-in_ok-after-in-Ok-clause-counts g c = λ w well text rest.
+    let known = classes_are g.H.Host.view g.K.Keep.holds g.K.Keep.live ode w c.args.rest c.args.host.now rest in
+    let own : Declared = record { class = c.in-Ok.made.class; tree = c.args.decl.now } in
+    let is = meant c.args.rest.classes c.args.decl.now c.in-Ok.made c.in-Ok.ensures.answers c.in-Ok.ensures.text w known in
+    declares_so (declared_in ode w.bones c.args.decl.now) own _ _ is (λ few.
+    let made = made_as c.args.rest.classes c.args.decl.now c.in-Ok.made c.in-Ok.ensures.answers c.in-Ok.ensures.text w known c.language_has_sound_rules.ensures c.language_reads_well.ensures text (λ few. c.checked_classes_have_few_parts.ensures c.args.rest.classes own c.as_slice-known.ensures.checked c.in-Ok.ensures.checked few) own is few in
+    c.in_ok-after-in-Ok.ensures.counts ode w own well rest made)
 
 pub returns-in_ok-after-in-Ok-clause-declined : goal.returns-in_ok-after-in-Ok-clause-declined
 returns-in_ok-after-in-Ok-clause-declined g c = λ w why rest refused.
@@ -74,7 +84,7 @@ returns-in_ok-after-in-Ok-clause-leaves g c =
 
 pub returns-in-Err-Memory-clause-any_moment : goal.returns-in-Err-Memory-clause-any_moment
 returns-in-Err-Memory-clause-any_moment g c = λ w d said well text rest is few behind printed.
-    let s = transaction lists Script (declares d) w in
+    let s = heard_of c.args.output.now.quiet (transaction lists Script (declares d) w) in
     looks_leave _ _ (LeavesSettling (HoldsBy ode g.K.Keep.means) w s.0 said s.1)
     (before_leaves ode g.K.Keep.means rest.entries w s.0 said s.1 _ (g.met.K.Keep.stands c.args.rest.keeper c.args.host.now rest.entries rest.records) (g.met.H.Host.text_stands c.args.host.now) printed rest.world well.ones)
     (looks_none _)
@@ -89,12 +99,20 @@ returns-in-Err-Refused-clause-done g c = λ w well text rest.
     let meant = compiled c.args.rest.classes c.args.decl.now in
     let stops : meant ≡ Err c.in-Err-Refused.why = subst (Stops meant) c.in-Err-Refused.field-0-is c.in-Err-Refused.ensures.answers in
     rw c.in-Err-Refused.field-0-is
-    (declares_refused g.H.Host.view g.K.Keep.holds g.K.Keep.live w c.args.decl.now c.args.rest c.args.host.now c.args.host.now c.in-Err-Refused.why
+    (declares_refused g.H.Host.view g.K.Keep.holds g.K.Keep.live w c.args.decl.now c.args.rest c.args.output.now.quiet c.args.host.now c.args.host.now c.in-Err-Refused.why
     (declares_compiled w.bones c.args.rest.classes c.args.decl.now known ∙ stops) rest)
+
+pub returns-in-Err-Refused-clause-counts : goal.returns-in-Err-Refused-clause-counts
+returns-in-Err-Refused-clause-counts g c = λ w well text rest.
+    let known = classes_are g.H.Host.view g.K.Keep.holds g.K.Keep.live ode w c.args.rest c.args.host.now rest in
+    let meant = compiled c.args.rest.classes c.args.decl.now in
+    let stops : meant ≡ Err c.in-Err-Refused.why = subst (Stops meant) c.in-Err-Refused.field-0-is c.in-Err-Refused.ensures.answers in
+    rw c.in-Err-Refused.field-0-is
+    (refuses_so (declared_in ode w.bones c.args.decl.now) c.in-Err-Refused.why _ _ (declares_compiled w.bones c.args.rest.classes c.args.decl.now known ∙ stops) refl)
 
 pub returns-in-Err-Refused-clause-any_moment : goal.returns-in-Err-Refused-clause-any_moment
 returns-in-Err-Refused-clause-any_moment g c = λ w d said well text rest is few behind printed.
-    let s = transaction lists Script (declares d) w in
+    let s = heard_of c.args.output.now.quiet (transaction lists Script (declares d) w) in
     looks_leave _ _ (LeavesSettling (HoldsBy ode g.K.Keep.means) w s.0 said s.1)
     (before_leaves ode g.K.Keep.means rest.entries w s.0 said s.1 _ (g.met.K.Keep.stands c.args.rest.keeper c.args.host.now rest.entries rest.records) (g.met.H.Host.text_stands c.args.host.now) printed rest.world well.ones)
     (looks_none _)

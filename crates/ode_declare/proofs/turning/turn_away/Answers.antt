@@ -8,6 +8,7 @@ use Rattle.ode_schema.specs.Parts.{AreFit}
 use Rattle.ode_transact.proofs.DamageLaws.{damaged_so, memory_undamaged}
 use Rattle.ode_transact.proofs.EndingLaws.{before_leaves, fails_apart, fails_as, looks_leave, looks_then, none_rose, printed_behind}
 use Rattle.ode_transact.specs.declared.error.EngineError.TheVariants as engine
+use Rattle.ode_transact.specs.Output.{heard_of}
 use Rattle.ode_transact.specs.Resting.{HoldsBy}
 use Rattle.ode_value.specs.Acts.{with_line}
 use Rattle.ode_value.specs.Pasts.{lists}
@@ -18,7 +19,7 @@ use Rattle.ode_value.specs.declared.reason.Reason.TheVariants.{Space}
 
 pub returns-in_err-ctx-clause-any_moment : goal.returns-in_err-ctx-clause-any_moment
 returns-in_err-ctx-clause-any_moment g c = λ l w said well rest behind printed.
-    let s = abort lists Space (with_line (class_line c.args.name.now) (begun Script w)) in
+    let s = heard_of c.args.output.now.quiet (abort lists Space (with_line (class_line c.args.name.now) (begun Script w))) in
     looks_leave _ _ (LeavesSettling (HoldsBy l g.K.Keep.means) w s.0 said s.1)
     (before_leaves l g.K.Keep.means rest.entries w s.0 said s.1 _ (g.met.K.Keep.stands c.args.rest.keeper c.args.host.now rest.entries rest.records) (g.met.H.Host.text_stands c.args.host.now) printed rest.world well.ones)
     c.begin.ensures.looks
@@ -29,7 +30,7 @@ returns-in_err-ctx-clause-leaves g c =
 
 pub returns-in_err-line-clause-any_moment : goal.returns-in_err-line-clause-any_moment
 returns-in_err-line-clause-any_moment g c = λ l w said well rest behind printed.
-    let s = abort lists Space (with_line (class_line c.args.name.now) (begun Script w)) in
+    let s = heard_of c.args.output.now.quiet (abort lists Space (with_line (class_line c.args.name.now) (begun Script w))) in
     looks_leave _ _ (LeavesSettling (HoldsBy l g.K.Keep.means) w s.0 said s.1)
     (before_leaves l g.K.Keep.means rest.entries w s.0 said s.1 _ (g.met.K.Keep.stands c.args.rest.keeper c.args.host.now rest.entries rest.records) (g.met.H.Host.text_stands c.args.host.now) printed rest.world well.ones)
     c.begin.ensures.looks
@@ -47,10 +48,16 @@ returns-clause-done g c = λ l w rest well.
     let runs = says_line g.H.Host.view g.K.Keep.holds g.K.Keep.live l w c.in_ok-ctx.ctx c.begin.new.host _ (class_line c.args.name.now) c.in_ok-line.ensures (c.in_ok-ctx.ensures.begun l w rest tt) in
     (c.end.ensures.done l w t runs well, printed_behind c.end.result _ _ (g.H.Host.view c.args.host.now) (g.H.Host.view c.begin.new.host) (g.H.Host.view c.end.new.host) c.begin.ensures.looks refl (c.end.ensures.printed l w t runs))
 
+pub returns-clause-counts : goal.returns-clause-counts
+returns-clause-counts g c = λ l w rest well.
+    let t = with_line (class_line c.args.name.now) (begun Script w) in
+    let runs = says_line g.H.Host.view g.K.Keep.holds g.K.Keep.live l w c.in_ok-ctx.ctx c.begin.new.host _ (class_line c.args.name.now) c.in_ok-line.ensures (c.in_ok-ctx.ensures.begun l w rest tt) in
+    c.end.ensures.counts l w t runs
+
 pub returns-clause-any_moment : goal.returns-clause-any_moment
 returns-clause-any_moment g c = λ l w said well rest behind printed.
     let t = with_line (class_line c.args.name.now) (begun Script w) in
-    let s = abort lists Space t in
+    let s = heard_of c.args.output.now.quiet (abort lists Space t) in
     let runs = says_line g.H.Host.view g.K.Keep.holds g.K.Keep.live l w c.in_ok-ctx.ctx c.begin.new.host _ (class_line c.args.name.now) c.in_ok-line.ensures (c.in_ok-ctx.ensures.begun l w rest tt) in
     joined _ _ _ (LeavesSettling (HoldsBy l g.K.Keep.means) w s.0 said s.1)
     (looks_leave _ _ (LeavesSettling (HoldsBy l g.K.Keep.means) w s.0 said s.1)

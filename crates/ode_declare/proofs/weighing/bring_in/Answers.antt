@@ -1,7 +1,7 @@
 use Rattle.std.proofs.Common.{rules, Err, ◌≡◌, ◌∙◌, ◌<◌, ◌≤◌, ap, arith, length, refl, subst, sym}
 use Rattle.std.proofs.lemmas.Result.{err_from_is_err_and}
 use Rattle.ode_declare.proofs.TakeLaws.{parts_kept}
-use Rattle.ode_declare.proofs.WeighLaws.{done_as, heavy_is, leaves_as, taken_is}
+use Rattle.ode_declare.proofs.WeighLaws.{counts_as, done_as, heavy_is, leaves_as, taken_is}
 use Rattle.ode_declare.proofs.weighing.bring_in.Goals as goal
 use Rattle.ode_declared_laws.specs.Adding.{AreAligned}
 use Rattle.ode_good_laws.specs.Well.{IsWell}
@@ -11,6 +11,7 @@ use Rattle.ode_machine.specs.Works.{declares}
 use Rattle.ode_schema.specs.Parts.{AreFit}
 use Rattle.ode_transact.proofs.DamageLaws.{damaged_so, memory_undamaged}
 use Rattle.ode_transact.proofs.EndingLaws.{before_leaves, fails_apart, looks_leave}
+use Rattle.ode_transact.specs.Output.{heard_of}
 use Rattle.ode_transact.specs.Resting.{HoldsBy, resting_parts}
 use Rattle.ode_transact.specs.declared.error.EngineError.TheVariants as engine
 use Rattle.ode_value.specs.Acts.{with_line}
@@ -26,7 +27,7 @@ use Rattle.ode_value.specs.declared.reason.Reason.TheVariants.{Space}
 
 pub returns-in_err-weighed-clause-any_moment : goal.returns-in_err-weighed-clause-any_moment
 returns-in_err-weighed-clause-any_moment g c = λ l w d said well rest made behind printed.
-    let s = transaction lists Script (declares d) w in
+    let s = heard_of c.args.output.now.quiet (transaction lists Script (declares d) w) in
     looks_leave _ _ (LeavesSettling (HoldsBy l g.K.Keep.means) w s.0 said s.1)
     (before_leaves l g.K.Keep.means rest.entries w s.0 said s.1 _ (g.met.K.Keep.stands c.args.rest.keeper c.args.host.now rest.entries rest.records) (g.met.H.Host.text_stands c.args.host.now) printed rest.world well.ones)
     (looks_none _)
@@ -45,7 +46,17 @@ returns-then-bytes-gt-WEIGHT_LIMIT-clause-done g c = λ l w d well rest made.
     let heavy = heavy_is l w d c.args.made made c.requires.compiled weighed.0 c.in_ok-weighed.ensures.rows rest.world.world.stored c.args.rest.bytes weighed.1 was c.in_ok-weighed.ensures.bytes over in
     let short : length d.class.name ≤ name_limit = subst (λ (k : Class). length k.name ≤ name_limit) (sym made.class) (search rules) in
     let aborts = c.declarations_settle.ensures.heavy l w d well.good short heavy ∙ ap (λ (k : Class). abort lists Space (with_line (class_line k.name) (begun Script w))) made.class in
-    done_as g.H.Host.view g.K.Keep.holds g.K.Keep.live g.K.Keep.means c.turn_away.result l c.args.host.now c.turn_away.new.host _ _ aborts (c.turn_away.ensures.done l w rest)
+    done_as g.H.Host.view g.K.Keep.holds g.K.Keep.live g.K.Keep.means c.turn_away.result l c.args.output.now.quiet c.args.host.now c.turn_away.new.host _ _ aborts (c.turn_away.ensures.done l w rest)
+
+pub returns-then-bytes-gt-WEIGHT_LIMIT-clause-counts : goal.returns-then-bytes-gt-WEIGHT_LIMIT-clause-counts
+returns-then-bytes-gt-WEIGHT_LIMIT-clause-counts g c = λ l w d well rest made.
+    let weighed = c.in_ok-weighed.weighed in
+    let over : weight_limit < weighed.1 = omega (arith, c.if-bytes-gt-WEIGHT_LIMIT.true) in
+    let was = rest.bytes ∙ ap weight rest.world.world.stands.bones in
+    let heavy = heavy_is l w d c.args.made made c.requires.compiled weighed.0 c.in_ok-weighed.ensures.rows rest.world.world.stored c.args.rest.bytes weighed.1 was c.in_ok-weighed.ensures.bytes over in
+    let short : length d.class.name ≤ name_limit = subst (λ (k : Class). length k.name ≤ name_limit) (sym made.class) (search rules) in
+    let aborts = c.declarations_settle.ensures.heavy l w d well.good short heavy ∙ ap (λ (k : Class). abort lists Space (with_line (class_line k.name) (begun Script w))) made.class in
+    counts_as c.turn_away.result l c.args.output.now c.turn_away.new.output _ _ aborts (c.turn_away.ensures.counts l w rest)
 
 pub returns-then-bytes-gt-WEIGHT_LIMIT-clause-any_moment : goal.returns-then-bytes-gt-WEIGHT_LIMIT-clause-any_moment
 returns-then-bytes-gt-WEIGHT_LIMIT-clause-any_moment g c = λ l w d said well rest made.
@@ -55,7 +66,7 @@ returns-then-bytes-gt-WEIGHT_LIMIT-clause-any_moment g c = λ l w d said well re
     let heavy = heavy_is l w d c.args.made made c.requires.compiled weighed.0 c.in_ok-weighed.ensures.rows rest.world.world.stored c.args.rest.bytes weighed.1 was c.in_ok-weighed.ensures.bytes over in
     let short : length d.class.name ≤ name_limit = subst (λ (k : Class). length k.name ≤ name_limit) (sym made.class) (search rules) in
     let aborts = c.declarations_settle.ensures.heavy l w d well.good short heavy ∙ ap (λ (k : Class). abort lists Space (with_line (class_line k.name) (begun Script w))) made.class in
-    leaves_as g.H.Host.view g.K.Keep.holds g.K.Keep.live g.K.Keep.means l w c.args.host.now c.turn_away.new.host said _ _ aborts (c.turn_away.ensures.any_moment l w said well rest)
+    leaves_as g.H.Host.view g.K.Keep.holds g.K.Keep.live g.K.Keep.means l w c.args.output.now.quiet c.args.host.now c.turn_away.new.host said _ _ aborts (c.turn_away.ensures.any_moment l w said well rest)
 
 pub returns-then-bytes-gt-WEIGHT_LIMIT-clause-fit : goal.returns-then-bytes-gt-WEIGHT_LIMIT-clause-fit
 returns-then-bytes-gt-WEIGHT_LIMIT-clause-fit g c = parts_kept AreFit c.turn_away.result (resting_parts c.args.rest) c.requires.fit c.turn_away.ensures.parts
@@ -75,6 +86,14 @@ returns-else-bytes-gt-WEIGHT_LIMIT-clause-done g c = λ l w d well rest made.
     let below : weighed.1 ≤ weight_limit = omega (arith, c.if-bytes-gt-WEIGHT_LIMIT.false) in
     let was = rest.bytes ∙ ap weight rest.world.world.stands.bones in
     c.take_in.ensures.done l w d rest
+    (taken_is l w d c.args.made made c.requires.compiled weighed.0 c.in_ok-weighed.ensures.rows rest.world.world.stored c.args.rest.bytes weighed.1 was c.in_ok-weighed.ensures.bytes below)
+
+pub returns-else-bytes-gt-WEIGHT_LIMIT-clause-counts : goal.returns-else-bytes-gt-WEIGHT_LIMIT-clause-counts
+returns-else-bytes-gt-WEIGHT_LIMIT-clause-counts g c = λ l w d well rest made.
+    let weighed = c.in_ok-weighed.weighed in
+    let below : weighed.1 ≤ weight_limit = omega (arith, c.if-bytes-gt-WEIGHT_LIMIT.false) in
+    let was = rest.bytes ∙ ap weight rest.world.world.stands.bones in
+    c.take_in.ensures.counts l w d rest
     (taken_is l w d c.args.made made c.requires.compiled weighed.0 c.in_ok-weighed.ensures.rows rest.world.world.stored c.args.rest.bytes weighed.1 was c.in_ok-weighed.ensures.bytes below)
 
 pub returns-else-bytes-gt-WEIGHT_LIMIT-clause-any_moment : goal.returns-else-bytes-gt-WEIGHT_LIMIT-clause-any_moment
