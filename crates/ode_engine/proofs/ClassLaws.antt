@@ -26,9 +26,11 @@ use Rattle.ode_machine.specs.Refusals.{declared_in}
 use Rattle.ode_machine.specs.Sessions.{Session, closed}
 use Rattle.ode_machine.specs.Works.{declares}
 use Rattle.ode_opened.specs.declared.opened.Opened.{Opened}
+use Rattle.ode_transact.specs.Output.{counting, heard}
 use Rattle.ode_transact.specs.Resting.{IsAtRest}
 use Rattle.ode_transact.specs.Settling.{Meaning}
 use Rattle.ode_transact.specs.declared.error.EngineError.{EngineError}
+use Rattle.ode_transact.specs.declared.output.Output.{Output}
 use Rattle.ode_value.specs.Answers.{Answer, ◌>>=◌}
 use Rattle.ode_value.specs.GoodWorlds.{IsClass}
 use Rattle.ode_value.specs.Language.{ListWorld}
@@ -61,38 +63,40 @@ class_settled w c = transaction lists Script (declares c) w
 
 module _ {H K : Type 0} (seen : H → View) (held : K → View → Entries → Type 0) (live : K → Bool) (means : Meaning)
     (stands : (keeper : K) (host : H) (entries : Entries) → held keeper (seen host) entries → (file : List ℕ) × Stands file (seen host) × means file entries)
-    (text_stands : (host : H) (c o : List ℕ) → (seen host).left (seen host).moment c o → (seen host).text ≡ Some o) where
+    (text_stands : (host : H) (c o : List ℕ) → (seen host).left (seen host).moment c o → (seen host).text ≡ Some o) (start output : Output) where
   abbrev Served : Session → Answer Step → Result (State K × Done) EngineError → H → H → Type 0
-  Served = Serves seen held live means ode
+  Served session answer result old new = Serves seen held live means ode session answer result old new start output
 
   abbrev Now : ListWorld → H → Type 0
   Now = HoldsNow seen held live ode
 
   abbrev Leaves : ListWorld → Settled Histories Starts → H → H → Type 0
-  Leaves = LeavesOne seen held live means ode stands text_stands
+  Leaves = LeavesOne seen held live means ode stands text_stands start.quiet
 
   -- no file came of it
   pub undeclared_serves : (w : ListWorld) (e : EngineError) (old new : H) → Now w old → (a : Answer Declared) → ((c : Declared) → a ≡ Ok c → Leaves w (class_settled w c) old new)
       → ((why : Refusal) → a ≡ Err why → Looks (seen old) (seen new)) → IsUndamaged e → Served (closed w) (class_answer w a) (Err e) old new
-  undeclared_serves w e old new now (Ok c) settles refused sound = unsettled_serves seen held live means ode stands text_stands (closed w) (class_settled w c) e old new (settles c refl) sound
-  undeclared_serves w e old new now (Err why) settles refused sound = stopped_serves seen held live means ode stands text_stands (closed w) (Err why) e old new now (refused why refl) sound
+  undeclared_serves w e old new now (Ok c) settles refused sound = unsettled_serves seen held live means ode stands text_stands start output (closed w) (class_settled w c) e old new (settles c refl) sound
+  undeclared_serves w e old new now (Err why) settles refused sound = stopped_serves seen held live means ode stands text_stands start output (closed w) (Err why) e old new now (refused why refl) sound
 
   -- it is refused
-  pub refused_class_serves : (w : ListWorld) (why : Refusal) (o : Opened K) (old new : H) (declared : Declared → Type 0) → IsWell ode w → Now w old → (a : Answer Declared)
-      → Declares a (Some why) (IsAtRest seen held live ode w o new) declared → ((said : Refusal) → a ≡ Err said → Looks (seen old) (seen new))
+  pub refused_class_serves : (w : ListWorld) (why : Refusal) (o : Opened K) (old new : H) (declared counted : Declared → Type 0) → IsWell ode w → Now w old → (a : Answer Declared)
+      → Declares a (Some why) (IsAtRest seen held live ode w o new) declared → Declares a (Some why) (output ≡ start) counted → ((said : Refusal) → a ≡ Err said → Looks (seen old) (seen new))
       → Served (closed w) (class_answer w a) (Ok (state.Rest o, done.Refused why)) old new
-  refused_class_serves w why o old new declared well now (Err said) is looks =
-      quiet_serves seen held live means ode stands text_stands (closed w) (Err said) (state.Rest o) (done.Refused why) old new now (looks said refl) refl is.0 (closed_session w well) (refl, is.1)
-  refused_class_serves w why o old new declared well now (Ok c) is looks = absurd is
+  refused_class_serves w why o old new declared counted well now (Err said) is same looks =
+      quiet_serves seen held live means ode stands text_stands start output same.1 (closed w) (Err said) (state.Rest o) (done.Refused why) old new now (looks said refl) refl is.0 (closed_session w well) (refl, is.1)
+  refused_class_serves w why o old new declared counted well now (Ok c) is same looks = absurd is
 
-  -- it is declared
-  pub declared_serves : (w : ListWorld) (o : Opened K) (old mid new : H) (result : Result (State K × Done) EngineError) (unchanged : Type 0) (a : Answer Declared)
+  -- it is declared, to the output that it left
+  pub declared_serves : (middle : Output) (w : ListWorld) (o : Opened K) (old mid new : H) (result : Result (State K × Done) EngineError) (unchanged same : Type 0) (a : Answer Declared)
       → Declares a None unchanged (λ c. AllByRecursion HasFewParams c.class.triggers → IsWell ode (class_settled w c).0
-      → IsAtRest seen held live ode (class_settled w c).0 o mid × Printed (class_settled w c).1 (seen old) (seen mid))
+      → IsAtRest seen held live ode (class_settled w c).0 o mid × Printed (heard start.quiet (class_settled w c).1) (seen old) (seen mid))
+      → Declares a None same (λ c. AllByRecursion HasFewParams c.class.triggers → IsWell ode (class_settled w c).0 → middle ≡ counting start (class_settled w c).1)
       → ((c : Declared) → a ≡ Ok c → AllByRecursion HasFewParams c.class.triggers)
       → ((c : Declared) → a ≡ Ok c → IsWell ode (class_settled w c).0)
-      → ((c : Declared) → a ≡ Ok c → IsWell ode (class_settled w c).0 → IsAtRest seen held live ode (class_settled w c).0 o mid → Printed (class_settled w c).1 (seen old) (seen mid)
-      → Served (closed w) (Ok (does_class w c)) result old new)
+      → ((c : Declared) → a ≡ Ok c → IsWell ode (class_settled w c).0 → IsAtRest seen held live ode (class_settled w c).0 o mid → Printed (heard start.quiet (class_settled w c).1) (seen old) (seen mid)
+      → middle ≡ counting start (class_settled w c).1 → Served (closed w) (Ok (does_class w c)) result old new)
       → Served (closed w) (class_answer w a) result old new
-  declared_serves w o old mid new result unchanged (Ok c) is few well serves = let made = is (few c refl) (well c refl) in serves c refl (well c refl) made.0 made.1
-  declared_serves w o old mid new result unchanged (Err why) is few well serves = absurd is
+  declared_serves middle w o old mid new result unchanged same (Ok c) is counts few well serves =
+      let made = is (few c refl) (well c refl) in serves c refl (well c refl) made.0 made.1 (counts (few c refl) (well c refl))
+  declared_serves middle w o old mid new result unchanged same (Err why) is counts few well serves = absurd is

@@ -1,5 +1,5 @@
 -- What an engine has, and what a call leaves there.
-use Rattle.std.proofs.Common.{◌≡◌, Bool, true, Option, Result, Some, None, Ok, Err, ap, subst, sym}
+use Rattle.std.proofs.Common.{◌≡◌, ◌∙◌, ℕ, List, Bool, true, Option, Result, Some, None, Ok, Err, ap, subst, sym}
 use Rattle.std.specs.Prelude.{IfErr, IfOk, IsErrOf, OnErr, OnOk}
 use Rattle.ode_engine.specs.Refusing.{IfRefused, IsUndamaged, turned_down}
 use Rattle.ode_engine.specs.Serving.{IsAnswer, IsLive, IsOneOf, IsSession, IsUsable, StandsBy, StandsFor, StandsIn, done_in, rest_in, running_in, state_in}
@@ -18,8 +18,10 @@ use Rattle.ode_machine.specs.Sessions.{Session}
 use Rattle.ode_opened.specs.declared.opened.Opened.{Opened}
 use Rattle.ode_run.specs.declared.context.Ctx.{Ctx}
 use Rattle.ode_transact.specs.Errors.{OnDamaged}
+use Rattle.ode_transact.specs.Output.{counting}
 use Rattle.ode_transact.specs.Resting.{IsAtRest}
 use Rattle.ode_transact.specs.declared.error.EngineError.{EngineError}
+use Rattle.ode_transact.specs.declared.output.Output.{Output}
 use Rattle.ode_transact.specs.declared.error.EngineError.TheVariants as error
 use Rattle.ode_value.specs.Answers.{Answer}
 use Rattle.ode_value.specs.Language.{Language}
@@ -118,3 +120,10 @@ module _ {H K : Type 0} (seen : H → View) (held : K → View → Entries → T
   undamaged_on (Err error.DiskFault) S sound = tt
   undamaged_on (Err error.WriteFault) S sound = tt
   undamaged_on (Err (error.Damaged key)) S sound = sound
+
+-- what an engine has counted, which took over the count of a call's output
+pub counts_on : {R : Type 0} (result : Result R EngineError) (start output behind : Output) (quiet : Bool) (text : List ℕ) → quiet ≡ start.quiet → behind ≡ record { quiet = quiet; counted = output.counted }
+    → OnOk result (output ≡ counting start text) → OnOk result (behind ≡ counting start text)
+counts_on (Err why) start output behind quiet text same is counts = tt
+counts_on (Ok done) start output behind quiet text same is counts =
+    is ∙ ap (λ (q : Bool). record { quiet = q; counted = output.counted }) same ∙ ap (λ (o : Output). record { quiet = start.quiet; counted = o.counted }) counts

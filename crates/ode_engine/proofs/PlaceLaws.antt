@@ -32,6 +32,15 @@ pub no_lone : (lone : Bool) → not lone ≡ true → lone ≡ false
 no_lone false is = refl
 no_lone true is = absurd (cc (is))
 
+pub lone_empty : (s : Statement) → not (is_lone s) ≡ false → s ≡ statement.Empty
+lone_empty statement.Empty is = refl
+lone_empty statement.Begin is = absurd (cc (is))
+lone_empty statement.Commit is = absurd (cc (is))
+lone_empty statement.Abort is = absurd (cc (is))
+lone_empty (statement.Class d) is = absurd (cc (is))
+lone_empty (statement.Clock text) is = absurd (cc (is))
+lone_empty (statement.Simple t) is = absurd (cc (is))
+
 -- with no number left
 pub spent_outside : (w : ListWorld) (s : Statement) → place_of s false ≡ Ok tt → is_lone s ≡ false → number_limit ≤ w.bones.transaction → answer_to ode (closed w) s ≡ Err refusal.NumbersSpent
 spent_outside w s place lone none =

@@ -32,6 +32,7 @@ use Rattle.ode_transact.specs.Resting.{IsAtRest}
 use Rattle.ode_transact.specs.Settling.{Meaning}
 use Rattle.ode_transact.specs.Working.{settled_by}
 use Rattle.ode_transact.specs.declared.error.EngineError.{EngineError}
+use Rattle.ode_transact.specs.declared.output.Output.{Output}
 use Rattle.ode_transact.specs.declared.error.EngineError.TheVariants as error
 use Rattle.ode_value.specs.Acts.{Outcome, Done as Reached, Aborted}
 use Rattle.ode_value.specs.Answers.{Answer, ◌>>=◌}
@@ -73,9 +74,9 @@ turned_told (turned.Stopped e) s usable old new leaves =
 
 module _ {H K : Type 0} (seen : H → View) (held : K → View → Entries → Type 0) (live : K → Bool) (means : Meaning)
     (stands : (keeper : K) (host : H) (entries : Entries) → held keeper (seen host) entries → (file : List ℕ) × Stands file (seen host) × means file entries)
-    (text_stands : (host : H) (c o : List ℕ) → (seen host).left (seen host).moment c o → (seen host).text ≡ Some o) where
+    (text_stands : (host : H) (c o : List ℕ) → (seen host).left (seen host).moment c o → (seen host).text ≡ Some o) (start output : Output) where
   abbrev Served : Session → Answer Step → Result (State K × Done) EngineError → H → H → Type 0
-  Served = Serves seen held live means ode
+  Served session answer result old new = Serves seen held live means ode session answer result old new start output
 
   abbrev Now : ListWorld → H → Type 0
   Now = HoldsNow seen held live ode
@@ -85,17 +86,17 @@ module _ {H K : Type 0} (seen : H → View) (held : K → View → Entries → T
 
   -- ---- a checked statement inside
 
-  done_by : (w : ListWorld) (t : ListTx) (read s : Stmt) (ctx : Ctx K) (old new : H) → IsSession ode (opened w t) → Now w old → Looks (seen old) (seen new) → HasText ode (statement.Simple read)
+  done_by : output ≡ start → (w : ListWorld) (t : ListTx) (read s : Stmt) (ctx : Ctx K) (old new : H) → IsSession ode (opened w t) → Now w old → Looks (seen old) (seen new) → HasText ode (statement.Simple read)
       → checked_in ode t.now.bones read ≡ Ok s → (p : Outcome Histories Starts (Unit {0})) → commands lists s t ≡ p → EndsWhere (Ok tt) (Runs w ctx new) p
       → Served (opened w t) (Ok (goes_on w p)) (Ok (state.Running ctx, done.Settled 0)) old new
-  done_by w t read s ctx old new session now looked text checked (Reached tt x) is ends =
-      quiet_serves seen held live means ode stands text_stands (opened w t) (Ok (opened w x, [])) (state.Running ctx) (done.Settled 0) old new now looked refl refl (more_session w t x session read s text checked is) (x, refl, ends.1)
-  done_by w t read s ctx old new session now looked text checked (Aborted reason x) is ends = absurd ends
+  done_by same w t read s ctx old new session now looked text checked (Reached tt x) is ends =
+      quiet_serves seen held live means ode stands text_stands start output same (opened w t) (Ok (opened w x, [])) (state.Running ctx) (done.Settled 0) old new now looked refl refl (more_session w t x session read s text checked is) (x, refl, ends.1)
+  done_by same w t read s ctx old new session now looked text checked (Aborted reason x) is ends = absurd ends
 
-  pub done_serves : (w : ListWorld) (t : ListTx) (read s : Stmt) (ctx : Ctx K) (old new : H) → IsSession ode (opened w t) → Now w old → Looks (seen old) (seen new) → HasText ode (statement.Simple read)
+  pub done_serves : output ≡ start → (w : ListWorld) (t : ListTx) (read s : Stmt) (ctx : Ctx K) (old new : H) → IsSession ode (opened w t) → Now w old → Looks (seen old) (seen new) → HasText ode (statement.Simple read)
       → checked_in ode t.now.bones read ≡ Ok s → EndsWhere (Ok tt) (Runs w ctx new) (commands lists s t)
       → Served (opened w t) (Ok (goes_on w (commands lists s t))) (Ok (state.Running ctx, done.Settled 0)) old new
-  done_serves w t read s ctx old new session now looked text checked ends = done_by w t read s ctx old new session now looked text checked (commands lists s t) refl ends
+  done_serves same w t read s ctx old new session now looked text checked ends = done_by same w t read s ctx old new session now looked text checked (commands lists s t) refl ends
 
   -- it is aborted
   fell_by : (w : ListWorld) (t : ListTx) (read s : Stmt) (why : Reason) (result : Result (State K × Done) EngineError) (P : ListTx → Type 0) (old mid new : H) → IsSession ode (opened w t) → Now w old
@@ -104,7 +105,7 @@ module _ {H K : Type 0} (seen : H → View) (held : K → View → Entries → T
       → (p : Outcome Histories Starts (Unit {0})) → commands lists s t ≡ p → EndsWhere (Err (stop.Abort why)) P p → Served (opened w t) (Ok (goes_on w p)) result old new
   fell_by w t read s why result P old mid new session now looked text checked settled (Aborted reason x) is ends =
       let same : commands lists s t ≡ Aborted why x = is ∙ ap (λ (r : Reason). Aborted r x) (sym ends.0) in
-      behind_serves seen held live means ode stands text_stands (opened w t) (Ok (settles (abort lists reason x))) result old mid new now looked
+      behind_serves seen held live means ode stands text_stands start output (opened w t) (Ok (settles (abort lists reason x))) result old mid new now looked
       (subst (λ (r : Reason). Served (opened w t) (Ok (settles (abort lists r x))) result mid new) ends.0 (settled x ends.1 (fell_well w session.well t session.came read s text checked why x same)))
   fell_by w t read s why result P old mid new session now looked text checked settled (Reached answer x) is ends = absurd ends
 
@@ -117,7 +118,7 @@ module _ {H K : Type 0} (seen : H → View) (held : K → View → Entries → T
 
   -- a fault of a call that looks
   pub fault_serves : (session : Session) (answer : Answer Step) (why : Stop) (old new : H) → Now session.world old → Looks (seen old) (seen new) → IsSound why → Served session answer (Err (fault_of why)) old new
-  fault_serves session answer why old new now looks sound = stopped_serves seen held live means ode stands text_stands session answer (fault_of why) old new now looks (fault_undamaged why sound)
+  fault_serves session answer why old new now looks sound = stopped_serves seen held live means ode stands text_stands start output session answer (fault_of why) old new now looks (fault_undamaged why sound)
 
   -- ---- a statement is checked
 
@@ -125,17 +126,17 @@ module _ {H K : Type 0} (seen : H → View) (held : K → View → Entries → T
       → checked_in ode t.now.bones read ≡ Ok s → Served (opened w t) (Ok (goes_on w (commands lists s t))) result mid new
       → Served (opened w t) (carried ode (opened w t) (statement.Simple read)) result old new
   checked_inside_serves w t read s result old mid new now looks is serves =
-      behind_serves seen held live means ode stands text_stands (opened w t) (carried ode (opened w t) (statement.Simple read)) result old mid new now looks
+      behind_serves seen held live means ode stands text_stands start output (opened w t) (carried ode (opened w t) (statement.Simple read)) result old mid new now looks
       (subst (λ (a : Answer Stmt). Served (opened w t) (a >>= (λ c. Ok (goes_on w (commands lists c t)))) result mid new) (sym is) serves)
 
-  pub turned_inside_serves : (w : ListWorld) (t : ListTx) (read : Stmt) (turned' : Turned) (ctx : Ctx K) (old new : H) → IsSession ode (opened w t) → Now w old → Looks (seen old) (seen new)
+  pub turned_inside_serves : output ≡ start → (w : ListWorld) (t : ListTx) (read : Stmt) (turned' : Turned) (ctx : Ctx K) (old new : H) → IsSession ode (opened w t) → Now w old → Looks (seen old) (seen new)
       → KeepsChecked {R = Stmt} (Err turned') (Runs w ctx new t) → Answers {R = Stmt} (Err turned') (checked_in ode t.now.bones read)
       → Served (opened w t) (carried ode (opened w t) (statement.Simple read)) (turned_down (state.Running ctx) turned') old new
-  turned_inside_serves w t read (turned.Refused why) ctx old new session now looks keeps is =
+  turned_inside_serves same w t read (turned.Refused why) ctx old new session now looks keeps is =
       subst (λ (a : Answer Stmt). Served (opened w t) (a >>= (λ c. Ok (goes_on w (commands lists c t)))) (Ok (state.Running ctx, done.Refused why)) old new) (sym is)
-      (quiet_serves seen held live means ode stands text_stands (opened w t) (Err why) (state.Running ctx) (done.Refused why) old new now looks refl refl session (t, refl, keeps.stays))
-  turned_inside_serves w t read (turned.Stopped e) ctx old new session now looks keeps is =
-      stopped_serves seen held live means ode stands text_stands (opened w t) (carried ode (opened w t) (statement.Simple read)) e old new now looks (keeps.sound e refl)
+      (quiet_serves seen held live means ode stands text_stands start output same (opened w t) (Err why) (state.Running ctx) (done.Refused why) old new now looks refl refl session (t, refl, keeps.stays))
+  turned_inside_serves same w t read (turned.Stopped e) ctx old new session now looks keeps is =
+      stopped_serves seen held live means ode stands text_stands start output (opened w t) (carried ode (opened w t) (statement.Simple read)) e old new now looks (keeps.sound e refl)
 
   -- ---- a transaction ended
 
@@ -143,7 +144,7 @@ module _ {H K : Type 0} (seen : H → View) (held : K → View → Entries → T
       → Looks (seen old) (seen mid) → s ≡ settled_by ending x → IsWell ode s.0 → (IsWell ode (settled_by ending x).0 → Served session (Ok (settles (settled_by ending x))) result mid new)
       → Served session (Ok (settles s)) result old new
   ended_serves session s ending x result old mid new now looked is well settled =
-      behind_serves seen held live means ode stands text_stands session (Ok (settles s)) result old mid new now looked
+      behind_serves seen held live means ode stands text_stands start output session (Ok (settles s)) result old mid new now looked
       (subst (λ (q : Settled Histories Starts). Served session (Ok (settles q)) result mid new) (sym is) (settled (subst (λ (q : Settled Histories Starts). IsWell ode q.0) is well)))
 
   -- ---- outside a transaction
@@ -165,20 +166,20 @@ module _ {H K : Type 0} (seen : H → View) (held : K → View → Entries → T
       → checked_in ode w.bones read ≡ Ok s → Served (closed w) (Ok (settles (transaction lists Script (commands lists s) w))) result mid new
       → Served (closed w) (carried ode (closed w) (statement.Simple read)) result old new
   checked_outside_serves w read s result old mid new now looks is serves =
-      behind_serves seen held live means ode stands text_stands (closed w) (carried ode (closed w) (statement.Simple read)) result old mid new now looks
+      behind_serves seen held live means ode stands text_stands start output (closed w) (carried ode (closed w) (statement.Simple read)) result old mid new now looks
       (subst (λ (a : Answer Stmt). Served (closed w) (a >>= (λ c. Ok (settles (transaction lists Script (commands lists c) w)))) result mid new) (sym is) serves)
 
-  pub turned_outside_serves : (w : ListWorld) (read : Stmt) (turned' : Turned) (ctx : Ctx K) (old new : H) → IsWell ode w → Now w old → Looks (seen old) (seen new)
+  pub turned_outside_serves : output ≡ start → (w : ListWorld) (read : Stmt) (turned' : Turned) (ctx : Ctx K) (old new : H) → IsWell ode w → Now w old → Looks (seen old) (seen new)
       → KeepsChecked {R = Stmt} (Err turned') (Runs w ctx new (begun Script w)) → Answers {R = Stmt} (Err turned') (checked_in ode w.bones read)
       → Served (closed w) (carried ode (closed w) (statement.Simple read)) (turned_down (state.Rest (back ctx)) turned') old new
-  turned_outside_serves w read (turned.Refused why) ctx old new well now looks keeps is =
+  turned_outside_serves same w read (turned.Refused why) ctx old new well now looks keeps is =
       subst (λ (a : Answer Stmt). Served (closed w) (a >>= (λ c. Ok (settles (transaction lists Script (commands lists c) w)))) (Ok (state.Rest (back ctx), done.Refused why)) old new) (sym is)
-      (quiet_serves seen held live means ode stands text_stands (closed w) (Err why) (state.Rest (back ctx)) (done.Refused why) old new now looks refl refl
+      (quiet_serves seen held live means ode stands text_stands start output same (closed w) (Err why) (state.Rest (back ctx)) (done.Refused why) old new now looks refl refl
       (closed_session w well) (refl, back_at_rest w ctx new (begun Script w) keeps.stays))
-  turned_outside_serves w read (turned.Stopped e) ctx old new well now looks keeps is =
-      stopped_serves seen held live means ode stands text_stands (closed w) (carried ode (closed w) (statement.Simple read)) e old new now looks (keeps.sound e refl)
+  turned_outside_serves same w read (turned.Stopped e) ctx old new well now looks keeps is =
+      stopped_serves seen held live means ode stands text_stands start output (closed w) (carried ode (closed w) (statement.Simple read)) e old new now looks (keeps.sound e refl)
 
-  pub begun_serves : (w : ListWorld) (ctx : Ctx K) (old new : H) → IsWell ode w → w.bones.transaction < number_limit → Now w old → Looks (seen old) (seen new) → Runs w ctx new (begun Script w)
+  pub begun_serves : output ≡ start → (w : ListWorld) (ctx : Ctx K) (old new : H) → IsWell ode w → w.bones.transaction < number_limit → Now w old → Looks (seen old) (seen new) → Runs w ctx new (begun Script w)
       → Served (closed w) (carried ode (closed w) statement.Begin) (Ok (state.Running ctx, done.Settled 0)) old new
-  begun_serves w ctx old new well left now looked runs =
-      quiet_serves seen held live means ode stands text_stands (closed w) (Ok (opened w (begun Script w), [])) (state.Running ctx) (done.Settled 0) old new now looked refl refl (begun_session w well left) (begun Script w, refl, runs)
+  begun_serves same w ctx old new well left now looked runs =
+      quiet_serves seen held live means ode stands text_stands start output same (closed w) (Ok (opened w (begun Script w), [])) (state.Running ctx) (done.Settled 0) old new now looked refl refl (begun_session w well left) (begun Script w, refl, runs)

@@ -1,5 +1,5 @@
 -- What calls of an engine come to, from the calls that they are made of.
-use Rattle.std.proofs.Common.{◌≡◌, ◌∙◌, ◌+◌, ℕ, suc, List, [], ◌∷◌, ◌++◌, length, Bool, Result, Some, Ok, Err, ap, append-nil, append_assoc, arith, refl, subst, sym}
+use Rattle.std.proofs.Common.{◌≡◌, ◌∙◌, ◌+◌, ℕ, suc, List, [], ◌++◌, length, Bool, Result, Some, Ok, Err, ap, append-nil, append_assoc, arith, refl, subst, sym}
 use Rattle.std.specs.Prelude.{IsErrOf, OnOk}
 use Rattle.ode_engine.specs.Refusing.{IsUndamaged}
 use Rattle.ode_engine.specs.Serving.{IsAnswer, IsSession, Serves, StandsIn, session_after, settlings}
@@ -15,19 +15,23 @@ use Rattle.ode_host.specs.Causes.{RoseIf}
 use Rattle.ode_host.specs.Host.{HostCalls, LeavesOnly, Looks, Nothing, Printed, Stands}
 use Rattle.ode_host.specs.View.{View}
 use Rattle.ode_keep.specs.Entries.{Entries}
-use Rattle.ode_machine.proofs.MomentLaws.{at_start, runs_on, settling_leaves}
+use Rattle.ode_machine.proofs.MomentLaws.{at_start, settling_leaves}
 use Rattle.ode_machine.specs.Commands.{Step, settles}
 use Rattle.ode_machine.specs.Moments.{IsAfterSome, LeavesSettling}
-use Rattle.ode_machine.specs.Runs.{Item, item_of}
+use Rattle.ode_machine.specs.Runs.{Item}
 use Rattle.ode_machine.specs.Sessions.{Session}
 use Rattle.ode_opened.specs.declared.opened.Opened.{Opened}
 use Rattle.ode_run.specs.Contexts.{ContextRuns}
 use Rattle.ode_run.specs.declared.context.Ctx.{Ctx}
 use Rattle.ode_sound_laws.specs.Typed.{AreFromOne}
+use Rattle.ode_transact.proofs.OutputLaws.{counting_append, counting_none}
+use Rattle.ode_transact.proofs.TransactSteps.{drain_leaves}
 use Rattle.ode_transact.specs.Items.{items_of, texts_of}
+use Rattle.ode_transact.specs.Output.{all_heard, counting, heard}
 use Rattle.ode_transact.specs.Resting.{HoldsBy, IsAtRest}
 use Rattle.ode_transact.specs.Settling.{Meaning}
 use Rattle.ode_transact.specs.declared.error.EngineError.{EngineError}
+use Rattle.ode_transact.specs.declared.output.Output.{Output}
 use Rattle.ode_transact.specs.declared.error.EngineError.TheVariants as error
 use Rattle.ode_value.specs.Answers.{Answer}
 use Rattle.ode_value.specs.Draining.{drain, with_drain, world_after}
@@ -108,108 +112,123 @@ module _ {H K : Type 0} (seen : H → View) (held : K → View → Entries → T
       subst (λ (f : List ℕ). IsAfterSome (HoldsBy l means) items w said f o) (sym same.0)
       (subst (λ (t : List ℕ). IsAfterSome (HoldsBy l means) items w said d t) (sym out) (at_start (HoldsBy l means) items w said d (now_holds w old now d e left))))
 
+  -- ---- a transaction settles
+
+  -- what a stop leaves of a settling
+  abbrev pub LeavesOne : Bool → ListWorld → Settled Histories Starts → H → H → Type 0
+  LeavesOne quiet w s old new = (said : List ℕ) → (seen old).text ≡ Some said → LeavesOnly (seen old) (seen new) (LeavesSettling (HoldsBy l means) w s.0 said (heard quiet s.1))
+
+  -- it has settled
+  pub record HasSettled (w : ListWorld) (s : Settled Histories Starts) (old new : H) (start output : Output) : Type 0 where
+    pub printed : Printed (heard start.quiet s.1) (seen old) (seen new)
+    pub counts : output ≡ counting start s.1
+    pub any_moment : LeavesOne start.quiet w s old new
+
+  -- what a stop leaves of the drain behind it
+  abbrev pub LeavesDrain : Bool → ListWorld → H → H → Type 0
+  LeavesDrain quiet w old new = (said : List ℕ) (more : List Item) → (seen old).text ≡ Some said
+      → LeavesOnly (seen old) (seen new) (IsAfterSome (HoldsBy l means) (items_of (all_heard quiet (drain lists drain_limit w)) ++ more) w said)
+
   -- ---- what is served
-
-  abbrev Served : Session → Answer Step → Result (State K × Done) EngineError → H → H → Type 0
-  Served = Serves seen held live means l
-
-  -- an error, where nothing but looks was done
-  pub stopped_serves : (session : Session) (answer : Answer Step) (e : EngineError) (old new : H) → Now session.world old → Looks (seen old) (seen new) → IsUndamaged e → Served session answer (Err e) old new
-  stopped_serves session answer e old new now looks sound = record {
-    answers = tt;
-    goes_on = tt;
-    stands = tt;
-    printed = tt;
-    any_moment = λ said more is. looked_leaves session.world old new now looks (items_of (settlings answer) ++ more) said is;
-    sound = sound;
-  }
-
-  -- an answer by which nothing is settled
-  pub quiet_serves : (session : Session) (answer : Answer Step) (s : State K) (d : Done) (old new : H) → Now session.world old → Looks (seen old) (seen new) → settlings answer ≡ []
-      → IsAnswer d answer → IsSession l (session_after session answer) → StandsIn seen held live l (session_after session answer) s new → Served session answer (Ok (s, d)) old new
-  quiet_serves session answer s d old new now looks none says goes_on is = record {
-    answers = says;
-    goes_on = goes_on;
-    stands = is;
-    printed = subst (λ (settled : Settlings). Printed (texts_of settled) (seen old) (seen new)) (sym none) (λ text told. looks.text ∙ told ∙ ap Some (sym (append-nil text)));
-    any_moment = λ said more told. looked_leaves session.world old new now looks (items_of (settlings answer) ++ more) said told;
-    sound = tt;
-  }
 
   printed_behind : (result : Result (State K × Done) EngineError) (text : List ℕ) (old mid new : View) → mid.text ≡ old.text → OnOk result (Printed text mid new) → OnOk result (Printed text old new)
   printed_behind (Ok r) text old mid new same printed = λ said is. printed said (same ∙ is)
   printed_behind (Err e) text old mid new same printed = tt
 
-  -- behind calls that only looked
-  pub behind_serves : (session : Session) (answer : Answer Step) (result : Result (State K × Done) EngineError) (old mid new : H) → Now session.world old → Looks (seen old) (seen mid)
-      → Served session answer result mid new → Served session answer result old new
-  behind_serves session answer result old mid new now looks serves = record {
-    answers = serves.answers;
-    goes_on = serves.goes_on;
-    stands = serves.stands;
-    printed = printed_behind result (texts_of (settlings answer)) (seen old) (seen mid) (seen new) looks.text serves.printed;
-    any_moment = λ said more is.
-        joined (seen old) (seen mid) (seen new) (IsAfterSome (HoldsBy l means) (items_of (settlings answer) ++ more) session.world said)
-        (looked_leaves session.world old mid now looks (items_of (settlings answer) ++ more) said is)
-        (serves.any_moment said more (looks.text ∙ is));
-    sound = serves.sound;
-  }
+  -- to an output
+  module _ (start output : Output) where
+    abbrev Served : Session → Answer Step → Result (State K × Done) EngineError → H → H → Type 0
+    Served session answer result old new = Serves seen held live means l session answer result old new start output
 
-  -- ---- a transaction settles, and the drain follows
+    -- an error, where nothing but looks was done
+    pub stopped_serves : (session : Session) (answer : Answer Step) (e : EngineError) (old new : H) → Now session.world old → Looks (seen old) (seen new) → IsUndamaged e → Served session answer (Err e) old new
+    stopped_serves session answer e old new now looks sound = record {
+      answers = tt;
+      goes_on = tt;
+      stands = tt;
+      printed = tt;
+      counts = tt;
+      any_moment = λ said more is. looked_leaves session.world old new now looks (items_of (all_heard start.quiet (settlings answer)) ++ more) said is;
+      sound = sound;
+    }
 
-  -- what a stop leaves of a settling
-  abbrev pub LeavesOne : ListWorld → Settled Histories Starts → H → H → Type 0
-  LeavesOne w s old new = (said : List ℕ) → (seen old).text ≡ Some said → LeavesOnly (seen old) (seen new) (LeavesSettling (HoldsBy l means) w s.0 said s.1)
+    -- an answer by which nothing is settled
+    pub quiet_serves : output ≡ start → (session : Session) (answer : Answer Step) (s : State K) (d : Done) (old new : H) → Now session.world old → Looks (seen old) (seen new) → settlings answer ≡ []
+        → IsAnswer d answer → IsSession l (session_after session answer) → StandsIn seen held live l (session_after session answer) s new → Served session answer (Ok (s, d)) old new
+    quiet_serves same session answer s d old new now looks none says goes_on is = record {
+      answers = says;
+      goes_on = goes_on;
+      stands = is;
+      printed = subst (λ (settled : Settlings). Printed (texts_of (all_heard start.quiet settled)) (seen old) (seen new)) (sym none) (λ text told. looks.text ∙ told ∙ ap Some (sym (append-nil text)));
+      counts = same ∙ counting_none start ∙ ap (λ (settled : Settlings). counting start (texts_of settled)) (sym none);
+      any_moment = λ said more told. looked_leaves session.world old new now looks (items_of (all_heard start.quiet (settlings answer)) ++ more) said told;
+      sound = tt;
+    }
 
-  -- it has settled
-  pub record HasSettled (w : ListWorld) (s : Settled Histories Starts) (old new : H) : Type 0 where
-    pub printed : Printed s.1 (seen old) (seen new)
-    pub any_moment : LeavesOne w s old new
+    -- behind calls that only looked
+    pub behind_serves : (session : Session) (answer : Answer Step) (result : Result (State K × Done) EngineError) (old mid new : H) → Now session.world old → Looks (seen old) (seen mid)
+        → Served session answer result mid new → Served session answer result old new
+    behind_serves session answer result old mid new now looks serves = record {
+      answers = serves.answers;
+      goes_on = serves.goes_on;
+      stands = serves.stands;
+      printed = printed_behind result (texts_of (all_heard start.quiet (settlings answer))) (seen old) (seen mid) (seen new) looks.text serves.printed;
+      counts = serves.counts;
+      any_moment = λ said more is.
+          joined (seen old) (seen mid) (seen new) (IsAfterSome (HoldsBy l means) (items_of (all_heard start.quiet (settlings answer)) ++ more) session.world said)
+          (looked_leaves session.world old mid now looks (items_of (all_heard start.quiet (settlings answer)) ++ more) said is)
+          (serves.any_moment said more (looks.text ∙ is));
+      sound = serves.sound;
+    }
 
-  -- it has not
-  pub unsettled_serves : (session : Session) (s : Settled Histories Starts) (e : EngineError) (old new : H) → LeavesOne session.world s old new → IsUndamaged e → Served session (Ok (settles s)) (Err e) old new
-  unsettled_serves session s e old new leaves_one sound = record {
-    answers = tt;
-    goes_on = tt;
-    stands = tt;
-    printed = tt;
-    any_moment = λ said more is. settling_leaves (HoldsBy l means) s.1 (items_of (drain lists drain_limit s.0) ++ more) session.world s.0 said (seen old) (seen new) (leaves_one said is);
-    sound = sound;
-  }
+    -- a transaction has not settled
+    pub unsettled_serves : (session : Session) (s : Settled Histories Starts) (e : EngineError) (old new : H) → LeavesOne start.quiet session.world s old new → IsUndamaged e → Served session (Ok (settles s)) (Err e) old new
+    unsettled_serves session s e old new leaves_one sound = record {
+      answers = tt;
+      goes_on = tt;
+      stands = tt;
+      printed = tt;
+      counts = tt;
+      any_moment = λ said more is.
+          settling_leaves (HoldsBy l means) (heard start.quiet s.1) (items_of (all_heard start.quiet (drain lists drain_limit s.0)) ++ more) session.world s.0 said (seen old) (seen new) (leaves_one said is);
+      sound = sound;
+    }
 
-  -- what a stop leaves of the drain behind it
-  abbrev pub LeavesDrain : ListWorld → H → H → Type 0
-  LeavesDrain w old new = (said : List ℕ) (more : List Item) → (seen old).text ≡ Some said
-      → LeavesOnly (seen old) (seen new) (IsAfterSome (HoldsBy l means) (items_of (drain lists drain_limit w) ++ more) w said)
+    -- it has, and the drain follows, to the output that it left
+    module _ (middle : Output) where
+      drained_leaves : (w : ListWorld) (s : Settled Histories Starts) (old mid new : H) → HasSettled w s old mid start middle → LeavesDrain middle.quiet s.0 mid new → (said : List ℕ) (more : List Item) → (seen old).text ≡ Some said
+          → LeavesOnly (seen old) (seen new) (IsAfterSome (HoldsBy l means) (items_of (all_heard start.quiet (with_drain lists drain_limit s)) ++ more) w said)
+      drained_leaves w s old mid new one drained said more is =
+          drain_leaves start middle w s (drain lists drain_limit s.0) (seen old) (seen mid) (seen new) one.counts (HoldsBy l means) more said (one.any_moment said is)
+          (drained (said ++ heard start.quiet s.1) more (one.printed said is))
 
-  drained_leaves : (w : ListWorld) (s : Settled Histories Starts) (old mid new : H) → HasSettled w s old mid → LeavesDrain s.0 mid new → (said : List ℕ) (more : List Item) → (seen old).text ≡ Some said
-      → LeavesOnly (seen old) (seen new) (IsAfterSome (HoldsBy l means) (items_of (with_drain lists drain_limit s) ++ more) w said)
-  drained_leaves w s old mid new one drained said more is =
-      let items : List Item = items_of (drain lists drain_limit s.0) ++ more in
-      runs_on (HoldsBy l means) (item_of s ∷ []) items w said (seen old) (seen mid) (seen new)
-      (settling_leaves (HoldsBy l means) s.1 items w s.0 said (seen old) (seen mid) (one.any_moment said is))
-      (subst (λ (t : List ℕ). LeavesOnly (seen mid) (seen new) (IsAfterSome (HoldsBy l means) items s.0 (said ++ t))) (sym (append-nil s.1)) (drained (said ++ s.1) more (one.printed said is)))
+      pub undrained_serves : (session : Session) (s : Settled Histories Starts) (e : EngineError) (old mid new : H) → HasSettled session.world s old mid start middle → LeavesDrain middle.quiet s.0 mid new
+          → IsUndamaged e → Served session (Ok (settles s)) (Err e) old new
+      undrained_serves session s e old mid new one drained sound = record {
+        answers = tt;
+        goes_on = tt;
+        stands = tt;
+        printed = tt;
+        counts = tt;
+        any_moment = drained_leaves session.world s old mid new one drained;
+        sound = sound;
+      }
 
-  pub undrained_serves : (session : Session) (s : Settled Histories Starts) (e : EngineError) (old mid new : H) → HasSettled session.world s old mid → LeavesDrain s.0 mid new
-      → IsUndamaged e → Served session (Ok (settles s)) (Err e) old new
-  undrained_serves session s e old mid new one drained sound = record {
-    answers = tt;
-    goes_on = tt;
-    stands = tt;
-    printed = tt;
-    any_moment = drained_leaves session.world s old mid new one drained;
-    sound = sound;
-  }
-
-  pub drained_serves : (session : Session) (s : Settled Histories Starts) (o : Opened K) (ran : ℕ) (old mid new : H) → HasSettled session.world s old mid → LeavesDrain s.0 mid new
-      → ran ≡ length (drain lists drain_limit s.0) → IsSession l (settles s).0
-      → IsAtRest seen held live l (world_after s.0 (drain lists drain_limit s.0)) o new → Printed (texts_of (drain lists drain_limit s.0)) (seen mid) (seen new)
-      → Served session (Ok (settles s)) (Ok (state.Rest o, done.Settled (ran + 1))) old new
-  drained_serves session s o ran old mid new one drained count goes_on rests printed = record {
-    answers = one_more ran (length (drain lists drain_limit s.0)) count;
-    goes_on = goes_on;
-    stands = (refl, rests);
-    printed = λ said is. printed (said ++ s.1) (one.printed said is) ∙ ap Some (append_assoc said s.1 (texts_of (drain lists drain_limit s.0)));
-    any_moment = drained_leaves session.world s old mid new one drained;
-    sound = tt;
-  }
+      pub drained_serves : (session : Session) (s : Settled Histories Starts) (o : Opened K) (ran : ℕ) (old mid new : H) → HasSettled session.world s old mid start middle → LeavesDrain middle.quiet s.0 mid new
+          → ran ≡ length (drain lists drain_limit s.0) → IsSession l (settles s).0
+          → IsAtRest seen held live l (world_after s.0 (drain lists drain_limit s.0)) o new → Printed (texts_of (all_heard middle.quiet (drain lists drain_limit s.0))) (seen mid) (seen new)
+          → output ≡ counting middle (texts_of (drain lists drain_limit s.0))
+          → Served session (Ok (settles s)) (Ok (state.Rest o, done.Settled (ran + 1))) old new
+      drained_serves session s o ran old mid new one drained count goes_on rests printed counts =
+          let more : Settlings = drain lists drain_limit s.0 in
+          let drain_printed : Printed (texts_of (all_heard start.quiet more)) (seen mid) (seen new) =
+          subst (λ (quiet : Bool). Printed (texts_of (all_heard quiet more)) (seen mid) (seen new)) (ap (λ (o : Output). o.quiet) one.counts) printed in
+          record {
+            answers = one_more ran (length more) count;
+            goes_on = goes_on;
+            stands = (refl, rests);
+            printed = λ said is. drain_printed (said ++ heard start.quiet s.1) (one.printed said is) ∙ ap Some (append_assoc said (heard start.quiet s.1) (texts_of (all_heard start.quiet more)));
+            counts = counts ∙ ap (λ (o : Output). counting o (texts_of more)) one.counts ∙ counting_append start s.1 (texts_of more);
+            any_moment = drained_leaves session.world s old mid new one drained;
+            sound = tt;
+          }

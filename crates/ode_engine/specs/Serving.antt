@@ -22,9 +22,11 @@ use Rattle.ode_run.specs.Contexts.{ContextRuns, parts_of}
 use Rattle.ode_run.specs.declared.context.Ctx.{Ctx}
 use Rattle.ode_schema.specs.Parts.{AreFit}
 use Rattle.ode_transact.specs.Items.{items_of, texts_of}
+use Rattle.ode_transact.specs.Output.{all_heard, counting}
 use Rattle.ode_transact.specs.Resting.{HoldsBy, IsAtRest, resting_parts}
 use Rattle.ode_transact.specs.Settling.{Meaning}
 use Rattle.ode_transact.specs.declared.error.EngineError.{EngineError}
+use Rattle.ode_transact.specs.declared.output.Output.{Output}
 use Rattle.ode_value.specs.Acts.{Done as Reached}
 use Rattle.ode_value.specs.Answers.{Answer, ◌>>◌}
 use Rattle.ode_value.specs.Executing.{commands}
@@ -55,6 +57,10 @@ running_in (state.Running ctx) = Some ctx
 abbrev pub done_in : {K : Type 0} → Result (State K × Done) EngineError → Result Done EngineError
 done_in (Ok r) = Ok r.1
 done_in (Err error) = Err error
+
+-- where the texts of what it settles go
+abbrev pub output_of : {K : Type 0} → Engine K → Output
+output_of e = record { quiet = e.quiet; counted = e.counted }
 
 -- ---- the condition of a call
 
@@ -139,13 +145,14 @@ module _ {H K : Type 0} (seen : H → View) (held : K → View → Entries → T
     pub has : StandsBy l session e.rest e.running host
 
   -- What a call came to from a session on that the machine gives this answer: at `Ok` it says that answer, what is there stands for the
-  -- session behind it, and the texts of what was settled are printed. A stop on the way leaves the world that some of them left, and a front
-  -- of the text up to the next one, whatever comes behind. No record is damaged.
-  pub record Serves (means : Meaning) (l : Language) (session : Session) (answer : Answer Step) (result : Result (State K × Done) EngineError) (old new : H) : Type 0 where
+  -- session behind it, what is heard of the texts of what was settled is printed, and these are counted. A stop on the way leaves the world
+  -- that some of them left, and a front of what is printed up to the next one, whatever comes behind. No record is damaged.
+  pub record Serves (means : Meaning) (l : Language) (session : Session) (answer : Answer Step) (result : Result (State K × Done) EngineError) (old new : H) (start output : Output) : Type 0 where
     pub answers : IfOk result (λ r. IsAnswer r.1 answer)
     pub goes_on : OnOk result (IsSession l (session_after session answer))
     pub stands : IfOk result (λ r. StandsIn l (session_after session answer) r.0 new)
-    pub printed : OnOk result (Printed (texts_of (settlings answer)) (seen old) (seen new))
+    pub printed : OnOk result (Printed (texts_of (all_heard start.quiet (settlings answer))) (seen old) (seen new))
+    pub counts : OnOk result (output ≡ counting start (texts_of (settlings answer)))
     pub any_moment : (said : List ℕ) (more : List Item) → (seen old).text ≡ Some said
-        → LeavesOnly (seen old) (seen new) (IsAfterSome (HoldsBy l means) (items_of (settlings answer) ++ more) session.world said)
+        → LeavesOnly (seen old) (seen new) (IsAfterSome (HoldsBy l means) (items_of (all_heard start.quiet (settlings answer)) ++ more) session.world said)
     pub sound : IfErr result IsUndamaged

@@ -16,6 +16,7 @@ ghost use Rattle.ode_machine.specs.Sessions.{Session, closed, opened};
 ghost use Rattle.ode_run.specs.Contexts.{ContextRuns, parts_of};
 ghost use Rattle.ode_schema.specs.Parts.{AreFit};
 ghost use Rattle.ode_transact.specs.Errors.{OnDamaged};
+ghost use Rattle.ode_transact.specs.Output.{counting, heard};
 ghost use Rattle.ode_transact.specs.Resting.{HoldsBy, IsAtRest, resting_parts};
 ghost use Rattle.ode_transact.specs.Working.{EndedAs, settled_by, whole_of};
 ghost use Rattle.ode_value.specs.Executing.{commands};
@@ -37,7 +38,8 @@ use ode_opened::Opened;
 use ode_overlay::Origin;
 use ode_run::{Ctx, Stop, exec};
 use ode_transact::{
-    EngineError, Work, begin, drain, end, fault_of, next_number, put_back, run, run_completion,
+    EngineError, Output, Work, begin, drain, end, fault_of, next_number, put_back, run,
+    run_completion,
 };
 use ode_value::limits::{DRAIN_LIMIT, NUMBER_LIMIT};
 use ode_value::{ClassDecl, OdeText, Reason, Refusal, Statement, Stmt};
@@ -65,19 +67,20 @@ fn settled<H: Host, K: Keep<H> + Drop>(
     alloc: Global,
     rest: Opened<K>,
     host: &mut H,
+    output: &mut Output,
 ) -> Result<(State<K>, Done), EngineError>
     requires live { IsTrue (K.live rest.keeper) }
     requires fit { AreFit (resting_parts rest) }
     requires aligned { AreAligned (resting_parts rest) }
     // Whatever the calls from `before` on settled, they and the drain serve it.
-    ensures serves { (session : Session) (s : Settled Histories Starts) (before : H) → Printed s.1 (H.view before) (H.view host.old)
-        → ((said : Items ℕ) → (H.view before).text ≡ Some said → LeavesOnly (H.view before) (H.view host.old) (LeavesSettling (HoldsBy ode K.means) session.world s.0 said s.1))
+    ensures serves { (session : Session) (s : Settled Histories Starts) (before : H) (start : Output) → Printed (heard start.quiet s.1) (H.view before) (H.view host.old) → output.old ≡ counting start s.1
+        → ((said : Items ℕ) → (H.view before).text ≡ Some said → LeavesOnly (H.view before) (H.view host.old) (LeavesSettling (HoldsBy ode K.means) session.world s.0 said (heard start.quiet s.1)))
         → IsWell ode s.0 → IsAtRest H.view K.holds K.live ode s.0 rest host.old
-        → Serves H.view K.holds K.live K.means ode session (Ok (settles s)) result before host.new }
+        → Serves H.view K.holds K.live K.means ode session (Ok (settles s)) result before host.new start output.new }
     ensures usable { IfOk result (λ r. IsUsable K.live r.0) }
     ensures leaves { HostCalls (IsErrOf result EngineError.DiskFault) (IsErrOf result EngineError.WriteFault) (H.view host.old) (H.view host.new) }
 {
-    match drain(alloc, rest, host, DRAIN_LIMIT) {
+    match drain(alloc, rest, host, output, DRAIN_LIMIT) {
         Ok((rest, ran)) => Ok((State::Rest(rest), Done::Settled(ran + 1))),
         Err(error) => Err(error),
     }
@@ -88,18 +91,19 @@ fn settle<H: Host, K: Keep<H> + Drop>(
     alloc: Global,
     ctx: Ctx<K>,
     host: &mut H,
+    output: &mut Output,
     ending: Option<Reason>,
 ) -> Result<(State<K>, Done), EngineError>
     requires live { IsTrue (K.live ctx.heap) }
     requires fit { AreFit (parts_of ctx) }
     requires aligned { AreAligned (parts_of ctx) }
     ensures serves { (session : Session) (t : ListTx) → IsWell ode session.world → ContextRuns H.view K.holds K.live ode session.world ctx host.old t → IsWell ode (settled_by ending t).0
-        → Serves H.view K.holds K.live K.means ode session (Ok (settles (settled_by ending t))) result host.old host.new }
+        → Serves H.view K.holds K.live K.means ode session (Ok (settles (settled_by ending t))) result host.old host.new output.old output.new }
     ensures usable { IfOk result (λ r. IsUsable K.live r.0) }
     ensures leaves { HostCalls (IsErrOf result EngineError.DiskFault) (IsErrOf result EngineError.WriteFault) (H.view host.old) (H.view host.new) }
 {
-    match end(alloc, ctx, host, ending) {
-        Ok(rest) => settled(alloc, rest, host),
+    match end(alloc, ctx, host, output, ending) {
+        Ok(rest) => settled(alloc, rest, host, output),
         Err(error) => Err(error),
     }
 }
@@ -109,6 +113,7 @@ fn run_inside<H: Host, K: Keep<H> + Drop>(
     alloc: Global,
     ctx: Ctx<K>,
     host: &mut H,
+    output: &mut Output,
     s: &Stmt,
 ) -> Result<(State<K>, Done), EngineError>
     requires live { IsTrue (K.live ctx.heap) }
@@ -116,14 +121,14 @@ fn run_inside<H: Host, K: Keep<H> + Drop>(
     requires aligned { AreAligned (parts_of ctx) }
     ensures serves { (w : ListWorld) (t : ListTx) (read : Stmt) → IsSession ode (opened w t) → ContextRuns H.view K.holds K.live ode w ctx host.old t
         → HasText ode (statement.Simple read) → checked_in ode t.now.bones read ≡ Ok s.now
-        → Serves H.view K.holds K.live K.means ode (opened w t) (Ok (goes_on w (commands lists s.now t))) result host.old host.new }
+        → Serves H.view K.holds K.live K.means ode (opened w t) (Ok (goes_on w (commands lists s.now t))) result host.old host.new output.old output.new }
     ensures usable { IfOk result (λ r. IsUsable K.live r.0) }
     ensures leaves { HostCalls (IsErrOf result EngineError.DiskFault) (IsErrOf result EngineError.WriteFault) (H.view host.old) (H.view host.new) }
 {
     let mut ctx = ctx;
     match exec(alloc, &mut ctx, host, s) {
         Ok(()) => Ok((State::Running(ctx), Done::Settled(0))),
-        Err(Stop::Abort(why)) => settle(alloc, ctx, host, Some(why)),
+        Err(Stop::Abort(why)) => settle(alloc, ctx, host, output, Some(why)),
         Err(stop) => {
             drop(ctx);
             Err(fault_of(stop))
@@ -136,19 +141,20 @@ fn simple_inside<H: Host, K: Keep<H> + Drop>(
     alloc: Global,
     ctx: Ctx<K>,
     host: &mut H,
+    output: &mut Output,
     s: &Stmt,
 ) -> Result<(State<K>, Done), EngineError>
     requires live { IsTrue (K.live ctx.heap) }
     requires fit { AreFit (parts_of ctx) }
     requires aligned { AreAligned (parts_of ctx) }
     ensures serves { (w : ListWorld) (t : ListTx) → IsSession ode (opened w t) → ContextRuns H.view K.holds K.live ode w ctx host.old t → HasText ode (statement.Simple s.now)
-        → Serves H.view K.holds K.live K.means ode (opened w t) (carried ode (opened w t) (statement.Simple s.now)) result host.old host.new }
+        → Serves H.view K.holds K.live K.means ode (opened w t) (carried ode (opened w t) (statement.Simple s.now)) result host.old host.new output.old output.new }
     ensures usable { IfOk result (λ r. IsUsable K.live r.0) }
     ensures leaves { HostCalls (IsErrOf result EngineError.DiskFault) (IsErrOf result EngineError.WriteFault) (H.view host.old) (H.view host.new) }
 {
     let mut ctx = ctx;
     match checked(alloc, &mut ctx, host, s) {
-        Ok(s) => run_inside(alloc, ctx, host, s.get()),
+        Ok(s) => run_inside(alloc, ctx, host, output, s.get()),
         Err(turned) => turned_down(State::Running(ctx), turned),
     }
 }
@@ -158,18 +164,19 @@ fn commit<H: Host, K: Keep<H> + Drop>(
     alloc: Global,
     ctx: Ctx<K>,
     host: &mut H,
+    output: &mut Output,
 ) -> Result<(State<K>, Done), EngineError>
     requires live { IsTrue (K.live ctx.heap) }
     requires fit { AreFit (parts_of ctx) }
     requires aligned { AreAligned (parts_of ctx) }
     ensures serves { (w : ListWorld) (t : ListTx) → IsSession ode (opened w t) → ContextRuns H.view K.holds K.live ode w ctx host.old t
-        → Serves H.view K.holds K.live K.means ode (opened w t) (Ok (settles (commits t))) result host.old host.new }
+        → Serves H.view K.holds K.live K.means ode (opened w t) (Ok (settles (commits t))) result host.old host.new output.old output.new }
     ensures usable { IfOk result (λ r. IsUsable K.live r.0) }
     ensures leaves { HostCalls (IsErrOf result EngineError.DiskFault) (IsErrOf result EngineError.WriteFault) (H.view host.old) (H.view host.new) }
 {
     let mut ctx = ctx;
     match run_completion(alloc, &mut ctx, host) {
-        Ok(ending) => settle(alloc, ctx, host, ending),
+        Ok(ending) => settle(alloc, ctx, host, output, ending),
         Err(error) => {
             drop(ctx);
             Err(error)
@@ -182,17 +189,18 @@ fn abort<H: Host, K: Keep<H> + Drop>(
     alloc: Global,
     ctx: Ctx<K>,
     host: &mut H,
+    output: &mut Output,
     why: Reason,
 ) -> Result<(State<K>, Done), EngineError>
     requires live { IsTrue (K.live ctx.heap) }
     requires fit { AreFit (parts_of ctx) }
     requires aligned { AreAligned (parts_of ctx) }
     ensures serves { (w : ListWorld) (t : ListTx) → IsSession ode (opened w t) → ContextRuns H.view K.holds K.live ode w ctx host.old t
-        → Serves H.view K.holds K.live K.means ode (opened w t) (Ok (settles (abort lists why t))) result host.old host.new }
+        → Serves H.view K.holds K.live K.means ode (opened w t) (Ok (settles (abort lists why t))) result host.old host.new output.old output.new }
     ensures usable { IfOk result (λ r. IsUsable K.live r.0) }
     ensures leaves { HostCalls (IsErrOf result EngineError.DiskFault) (IsErrOf result EngineError.WriteFault) (H.view host.old) (H.view host.new) }
 {
-    settle(alloc, ctx, host, Some(why))
+    settle(alloc, ctx, host, output, Some(why))
 }
 
 // A statement inside a transaction.
@@ -200,6 +208,7 @@ fn command_inside<H: Host, K: Keep<H> + Drop>(
     alloc: Global,
     ctx: Ctx<K>,
     host: &mut H,
+    output: &mut Output,
     s: &Statement,
 ) -> Result<(State<K>, Done), EngineError>
     requires live { IsTrue (K.live ctx.heap) }
@@ -207,7 +216,7 @@ fn command_inside<H: Host, K: Keep<H> + Drop>(
     requires aligned { AreAligned (parts_of ctx) }
     requires text { HasText ode s.now }
     ensures serves { (w : ListWorld) (t : ListTx) → IsSession ode (opened w t) → ContextRuns H.view K.holds K.live ode w ctx host.old t
-        → Serves H.view K.holds K.live K.means ode (opened w t) (answer_to ode (opened w t) s.now) result host.old host.new }
+        → Serves H.view K.holds K.live K.means ode (opened w t) (answer_to ode (opened w t) s.now) result host.old host.new output.old output.new }
     ensures usable { IfOk result (λ r. IsUsable K.live r.0) }
     ensures leaves { HostCalls (IsErrOf result EngineError.DiskFault) (IsErrOf result EngineError.WriteFault) (H.view host.old) (H.view host.new) }
 {
@@ -215,9 +224,9 @@ fn command_inside<H: Host, K: Keep<H> + Drop>(
         return Ok((State::Running(ctx), Done::Refused(why)));
     }
     match s {
-        Statement::Commit => commit(alloc, ctx, host),
-        Statement::Abort => abort(alloc, ctx, host, Reason::Asked),
-        Statement::Simple(s) => simple_inside(alloc, ctx, host, s),
+        Statement::Commit => commit(alloc, ctx, host, output),
+        Statement::Abort => abort(alloc, ctx, host, output, Reason::Asked),
+        Statement::Simple(s) => simple_inside(alloc, ctx, host, output, s),
         _ => Ok((State::Running(ctx), Done::Settled(0))),
     }
 }
@@ -247,19 +256,20 @@ fn run_whole<H: Host, K: Keep<H> + Drop>(
     alloc: Global,
     ctx: Ctx<K>,
     host: &mut H,
+    output: &mut Output,
     s: &Stmt,
 ) -> Result<(State<K>, Done), EngineError>
     requires live { IsTrue (K.live ctx.heap) }
     requires fit { AreFit (parts_of ctx) }
     requires aligned { AreAligned (parts_of ctx) }
     ensures serves { (w : ListWorld) → IsWell ode w → ContextRuns H.view K.holds K.live ode w ctx host.old (begun Script w) → IsWell ode (transaction lists Script (commands lists s.now) w).0
-        → Serves H.view K.holds K.live K.means ode (closed w) (Ok (settles (transaction lists Script (commands lists s.now) w))) result host.old host.new }
+        → Serves H.view K.holds K.live K.means ode (closed w) (Ok (settles (transaction lists Script (commands lists s.now) w))) result host.old host.new output.old output.new }
     ensures usable { IfOk result (λ r. IsUsable K.live r.0) }
     ensures leaves { HostCalls (IsErrOf result EngineError.DiskFault) (IsErrOf result EngineError.WriteFault) (H.view host.old) (H.view host.new) }
 {
     let mut ctx = ctx;
     match carry(alloc, &mut ctx, host, s) {
-        Ok(ending) => settle(alloc, ctx, host, ending),
+        Ok(ending) => settle(alloc, ctx, host, output, ending),
         Err(error) => {
             drop(ctx);
             Err(error)
@@ -272,19 +282,20 @@ fn simple_begun<H: Host, K: Keep<H> + Drop>(
     alloc: Global,
     ctx: Ctx<K>,
     host: &mut H,
+    output: &mut Output,
     s: &Stmt,
 ) -> Result<(State<K>, Done), EngineError>
     requires live { IsTrue (K.live ctx.heap) }
     requires fit { AreFit (parts_of ctx) }
     requires aligned { AreAligned (parts_of ctx) }
     ensures serves { (w : ListWorld) → IsWell ode w → ContextRuns H.view K.holds K.live ode w ctx host.old (begun Script w) → w.bones.transaction < number_limit → HasText ode (statement.Simple s.now)
-        → Serves H.view K.holds K.live K.means ode (closed w) (carried ode (closed w) (statement.Simple s.now)) result host.old host.new }
+        → Serves H.view K.holds K.live K.means ode (closed w) (carried ode (closed w) (statement.Simple s.now)) result host.old host.new output.old output.new }
     ensures usable { IfOk result (λ r. IsUsable K.live r.0) }
     ensures leaves { HostCalls (IsErrOf result EngineError.DiskFault) (IsErrOf result EngineError.WriteFault) (H.view host.old) (H.view host.new) }
 {
     let mut ctx = ctx;
     match checked(alloc, &mut ctx, host, s) {
-        Ok(s) => run_whole(alloc, ctx, host, s.get()),
+        Ok(s) => run_whole(alloc, ctx, host, output, s.get()),
         Err(turned) => turned_down(State::Rest(put_back(ctx)), turned),
     }
 }
@@ -294,18 +305,19 @@ fn simple<H: Host, K: Keep<H> + Drop>(
     alloc: Global,
     rest: Opened<K>,
     host: &mut H,
+    output: &mut Output,
     s: &Stmt,
 ) -> Result<(State<K>, Done), EngineError>
     requires live { IsTrue (K.live rest.keeper) }
     requires fit { AreFit (resting_parts rest) }
     requires aligned { AreAligned (resting_parts rest) }
     ensures serves { (w : ListWorld) → IsWell ode w → IsAtRest H.view K.holds K.live ode w rest host.old → w.bones.transaction < number_limit → HasText ode (statement.Simple s.now)
-        → Serves H.view K.holds K.live K.means ode (closed w) (carried ode (closed w) (statement.Simple s.now)) result host.old host.new }
+        → Serves H.view K.holds K.live K.means ode (closed w) (carried ode (closed w) (statement.Simple s.now)) result host.old host.new output.old output.new }
     ensures usable { IfOk result (λ r. IsUsable K.live r.0) }
     ensures leaves { HostCalls (IsErrOf result EngineError.DiskFault) (IsErrOf result EngineError.WriteFault) (H.view host.old) (H.view host.new) }
 {
     match begin(alloc, rest, host, Origin::Script) {
-        Ok(ctx) => simple_begun(alloc, ctx, host, s),
+        Ok(ctx) => simple_begun(alloc, ctx, host, output, s),
         Err(error) => Err(error),
     }
 }
@@ -315,6 +327,7 @@ fn class<H: Host, K: Keep<H> + Drop>(
     alloc: Global,
     rest: Opened<K>,
     host: &mut H,
+    output: &mut Output,
     decl: &ClassDecl,
 ) -> Result<(State<K>, Done), EngineError>
     requires live { IsTrue (K.live rest.keeper) }
@@ -322,14 +335,14 @@ fn class<H: Host, K: Keep<H> + Drop>(
     requires aligned { AreAligned (resting_parts rest) }
     requires numbers { HaveNumbers decl.now }
     ensures serves { (w : ListWorld) → IsWell ode w → IsAtRest H.view K.holds K.live ode w rest host.old → w.bones.transaction < number_limit → HasText ode (statement.Class decl.now)
-        → Serves H.view K.holds K.live K.means ode (closed w) (carried ode (closed w) (statement.Class decl.now)) result host.old host.new }
+        → Serves H.view K.holds K.live K.means ode (closed w) (carried ode (closed w) (statement.Class decl.now)) result host.old host.new output.old output.new }
     ensures usable { IfOk result (λ r. IsUsable K.live r.0) }
     ensures leaves { HostCalls (IsErrOf result EngineError.DiskFault) (IsErrOf result EngineError.WriteFault) (H.view host.old) (H.view host.new) }
 {
-    match declare(alloc, rest, host, decl) {
+    match declare(alloc, rest, host, output, decl) {
         Ok((rest, refused)) => match refused {
             Some(why) => Ok((State::Rest(rest), Done::Refused(why))),
-            None => settled(alloc, rest, host),
+            None => settled(alloc, rest, host, output),
         },
         Err(error) => Err(error),
     }
@@ -340,17 +353,18 @@ fn clock<H: Host, K: Keep<H> + Drop>(
     alloc: Global,
     rest: Opened<K>,
     host: &mut H,
+    output: &mut Output,
     text: &OdeText,
 ) -> Result<(State<K>, Done), EngineError>
     requires live { IsTrue (K.live rest.keeper) }
     requires fit { AreFit (resting_parts rest) }
     requires aligned { AreAligned (resting_parts rest) }
     ensures serves { (w : ListWorld) → IsWell ode w → IsAtRest H.view K.holds K.live ode w rest host.old → w.bones.transaction < number_limit
-        → Serves H.view K.holds K.live K.means ode (closed w) (carried ode (closed w) (statement.Clock text.now)) result host.old host.new }
+        → Serves H.view K.holds K.live K.means ode (closed w) (carried ode (closed w) (statement.Clock text.now)) result host.old host.new output.old output.new }
     ensures usable { IfOk result (λ r. IsUsable K.live r.0) }
     ensures leaves { HostCalls (IsErrOf result EngineError.DiskFault) (IsErrOf result EngineError.WriteFault) (H.view host.old) (H.view host.new) }
 {
-    match set_clock(alloc, rest, host, text) {
+    match set_clock(alloc, rest, host, output, text) {
         Ok((rest, found)) => match found {
             Ok(settled) => Ok((State::Rest(rest), Done::Settled(settled))),
             Err(why) => Ok((State::Rest(rest), Done::Refused(why))),
@@ -368,8 +382,8 @@ fn leave_open<H: Host, K: Keep<H> + Drop>(
     requires live { IsTrue (K.live rest.keeper) }
     requires fit { AreFit (resting_parts rest) }
     requires aligned { AreAligned (resting_parts rest) }
-    ensures serves { (w : ListWorld) → IsWell ode w → IsAtRest H.view K.holds K.live ode w rest host.old → w.bones.transaction < number_limit
-        → Serves H.view K.holds K.live K.means ode (closed w) (carried ode (closed w) statement.Begin) result host.old host.new }
+    ensures serves { (w : ListWorld) (output : Output) → IsWell ode w → IsAtRest H.view K.holds K.live ode w rest host.old → w.bones.transaction < number_limit
+        → Serves H.view K.holds K.live K.means ode (closed w) (carried ode (closed w) statement.Begin) result host.old host.new output output }
     ensures usable { IfOk result (λ r. IsUsable K.live r.0) }
     ensures leaves { HostCalls (IsErrOf result EngineError.DiskFault) (IsErrOf result EngineError.WriteFault) (H.view host.old) (H.view host.new) }
 {
@@ -384,6 +398,7 @@ fn carry_out<H: Host, K: Keep<H> + Drop>(
     alloc: Global,
     rest: Opened<K>,
     host: &mut H,
+    output: &mut Output,
     s: &Statement,
 ) -> Result<(State<K>, Done), EngineError>
     requires live { IsTrue (K.live rest.keeper) }
@@ -391,15 +406,15 @@ fn carry_out<H: Host, K: Keep<H> + Drop>(
     requires aligned { AreAligned (resting_parts rest) }
     requires text { HasText ode s.now }
     ensures serves { (w : ListWorld) → IsWell ode w → IsAtRest H.view K.holds K.live ode w rest host.old → w.bones.transaction < number_limit → place_of s.now false ≡ Ok tt
-        → Serves H.view K.holds K.live K.means ode (closed w) (carried ode (closed w) s.now) result host.old host.new }
+        → Serves H.view K.holds K.live K.means ode (closed w) (carried ode (closed w) s.now) result host.old host.new output.old output.new }
     ensures usable { IfOk result (λ r. IsUsable K.live r.0) }
     ensures leaves { HostCalls (IsErrOf result EngineError.DiskFault) (IsErrOf result EngineError.WriteFault) (H.view host.old) (H.view host.new) }
 {
     match s {
         Statement::Begin => leave_open(alloc, rest, host),
-        Statement::Class(decl) => class(alloc, rest, host, decl),
-        Statement::Clock(text) => clock(alloc, rest, host, text),
-        Statement::Simple(s) => simple(alloc, rest, host, s),
+        Statement::Class(decl) => class(alloc, rest, host, output, decl),
+        Statement::Clock(text) => clock(alloc, rest, host, output, text),
+        Statement::Simple(s) => simple(alloc, rest, host, output, s),
         _ => Ok((State::Rest(rest), Done::Settled(0))),
     }
 }
@@ -409,6 +424,7 @@ fn numbered<H: Host, K: Keep<H> + Drop>(
     alloc: Global,
     rest: Opened<K>,
     host: &mut H,
+    output: &mut Output,
     s: &Statement,
 ) -> Result<(State<K>, Done), EngineError>
     requires live { IsTrue (K.live rest.keeper) }
@@ -416,7 +432,7 @@ fn numbered<H: Host, K: Keep<H> + Drop>(
     requires aligned { AreAligned (resting_parts rest) }
     requires text { HasText ode s.now }
     ensures serves { (w : ListWorld) → IsWell ode w → IsAtRest H.view K.holds K.live ode w rest host.old → place_of s.now false ≡ Ok tt → is_lone s.now ≡ false
-        → Serves H.view K.holds K.live K.means ode (closed w) (answer_to ode (closed w) s.now) result host.old host.new }
+        → Serves H.view K.holds K.live K.means ode (closed w) (answer_to ode (closed w) s.now) result host.old host.new output.old output.new }
     ensures usable { IfOk result (λ r. IsUsable K.live r.0) }
     ensures leaves { HostCalls (IsErrOf result EngineError.DiskFault) (IsErrOf result EngineError.WriteFault) (H.view host.old) (H.view host.new) }
 {
@@ -424,7 +440,7 @@ fn numbered<H: Host, K: Keep<H> + Drop>(
     if number >= NUMBER_LIMIT {
         return Ok((State::Rest(rest), Done::Refused(Refusal::NumbersSpent)));
     }
-    carry_out(alloc, rest, host, s)
+    carry_out(alloc, rest, host, output, s)
 }
 
 // A statement outside a transaction.
@@ -432,6 +448,7 @@ fn command_at_rest<H: Host, K: Keep<H> + Drop>(
     alloc: Global,
     rest: Opened<K>,
     host: &mut H,
+    output: &mut Output,
     s: &Statement,
 ) -> Result<(State<K>, Done), EngineError>
     requires live { IsTrue (K.live rest.keeper) }
@@ -439,7 +456,7 @@ fn command_at_rest<H: Host, K: Keep<H> + Drop>(
     requires aligned { AreAligned (resting_parts rest) }
     requires text { HasText ode s.now }
     ensures serves { (w : ListWorld) → IsWell ode w → IsAtRest H.view K.holds K.live ode w rest host.old
-        → Serves H.view K.holds K.live K.means ode (closed w) (answer_to ode (closed w) s.now) result host.old host.new }
+        → Serves H.view K.holds K.live K.means ode (closed w) (answer_to ode (closed w) s.now) result host.old host.new output.old output.new }
     ensures usable { IfOk result (λ r. IsUsable K.live r.0) }
     ensures leaves { HostCalls (IsErrOf result EngineError.DiskFault) (IsErrOf result EngineError.WriteFault) (H.view host.old) (H.view host.new) }
 {
@@ -449,7 +466,7 @@ fn command_at_rest<H: Host, K: Keep<H> + Drop>(
     if !takes_number(s) {
         return Ok((State::Rest(rest), Done::Settled(0)));
     }
-    numbered(alloc, rest, host, s)
+    numbered(alloc, rest, host, output, s)
 }
 
 /// A statement, over what is there.
@@ -457,18 +474,19 @@ pub(crate) fn command_in<H: Host, K: Keep<H> + Drop>(
     alloc: Global,
     state: State<K>,
     host: &mut H,
+    output: &mut Output,
     s: &Statement,
 ) -> Result<(State<K>, Done), EngineError>
     requires usable { IsUsable K.live state }
     requires text { HasText ode s.now }
     ensures serves { (session : Session) → IsSession ode session → StandsIn H.view K.holds K.live ode session state host.old
-        → Serves H.view K.holds K.live K.means ode session (answer_to ode session s.now) result host.old host.new }
+        → Serves H.view K.holds K.live K.means ode session (answer_to ode session s.now) result host.old host.new output.old output.new }
     ensures usable { IfOk result (λ r. IsUsable K.live r.0) }
     ensures leaves { HostCalls (IsErrOf result EngineError.DiskFault) (IsErrOf result EngineError.WriteFault) (H.view host.old) (H.view host.new) }
 {
     match state {
-        State::Rest(rest) => command_at_rest(alloc, rest, host, s),
-        State::Running(ctx) => command_inside(alloc, ctx, host, s),
+        State::Rest(rest) => command_at_rest(alloc, rest, host, output, s),
+        State::Running(ctx) => command_inside(alloc, ctx, host, output, s),
     }
 }
 
@@ -477,15 +495,16 @@ pub(crate) fn finish_in<H: Host, K: Keep<H> + Drop>(
     alloc: Global,
     state: State<K>,
     host: &mut H,
+    output: &mut Output,
 ) -> Result<(State<K>, Done), EngineError>
     requires usable { IsUsable K.live state }
     ensures serves { (session : Session) → IsSession ode session → StandsIn H.view K.holds K.live ode session state host.old
-        → Serves H.view K.holds K.live K.means ode session (Ok (finish session)) result host.old host.new }
+        → Serves H.view K.holds K.live K.means ode session (Ok (finish session)) result host.old host.new output.old output.new }
     ensures usable { IfOk result (λ r. IsUsable K.live r.0) }
     ensures leaves { HostCalls (IsErrOf result EngineError.DiskFault) (IsErrOf result EngineError.WriteFault) (H.view host.old) (H.view host.new) }
 {
     match state {
         State::Rest(rest) => Ok((State::Rest(rest), Done::Settled(0))),
-        State::Running(ctx) => abort(alloc, ctx, host, Reason::End),
+        State::Running(ctx) => abort(alloc, ctx, host, output, Reason::End),
     }
 }

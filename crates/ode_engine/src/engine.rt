@@ -2,7 +2,7 @@
 ghost use Rattle.std.specs.Prelude.{◌≡◌, ◌++◌, ℕ, List as Items, Err, IfOk, IsErrOf, None, OnErr, OnOk, Ok, Some, false, length, true};
 ghost use Rattle.ode_declare.specs.Texts.{HasText};
 ghost use Rattle.ode_declared_laws.specs.Adding.{AreAligned};
-ghost use Rattle.ode_engine.specs.Serving.{IsAnswer, IsLive, StandsFor, answer_to, done_in, rest_in, running_in, session_after, settlings, state_in};
+ghost use Rattle.ode_engine.specs.Serving.{IsAnswer, IsLive, StandsFor, answer_to, done_in, output_of, rest_in, running_in, session_after, settlings, state_in};
 ghost use Rattle.ode_host.specs.Host.{HostCalls, LeavesOnly, Printed};
 ghost use Rattle.ode_language.specs.Languages.{ode};
 ghost use Rattle.ode_machine.specs.Commands.{after, finish};
@@ -12,6 +12,7 @@ ghost use Rattle.ode_machine.specs.Sessions.{Session};
 ghost use Rattle.ode_schema.specs.Parts.{AreFit};
 ghost use Rattle.ode_transact.specs.Errors.{OnDamaged};
 ghost use Rattle.ode_transact.specs.Items.{items_of, texts_of};
+ghost use Rattle.ode_transact.specs.Output.{all_heard, counting};
 ghost use Rattle.ode_transact.specs.Resting.{HoldsBy, resting_parts};
 ghost use Rattle.ode_value.specs.Draining.{drain as drained};
 ghost use Rattle.ode_value.specs.Limits.{drain_limit};
@@ -22,7 +23,7 @@ use ode_host::Host;
 use ode_keep::Keep;
 use ode_opened::Opened;
 use ode_run::Ctx;
-use ode_transact::{EngineError, drain};
+use ode_transact::{EngineError, Output, drain};
 use ode_value::limits::DRAIN_LIMIT;
 use ode_value::{Refusal, Statement};
 use std::alloc::Global;
@@ -41,26 +42,32 @@ fn set<T: Drop>(place: &mut T, value: T)
     *place = value;
 }
 
-/// An opened file, or the context of an open transaction over it; and whether it may be called: not after an error.
+/// An opened file, or the context of an open transaction over it; whether the texts of what settles are printed, and how many bytes they
+/// had; and whether it may be called: not after an error.
 #[derive(Drop)]
 pub struct Engine<K> {
     pub rest: Option<Opened<K>>,
     pub running: Option<Ctx<K>>,
+    pub quiet: bool,
+    pub counted: u64,
     pub live: bool,
     pub alloc: Global,
 }
 
 impl<K: Drop> Engine<K> {
-    /// An engine over an opened file.
-    pub fn start(alloc: Global, opened: Opened<K>) -> Engine<K>
+    /// An engine over an opened file. A quiet one prints none of the texts that it settles, and only counts them.
+    pub fn start(alloc: Global, opened: Opened<K>, quiet: bool) -> Engine<K>
         requires fit { AreFit (resting_parts opened) }
         requires aligned { AreAligned (resting_parts opened) }
         ensures rest { (result.rest ≡ Some opened) × (result.running ≡ None) }
+        ensures output { (result.quiet ≡ quiet) × (result.counted ≡ 0) }
         ensures live { result.live ≡ true }
     {
         Engine {
             rest: Some(opened),
             running: None,
+            quiet,
+            counted: 0,
             live: true,
             alloc,
         }
@@ -73,10 +80,18 @@ impl<K: Drop> Engine<K> {
         self.live
     }
 
+    /// How many bytes the texts had that were settled so far, or 2^64 - 1 where these are more.
+    pub fn counted(&self) -> u64
+        ensures { result ≡ self.now.counted }
+    {
+        self.counted
+    }
+
     // What it has from now on.
     fn put(&mut self, state: State<K>)
         ensures has { (self.new.rest ≡ rest_in state) × (self.new.running ≡ running_in state) }
         ensures same { self.new.live ≡ self.old.live }
+        ensures output { output_of self.new ≡ output_of self.old }
     {
         match state {
             State::Rest(rest) => {
@@ -94,6 +109,7 @@ impl<K: Drop> Engine<K> {
     fn fail<T>(&mut self, error: EngineError) -> Result<T, EngineError>
         ensures says { result ≡ Err error }
         ensures dead { self.new.live ≡ false }
+        ensures output { output_of self.new ≡ output_of self.old }
     {
         self.live = false;
         Err(error)
@@ -104,6 +120,7 @@ impl<K: Drop> Engine<K> {
         ensures says { result ≡ done_in step }
         ensures has { IfOk step (λ r. (self.new.rest ≡ rest_in r.0) × (self.new.running ≡ running_in r.0) × (self.new.live ≡ self.old.live)) }
         ensures dead { OnErr step (self.new.live ≡ false) }
+        ensures output { output_of self.new ≡ output_of self.old }
     {
         match step {
             Ok((state, done)) => {
@@ -118,6 +135,7 @@ impl<K: Drop> Engine<K> {
     fn take(&mut self) -> Option<State<K>>
         ensures took { result ≡ state_in self.old.rest self.old.running }
         ensures same { self.new.live ≡ self.old.live }
+        ensures output { output_of self.new ≡ output_of self.old }
     {
         match self.rest.take() {
             Some(rest) => Some(State::Rest(rest)),
@@ -139,22 +157,31 @@ impl<K: Drop> Engine<K> {
         // Then it stands for the session behind the machine's answer; at a refusal that is the same one.
         ensures stands { (session : Session) → StandsFor H.view K.holds K.live ode session self.old host.old
             → OnOk result (StandsFor H.view K.holds K.live ode (session_after session (answer_to ode session s.now)) self.new host.new) }
-        // The texts of what was settled are printed, and nothing at a refusal.
+        // The texts of what was settled are printed, unless it is quiet, and nothing at a refusal; and they are counted.
         ensures printed { (session : Session) → StandsFor H.view K.holds K.live ode session self.old host.old
-            → OnOk result (Printed (texts_of (settlings (answer_to ode session s.now))) (H.view host.old) (H.view host.new)) }
-        // A stop leaves the world that some of them left, and a front of the text up to the next one; whatever comes behind.
+            → OnOk result (Printed (texts_of (all_heard self.old.quiet (settlings (answer_to ode session s.now)))) (H.view host.old) (H.view host.new)) }
+        ensures counts { (session : Session) → StandsFor H.view K.holds K.live ode session self.old host.old
+            → OnOk result (output_of self.new ≡ counting (output_of self.old) (texts_of (settlings (answer_to ode session s.now)))) }
+        // A stop leaves the world that some of them left, and a front of what is printed up to the next one; whatever comes behind.
         ensures any_moment { (session : Session) (said : Items ℕ) (more : Items Item) → StandsFor H.view K.holds K.live ode session self.old host.old → (H.view host.old).text ≡ Some said
-            → LeavesOnly (H.view host.old) (H.view host.new) (IsAfterSome (HoldsBy ode K.means) (items_of (settlings (answer_to ode session s.now)) ++ more) session.world said) }
+            → LeavesOnly (H.view host.old) (H.view host.new) (IsAfterSome (HoldsBy ode K.means) (items_of (all_heard self.old.quiet (settlings (answer_to ode session s.now))) ++ more) session.world said) }
         // The host's faults are those that are told, whatever the records are.
         ensures leaves { HostCalls (IsErrOf result EngineError.DiskFault) (IsErrOf result EngineError.WriteFault) (H.view host.old) (H.view host.new) }
         // No record is damaged where it stands for a session.
         ensures undamaged { OnDamaged result ((session : Session) → StandsFor H.view K.holds K.live ode session self.old host.old → ⊥) }
         ensures live { OnOk result (IsLive K.live self.new) }
         ensures dead { OnErr result (self.new.live ≡ false) }
+        // It stays as quiet as it is, also at an error.
+        ensures quiet { self.new.quiet ≡ self.old.quiet }
     {
+        let mut output = Output {
+            quiet: self.quiet,
+            counted: self.counted,
+        };
         match self.take() {
             Some(state) => {
-                let step = command_in(self.alloc, state, host, s);
+                let step = command_in(self.alloc, state, host, &mut output, s);
+                self.counted = output.counted;
                 self.answer(step)
             }
             None => self.answer(Err(EngineError::Memory)),
@@ -167,28 +194,40 @@ impl<K: Drop> Engine<K> {
         K: Keep<H>,
         requires live { IsLive K.live self.old }
         requires closed { self.old.running ≡ None }
-        // As many as the machine runs, and then it stands for the session behind them; their texts are printed.
+        // As many as the machine runs, and then it stands for the session behind them; their texts are printed, unless it is quiet, and counted.
         ensures answer { (session : Session) → StandsFor H.view K.holds K.live ode session self.old host.old → IfOk result (λ ran. ran ≡ length (drained lists drain_limit session.world)) }
         ensures stands { (session : Session) → StandsFor H.view K.holds K.live ode session self.old host.old
             → OnOk result (StandsFor H.view K.holds K.live ode (after session.world (drained lists drain_limit session.world)).0 self.new host.new) }
         ensures printed { (session : Session) → StandsFor H.view K.holds K.live ode session self.old host.old
-            → OnOk result (Printed (texts_of (drained lists drain_limit session.world)) (H.view host.old) (H.view host.new)) }
+            → OnOk result (Printed (texts_of (all_heard self.old.quiet (drained lists drain_limit session.world))) (H.view host.old) (H.view host.new)) }
+        ensures counts { (session : Session) → StandsFor H.view K.holds K.live ode session self.old host.old
+            → OnOk result (output_of self.new ≡ counting (output_of self.old) (texts_of (drained lists drain_limit session.world))) }
         ensures any_moment { (session : Session) (said : Items ℕ) (more : Items Item) → StandsFor H.view K.holds K.live ode session self.old host.old → (H.view host.old).text ≡ Some said
-            → LeavesOnly (H.view host.old) (H.view host.new) (IsAfterSome (HoldsBy ode K.means) (items_of (drained lists drain_limit session.world) ++ more) session.world said) }
+            → LeavesOnly (H.view host.old) (H.view host.new) (IsAfterSome (HoldsBy ode K.means) (items_of (all_heard self.old.quiet (drained lists drain_limit session.world)) ++ more) session.world said) }
         // The host's faults are those that are told, whatever the records are.
         ensures leaves { HostCalls (IsErrOf result EngineError.DiskFault) (IsErrOf result EngineError.WriteFault) (H.view host.old) (H.view host.new) }
         // No record is damaged where it stands for a session.
         ensures undamaged { OnDamaged result ((session : Session) → StandsFor H.view K.holds K.live ode session self.old host.old → ⊥) }
         ensures live { OnOk result (IsLive K.live self.new) }
         ensures dead { OnErr result (self.new.live ≡ false) }
+        // It stays as quiet as it is, also at an error.
+        ensures quiet { self.new.quiet ≡ self.old.quiet }
     {
+        let mut output = Output {
+            quiet: self.quiet,
+            counted: self.counted,
+        };
         match self.rest.take() {
-            Some(rest) => match drain(self.alloc, rest, host, DRAIN_LIMIT) {
+            Some(rest) => match drain(self.alloc, rest, host, &mut output, DRAIN_LIMIT) {
                 Ok((rest, ran)) => {
+                    self.counted = output.counted;
                     self.put(State::Rest(rest));
                     Ok(ran)
                 }
-                Err(error) => self.fail(error),
+                Err(error) => {
+                    self.counted = output.counted;
+                    self.fail(error)
+                }
             },
             None => self.fail(EngineError::Memory),
         }
@@ -203,19 +242,28 @@ impl<K: Drop> Engine<K> {
         ensures stands { (session : Session) → StandsFor H.view K.holds K.live ode session self.old host.old
             → OnOk result (StandsFor H.view K.holds K.live ode (finish session).0 self.new host.new) }
         ensures printed { (session : Session) → StandsFor H.view K.holds K.live ode session self.old host.old
-            → OnOk result (Printed (texts_of (finish session).1) (H.view host.old) (H.view host.new)) }
+            → OnOk result (Printed (texts_of (all_heard self.old.quiet (finish session).1)) (H.view host.old) (H.view host.new)) }
+        ensures counts { (session : Session) → StandsFor H.view K.holds K.live ode session self.old host.old
+            → OnOk result (output_of self.new ≡ counting (output_of self.old) (texts_of (finish session).1)) }
         ensures any_moment { (session : Session) (said : Items ℕ) (more : Items Item) → StandsFor H.view K.holds K.live ode session self.old host.old → (H.view host.old).text ≡ Some said
-            → LeavesOnly (H.view host.old) (H.view host.new) (IsAfterSome (HoldsBy ode K.means) (items_of (finish session).1 ++ more) session.world said) }
+            → LeavesOnly (H.view host.old) (H.view host.new) (IsAfterSome (HoldsBy ode K.means) (items_of (all_heard self.old.quiet (finish session).1) ++ more) session.world said) }
         // The host's faults are those that are told, whatever the records are.
         ensures leaves { HostCalls (IsErrOf result EngineError.DiskFault) (IsErrOf result EngineError.WriteFault) (H.view host.old) (H.view host.new) }
         // No record is damaged where it stands for a session.
         ensures undamaged { OnDamaged result ((session : Session) → StandsFor H.view K.holds K.live ode session self.old host.old → ⊥) }
         ensures live { OnOk result (IsLive K.live self.new) }
         ensures dead { OnErr result (self.new.live ≡ false) }
+        // It stays as quiet as it is, also at an error.
+        ensures quiet { self.new.quiet ≡ self.old.quiet }
     {
+        let mut output = Output {
+            quiet: self.quiet,
+            counted: self.counted,
+        };
         match self.take() {
             Some(state) => {
-                let step = finish_in(self.alloc, state, host);
+                let step = finish_in(self.alloc, state, host, &mut output);
+                self.counted = output.counted;
                 self.answer(step)
             }
             None => self.answer(Err(EngineError::Memory)),

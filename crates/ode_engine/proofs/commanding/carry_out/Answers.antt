@@ -22,27 +22,27 @@ class-requires-clause-numbers g c =
 
 pub returns-in-Begin-clause-serves : goal.returns-in-Begin-clause-serves
 returns-in-Begin-clause-serves g c w well rests left place =
-    subst (λ (s : Statement). Serves g.H.Host.view g.K.Keep.holds g.K.Keep.live g.K.Keep.means ode (closed w) (carried ode (closed w) s) c.leave_open.result c.args.host.now c.leave_open.new.host) (sym c.in-Begin.is) (c.leave_open.ensures.serves w well rests left)
+    subst (λ (s : Statement). Serves g.H.Host.view g.K.Keep.holds g.K.Keep.live g.K.Keep.means ode (closed w) (carried ode (closed w) s) c.leave_open.result c.args.host.now c.leave_open.new.host c.args.output.now c.args.output.now) (sym c.in-Begin.is) (c.leave_open.ensures.serves w c.args.output.now well rests left)
 
 pub returns-in-Class-clause-serves : goal.returns-in-Class-clause-serves
 returns-in-Class-clause-serves g c w well rests left place =
-    subst (λ (s : Statement). Serves g.H.Host.view g.K.Keep.holds g.K.Keep.live g.K.Keep.means ode (closed w) (carried ode (closed w) s) c.class.result c.args.host.now c.class.new.host) (sym c.in-Class.is)
+    subst (λ (s : Statement). Serves g.H.Host.view g.K.Keep.holds g.K.Keep.live g.K.Keep.means ode (closed w) (carried ode (closed w) s) c.class.result c.args.host.now c.class.new.host c.args.output.now c.class.new.output) (sym c.in-Class.is)
     (c.class.ensures.serves w well rests left (subst (HasText ode) c.in-Class.is c.requires.text))
 
 pub returns-in-Clock-clause-serves : goal.returns-in-Clock-clause-serves
 returns-in-Clock-clause-serves g c w well rests left place =
-    subst (λ (s : Statement). Serves g.H.Host.view g.K.Keep.holds g.K.Keep.live g.K.Keep.means ode (closed w) (carried ode (closed w) s) c.clock.result c.args.host.now c.clock.new.host) (sym c.in-Clock.is) (c.clock.ensures.serves w well rests left)
+    subst (λ (s : Statement). Serves g.H.Host.view g.K.Keep.holds g.K.Keep.live g.K.Keep.means ode (closed w) (carried ode (closed w) s) c.clock.result c.args.host.now c.clock.new.host c.args.output.now c.clock.new.output) (sym c.in-Clock.is) (c.clock.ensures.serves w well rests left)
 
 pub returns-in-Simple-clause-serves : goal.returns-in-Simple-clause-serves
 returns-in-Simple-clause-serves g c w well rests left place =
-    subst (λ (s : Statement). Serves g.H.Host.view g.K.Keep.holds g.K.Keep.live g.K.Keep.means ode (closed w) (carried ode (closed w) s) c.simple.result c.args.host.now c.simple.new.host) (sym c.in-Simple.is)
+    subst (λ (s : Statement). Serves g.H.Host.view g.K.Keep.holds g.K.Keep.live g.K.Keep.means ode (closed w) (carried ode (closed w) s) c.simple.result c.args.host.now c.simple.new.host c.args.output.now c.simple.new.output) (sym c.in-Simple.is)
     (c.simple.ensures.serves w well rests left (subst (HasText ode) c.in-Simple.is c.requires.text))
 
 pub returns-in_default-clause-serves : goal.returns-in_default-clause-serves
 returns-in_default-clause-serves g c w well rests left place =
     let lone : c.args.s.now ≡ statement.Empty = empty_outside c.args.s.now place c.in_default.not-Begin c.in_default.not-Class c.in_default.not-Clock c.in_default.not-Simple in
-    subst (λ (s : Statement). Serves g.H.Host.view g.K.Keep.holds g.K.Keep.live g.K.Keep.means ode (closed w) (carried ode (closed w) s) (Ok (state.Rest c.args.rest, done.Settled 0)) c.args.host.now c.args.host.now) (sym lone)
-    (quiet_serves g.H.Host.view g.K.Keep.holds g.K.Keep.live g.K.Keep.means ode g.met.K.Keep.stands g.met.H.Host.text_stands (closed w) (Ok (closed w, [])) (state.Rest c.args.rest) (done.Settled 0) c.args.host.now c.args.host.now
+    subst (λ (s : Statement). Serves g.H.Host.view g.K.Keep.holds g.K.Keep.live g.K.Keep.means ode (closed w) (carried ode (closed w) s) (Ok (state.Rest c.args.rest, done.Settled 0)) c.args.host.now c.args.host.now c.args.output.now c.args.output.now) (sym lone)
+    (quiet_serves g.H.Host.view g.K.Keep.holds g.K.Keep.live g.K.Keep.means ode g.met.K.Keep.stands g.met.H.Host.text_stands c.args.output.now c.args.output.now refl (closed w) (Ok (closed w, [])) (state.Rest c.args.rest) (done.Settled 0) c.args.host.now c.args.host.now
     (rest_now g.H.Host.view g.K.Keep.holds g.K.Keep.live ode w c.args.rest c.args.host.now well rests) (looks_none (g.H.Host.view c.args.host.now)) refl refl (closed_session w well) (refl, rests))
 
 pub returns-in_default-clause-leaves : goal.returns-in_default-clause-leaves

@@ -10,7 +10,7 @@ use Rattle.ode_engine.proofs.commanding.clock.Goals as goal
 
 pub returns-in-Err-clause-serves : goal.returns-in-Err-clause-serves
 returns-in-Err-clause-serves g c w well rests left =
-    unclocked_serves g.H.Host.view g.K.Keep.holds g.K.Keep.live g.K.Keep.means g.met.K.Keep.stands g.met.H.Host.text_stands w c.in-Err.error c.args.host.now c.set_clock.new.host (rest_now g.H.Host.view g.K.Keep.holds g.K.Keep.live ode w c.args.rest c.args.host.now well rests) (ticks_in ode w.bones c.args.text.now)
+    unclocked_serves g.H.Host.view g.K.Keep.holds g.K.Keep.live g.K.Keep.means g.met.K.Keep.stands g.met.H.Host.text_stands c.args.output.now c.set_clock.new.output w c.in-Err.error c.args.host.now c.set_clock.new.host (rest_now g.H.Host.view g.K.Keep.holds g.K.Keep.live ode w c.args.rest c.args.host.now well rests) (ticks_in ode w.bones c.args.text.now)
     (λ t is said more told. c.in-Err.ensures.any_moment w t said more well left rests is told)
     (λ why is. c.in-Err.ensures.declined w why rests is)
     (undamaged_by _ _ c.in-Err.ensures.undamaged (λ never. never w well left rests))
@@ -20,12 +20,13 @@ returns-in-Err-clause-leaves g c = host_calls_as _ _ _ _ _ _ (λ is. cc (is)) (�
 
 pub returns-in-Ok-found-clause-serves : goal.returns-in-Ok-found-clause-serves
 returns-in-Ok-found-clause-serves g c w well rests left =
-    clocked_serves g.H.Host.view g.K.Keep.holds g.K.Keep.live g.K.Keep.means g.met.K.Keep.stands g.met.H.Host.text_stands w c.in-Ok-found.settled c.in-Ok.rest c.args.host.now c.set_clock.new.host _ (ticks_in ode w.bones c.args.text.now)
+    clocked_serves g.H.Host.view g.K.Keep.holds g.K.Keep.live g.K.Keep.means g.met.K.Keep.stands g.met.H.Host.text_stands c.args.output.now c.set_clock.new.output w c.in-Ok-found.settled c.in-Ok.rest c.args.host.now c.set_clock.new.host _ _ (ticks_in ode w.bones c.args.text.now)
     (rw c.in-Ok-found.is at (c.in-Ok.ensures.done w well left rests))
+    (rw c.in-Ok-found.is at (c.in-Ok.ensures.counts w well left rests))
     (λ t is. last_is_well w (clock_settled w t) well (clock_settles_well w well left c.args.text.now t is))
     (λ t is said more told. c.in-Ok.ensures.any_moment w t said more well left rests is told)
 
 pub returns-in-Err-found-clause-serves : goal.returns-in-Err-found-clause-serves
 returns-in-Err-found-clause-serves g c w well rests left =
-    refused_clock_serves g.H.Host.view g.K.Keep.holds g.K.Keep.live g.K.Keep.means g.met.K.Keep.stands g.met.H.Host.text_stands w c.in-Err-found.why c.in-Ok.rest c.args.host.now c.set_clock.new.host _ well (rest_now g.H.Host.view g.K.Keep.holds g.K.Keep.live ode w c.args.rest c.args.host.now well rests) (ticks_in ode w.bones c.args.text.now)
-    (rw c.in-Err-found.is at (c.in-Ok.ensures.done w well left rests)) (rw c.in-Err-found.is at c.in-Ok.ensures.refused)
+    refused_clock_serves g.H.Host.view g.K.Keep.holds g.K.Keep.live g.K.Keep.means g.met.K.Keep.stands g.met.H.Host.text_stands c.args.output.now c.set_clock.new.output w c.in-Err-found.why c.in-Ok.rest c.args.host.now c.set_clock.new.host _ _ well (rest_now g.H.Host.view g.K.Keep.holds g.K.Keep.live ode w c.args.rest c.args.host.now well rests) (ticks_in ode w.bones c.args.text.now)
+    (rw c.in-Err-found.is at (c.in-Ok.ensures.done w well left rests)) (rw c.in-Err-found.is at (c.in-Ok.ensures.counts w well left rests)) (rw c.in-Err-found.is at c.in-Ok.ensures.refused)

@@ -17,7 +17,7 @@ settle-requires-clause-live g c = c.in-Ok.ensures.usable c.requires.live
 
 pub returns-in-Err-clause-serves : goal.returns-in-Err-clause-serves
 returns-in-Err-clause-serves g c w t session runs =
-    stopped_serves g.H.Host.view g.K.Keep.holds g.K.Keep.live g.K.Keep.means ode g.met.K.Keep.stands g.met.H.Host.text_stands (opened w t) (Ok (settles (commits t))) _ c.args.host.now c.run_completion.new.host (running_now g.H.Host.view g.K.Keep.holds g.K.Keep.live ode w c.args.ctx c.args.host.now t session.well runs)
+    stopped_serves g.H.Host.view g.K.Keep.holds g.K.Keep.live g.K.Keep.means ode g.met.K.Keep.stands g.met.H.Host.text_stands c.args.output.now c.args.output.now (opened w t) (Ok (settles (commits t))) _ c.args.host.now c.run_completion.new.host (running_now g.H.Host.view g.K.Keep.holds g.K.Keep.live ode w c.args.ctx c.args.host.now t session.well runs)
     (c.in-Err.ensures.looks c.requires.live) (undamaged_by _ _ c.in-Err.ensures.undamaged (λ never. never ode w t runs))
 
 pub returns-in-Err-clause-leaves : goal.returns-in-Err-clause-leaves
@@ -27,7 +27,7 @@ returns-in-Err-clause-leaves g c =
 pub returns-in-Ok-clause-serves : goal.returns-in-Ok-clause-serves
 returns-in-Ok-clause-serves g c w t session runs =
     let ended = ended_settles c.in-Ok.ending (ContextRuns g.H.Host.view g.K.Keep.holds g.K.Keep.live ode w c.run_completion.new.ctx c.run_completion.new.host) (completes lists t) (c.in-Ok.ensures.runs ode w t runs) in
-    ended_serves g.H.Host.view g.K.Keep.holds g.K.Keep.live g.K.Keep.means g.met.K.Keep.stands g.met.H.Host.text_stands (opened w t) (commits t) c.in-Ok.ending ended.0 _ c.args.host.now c.run_completion.new.host c.settle.new.host (running_now g.H.Host.view g.K.Keep.holds g.K.Keep.live ode w c.args.ctx c.args.host.now t session.well runs)
+    ended_serves g.H.Host.view g.K.Keep.holds g.K.Keep.live g.K.Keep.means g.met.K.Keep.stands g.met.H.Host.text_stands c.args.output.now c.settle.new.output (opened w t) (commits t) c.in-Ok.ending ended.0 _ c.args.host.now c.run_completion.new.host c.settle.new.host (running_now g.H.Host.view g.K.Keep.holds g.K.Keep.live ode w c.args.ctx c.args.host.now t session.well runs)
     (c.in-Ok.ensures.looks c.requires.live) ended.2 (committed_well w session.well t session.came) (λ well. c.settle.ensures.serves (opened w t) ended.0 session.well ended.1 well)
 
 pub returns-in-Ok-clause-leaves : goal.returns-in-Ok-clause-leaves

@@ -18,23 +18,23 @@ use Rattle.ode_engine.proofs.commanding.numbered.Goals as goal
 pub returns-in_err-rest-clause-serves : goal.returns-in_err-rest-clause-serves
 returns-in_err-rest-clause-serves g c w well rests place lone =
     let p = err_from_is_err_and c.from_residual.result c.from_residual.ensures.1 in
-    rw (p.1, p.2) (stopped_serves g.H.Host.view g.K.Keep.holds g.K.Keep.live g.K.Keep.means ode g.met.K.Keep.stands g.met.H.Host.text_stands (closed w) (answer_to ode (closed w) c.args.s.now) _ c.args.host.now c.next_number.new.host (rest_now g.H.Host.view g.K.Keep.holds g.K.Keep.live ode w c.args.rest c.args.host.now well rests)
+    rw (p.1, p.2) (stopped_serves g.H.Host.view g.K.Keep.holds g.K.Keep.live g.K.Keep.means ode g.met.K.Keep.stands g.met.H.Host.text_stands c.args.output.now c.args.output.now (closed w) (answer_to ode (closed w) c.args.s.now) _ c.args.host.now c.next_number.new.host (rest_now g.H.Host.view g.K.Keep.holds g.K.Keep.live ode w c.args.rest c.args.host.now well rests)
     c.in_err-rest.ensures.looks (undamaged_by _ _ c.in_err-rest.ensures.undamaged (λ never. never ode w rests)))
 
 pub returns-then-number-ge-NUMBER_LIMIT-clause-serves : goal.returns-then-number-ge-NUMBER_LIMIT-clause-serves
 returns-then-number-ge-NUMBER_LIMIT-clause-serves g c w well rests place lone =
     let next = c.in_ok-rest.ensures.is ode w rests in
     let none : number_limit ≤ w.bones.transaction = omega (arith, next.1, c.if-number-ge-NUMBER_LIMIT.true) in
-    subst (λ (a : Answer Step). Serves g.H.Host.view g.K.Keep.holds g.K.Keep.live g.K.Keep.means ode (closed w) a (Ok (state.Rest c.in_ok-rest.rest, done.Refused refusal.NumbersSpent)) c.args.host.now c.next_number.new.host) (sym (spent_outside w c.args.s.now place lone none))
-    (quiet_serves g.H.Host.view g.K.Keep.holds g.K.Keep.live g.K.Keep.means ode g.met.K.Keep.stands g.met.H.Host.text_stands (closed w) (Err refusal.NumbersSpent) (state.Rest c.in_ok-rest.rest) (done.Refused refusal.NumbersSpent) c.args.host.now c.next_number.new.host (rest_now g.H.Host.view g.K.Keep.holds g.K.Keep.live ode w c.args.rest c.args.host.now well rests)
+    subst (λ (a : Answer Step). Serves g.H.Host.view g.K.Keep.holds g.K.Keep.live g.K.Keep.means ode (closed w) a (Ok (state.Rest c.in_ok-rest.rest, done.Refused refusal.NumbersSpent)) c.args.host.now c.next_number.new.host c.args.output.now c.args.output.now) (sym (spent_outside w c.args.s.now place lone none))
+    (quiet_serves g.H.Host.view g.K.Keep.holds g.K.Keep.live g.K.Keep.means ode g.met.K.Keep.stands g.met.H.Host.text_stands c.args.output.now c.args.output.now refl (closed w) (Err refusal.NumbersSpent) (state.Rest c.in_ok-rest.rest) (done.Refused refusal.NumbersSpent) c.args.host.now c.next_number.new.host (rest_now g.H.Host.view g.K.Keep.holds g.K.Keep.live ode w c.args.rest c.args.host.now well rests)
     c.in_ok-rest.ensures.looks refl refl (closed_session w well) (refl, next.0))
 
 pub returns-clause-serves : goal.returns-clause-serves
 returns-clause-serves g c w well rests place lone =
     let next = c.in_ok-rest.ensures.is ode w rests in
     let less : w.bones.transaction < number_limit = omega (arith, next.1, c.if-number-ge-NUMBER_LIMIT.false) in
-    subst (λ (a : Answer Step). Serves g.H.Host.view g.K.Keep.holds g.K.Keep.live g.K.Keep.means ode (closed w) a c.carry_out.result c.args.host.now c.carry_out.new.host) (sym (placed_outside w c.args.s.now place less))
-    (behind_serves g.H.Host.view g.K.Keep.holds g.K.Keep.live g.K.Keep.means ode g.met.K.Keep.stands g.met.H.Host.text_stands (closed w) (carried ode (closed w) c.args.s.now) c.carry_out.result c.args.host.now c.next_number.new.host c.carry_out.new.host (rest_now g.H.Host.view g.K.Keep.holds g.K.Keep.live ode w c.args.rest c.args.host.now well rests)
+    subst (λ (a : Answer Step). Serves g.H.Host.view g.K.Keep.holds g.K.Keep.live g.K.Keep.means ode (closed w) a c.carry_out.result c.args.host.now c.carry_out.new.host c.args.output.now c.carry_out.new.output) (sym (placed_outside w c.args.s.now place less))
+    (behind_serves g.H.Host.view g.K.Keep.holds g.K.Keep.live g.K.Keep.means ode g.met.K.Keep.stands g.met.H.Host.text_stands c.args.output.now c.carry_out.new.output (closed w) (carried ode (closed w) c.args.s.now) c.carry_out.result c.args.host.now c.next_number.new.host c.carry_out.new.host (rest_now g.H.Host.view g.K.Keep.holds g.K.Keep.live ode w c.args.rest c.args.host.now well rests)
     c.in_ok-rest.ensures.looks (c.carry_out.ensures.serves w well next.0 less place))
 
 pub returns-in_err-rest-clause-leaves : goal.returns-in_err-rest-clause-leaves

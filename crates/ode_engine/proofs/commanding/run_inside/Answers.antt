@@ -1,4 +1,4 @@
-use Rattle.std.proofs.Common.{Ok, subst, sym}
+use Rattle.std.proofs.Common.{Ok, refl, subst, sym}
 use Rattle.ode_declared_laws.specs.Adding.{AreAligned}
 use Rattle.ode_language.specs.Languages.{ode}
 use Rattle.ode_machine.specs.Commands.{goes_on}
@@ -19,7 +19,7 @@ returns-in-Ok-clause-usable g c = ((c.in-Ok.ensures.faults c.requires.live).usab
 
 pub returns-in-Ok-clause-serves : goal.returns-in-Ok-clause-serves
 returns-in-Ok-clause-serves g c w t read session runs text checked =
-    done_serves g.H.Host.view g.K.Keep.holds g.K.Keep.live g.K.Keep.means g.met.K.Keep.stands g.met.H.Host.text_stands w t read c.args.s.now _ c.args.host.now c.exec.new.host session (running_now g.H.Host.view g.K.Keep.holds g.K.Keep.live ode w c.args.ctx c.args.host.now t session.well runs)
+    done_serves g.H.Host.view g.K.Keep.holds g.K.Keep.live g.K.Keep.means g.met.K.Keep.stands g.met.H.Host.text_stands c.args.output.now c.args.output.now refl w t read c.args.s.now _ c.args.host.now c.exec.new.host session (running_now g.H.Host.view g.K.Keep.holds g.K.Keep.live ode w c.args.ctx c.args.host.now t session.well runs)
     (c.in-Ok.ensures.faults c.requires.live).looks text checked (c.in-Ok.ensures.runs ode w t runs)
 
 pub returns-in-Ok-clause-leaves : goal.returns-in-Ok-clause-leaves
@@ -29,7 +29,7 @@ returns-in-Ok-clause-leaves g c =
 
 pub returns-in-Err-Abort-clause-serves : goal.returns-in-Err-Abort-clause-serves
 returns-in-Err-Abort-clause-serves g c w t read session runs text checked =
-    fell_serves g.H.Host.view g.K.Keep.holds g.K.Keep.live g.K.Keep.means g.met.K.Keep.stands g.met.H.Host.text_stands w t read c.args.s.now c.in-Err-Abort.why _ _ c.args.host.now c.exec.new.host c.settle.new.host session (running_now g.H.Host.view g.K.Keep.holds g.K.Keep.live ode w c.args.ctx c.args.host.now t session.well runs)
+    fell_serves g.H.Host.view g.K.Keep.holds g.K.Keep.live g.K.Keep.means g.met.K.Keep.stands g.met.H.Host.text_stands c.args.output.now c.settle.new.output w t read c.args.s.now c.in-Err-Abort.why _ _ c.args.host.now c.exec.new.host c.settle.new.host session (running_now g.H.Host.view g.K.Keep.holds g.K.Keep.live ode w c.args.ctx c.args.host.now t session.well runs)
     (c.in-Err-Abort.ensures.faults c.requires.live).looks text checked (λ x runs_on well. c.settle.ensures.serves (opened w t) x session.well runs_on well) (rw c.in-Err-Abort.field-0-is at (c.in-Err-Abort.ensures.runs ode w t runs))
 
 pub returns-in-Err-Abort-clause-leaves : goal.returns-in-Err-Abort-clause-leaves
@@ -40,7 +40,7 @@ returns-in-Err-Abort-clause-leaves g c =
 pub returns-in-Err-clause-serves : goal.returns-in-Err-clause-serves
 returns-in-Err-clause-serves g c w t read session runs text checked =
     let leaves = c.in-Err.ensures.leaves runs.entries runs.world.world.stored.world runs.context in
-    rw c.fault_of.ensures (fault_serves g.H.Host.view g.K.Keep.holds g.K.Keep.live g.K.Keep.means g.met.K.Keep.stands g.met.H.Host.text_stands (opened w t) (Ok (goes_on w (commands lists c.args.s.now t))) c.in-Err.stop c.args.host.now c.exec.new.host (running_now g.H.Host.view g.K.Keep.holds g.K.Keep.live ode w c.args.ctx c.args.host.now t session.well runs) leaves.looks
+    rw c.fault_of.ensures (fault_serves g.H.Host.view g.K.Keep.holds g.K.Keep.live g.K.Keep.means g.met.K.Keep.stands g.met.H.Host.text_stands c.args.output.now c.args.output.now (opened w t) (Ok (goes_on w (commands lists c.args.s.now t))) c.in-Err.stop c.args.host.now c.exec.new.host (running_now g.H.Host.view g.K.Keep.holds g.K.Keep.live ode w c.args.ctx c.args.host.now t session.well runs) leaves.looks
     (leaves_sound c.in-Err.stop _ leaves.stays))
 
 pub returns-in-Err-clause-leaves : goal.returns-in-Err-clause-leaves

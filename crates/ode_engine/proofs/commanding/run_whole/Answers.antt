@@ -18,7 +18,7 @@ settle-requires-clause-live g c = c.in-Ok.ensures.usable c.requires.live
 
 pub returns-in-Err-clause-serves : goal.returns-in-Err-clause-serves
 returns-in-Err-clause-serves g c w well runs wells =
-    stopped_serves g.H.Host.view g.K.Keep.holds g.K.Keep.live g.K.Keep.means ode g.met.K.Keep.stands g.met.H.Host.text_stands (closed w) (Ok (settles (transaction lists Script (commands lists c.args.s.now) w))) _ c.args.host.now c.carry.new.host (running_now g.H.Host.view g.K.Keep.holds g.K.Keep.live ode w c.args.ctx c.args.host.now (begun Script w) well runs)
+    stopped_serves g.H.Host.view g.K.Keep.holds g.K.Keep.live g.K.Keep.means ode g.met.K.Keep.stands g.met.H.Host.text_stands c.args.output.now c.args.output.now (closed w) (Ok (settles (transaction lists Script (commands lists c.args.s.now) w))) _ c.args.host.now c.carry.new.host (running_now g.H.Host.view g.K.Keep.holds g.K.Keep.live ode w c.args.ctx c.args.host.now (begun Script w) well runs)
     (c.in-Err.ensures.looks c.requires.live) (undamaged_by _ _ c.in-Err.ensures.undamaged (λ never. never ode w (begun Script w) runs))
 
 pub returns-in-Err-clause-leaves : goal.returns-in-Err-clause-leaves
@@ -28,7 +28,7 @@ returns-in-Err-clause-leaves g c =
 pub returns-in-Ok-clause-serves : goal.returns-in-Ok-clause-serves
 returns-in-Ok-clause-serves g c w well runs wells =
     let ended = transaction_settles Script (commands lists c.args.s.now) w c.in-Ok.ending (ContextRuns g.H.Host.view g.K.Keep.holds g.K.Keep.live ode w c.carry.new.ctx c.carry.new.host) (c.in-Ok.ensures.runs w (begun Script w) runs) in
-    ended_serves g.H.Host.view g.K.Keep.holds g.K.Keep.live g.K.Keep.means g.met.K.Keep.stands g.met.H.Host.text_stands (closed w) (transaction lists Script (commands lists c.args.s.now) w) c.in-Ok.ending ended.0 _ c.args.host.now c.carry.new.host c.settle.new.host (running_now g.H.Host.view g.K.Keep.holds g.K.Keep.live ode w c.args.ctx c.args.host.now (begun Script w) well runs)
+    ended_serves g.H.Host.view g.K.Keep.holds g.K.Keep.live g.K.Keep.means g.met.K.Keep.stands g.met.H.Host.text_stands c.args.output.now c.settle.new.output (closed w) (transaction lists Script (commands lists c.args.s.now) w) c.in-Ok.ending ended.0 _ c.args.host.now c.carry.new.host c.settle.new.host (running_now g.H.Host.view g.K.Keep.holds g.K.Keep.live ode w c.args.ctx c.args.host.now (begun Script w) well runs)
     (c.in-Ok.ensures.looks c.requires.live) ended.2 wells (λ wells2. c.settle.ensures.serves (closed w) ended.0 well ended.1 wells2)
 
 pub returns-in-Ok-clause-leaves : goal.returns-in-Ok-clause-leaves

@@ -7,7 +7,7 @@ use Rattle.ode_engine.proofs.commanding.settle.Goals as goal
 
 pub returns-in-Ok-clause-serves : goal.returns-in-Ok-clause-serves
 returns-in-Ok-clause-serves g c session t well runs wells =
-    c.settled.ensures.serves session (settled_by c.args.ending t) c.args.host.now (c.in-Ok.ensures.printed ode session.world t runs)
+    c.settled.ensures.serves session (settled_by c.args.ending t) c.args.host.now c.args.output.now (c.in-Ok.ensures.printed ode session.world t runs) (c.in-Ok.ensures.counts ode session.world t runs)
     (λ said is. c.in-Ok.ensures.any_moment ode session.world t said well runs wells is) wells (c.in-Ok.ensures.done ode session.world t runs wells)
 
 pub returns-in-Ok-clause-leaves : goal.returns-in-Ok-clause-leaves
@@ -15,7 +15,7 @@ returns-in-Ok-clause-leaves g c = told_on _ _ _ _ _ (host_calls_as _ _ _ _ _ _ (
 
 pub returns-in-Err-clause-serves : goal.returns-in-Err-clause-serves
 returns-in-Err-clause-serves g c session t well runs wells =
-    unsettled_serves g.H.Host.view g.K.Keep.holds g.K.Keep.live g.K.Keep.means ode g.met.K.Keep.stands g.met.H.Host.text_stands session (settled_by c.args.ending t) c.in-Err.error c.args.host.now c.end.new.host
+    unsettled_serves g.H.Host.view g.K.Keep.holds g.K.Keep.live g.K.Keep.means ode g.met.K.Keep.stands g.met.H.Host.text_stands c.args.output.now c.end.new.output session (settled_by c.args.ending t) c.in-Err.error c.args.host.now c.end.new.host
     (λ said is. c.in-Err.ensures.any_moment ode session.world t said well runs wells is)
     (undamaged_by _ _ c.in-Err.ensures.undamaged (λ never. never ode session.world t runs wells))
 

@@ -8,21 +8,21 @@ use Rattle.ode_engine.proofs.commanding.settled.Goals as goal
 
 pub returns-in-Ok-clause-serves : goal.returns-in-Ok-clause-serves
 unfolding drain_limit
-returns-in-Ok-clause-serves g c session s before printed leaves wells rests =
+returns-in-Ok-clause-serves g c session s before start printed counts leaves wells rests =
     let drained = c.in-Ok.ensures.done ode s.0 wells rests in
-    drained_serves g.H.Host.view g.K.Keep.holds g.K.Keep.live g.K.Keep.means ode g.met.K.Keep.stands g.met.H.Host.text_stands session s c.in-Ok.rest c.in-Ok.ran before c.args.host.now c.drain.new.host
-    (record { printed = printed; any_moment = leaves })
+    drained_serves g.H.Host.view g.K.Keep.holds g.K.Keep.live g.K.Keep.means ode g.met.K.Keep.stands g.met.H.Host.text_stands start c.drain.new.output c.args.output.now session s c.in-Ok.rest c.in-Ok.ran before c.args.host.now c.drain.new.host
+    (record { printed = printed; counts = counts; any_moment = leaves })
     (λ said more is. c.in-Ok.ensures.any_moment ode s.0 said more wells rests is)
-    drained.0.1 (settled_session s wells) drained.0.0 drained.1
+    drained.0.1 (settled_session s wells) drained.0.0 drained.1 (c.in-Ok.ensures.counts ode s.0 wells rests)
 
 pub returns-in-Ok-clause-leaves : goal.returns-in-Ok-clause-leaves
 returns-in-Ok-clause-leaves g c = host_calls_as _ _ _ _ _ _ (λ is. cc (is)) (λ is. cc (is)) (λ is. cc (is)) (λ is. cc (is)) c.in-Ok.ensures.leaves
 
 pub returns-in-Err-clause-serves : goal.returns-in-Err-clause-serves
 unfolding drain_limit
-returns-in-Err-clause-serves g c session s before printed leaves wells rests =
-    undrained_serves g.H.Host.view g.K.Keep.holds g.K.Keep.live g.K.Keep.means ode g.met.K.Keep.stands g.met.H.Host.text_stands session s c.in-Err.error before c.args.host.now c.drain.new.host
-    (record { printed = printed; any_moment = leaves })
+returns-in-Err-clause-serves g c session s before start printed counts leaves wells rests =
+    undrained_serves g.H.Host.view g.K.Keep.holds g.K.Keep.live g.K.Keep.means ode g.met.K.Keep.stands g.met.H.Host.text_stands start c.drain.new.output c.args.output.now session s c.in-Err.error before c.args.host.now c.drain.new.host
+    (record { printed = printed; counts = counts; any_moment = leaves })
     (λ said more is. c.in-Err.ensures.any_moment ode s.0 said more wells rests is)
     (undamaged_by _ _ c.in-Err.ensures.undamaged (λ never. never ode s.0 wells rests))
 

@@ -9,7 +9,7 @@ use Rattle.ode_engine.proofs.commanding.simple.Goals as goal
 
 pub returns-in-Err-clause-serves : goal.returns-in-Err-clause-serves
 returns-in-Err-clause-serves g c w well rests left text =
-    stopped_serves g.H.Host.view g.K.Keep.holds g.K.Keep.live g.K.Keep.means ode g.met.K.Keep.stands g.met.H.Host.text_stands (closed w) (carried ode (closed w) (statement.Simple c.args.s.now)) _ c.args.host.now c.begin.new.host (rest_now g.H.Host.view g.K.Keep.holds g.K.Keep.live ode w c.args.rest c.args.host.now well rests)
+    stopped_serves g.H.Host.view g.K.Keep.holds g.K.Keep.live g.K.Keep.means ode g.met.K.Keep.stands g.met.H.Host.text_stands c.args.output.now c.args.output.now (closed w) (carried ode (closed w) (statement.Simple c.args.s.now)) _ c.args.host.now c.begin.new.host (rest_now g.H.Host.view g.K.Keep.holds g.K.Keep.live ode w c.args.rest c.args.host.now well rests)
     c.in-Err.ensures.looks (undamaged_by _ _ c.in-Err.ensures.undamaged (λ never. never ode w rests tt (room w left)))
 
 pub returns-in-Err-clause-leaves : goal.returns-in-Err-clause-leaves
@@ -18,7 +18,7 @@ returns-in-Err-clause-leaves g c =
 
 pub returns-in-Ok-clause-serves : goal.returns-in-Ok-clause-serves
 returns-in-Ok-clause-serves g c w well rests left text =
-    behind_serves g.H.Host.view g.K.Keep.holds g.K.Keep.live g.K.Keep.means ode g.met.K.Keep.stands g.met.H.Host.text_stands (closed w) (carried ode (closed w) (statement.Simple c.args.s.now)) _ c.args.host.now c.begin.new.host c.simple_begun.new.host (rest_now g.H.Host.view g.K.Keep.holds g.K.Keep.live ode w c.args.rest c.args.host.now well rests)
+    behind_serves g.H.Host.view g.K.Keep.holds g.K.Keep.live g.K.Keep.means ode g.met.K.Keep.stands g.met.H.Host.text_stands c.args.output.now c.simple_begun.new.output (closed w) (carried ode (closed w) (statement.Simple c.args.s.now)) _ c.args.host.now c.begin.new.host c.simple_begun.new.host (rest_now g.H.Host.view g.K.Keep.holds g.K.Keep.live ode w c.args.rest c.args.host.now well rests)
     c.in-Ok.ensures.looks (c.simple_begun.ensures.serves w well (c.in-Ok.ensures.begun ode w rests tt) left text)
 
 pub returns-in-Ok-clause-leaves : goal.returns-in-Ok-clause-leaves

@@ -1,4 +1,4 @@
-use Rattle.std.proofs.Common.{◌≡◌, ◌∙◌, ap, subst, sym, true}
+use Rattle.std.proofs.Common.{◌≡◌, ◌∙◌, ap, refl, subst, sym, true}
 use Rattle.std.specs.Prelude.{IfOk, IsErrOf}
 use Rattle.ode_host.specs.Host.{HostCalls}
 use Rattle.ode_language.specs.Languages.{ode}
@@ -25,7 +25,7 @@ run_whole-requires-clause-live g c = c.in-Ok.ensures.leaves.stays
 pub returns-in-Ok-clause-serves : goal.returns-in-Ok-clause-serves
 returns-in-Ok-clause-serves g c w well runs left text =
     let is = checked_as (checked_in ode w.bones c.args.s.now) c.get.result.now c.in-Ok.s (c.in-Ok.ensures.answers w (begun Script w) runs) c.get.ensures in
-    checked_outside_serves g.H.Host.view g.K.Keep.holds g.K.Keep.live g.K.Keep.means g.met.K.Keep.stands g.met.H.Host.text_stands w c.args.s.now c.get.result.now _ c.args.host.now c.checked.new.host c.run_whole.new.host (running_now g.H.Host.view g.K.Keep.holds g.K.Keep.live ode w c.args.ctx c.args.host.now (begun Script w) well runs) c.in-Ok.ensures.leaves.looks is
+    checked_outside_serves g.H.Host.view g.K.Keep.holds g.K.Keep.live g.K.Keep.means g.met.K.Keep.stands g.met.H.Host.text_stands c.args.output.now c.run_whole.new.output w c.args.s.now c.get.result.now _ c.args.host.now c.checked.new.host c.run_whole.new.host (running_now g.H.Host.view g.K.Keep.holds g.K.Keep.live ode w c.args.ctx c.args.host.now (begun Script w) well runs) c.in-Ok.ensures.leaves.looks is
     (c.run_whole.ensures.serves w well (c.in-Ok.ensures.keeps w (begun Script w) runs).stays (simple_well w well left c.args.s.now c.get.result.now text is))
 
 pub returns-in-Ok-clause-leaves : goal.returns-in-Ok-clause-leaves
@@ -34,8 +34,8 @@ returns-in-Ok-clause-leaves g c = told_on _ _ _ _ _ (checked_quiet c.in-Ok.s _ _
 pub returns-in-Err-clause-serves : goal.returns-in-Err-clause-serves
 returns-in-Err-clause-serves g c w well runs left text =
     let is = c.turned_down.ensures ∙ ap (λ o. turned_down (state.Rest o) c.in-Err.turned) c.put_back.ensures in
-    subst (λ r. Serves g.H.Host.view g.K.Keep.holds g.K.Keep.live g.K.Keep.means ode (closed w) (carried ode (closed w) (statement.Simple c.args.s.now)) r c.args.host.now c.checked.new.host) (sym is)
-    (turned_outside_serves g.H.Host.view g.K.Keep.holds g.K.Keep.live g.K.Keep.means g.met.K.Keep.stands g.met.H.Host.text_stands w c.args.s.now c.in-Err.turned c.checked.new.ctx c.args.host.now c.checked.new.host well
+    subst (λ r. Serves g.H.Host.view g.K.Keep.holds g.K.Keep.live g.K.Keep.means ode (closed w) (carried ode (closed w) (statement.Simple c.args.s.now)) r c.args.host.now c.checked.new.host c.args.output.now c.args.output.now) (sym is)
+    (turned_outside_serves g.H.Host.view g.K.Keep.holds g.K.Keep.live g.K.Keep.means g.met.K.Keep.stands g.met.H.Host.text_stands c.args.output.now c.args.output.now refl w c.args.s.now c.in-Err.turned c.checked.new.ctx c.args.host.now c.checked.new.host well
     (running_now g.H.Host.view g.K.Keep.holds g.K.Keep.live ode w c.args.ctx c.args.host.now (begun Script w) well runs) c.in-Err.ensures.leaves.looks (c.in-Err.ensures.keeps w (begun Script w) runs) (c.in-Err.ensures.answers w (begun Script w) runs))
 
 pub returns-in-Err-clause-leaves : goal.returns-in-Err-clause-leaves

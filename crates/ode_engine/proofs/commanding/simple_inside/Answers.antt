@@ -1,4 +1,4 @@
-use Rattle.std.proofs.Common.{◌≡◌, subst, sym, true}
+use Rattle.std.proofs.Common.{◌≡◌, refl, subst, sym, true}
 use Rattle.std.specs.Prelude.{IfOk, IsErrOf}
 use Rattle.ode_host.specs.Host.{HostCalls}
 use Rattle.ode_language.specs.Languages.{ode}
@@ -22,7 +22,7 @@ run_inside-requires-clause-live g c = c.in-Ok.ensures.leaves.stays
 pub returns-in-Ok-clause-serves : goal.returns-in-Ok-clause-serves
 returns-in-Ok-clause-serves g c w t session runs text =
     let is = checked_as (checked_in ode t.now.bones c.args.s.now) c.get.result.now c.in-Ok.s (c.in-Ok.ensures.answers w t runs) c.get.ensures in
-    checked_inside_serves g.H.Host.view g.K.Keep.holds g.K.Keep.live g.K.Keep.means g.met.K.Keep.stands g.met.H.Host.text_stands w t c.args.s.now c.get.result.now _ c.args.host.now c.checked.new.host c.run_inside.new.host (running_now g.H.Host.view g.K.Keep.holds g.K.Keep.live ode w c.args.ctx c.args.host.now t session.well runs) c.in-Ok.ensures.leaves.looks is
+    checked_inside_serves g.H.Host.view g.K.Keep.holds g.K.Keep.live g.K.Keep.means g.met.K.Keep.stands g.met.H.Host.text_stands c.args.output.now c.run_inside.new.output w t c.args.s.now c.get.result.now _ c.args.host.now c.checked.new.host c.run_inside.new.host (running_now g.H.Host.view g.K.Keep.holds g.K.Keep.live ode w c.args.ctx c.args.host.now t session.well runs) c.in-Ok.ensures.leaves.looks is
     (c.run_inside.ensures.serves w t c.args.s.now session (c.in-Ok.ensures.keeps w t runs).stays text is)
 
 pub returns-in-Ok-clause-leaves : goal.returns-in-Ok-clause-leaves
@@ -30,8 +30,8 @@ returns-in-Ok-clause-leaves g c = told_on _ _ _ _ _ (checked_quiet c.in-Ok.s _ _
 
 pub returns-in-Err-clause-serves : goal.returns-in-Err-clause-serves
 returns-in-Err-clause-serves g c w t session runs text =
-    subst (λ r. Serves g.H.Host.view g.K.Keep.holds g.K.Keep.live g.K.Keep.means ode (opened w t) (carried ode (opened w t) (statement.Simple c.args.s.now)) r c.args.host.now c.checked.new.host) (sym c.turned_down.ensures)
-    (turned_inside_serves g.H.Host.view g.K.Keep.holds g.K.Keep.live g.K.Keep.means g.met.K.Keep.stands g.met.H.Host.text_stands w t c.args.s.now c.in-Err.turned _ c.args.host.now c.checked.new.host session (running_now g.H.Host.view g.K.Keep.holds g.K.Keep.live ode w c.args.ctx c.args.host.now t session.well runs) c.in-Err.ensures.leaves.looks (c.in-Err.ensures.keeps w t runs) (c.in-Err.ensures.answers w t runs))
+    subst (λ r. Serves g.H.Host.view g.K.Keep.holds g.K.Keep.live g.K.Keep.means ode (opened w t) (carried ode (opened w t) (statement.Simple c.args.s.now)) r c.args.host.now c.checked.new.host c.args.output.now c.args.output.now) (sym c.turned_down.ensures)
+    (turned_inside_serves g.H.Host.view g.K.Keep.holds g.K.Keep.live g.K.Keep.means g.met.K.Keep.stands g.met.H.Host.text_stands c.args.output.now c.args.output.now refl w t c.args.s.now c.in-Err.turned _ c.args.host.now c.checked.new.host session (running_now g.H.Host.view g.K.Keep.holds g.K.Keep.live ode w c.args.ctx c.args.host.now t session.well runs) c.in-Err.ensures.leaves.looks (c.in-Err.ensures.keeps w t runs) (c.in-Err.ensures.answers w t runs))
 
 pub returns-in-Err-clause-leaves : goal.returns-in-Err-clause-leaves
 returns-in-Err-clause-leaves g c =

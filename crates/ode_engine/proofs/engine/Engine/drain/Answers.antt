@@ -1,8 +1,9 @@
-use Rattle.std.proofs.Common.{◌∙◌, refl, subst, sym}
+use Rattle.std.proofs.Common.{◌∙◌, ap, refl, subst, sym}
 use Rattle.ode_host.proofs.Calls.{host_calls_as}
 use Rattle.ode_language.specs.Languages.{ode}
 use Rattle.ode_machine.specs.Sessions.{Session, closed}
 use Rattle.ode_transact.specs.Errors.{OnDamaged}
+use Rattle.ode_transact.specs.declared.output.Output.{Output}
 use Rattle.ode_value.specs.Draining.{drain as drained, world_after}
 use Rattle.ode_value.specs.Limits.{drain_limit}
 use Rattle.ode_value.specs.Pasts.{lists}
@@ -35,6 +36,12 @@ unfolding drain_limit
 returns-in-Ok-clause-printed g c session is =
     let rests = closed_rest g.H.Host.view g.K.Keep.holds g.K.Keep.live ode session c.args.self.now.rest c.args.self.now.running c.in-Some.rest c.args.host.now (sym c.take.ensures.value ∙ c.in-Some.is) c.requires.closed is.has in
     (c.in-Ok.ensures.done ode session.world is.goes_on.well rests).1
+
+pub returns-in-Ok-clause-counts : goal.returns-in-Ok-clause-counts
+unfolding drain_limit
+returns-in-Ok-clause-counts g c session is =
+    let rests = closed_rest g.H.Host.view g.K.Keep.holds g.K.Keep.live ode session c.args.self.now.rest c.args.self.now.running c.in-Some.rest c.args.host.now (sym c.take.ensures.value ∙ c.in-Some.is) c.requires.closed is.has in
+    c.put.ensures.output ∙ ap (λ (o : Output). record { quiet = c.args.self.now.quiet; counted = o.counted }) (c.in-Ok.ensures.counts ode session.world is.goes_on.well rests)
 
 pub returns-in-Ok-clause-any_moment : goal.returns-in-Ok-clause-any_moment
 unfolding drain_limit

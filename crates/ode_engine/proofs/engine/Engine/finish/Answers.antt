@@ -1,4 +1,4 @@
-use Rattle.std.proofs.Common.{◌≡◌, ◌∙◌, false, Ok, subst, sym}
+use Rattle.std.proofs.Common.{◌≡◌, ◌∙◌, false, Ok, ap, subst, sym}
 use Rattle.std.specs.Prelude.{IfOk, IsErrOf, OnErr, OnOk}
 use Rattle.ode_host.specs.Host.{HostCalls, Printed}
 use Rattle.ode_language.specs.Languages.{ode}
@@ -7,9 +7,11 @@ use Rattle.ode_machine.specs.Commands.{Step, finish}
 use Rattle.ode_value.specs.Answers.{Answer}
 use Rattle.ode_transact.specs.Items.{texts_of}
 use Rattle.ode_transact.specs.Errors.{OnDamaged}
+use Rattle.ode_transact.specs.Output.{all_heard, counting}
+use Rattle.ode_transact.specs.declared.output.Output.{Output}
 use Rattle.ode_transact.specs.declared.error.EngineError.TheVariants as error
-use Rattle.ode_engine.specs.Serving.{IsAnswer, IsLive, StandsFor, session_after, settlings}
-use Rattle.ode_engine.proofs.EngineLaws.{err_on, leaves_on, live_on, ok_on, says_on, stands_on, taken_stands, undamaged_on}
+use Rattle.ode_engine.specs.Serving.{IsAnswer, IsLive, StandsFor, output_of, session_after, settlings}
+use Rattle.ode_engine.proofs.EngineLaws.{counts_on, err_on, leaves_on, live_on, ok_on, says_on, stands_on, taken_stands, undamaged_on}
 use Rattle.ode_engine.proofs.engine.Engine.finish.Goals as goal
 
 pub returns-in-Some-clause-answer : goal.returns-in-Some-clause-answer
@@ -29,8 +31,17 @@ pub returns-in-Some-clause-printed : goal.returns-in-Some-clause-printed
 returns-in-Some-clause-printed g c session is =
     let answer : Answer Step = Ok (finish session) in
     let serves = c.finish_in-step.ensures.serves session is.goes_on (taken_stands g.H.Host.view g.K.Keep.holds g.K.Keep.live ode session c.args.self.now.rest c.args.self.now.running c.in-Some.state c.args.host.now (sym c.take.ensures.took ∙ c.in-Some.is) is.has) in
-    let text = Printed (texts_of (settlings answer)) (g.H.Host.view c.args.host.now) (g.H.Host.view c.finish_in-step.new.host) in
+    let text = Printed (texts_of (all_heard c.args.self.now.quiet (settlings answer))) (g.H.Host.view c.args.host.now) (g.H.Host.view c.finish_in-step.new.host) in
     subst (λ r. OnOk r text) (sym c.answer.ensures.says) (ok_on g.H.Host.view g.K.Keep.holds g.K.Keep.live ode c.finish_in-step.result text serves.printed)
+
+pub returns-in-Some-clause-counts : goal.returns-in-Some-clause-counts
+returns-in-Some-clause-counts g c session is =
+    let answer : Answer Step = Ok (finish session) in
+    let serves = c.finish_in-step.ensures.serves session is.goes_on (taken_stands g.H.Host.view g.K.Keep.holds g.K.Keep.live ode session c.args.self.now.rest c.args.self.now.running c.in-Some.state c.args.host.now (sym c.take.ensures.took ∙ c.in-Some.is) is.has) in
+    let told = output_of c.answer.new.self ≡ counting (output_of c.args.self.now) (texts_of (settlings answer)) in
+    subst (λ r. OnOk r told) (sym c.answer.ensures.says)
+    (ok_on g.H.Host.view g.K.Keep.holds g.K.Keep.live ode c.finish_in-step.result told
+    (counts_on c.finish_in-step.result (output_of c.args.self.now) c.finish_in-step.new.output (output_of c.answer.new.self) c.take.new.self.quiet (texts_of (settlings answer)) (ap (λ (o : Output). o.quiet) c.take.ensures.output) c.answer.ensures.output serves.counts))
 
 pub returns-in-Some-clause-any_moment : goal.returns-in-Some-clause-any_moment
 returns-in-Some-clause-any_moment g c session said more is told =
