@@ -1,6 +1,6 @@
 -- What an engine stands for over a host, and what its calls come to as pieces.
 use Rattle.std.proofs.Common.{◌≡◌, ◌∙◌, ℕ, List, [], ◌∷◌, ◌++◌, Bool, true, false, Option, Result, Some, None, Ok, Err, append-nil, ap, refl, subst, sym}
-use Rattle.std.specs.Prelude.{IsTrue}
+use Rattle.std.specs.Prelude.{IsTrue, OnOk}
 use Rattle.ode_engine.specs.Serving.{IsAnswer, IsLive, IsOneOf, StandsBy, StandsFor, answer_to, settlings}
 use Rattle.ode_engine.specs.declared.engine.Done.{Done}
 use Rattle.ode_engine.specs.declared.engine.Done.TheVariants as done
@@ -27,15 +27,17 @@ use Rattle.ode_schema.specs.Parts.{AreFit}
 use Rattle.ode_trace.proofs.CallLaws.{damage_as}
 use Rattle.ode_trace.proofs.MachineLaws.{finish_ends, none_refused, texts_are}
 use Rattle.ode_trace.specs.Statuses.{unread}
-use Rattle.ode_trace.specs.Running.{Carries, Commands, EndsWith}
+use Rattle.ode_trace.specs.Running.{Carries, Commands, EndsWith, SpeaksFor}
 use Rattle.ode_transact.specs.Errors.{OnDamaged}
+use Rattle.ode_transact.proofs.OutputLaws.{all_heard_loud}
 use Rattle.ode_transact.specs.Items.{items_of, texts_of}
+use Rattle.ode_transact.specs.Output.{all_heard}
 use Rattle.ode_transact.specs.Resting.{HoldsBy, IsAtRest, resting_parts}
 use Rattle.ode_transact.specs.Settling.{Meaning}
 use Rattle.ode_transact.specs.declared.error.EngineError.{EngineError}
 use Rattle.ode_transact.specs.declared.error.EngineError.TheVariants as error
 use Rattle.ode_value.specs.Answers.{Answer, ◌>>=◌, ◌>>◌}
-use Rattle.ode_value.specs.Language.{ListWorld}
+use Rattle.ode_value.specs.Language.{ListWorld, Settlings}
 use Rattle.ode_value.specs.Texts.{refused_line}
 use Rattle.ode_value.specs.declared.reason.Refusal.{Refusal}
 use Rattle.ode_value.specs.declared.statement.Statement.{Statement}
@@ -59,11 +61,25 @@ unread_command session piece why is = ap (λ (a : Answer Statement). a >>= λ t.
 pub no_more : (holds : Holding) (items : List Item) (w : ListWorld) (text : List ℕ) (old new : View) → LeavesOnly old new (IsAfterSome holds (items ++ []) w text) → LeavesOnly old new (IsAfterSome holds items w text)
 no_more holds items w text old new run = subst (λ (l : List Item). LeavesOnly old new (IsAfterSome holds l w text)) (append-nil items) run
 
+-- ---- what is heard of an engine that isn't quiet
+
+all_told : (quiet : Bool) (settled : Settlings) → quiet ≡ false → all_heard quiet settled ≡ settled
+all_told quiet settled loud = ap (λ (q : Bool). all_heard q settled) loud ∙ all_heard_loud settled
+
+pub printed_aloud : {R : Type 0} (result : Result R EngineError) (quiet : Bool) (settled : Settlings) (old new : View) → quiet ≡ false → OnOk result (Printed (texts_of (all_heard quiet settled)) old new)
+    → OnOk result (Printed (texts_of settled) old new)
+printed_aloud result quiet settled old new loud printed = subst (λ (s : Settlings). OnOk result (Printed (texts_of s) old new)) (all_told quiet settled loud) printed
+
+pub moments_aloud : (holds : Holding) (quiet : Bool) (settled : Settlings) (more : List Item) (w : ListWorld) (said : List ℕ) (old new : View) → quiet ≡ false
+    → LeavesOnly old new (IsAfterSome holds (items_of (all_heard quiet settled) ++ more) w said) → LeavesOnly old new (IsAfterSome holds (items_of settled ++ more) w said)
+moments_aloud holds quiet settled more w said old new loud run =
+    subst (λ (s : Settlings). LeavesOnly old new (IsAfterSome holds (items_of s ++ more) w said)) (all_told quiet settled loud) run
+
 module _ {H K : Type 0} (seen : H → View) (held : K → View → Entries → Type 0) (live : K → Bool) (means : Meaning)
     (stands : (keeper : K) (host : H) (entries : Entries) → held keeper (seen host) entries → (file : List ℕ) × Stands file (seen host) × means file entries)
     (stays : (keeper : K) (old new : H) (entries : Entries) → held keeper (seen old) entries → ((file : List ℕ) → Stands file (seen old) → Stands file (seen new)) → held keeper (seen new) entries) where
   abbrev For : Session → Engine K → H → Type 0
-  For = StandsFor seen held live ode
+  For = SpeaksFor seen held live
 
   -- ---- what is held now
 
@@ -80,7 +96,7 @@ module _ {H K : Type 0} (seen : H → View) (held : K → View → Entries → T
   held_by session None None host well is = absurd is
 
   pub now_holds : (session : Session) (e : Engine K) (host : H) → For session e host → (file : List ℕ) × Stands file (seen host) × HoldsBy ode means file session.world
-  now_holds session e host is = held_by session e.rest e.running host is.goes_on.well is.has
+  now_holds session e host is = held_by session e.rest e.running host is.stands.goes_on.well is.stands.has
 
   pub ends_now : (session : Session) (e : Engine K) (host : H) (text : List ℕ) → For session e host → (seen host).text ≡ Some text → EndsWith means (seen host) session.world text
   ends_now session e host text is said =
@@ -126,16 +142,25 @@ module _ {H K : Type 0} (seen : H → View) (held : K → View → Entries → T
   kept_by session None None old new same is = absurd is
 
   pub still_stands : (session : Session) (e : Engine K) (old new : H) → ((file : List ℕ) → Stands file (seen old) → Stands file (seen new)) → For session e old → For session e new
-  still_stands session e old new same is = record { goes_on = is.goes_on; has = kept_by session e.rest e.running old new same is.has }
+  still_stands session e old new same is = record { stands = record { goes_on = is.stands.goes_on; has = kept_by session e.rest e.running old new same is.stands.has }; loud = is.loud }
 
   -- ---- at the start
 
-  pub started_stands : (w : ListWorld) (o : Opened K) (e : Engine K) (host : H) → (e.rest ≡ Some o) × (e.running ≡ None) → IsWell ode w → IsAtRest seen held live ode w o host → For (closed w) e host
-  started_stands w o e host has well rests = record {
-    goes_on = record { well = well; came = tt };
-    has = subst (λ (r : Option (Opened K)). StandsBy seen held live ode (closed w) r e.running host) (sym has.0)
-        (subst (λ (r : Option (Ctx K)). StandsBy seen held live ode (closed w) (Some o) r host) (sym has.1) (refl, rests));
+  pub started_stands : (w : ListWorld) (o : Opened K) (e : Engine K) (host : H) → (e.rest ≡ Some o) × (e.running ≡ None) → e.quiet ≡ false → IsWell ode w → IsAtRest seen held live ode w o host → For (closed w) e host
+  started_stands w o e host has loud well rests = record {
+    stands = record {
+      goes_on = record { well = well; came = tt };
+      has = subst (λ (r : Option (Opened K)). StandsBy seen held live ode (closed w) r e.running host) (sym has.0)
+          (subst (λ (r : Option (Ctx K)). StandsBy seen held live ode (closed w) (Some o) r host) (sym has.1) (refl, rests));
+    };
+    loud = loud;
   }
+
+  -- it speaks on, and behind a call that it answers
+  pub speaks_on : {R : Type 0} (result : Result R EngineError) (session : Session) (was e : Engine K) (host : H) → was.quiet ≡ false → e.quiet ≡ was.quiet → OnOk result (StandsFor seen held live ode session e host)
+      → OnOk result (For session e host)
+  speaks_on (Err why) session was e host loud same is = tt
+  speaks_on (Ok done) session was e host loud same is = record { stands = is; loud = same ∙ loud }
 
   pub started_live : (o : Opened K) (e : Engine K) → e.live ≡ true → (e.rest ≡ Some o) × (e.running ≡ None) → live o.keeper ≡ true → AreFit (resting_parts o) → AreAligned (resting_parts o)
       → IsLive live e

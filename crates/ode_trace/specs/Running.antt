@@ -1,5 +1,5 @@
 -- What a run of a script leaves: on a host, in an engine, and at a stop.
-use Rattle.std.specs.Prelude.{◌≡◌, ℕ, List, [], ◌++◌, Bool, Option, Some, Result, IfOk, OnOk}
+use Rattle.std.specs.Prelude.{◌≡◌, ℕ, List, [], ◌++◌, Bool, false, Option, Some, Result, IfOk, OnOk}
 use Rattle.ode_engine.specs.Serving.{IsAnswer, StandsFor, session_after, settlings}
 use Rattle.ode_engine.specs.declared.engine.Done.{Done}
 use Rattle.ode_engine.specs.declared.engine.Engine.{Engine}
@@ -65,15 +65,20 @@ module _ {H K : Type 0} (seen : H → View) (held : K → View → Entries → T
     pub rests : IsAtRest seen held live ode w o host
     pub printed : (seen host).text ≡ Some text
 
+  -- an engine that isn't quiet stands for a session
+  pub record SpeaksFor (session : Session) (e : Engine K) (host : H) : Type 0 where
+    pub stands : StandsFor seen held live ode session e host
+    pub loud : e.quiet ≡ false
+
   -- an engine stands for a session, and this was printed
   pub record Serves (session : Session) (e : Engine K) (host : H) (text : List ℕ) : Type 0 where
-    pub stands : StandsFor seen held live ode session e host
+    pub stands : SpeaksFor session e host
     pub printed : (seen host).text ≡ Some text
 
   -- What a call came to from a session on that the machine gives this answer. No record is damaged then.
   pub record Commands (means : Meaning) (session : Session) (answer : Answer Step) (result : Result Done EngineError) (e : Engine K) (old new : H) : Type 0 where
     pub answers : IfOk result (λ done. IsAnswer done answer)
-    pub stands : OnOk result (StandsFor seen held live ode (session_after session answer) e new)
+    pub stands : OnOk result (SpeaksFor (session_after session answer) e new)
     pub printed : OnOk result (Printed (texts_of (settlings answer)) (seen old) (seen new))
     pub any_moment : (said : List ℕ) (more : List Item) → (seen old).text ≡ Some said
         → LeavesOnly (seen old) (seen new) (IsAfterSome (HoldsBy ode means) (items_of (settlings answer) ++ more) session.world said)
@@ -82,7 +87,7 @@ module _ {H K : Type 0} (seen : H → View) (held : K → View → Entries → T
   -- One piece, which comes to this stretch, is carried out. No record is damaged then.
   pub record Carries (means : Meaning) (session : Session) (stretch : Stretch) (result : Result Bool EngineError) (e : Engine K) (old new : H) : Type 0 where
     pub stated : IfOk result (λ refused. refused ≡ any_refused stretch.1)
-    pub stands : OnOk result (StandsFor seen held live ode stretch.0 e new)
+    pub stands : OnOk result (SpeaksFor stretch.0 e new)
     pub printed : OnOk result (Printed (text_of stretch.1) (seen old) (seen new))
     pub any_moment : (said : List ℕ) (more : List Item) → (seen old).text ≡ Some said
         → LeavesOnly (seen old) (seen new) (IsAfterSome (HoldsBy ode means) (stretch.1 ++ more) session.world said)

@@ -1,7 +1,7 @@
 //! A run of a script, piece by piece.
 ghost use Rattle.std.specs.Prelude.{◌≡◌, ◌≢◌, ◌≤◌, ◌⊎◌, ◌++◌, ℕ, List as Items, IsErrOf, IsTrue, OnOk, Ok, Some, length};
 ghost use Rattle.ode_declared_laws.specs.Adding.{AreAligned};
-ghost use Rattle.ode_engine.specs.Serving.{IsLive, StandsFor};
+ghost use Rattle.ode_engine.specs.Serving.{IsLive};
 ghost use Rattle.ode_good_laws.specs.Well.{IsWell};
 ghost use Rattle.ode_host.specs.Causes.{RoseIf};
 ghost use Rattle.ode_host.specs.Host.{HostCalls, LeavesCut, LeavesOnly, Printed, Stands};
@@ -12,7 +12,7 @@ ghost use Rattle.ode_machine.specs.Runs.{final, piece_stretch, pieces_items, sta
 ghost use Rattle.ode_machine.specs.Sessions.{Session};
 ghost use Rattle.ode_schema.specs.Parts.{AreFit};
 ghost use Rattle.ode_script.specs.Cutting.{End, ending_of, pieces};
-ghost use Rattle.ode_trace.specs.Running.{Begins, Carries, Commands, EndsWith, RanAs, Serves};
+ghost use Rattle.ode_trace.specs.Running.{Begins, Carries, Commands, EndsWith, RanAs, Serves, SpeaksFor};
 ghost use Rattle.ode_trace.specs.Statuses.{IsEnding, IsRunStatus, ended_by, status_in, status_of_script, unread};
 ghost use Rattle.ode_transact.specs.Errors.{OnDamaged};
 ghost use Rattle.ode_transact.specs.Resting.{HoldsBy, IsAtRest, resting_parts};
@@ -69,7 +69,7 @@ fn command_piece<H: Host, K: Keep<H> + Drop>(
 ) -> Result<Done, EngineError>
     requires live { IsLive K.live engine.old }
     requires short { length text.now ≤ statement_limit }
-    ensures commands { (session : Session) → StandsFor H.view K.holds K.live ode session engine.old host.old
+    ensures commands { (session : Session) → SpeaksFor H.view K.holds K.live session engine.old host.old
         → Commands H.view K.holds K.live K.means session (command ode session text.now) result engine.new host.old host.new }
     ensures leaves { HostCalls (IsErrOf result EngineError.DiskFault) (IsErrOf result EngineError.WriteFault) (H.view host.old) (H.view host.new) }
     ensures live { OnOk result (IsLive K.live engine.new) }
@@ -93,7 +93,7 @@ fn carry_out<H: Host, K: Keep<H> + Drop>(
 ) -> Result<bool, EngineError>
     requires live { IsLive K.live engine.old }
     requires short { length text.now ≤ statement_limit }
-    ensures carries { (session : Session) → StandsFor H.view K.holds K.live ode session engine.old host.old
+    ensures carries { (session : Session) → SpeaksFor H.view K.holds K.live session engine.old host.old
         → Carries H.view K.holds K.live K.means session (piece_stretch ode session line text.now) result engine.new host.old host.new }
     ensures leaves { HostCalls (IsErrOf result EngineError.DiskFault) (IsErrOf result EngineError.WriteFault) (H.view host.old) (H.view host.new) }
     ensures live { OnOk result (IsLive K.live engine.new) }
@@ -145,7 +145,7 @@ fn end_script<H: Host, K: Keep<H> + Drop>(
     ensures any_moment { (session : Session) (text : Items ℕ) → Serves H.view K.holds K.live session engine.old host.old text
         → LeavesOnly (H.view host.old) (H.view host.new) (IsAfterSome (HoldsBy ode K.means) (stretch_of (finish session)).1 session.world text) }
     ensures statuses { IsRunStatus (status_in result) ⊎ (status_in result ≡ Status.BadFile) }
-    ensures answers { (session : Session) → StandsFor H.view K.holds K.live ode session engine.old host.old → IsRunStatus (status_in result) }
+    ensures answers { (session : Session) → SpeaksFor H.view K.holds K.live session engine.old host.old → IsRunStatus (status_in result) }
     ensures leaves { HostCalls (status_in result ≡ Status.DiskFault) (status_in result ≡ Status.WriteFault) (H.view host.old) (H.view host.new) }
     ensures reads { status_in result ≢ Status.ReadFault }
 {
@@ -174,7 +174,7 @@ fn run_pieces<H: Host, K: Keep<H> + Drop, S: Source>(
     ensures any_moment { (session : Session) (script text : Items ℕ) → S.left source.old ≡ Some script → Serves H.view K.holds K.live session engine.old host.old text
         → LeavesOnly (H.view host.old) (H.view host.new) (IsAfterSome (HoldsBy ode K.means) (pieces_items ode (pieces script) session) session.world text) }
     ensures statuses { IsRunStatus (status_in result) ⊎ (status_in result ≡ Status.BadFile) }
-    ensures answers { (session : Session) → StandsFor H.view K.holds K.live ode session engine.old host.old → IsRunStatus (status_in result) }
+    ensures answers { (session : Session) → SpeaksFor H.view K.holds K.live session engine.old host.old → IsRunStatus (status_in result) }
     ensures leaves { HostCalls (status_in result ≡ Status.DiskFault) (status_in result ≡ Status.WriteFault) (H.view host.old) (H.view host.new) }
     ensures reads { RoseIf (status_in result ≡ Status.ReadFault) (S.faults source.old) (S.faults source.new) }
 {
@@ -217,7 +217,7 @@ pub fn run_script<H: Host, K: Keep<H> + Drop, S: Source>(
     ensures leaves { HostCalls (status_in result ≡ Status.DiskFault) (status_in result ≡ Status.WriteFault) (H.view host.old) (H.view host.new) }
     ensures reads { RoseIf (status_in result ≡ Status.ReadFault) (S.faults source.old) (S.faults source.new) }
 {
-    let mut engine = Engine::start(alloc, opened);
+    let mut engine = Engine::start(alloc, opened, false);
     match engine.drain(host) {
         Ok(_) => run_pieces(alloc, source, host, &mut engine),
         Err(error) => ended_by(error),
