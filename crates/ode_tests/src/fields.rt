@@ -7,6 +7,8 @@ fn of_engine<K>(engine: &Engine<K>) {
     let Engine {
         rest: _,
         running: _,
+        quiet: _,
+        counted: _,
         live: _,
         alloc: _,
     } = engine;
