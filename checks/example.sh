@@ -1,6 +1,6 @@
 #!/usr/bin/env bash
 # Makes a new file and runs the first example on it: checks/example.sh PROGRAM FILE
-# Where the program isn't built, `rt try` builds and runs it without proving anything.
+# Where the program isn't built, `rt try` builds and runs it without proving anything, joined to one crate.
 set -euo pipefail
 cd "$(dirname "${BASH_SOURCE[0]}")/.."
 
@@ -30,8 +30,9 @@ mkdir "$runs"
 printf '%s\n' init "$file" > "$runs/1 init.args"
 cp examples/first.ode "$runs/2 run first.ode"
 printf '%s\n' run "$file" > "$runs/2 run first.ode.args"
-echo 'There is no proved program yet, so rt builds one without proofs. This takes a minute or two.'
-if ! (cd crates/ode && rt try --steps 1000 --cases "$runs" 2> "$work/errors"); then
+echo 'There is no proved program yet, so rt builds one without proofs. This takes about a minute.'
+checks/joined.py "$work/joined"
+if ! (cd "$work/joined/crates/ode" && rt try --steps 1000 --cases "$runs" 2> "$work/errors"); then
     cat "$work/errors" >&2
     exit 1
 fi
