@@ -1,6 +1,6 @@
 -- What calls leave of the host and of the records, by what they answer.
 use Rattle.std.proofs.Common.{◌≡◌, Result, Ok, Err, ap}
-use Rattle.std.specs.Prelude.{IsErrOf}
+use Rattle.std.specs.Prelude.{IsErrOf, OnOk}
 use Rattle.ode_engine.specs.declared.engine.Done.{Done}
 use Rattle.ode_host.proofs.Calls.{host_calls_as, host_calls_on, rose_none}
 use Rattle.ode_host.proofs.Moments.{looks_none}
@@ -56,6 +56,11 @@ error_stated R e old new calls =
 pub unread_told : (stop : ReadStop) (v : View) → Told {R = Done} (unread stop) v v
 unread_told read.Memory v = no_calls _ _ v (λ is. cc (is)) (λ is. cc (is))
 unread_told (read.Refused why) v = no_calls _ _ v (λ is. cc (is)) (λ is. cc (is))
+
+-- what holds whatever comes holds where there is an answer
+pub always : {R : Type 0} (result : Result R EngineError) (P : Type 0) → P → OnOk result P
+always (Ok x) P is = is
+always (Err e) P is = tt
 
 -- ---- the records
 

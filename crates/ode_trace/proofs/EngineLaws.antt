@@ -1,5 +1,5 @@
 -- What an engine stands for over a host, and what its calls come to as pieces.
-use Rattle.std.proofs.Common.{◌≡◌, ◌∙◌, ℕ, List, [], ◌∷◌, ◌++◌, Bool, true, false, Option, Result, Some, None, Ok, Err, append-nil, ap, refl, subst, sym}
+use Rattle.std.proofs.Common.{◌≡◌, ◌∙◌, ℕ, List, [], ◌∷◌, ◌++◌, Bool, true, Option, Result, Some, None, Ok, Err, append-nil, length, ap, refl, subst, sym}
 use Rattle.std.specs.Prelude.{IsTrue, OnOk}
 use Rattle.ode_engine.specs.Serving.{IsAnswer, IsLive, IsOneOf, StandsBy, StandsFor, answer_to, settlings}
 use Rattle.ode_engine.specs.declared.engine.Done.{Done}
@@ -25,19 +25,23 @@ use Rattle.ode_run.specs.declared.context.Ctx.{Ctx}
 use Rattle.ode_declared_laws.specs.Adding.{AreAligned}
 use Rattle.ode_schema.specs.Parts.{AreFit}
 use Rattle.ode_trace.proofs.CallLaws.{damage_as}
-use Rattle.ode_trace.proofs.MachineLaws.{finish_ends, none_refused, texts_are}
+use Rattle.ode_trace.proofs.MachineLaws.{finish_ends}
+use Rattle.ode_trace.proofs.TallyLaws.{piece_refused, piece_settled}
+use Rattle.ode_trace.specs.Hearing.{heard_items}
 use Rattle.ode_trace.specs.Statuses.{unread}
-use Rattle.ode_trace.specs.Running.{Carries, Commands, EndsWith, SpeaksFor}
+use Rattle.ode_trace.specs.Running.{Carries, Commands, EndsWith}
+use Rattle.ode_trace.specs.Tallies.{settled_in, with_piece, with_refusal, with_settled}
+use Rattle.ode_trace.specs.declared.tally.Tally.{Tally}
 use Rattle.ode_transact.specs.Errors.{OnDamaged}
-use Rattle.ode_transact.proofs.OutputLaws.{all_heard_loud}
-use Rattle.ode_transact.specs.Items.{items_of, texts_of}
-use Rattle.ode_transact.specs.Output.{all_heard}
+use Rattle.ode_transact.proofs.OutputLaws.{counted_none}
+use Rattle.ode_transact.specs.Items.{items_of}
+use Rattle.ode_transact.specs.Output.{heard}
 use Rattle.ode_transact.specs.Resting.{HoldsBy, IsAtRest, resting_parts}
 use Rattle.ode_transact.specs.Settling.{Meaning}
 use Rattle.ode_transact.specs.declared.error.EngineError.{EngineError}
 use Rattle.ode_transact.specs.declared.error.EngineError.TheVariants as error
 use Rattle.ode_value.specs.Answers.{Answer, ◌>>=◌, ◌>>◌}
-use Rattle.ode_value.specs.Language.{ListWorld, Settlings}
+use Rattle.ode_value.specs.Language.{ListWorld}
 use Rattle.ode_value.specs.Texts.{refused_line}
 use Rattle.ode_value.specs.declared.reason.Refusal.{Refusal}
 use Rattle.ode_value.specs.declared.statement.Statement.{Statement}
@@ -57,29 +61,20 @@ read_command session piece s is = ap (λ (a : Answer Statement). a >>= λ t. pla
 unread_command : (session : Session) (piece : List ℕ) (why : Refusal) → statement_of piece ≡ Err why → command ode session piece ≡ Err why
 unread_command session piece why is = ap (λ (a : Answer Statement). a >>= λ t. placed session t >> carried ode session t) is
 
+-- what is settled at the end of the input
+pub settled_many : (answer : Done) (step : Step) → IsAnswer answer (Ok step) → settled_in answer ≡ length step.1
+settled_many (done.Settled count) step is = is
+settled_many (done.Refused why) step is = absurd is
+
 -- nothing more
 pub no_more : (holds : Holding) (items : List Item) (w : ListWorld) (text : List ℕ) (old new : View) → LeavesOnly old new (IsAfterSome holds (items ++ []) w text) → LeavesOnly old new (IsAfterSome holds items w text)
 no_more holds items w text old new run = subst (λ (l : List Item). LeavesOnly old new (IsAfterSome holds l w text)) (append-nil items) run
-
--- ---- what is heard of an engine that isn't quiet
-
-all_told : (quiet : Bool) (settled : Settlings) → quiet ≡ false → all_heard quiet settled ≡ settled
-all_told quiet settled loud = ap (λ (q : Bool). all_heard q settled) loud ∙ all_heard_loud settled
-
-pub printed_aloud : {R : Type 0} (result : Result R EngineError) (quiet : Bool) (settled : Settlings) (old new : View) → quiet ≡ false → OnOk result (Printed (texts_of (all_heard quiet settled)) old new)
-    → OnOk result (Printed (texts_of settled) old new)
-printed_aloud result quiet settled old new loud printed = subst (λ (s : Settlings). OnOk result (Printed (texts_of s) old new)) (all_told quiet settled loud) printed
-
-pub moments_aloud : (holds : Holding) (quiet : Bool) (settled : Settlings) (more : List Item) (w : ListWorld) (said : List ℕ) (old new : View) → quiet ≡ false
-    → LeavesOnly old new (IsAfterSome holds (items_of (all_heard quiet settled) ++ more) w said) → LeavesOnly old new (IsAfterSome holds (items_of settled ++ more) w said)
-moments_aloud holds quiet settled more w said old new loud run =
-    subst (λ (s : Settlings). LeavesOnly old new (IsAfterSome holds (items_of s ++ more) w said)) (all_told quiet settled loud) run
 
 module _ {H K : Type 0} (seen : H → View) (held : K → View → Entries → Type 0) (live : K → Bool) (means : Meaning)
     (stands : (keeper : K) (host : H) (entries : Entries) → held keeper (seen host) entries → (file : List ℕ) × Stands file (seen host) × means file entries)
     (stays : (keeper : K) (old new : H) (entries : Entries) → held keeper (seen old) entries → ((file : List ℕ) → Stands file (seen old) → Stands file (seen new)) → held keeper (seen new) entries) where
   abbrev For : Session → Engine K → H → Type 0
-  For = SpeaksFor seen held live
+  For = StandsFor seen held live ode
 
   -- ---- what is held now
 
@@ -96,7 +91,7 @@ module _ {H K : Type 0} (seen : H → View) (held : K → View → Entries → T
   held_by session None None host well is = absurd is
 
   pub now_holds : (session : Session) (e : Engine K) (host : H) → For session e host → (file : List ℕ) × Stands file (seen host) × HoldsBy ode means file session.world
-  now_holds session e host is = held_by session e.rest e.running host is.stands.goes_on.well is.stands.has
+  now_holds session e host is = held_by session e.rest e.running host is.goes_on.well is.has
 
   pub ends_now : (session : Session) (e : Engine K) (host : H) (text : List ℕ) → For session e host → (seen host).text ≡ Some text → EndsWith means (seen host) session.world text
   ends_now session e host text is said =
@@ -142,25 +137,16 @@ module _ {H K : Type 0} (seen : H → View) (held : K → View → Entries → T
   kept_by session None None old new same is = absurd is
 
   pub still_stands : (session : Session) (e : Engine K) (old new : H) → ((file : List ℕ) → Stands file (seen old) → Stands file (seen new)) → For session e old → For session e new
-  still_stands session e old new same is = record { stands = record { goes_on = is.stands.goes_on; has = kept_by session e.rest e.running old new same is.stands.has }; loud = is.loud }
+  still_stands session e old new same is = record { goes_on = is.goes_on; has = kept_by session e.rest e.running old new same is.has }
 
   -- ---- at the start
 
-  pub started_stands : (w : ListWorld) (o : Opened K) (e : Engine K) (host : H) → (e.rest ≡ Some o) × (e.running ≡ None) → e.quiet ≡ false → IsWell ode w → IsAtRest seen held live ode w o host → For (closed w) e host
-  started_stands w o e host has loud well rests = record {
-    stands = record {
-      goes_on = record { well = well; came = tt };
-      has = subst (λ (r : Option (Opened K)). StandsBy seen held live ode (closed w) r e.running host) (sym has.0)
-          (subst (λ (r : Option (Ctx K)). StandsBy seen held live ode (closed w) (Some o) r host) (sym has.1) (refl, rests));
-    };
-    loud = loud;
+  pub started_stands : (w : ListWorld) (o : Opened K) (e : Engine K) (host : H) → (e.rest ≡ Some o) × (e.running ≡ None) → IsWell ode w → IsAtRest seen held live ode w o host → For (closed w) e host
+  started_stands w o e host has well rests = record {
+    goes_on = record { well = well; came = tt };
+    has = subst (λ (r : Option (Opened K)). StandsBy seen held live ode (closed w) r e.running host) (sym has.0)
+        (subst (λ (r : Option (Ctx K)). StandsBy seen held live ode (closed w) (Some o) r host) (sym has.1) (refl, rests));
   }
-
-  -- it speaks on, and behind a call that it answers
-  pub speaks_on : {R : Type 0} (result : Result R EngineError) (session : Session) (was e : Engine K) (host : H) → was.quiet ≡ false → e.quiet ≡ was.quiet → OnOk result (StandsFor seen held live ode session e host)
-      → OnOk result (For session e host)
-  speaks_on (Err why) session was e host loud same is = tt
-  speaks_on (Ok done) session was e host loud same is = record { stands = is; loud = same ∙ loud }
 
   pub started_live : (o : Opened K) (e : Engine K) → e.live ≡ true → (e.rest ≡ Some o) × (e.running ≡ None) → live o.keeper ≡ true → AreFit (resting_parts o) → AreAligned (resting_parts o)
       → IsLive live e
@@ -171,134 +157,132 @@ module _ {H K : Type 0} (seen : H → View) (held : K → View → Entries → T
 
   -- ---- a piece that gives no statement
 
-  abbrev Came : Session → Answer Step → Result Done EngineError → Engine K → H → H → Type 0
+  abbrev Came : Session → Answer Step → Engine K → Result Done EngineError → Engine K → H → H → Type 0
   Came = Commands seen held live means
 
-  pub uncalled_commands : (session : Session) (answer : Answer Step) (e : Engine K) (host : H) → Came session answer (Err error.Memory) e host host
+  pub uncalled_commands : (session : Session) (answer : Answer Step) (e : Engine K) (host : H) → Came session answer e (Err error.Memory) e host host
   uncalled_commands session answer e host = record {
     answers = tt;
     stands = tt;
     printed = tt;
-    any_moment = λ said more told. started (seen host) (IsAfterSome (HoldsBy ode means) (items_of (settlings answer) ++ more) session.world said);
+    counts = tt;
+    any_moment = λ said more told. started (seen host) (IsAfterSome (HoldsBy ode means) (heard_items e.quiet (items_of (settlings answer)) ++ more) session.world said);
     sound = tt;
   }
 
-  unread_by : (session : Session) (why : Refusal) (e : Engine K) (host : H) → For session e host → Came session (Err why) (Ok (done.Refused why)) e host host
+  unread_by : (session : Session) (why : Refusal) (e : Engine K) (host : H) → For session e host → Came session (Err why) e (Ok (done.Refused why)) e host host
   unread_by session why e host is = record {
     answers = refl;
     stands = is;
     printed = λ text told. told ∙ ap Some (sym (append-nil text));
+    counts = sym (counted_none e.counted);
     any_moment = λ said more told. started (seen host) (IsAfterSome (HoldsBy ode means) more session.world said);
     sound = tt;
   }
 
   pub unread_commands : (session : Session) (piece : List ℕ) (why : Refusal) (e : Engine K) (host : H) → statement_of piece ≡ Err why → For session e host
-      → Came session (command ode session piece) (Ok (done.Refused why)) e host host
+      → Came session (command ode session piece) e (Ok (done.Refused why)) e host host
   unread_commands session piece why e host is stands_for =
-      subst (λ (a : Answer Step). Came session a (Ok (done.Refused why)) e host host) (sym (unread_command session piece why is)) (unread_by session why e host stands_for)
+      subst (λ (a : Answer Step). Came session a e (Ok (done.Refused why)) e host host) (sym (unread_command session piece why is)) (unread_by session why e host stands_for)
 
   pub unread_stops : (session : Session) (piece : List ℕ) (stop : ReadStop) (e : Engine K) (host : H) → Answers (statement_of piece) (Err stop) → For session e host
-      → Came session (command ode session piece) (unread stop) e host host
+      → Came session (command ode session piece) e (unread stop) e host host
   unread_stops session piece read.Memory e host is stands_for = uncalled_commands session (command ode session piece) e host
   unread_stops session piece (read.Refused why) e host is stands_for = unread_commands session piece why e host is stands_for
 
   -- one that gives a statement, which the engine is given
-  pub called_commands : (session : Session) (piece : List ℕ) (s : Statement) (result : Result Done EngineError) (e : Engine K) (old new : H) → statement_of piece ≡ Ok s
-      → Came session (answer_to ode session s) result e old new → Came session (command ode session piece) result e old new
-  called_commands session piece s result e old new is came =
-      subst (λ (a : Answer Step). Came session a result e old new) (sym (read_command session piece s is)) came
+  pub called_commands : (session : Session) (piece : List ℕ) (s : Statement) (start : Engine K) (result : Result Done EngineError) (e : Engine K) (old new : H) → statement_of piece ≡ Ok s
+      → Came session (answer_to ode session s) start result e old new → Came session (command ode session piece) start result e old new
+  called_commands session piece s start result e old new is came =
+      subst (λ (a : Answer Step). Came session a start result e old new) (sym (read_command session piece s is)) came
 
   -- ---- a piece that is carried out
 
-  abbrev Carried : Session → ℕ → Answer Step → Result Bool EngineError → Engine K → H → H → Type 0
-  Carried session line answer result e old new = Carries seen held live means session (answered session line answer) result e old new
+  abbrev Carried : Session → ℕ → Answer Step → Engine K → Tally → Result (Unit {0}) EngineError → Engine K → Tally → H → H → Type 0
+  Carried session line answer start was result e now old new = Carries seen held live means session (answered session line answer) start was result e now old new
 
   -- a stop on the way, whatever comes behind
-  came_leaves : (session : Session) (line : ℕ) (answer : Answer Step) (result : Result Done EngineError) (e : Engine K) (old new : H) → Came session answer result e old new
-      → (said : List ℕ) (more : List Item) → (seen old).text ≡ Some said → LeavesOnly (seen old) (seen new) (IsAfterSome (HoldsBy ode means) ((answered session line answer).1 ++ more) session.world said)
-  came_leaves session line (Ok step) result e old new came said more told = came.any_moment said more told
-  came_leaves session line (Err refusal) result e old new came said more told = came.any_moment said (Refuses (refused_line line refusal) ∷ more) told
+  came_leaves : (session : Session) (line : ℕ) (answer : Answer Step) (start : Engine K) (result : Result Done EngineError) (e : Engine K) (old new : H) → Came session answer start result e old new
+      → (said : List ℕ) (more : List Item) → (seen old).text ≡ Some said
+      → LeavesOnly (seen old) (seen new) (IsAfterSome (HoldsBy ode means) (heard_items start.quiet (answered session line answer).1 ++ more) session.world said)
+  came_leaves session line (Ok step) start result e old new came said more told = came.any_moment said more told
+  came_leaves session line (Err refusal) start result e old new came said more told = came.any_moment said (Refuses (heard start.quiet (refused_line line refusal)) ∷ more) told
 
-  pub stopped_carries : (session : Session) (line : ℕ) (answer : Answer Step) (e : EngineError) (engine : Engine K) (old new : H) → Came session answer (Err e) engine old new
-      → Carried session line answer (Err e) engine old new
-  stopped_carries session line answer e engine old new came = record {
-    stated = tt;
+  pub stopped_carries : (session : Session) (line : ℕ) (answer : Answer Step) (e : EngineError) (start engine : Engine K) (was now : Tally) (old new : H) → Came session answer start (Err e) engine old new
+      → Carried session line answer start was (Err e) engine now old new
+  stopped_carries session line answer e start engine was now old new came = record {
     stands = tt;
     printed = tt;
-    any_moment = came_leaves session line answer (Err e) engine old new came;
-    sound = damage_as Done Bool e ⊥ came.sound;
+    counts = tt;
+    any_moment = came_leaves session line answer start (Err e) engine old new came;
+    sound = damage_as Done (Unit {0}) e ⊥ came.sound;
   }
 
-  pub settled_carries : (session : Session) (line : ℕ) (answer : Answer Step) (count : ℕ) (engine : Engine K) (old new : H) → Came session answer (Ok (done.Settled count)) engine old new
-      → Carried session line answer (Ok false) engine old new
-  settled_carries session line (Err refusal) count engine old new came = absurd came.answers
-  settled_carries session line (Ok step) count engine old new came = record {
-    stated = sym (none_refused step.1);
+  pub settled_carries : (session : Session) (line : ℕ) (answer : Answer Step) (count : ℕ) (start engine : Engine K) (was mid now : Tally) (old new : H)
+      → Came session answer start (Ok (done.Settled count)) engine old new → mid ≡ with_piece was → now ≡ with_settled count mid → Carried session line answer start was (Ok tt) engine now old new
+  settled_carries session line (Err refusal) count start engine was mid now old new came first next = absurd came.answers
+  settled_carries session line (Ok step) count start engine was mid now old new came first next = record {
     stands = came.stands;
-    printed = λ text told. came.printed text told ∙ ap (λ (l : List ℕ). Some (text ++ l)) (texts_are step.1);
+    printed = came.printed;
+    counts = piece_settled was mid now start.counted engine.counted count step.1 first next came.answers came.counts;
     any_moment = came.any_moment;
     sound = tt;
   }
 
-  -- A refusal: its line is printed, or its print fails.
-  module _ (session : Session) (line : ℕ) (why : Refusal) (engine : Engine K) (old mid new : H) (came : Came session (Err why) (Ok (done.Refused why)) engine old mid)
-      (cut : (file text : List ℕ) → Stands file (seen mid) → (seen mid).text ≡ Some text → LeavesOnly (seen mid) (seen new) (LeavesCut file text (refused_line line why))) where
+  -- A refusal: it is counted and what is heard of its line is printed, or it isn't.
+  module _ (session : Session) (line : ℕ) (why : Refusal) (start engine : Engine K) (was taken now : Tally) (old mid new : H) (came : Came session (Err why) start (Ok (done.Refused why)) engine old mid)
+      (cut : (file text : List ℕ) → Stands file (seen mid) → (seen mid).text ≡ Some text → LeavesOnly (seen mid) (seen new) (LeavesCut file text (heard start.quiet (refused_line line why)))) where
+    abbrev shown_line : List ℕ
+    shown_line = heard start.quiet (refused_line line why)
+
     mid_text : (said : List ℕ) → (seen old).text ≡ Some said → (seen mid).text ≡ Some said
     mid_text said told = came.printed said told ∙ ap Some (append-nil said)
 
     refusal_moments : (said : List ℕ) (more : List Item) → (seen old).text ≡ Some said
-        → LeavesOnly (seen old) (seen new) (IsAfterSome (HoldsBy ode means) (Refuses (refused_line line why) ∷ more) session.world said)
+        → LeavesOnly (seen old) (seen new) (IsAfterSome (HoldsBy ode means) (Refuses shown_line ∷ more) session.world said)
     refusal_moments said more told =
         let there = now_holds session engine mid came.stands in
-        joined (seen old) (seen mid) (seen new) (IsAfterSome (HoldsBy ode means) (Refuses (refused_line line why) ∷ more) session.world said)
-        (came.any_moment said (Refuses (refused_line line why) ∷ more) told)
-        (refusal_leaves (HoldsBy ode means) (refused_line line why) more session.world there.0 said (seen mid) (seen new) there.2 (cut there.0 said there.1 (mid_text said told)))
+        joined (seen old) (seen mid) (seen new) (IsAfterSome (HoldsBy ode means) (Refuses shown_line ∷ more) session.world said)
+        (came.any_moment said (Refuses shown_line ∷ more) told)
+        (refusal_leaves (HoldsBy ode means) shown_line more session.world there.0 said (seen mid) (seen new) there.2 (cut there.0 said there.1 (mid_text said told)))
 
-    refused_here : Printed (refused_line line why) (seen mid) (seen new) → ((file : List ℕ) → Stands file (seen mid) → Stands file (seen new)) → Carried session line (Err why) (Ok true) engine old new
-    refused_here printed same = record {
-      stated = refl;
+    pub refusal_carries : (result : Result (Unit {0}) EngineError) → OnOk result (Printed shown_line (seen mid) (seen new)) → ((file : List ℕ) → Stands file (seen mid) → Stands file (seen new))
+        → taken ≡ with_piece was → OnOk result (now ≡ with_refusal (refused_line line why) taken) → OnDamaged result ⊥ → Carried session line (Err why) start was result engine now old new
+    refusal_carries (Ok said) printed same first counted sound = record {
       stands = still_stands session engine mid new same came.stands;
-      printed = λ text told. printed text (mid_text text told) ∙ ap (λ (l : List ℕ). Some (text ++ l)) (sym (append-nil (refused_line line why)));
+      printed = λ text told. printed text (mid_text text told) ∙ ap (λ (l : List ℕ). Some (text ++ l)) (sym (append-nil shown_line));
+      counts = piece_refused was taken now start.counted engine.counted (refused_line line why) first counted (came.counts ∙ counted_none start.counted);
       any_moment = refusal_moments;
       sound = tt;
     }
-
-    unsaid_here : (e : EngineError) → OnDamaged {R = Bool} (Err e) ⊥ → Carried session line (Err why) (Err e) engine old new
-    unsaid_here e sound = record {
-      stated = tt;
-      stands = tt;
-      printed = tt;
-      any_moment = refusal_moments;
-      sound = sound;
-    }
+    refusal_carries (Err e) printed same first counted sound = record { stands = tt; printed = tt; counts = tt; any_moment = refusal_moments; sound = sound }
 
   -- ---- the end of the input
 
-  pub finished_ends : (session : Session) (text : List ℕ) (e : Engine K) (host : H) → For (finish session).0 e host → (seen host).text ≡ Some (text ++ texts_of (finish session).1)
-      → EndsWith means (seen host) (final session.world (stretch_of (finish session)).1) (text ++ text_of (stretch_of (finish session)).1)
-  finished_ends session text e host is told =
-      subst (λ (u : ListWorld). EndsWith means (seen host) u (text ++ text_of (stretch_of (finish session)).1)) (finish_ends session)
-      (ends_now (finish session).0 e host (text ++ text_of (stretch_of (finish session)).1) is (told ∙ ap (λ (l : List ℕ). Some (text ++ l)) (texts_are (finish session).1)))
+  pub finished_ends : (session : Session) (text : List ℕ) (quiet : Bool) (e : Engine K) (host : H) → For (finish session).0 e host
+      → (seen host).text ≡ Some (text ++ text_of (heard_items quiet (items_of (finish session).1)))
+      → EndsWith means (seen host) (final session.world (stretch_of (finish session)).1) (text ++ text_of (heard_items quiet (stretch_of (finish session)).1))
+  finished_ends session text quiet e host is told =
+      subst (λ (u : ListWorld). EndsWith means (seen host) u (text ++ text_of (heard_items quiet (stretch_of (finish session)).1))) (finish_ends session)
+      (ends_now (finish session).0 e host (text ++ text_of (heard_items quiet (stretch_of (finish session)).1)) is told)
 
-  -- ---- the same of any answer
+  -- ---- a refusal, of any answer, by an engine that is as quiet as at the start
 
   refusal_of : (answer : Answer Step) (why : Refusal) → IsAnswer (done.Refused why) answer → answer ≡ Err why
   refusal_of (Ok step) why is = absurd is
   refusal_of (Err refusal) why is = ap Err (sym is)
 
-  module _ (session : Session) (line : ℕ) (answer : Answer Step) (why : Refusal) (engine : Engine K) (old mid new : H) (came : Came session answer (Ok (done.Refused why)) engine old mid)
-      (cut : (file text : List ℕ) → Stands file (seen mid) → (seen mid).text ≡ Some text → LeavesOnly (seen mid) (seen new) (LeavesCut file text (refused_line line why))) where
-    is_refusal : answer ≡ Err why
-    is_refusal = refusal_of answer why came.answers
-
-    came_so : Came session (Err why) (Ok (done.Refused why)) engine old mid
-    came_so = subst (λ (a : Answer Step). Came session a (Ok (done.Refused why)) engine old mid) is_refusal came
-
-    pub refused_carries : Printed (refused_line line why) (seen mid) (seen new) → ((file : List ℕ) → Stands file (seen mid) → Stands file (seen new)) → Carried session line answer (Ok true) engine old new
-    refused_carries printed same =
-        subst (λ (a : Answer Step). Carried session line a (Ok true) engine old new) (sym is_refusal) (refused_here session line why engine old mid new came_so cut printed same)
-
-    pub unsaid_carries : (e : EngineError) → OnDamaged {R = Unit {0}} (Err e) ⊥ → Carried session line answer (Err e) engine old new
-    unsaid_carries e sound =
-        subst (λ (a : Answer Step). Carried session line a (Err e) engine old new) (sym is_refusal)
-        (unsaid_here session line why engine old mid new came_so cut e (damage_as (Unit {0}) Bool e ⊥ sound))
+  pub refused_carries : (session : Session) (line : ℕ) (answer : Answer Step) (why : Refusal) (start engine : Engine K) (was taken now : Tally) (old mid new : H) (result : Result (Unit {0}) EngineError)
+      → Came session answer start (Ok (done.Refused why)) engine old mid → engine.quiet ≡ start.quiet
+      → ((file text : List ℕ) → Stands file (seen mid) → (seen mid).text ≡ Some text → LeavesOnly (seen mid) (seen new) (LeavesCut file text (heard engine.quiet (refused_line line why))))
+      → OnOk result (Printed (heard engine.quiet (refused_line line why)) (seen mid) (seen new)) → ((file : List ℕ) → Stands file (seen mid) → Stands file (seen new))
+      → taken ≡ with_piece was → OnOk result (now ≡ with_refusal (refused_line line why) taken) → OnDamaged result ⊥ → Carried session line answer start was result engine now old new
+  refused_carries session line answer why start engine was taken now old mid new result came volume cut printed same first counted sound =
+      let is : answer ≡ Err why = refusal_of answer why came.answers in
+      subst (λ (a : Answer Step). Carried session line a start was result engine now old new) (sym is)
+      (refusal_carries session line why start engine was taken now old mid new
+      (subst (λ (a : Answer Step). Came session a start (Ok (done.Refused why)) engine old mid) is came)
+      (subst (λ (q : Bool). (file text : List ℕ) → Stands file (seen mid) → (seen mid).text ≡ Some text → LeavesOnly (seen mid) (seen new) (LeavesCut file text (heard q (refused_line line why)))) volume cut)
+      result
+      (subst (λ (q : Bool). OnOk result (Printed (heard q (refused_line line why)) (seen mid) (seen new))) volume printed)
+      same first counted sound)

@@ -1,12 +1,11 @@
 -- What a piece comes to: its world, its text, and whether it is refused.
-use Rattle.std.proofs.Common.{◌≡◌, ℕ, ℤ, List, [], ◌∷◌, ◌++◌, false, Option, Some, None, Ok, Err, refl, sym, ap}
-use Rattle.std.specs.Prelude.{◌||◌}
+use Rattle.std.proofs.Common.{◌≡◌, ℕ, ℤ, List, [], ◌∷◌, ◌++◌, Option, Some, None, Ok, Err, refl, sym, ap}
 use Rattle.ode_machine.specs.Commands.{Step, after, carried, command, does_clock, does_simple, ends_open, finish, goes_on, settles}
 use Rattle.ode_machine.specs.Refusals.{checked_in, declared_in, placed, ticks_in}
-use Rattle.ode_machine.specs.Runs.{Item, Settles, Refuses, any_refused, answered, ending_items, final, opening, piece_stretch, pieces_items, stretch_of, text_of}
+use Rattle.ode_machine.specs.Runs.{answered, ending_items, final, opening, piece_stretch, pieces_items, stretch_of, text_of}
 use Rattle.ode_machine.specs.Sessions.{Session}
 use Rattle.ode_machine.specs.Works.{clock_run, declares}
-use Rattle.ode_script.specs.Cutting.{Ending, End, LongStatement, LongScript, Pieces, Then, Ended}
+use Rattle.ode_script.specs.Cutting.{Ending, Pieces, Then, Ended}
 use Rattle.ode_timer.specs.Due.{behind}
 use Rattle.ode_transact.specs.Items.{items_of, texts_of}
 use Rattle.ode_value.specs.Acts.{Outcome, Done, Aborted}
@@ -32,18 +31,9 @@ pub texts_are : (settled : Settlings) → texts_of settled ≡ text_of (items_of
 texts_are [] = refl
 texts_are (s ∷ settled) = ap (λ (l : List ℕ). s.1 ++ l) (texts_are settled)
 
-pub none_refused : (settled : Settlings) → any_refused (items_of settled) ≡ false
-none_refused [] = refl
-none_refused (s ∷ settled) = none_refused settled
-
 world_is : (w : ListWorld) (settled : Settlings) → final w (items_of settled) ≡ world_after w settled
 world_is w [] = refl
 world_is w (s ∷ settled) = world_is s.0 settled
-
-pub refused_join : (items more : List Item) → any_refused (items ++ more) ≡ (any_refused items || any_refused more)
-refused_join [] more = refl
-refused_join (Settles w text ∷ items) more = refused_join items more
-refused_join (Refuses line ∷ items) more = refl
 
 -- ---- the session behind a step
 
@@ -118,8 +108,3 @@ pieces_then l line piece rest session = refl
 pub pieces_ended : (l : Language) (how : Ending) (session : Session) → pieces_items l (Ended how) session ≡ ending_items l session how
 unfolding pieces_items
 pieces_ended l how session = refl
-
-pub ending_calm : (l : Language) (session : Session) (how : Ending) → any_refused (ending_items l session how) ≡ false
-ending_calm l session End = none_refused (finish session).1
-ending_calm l session LongStatement = refl
-ending_calm l session LongScript = refl

@@ -1,2 +1,4 @@
+pub mod Hearing
 pub mod Running
 pub mod Statuses
+pub mod Tallies

@@ -2,5 +2,7 @@
 #![tactic(auto)]
 
 mod run;
+mod tally;
 
-pub use run::run_script;
+pub use run::{run_quietly, run_script};
+pub use tally::Tally;

@@ -1,33 +1,37 @@
 use Rattle.std.proofs.Common.{◌∙◌, Ok, ap, subst, sym}
-use Rattle.ode_trace.proofs.CallLaws.{damage_gives, unread_told}
-use Rattle.ode_trace.proofs.EngineLaws.{called_commands, moments_aloud, printed_aloud, speaks_on, unread_stops}
-use Rattle.ode_trace.specs.Running.{Commands}
-use Rattle.ode_machine.specs.Commands.{command}
-use Rattle.ode_language.specs.Languages.{ode}
+use Rattle.std.proofs.lemmas.Result.{on_ok_weaker}
+use Rattle.std.specs.Prelude.{Result}
 use Rattle.ode_engine.specs.Serving.{answer_to, settlings}
+use Rattle.ode_engine.specs.declared.engine.Done.{Done}
+use Rattle.ode_language.specs.Languages.{ode}
+use Rattle.ode_machine.specs.Commands.{command}
+use Rattle.ode_trace.proofs.CallLaws.{damage_gives, unread_told}
+use Rattle.ode_trace.proofs.EngineLaws.{called_commands, unread_stops}
+use Rattle.ode_trace.proofs.HearingLaws.{moments_heard, printed_heard}
+use Rattle.ode_trace.specs.Running.{Commands}
 use Rattle.ode_transact.specs.Resting.{HoldsBy}
 use Rattle.ode_transact.specs.declared.error.EngineError.{EngineError}
-use Rattle.ode_engine.specs.declared.engine.Done.{Done}
-use Rattle.std.specs.Prelude.{Result}
+use Rattle.ode_transact.specs.declared.output.Output.{Output}
 use Rattle.ode_trace.proofs.run.command_piece.Goals as goal
 
 pub returns-in_ok-statement-in-Ok-clause-commands : goal.returns-in_ok-statement-in-Ok-clause-commands
 returns-in_ok-statement-in-Ok-clause-commands g c session stands =
     let read = c.in-Ok.ensures ∙ ap Ok (sym (c.get.ensures ∙ c.in_ok-statement-in-Ok.ensures)) in
-    called_commands g.H.Host.view g.K.Keep.holds g.K.Keep.live g.K.Keep.means g.met.K.Keep.stands g.met.K.Keep.stays session c.args.text.now c.get.result.now c.command.result c.command.new.self c.args.host.now c.command.new.host read
+    called_commands g.H.Host.view g.K.Keep.holds g.K.Keep.live g.K.Keep.means g.met.K.Keep.stands g.met.K.Keep.stays session c.args.text.now c.get.result.now c.args.engine.now c.command.result c.command.new.self c.args.host.now c.command.new.host read
     (record {
-      answers = c.command.ensures.answer session stands.stands;
-      stands = speaks_on g.H.Host.view g.K.Keep.holds g.K.Keep.live g.K.Keep.means g.met.K.Keep.stands g.met.K.Keep.stays c.command.result _ c.args.engine.now c.command.new.self c.command.new.host stands.loud c.command.ensures.quiet
-          (c.command.ensures.stands session stands.stands);
-      printed = printed_aloud c.command.result c.args.engine.now.quiet (settlings (answer_to ode session c.get.result.now)) (g.H.Host.view c.args.host.now) (g.H.Host.view c.command.new.host) stands.loud (c.command.ensures.printed session stands.stands);
+      answers = c.command.ensures.answer session stands;
+      stands = c.command.ensures.stands session stands;
+      printed = printed_heard c.command.result c.args.engine.now.quiet (settlings (answer_to ode session c.get.result.now)) (g.H.Host.view c.args.host.now) (g.H.Host.view c.command.new.host) (c.command.ensures.printed session stands);
+      counts = on_ok_weaker c.command.result (λ is. ap (λ (o : Output). o.counted) is) (c.command.ensures.counts session stands);
       any_moment = λ said more told.
-          moments_aloud (HoldsBy ode g.K.Keep.means) c.args.engine.now.quiet (settlings (answer_to ode session c.get.result.now)) more session.world said (g.H.Host.view c.args.host.now) (g.H.Host.view c.command.new.host) stands.loud (c.command.ensures.any_moment session said more stands.stands told);
-      sound = damage_gives c.command.result _ ⊥ (λ none. none session stands.stands) c.command.ensures.undamaged;
+          moments_heard (HoldsBy ode g.K.Keep.means) c.args.engine.now.quiet (settlings (answer_to ode session c.get.result.now)) more session.world said (g.H.Host.view c.args.host.now) (g.H.Host.view c.command.new.host)
+          (c.command.ensures.any_moment session said more stands told);
+      sound = damage_gives c.command.result _ ⊥ (λ none. none session stands) c.command.ensures.undamaged;
     })
 
 pub returns-in-Err-clause-commands : goal.returns-in-Err-clause-commands
 returns-in-Err-clause-commands g c session stands =
-    subst (λ (r : Result Done EngineError). Commands g.H.Host.view g.K.Keep.holds g.K.Keep.live g.K.Keep.means session (command ode session c.args.text.now) r c.args.engine.now c.args.host.now c.args.host.now) (sym c.unread.ensures)
+    subst (λ (r : Result Done EngineError). Commands g.H.Host.view g.K.Keep.holds g.K.Keep.live g.K.Keep.means session (command ode session c.args.text.now) c.args.engine.now r c.args.engine.now c.args.host.now c.args.host.now) (sym c.unread.ensures)
     (unread_stops g.H.Host.view g.K.Keep.holds g.K.Keep.live g.K.Keep.means g.met.K.Keep.stands g.met.K.Keep.stays session c.args.text.now c.in-Err.stop c.args.engine.now c.args.host.now c.in-Err.ensures stands)
 
 pub returns-in-Err-clause-leaves : goal.returns-in-Err-clause-leaves
