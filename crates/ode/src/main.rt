@@ -1,4 +1,4 @@
-//! The program: `ode init FILE`, `ode run FILE`, with the script on standard input, `ode check FILE` and `ode dump FILE`.
+//! The program: `ode init FILE`, `ode run FILE`, with the script on standard input, `ode check FILE`, `ode dump FILE` and `ode gen FILE N`.
 #![tactic(auto)]
 
 use ode_host::{FileHost, Status, StdSource};

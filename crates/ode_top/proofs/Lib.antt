@@ -1,6 +1,8 @@
+pub mod Asking
 pub mod Calling
 pub mod Claiming
 pub mod Fresh
+pub mod Generating
 pub mod Inspecting
 pub mod Leaving
 pub mod Refusing

@@ -61,7 +61,7 @@ inside why_not.NoDatabase s is said outside = outside
 inside (why_not.NewerFormat found) s is said outside = outside
 inside (why_not.BadFile cause) s is said outside = outside
 
-outside_or : (why : OpenError) → IsFromOutside why ⊎ (IsFromOutside why → ⊥)
+pub outside_or : (why : OpenError) → IsFromOutside why ⊎ (IsFromOutside why → ⊥)
 outside_or why_not.Memory = inl tt
 outside_or why_not.DiskFault = inl tt
 outside_or why_not.NoDatabase = inr (λ outside. outside)
@@ -69,7 +69,7 @@ outside_or (why_not.NewerFormat found) = inr (λ outside. outside)
 outside_or (why_not.BadFile cause) = inr (λ outside. outside)
 
 -- where the outside failed, that is the status
-outside_as : (P : Status → Type 0) → P status.Memory → P status.DiskFault → (why : OpenError) (s : Status) → IsFromOutside why → EndsFor why s → P s
+pub outside_as : (P : Status → Type 0) → P status.Memory → P status.DiskFault → (why : OpenError) (s : Status) → IsFromOutside why → EndsFor why s → P s
 outside_as P memory fault why_not.Memory s outside is = subst P (sym is) memory
 outside_as P memory fault why_not.DiskFault s outside is = subst P (sym is) fault
 outside_as P memory fault why_not.NoDatabase s outside is = absurd outside
@@ -77,7 +77,7 @@ outside_as P memory fault (why_not.NewerFormat found) s outside is = absurd outs
 outside_as P memory fault (why_not.BadFile cause) s outside is = absurd outside
 
 -- a fault of the disk is answered with its status, and nothing else is
-fault_to : (why : OpenError) (s : Status) → EndsFor why s → why ≡ why_not.DiskFault → s ≡ status.DiskFault
+pub fault_to : (why : OpenError) (s : Status) → EndsFor why s → why ≡ why_not.DiskFault → s ≡ status.DiskFault
 fault_to why s ends is = subst (λ (e : OpenError). EndsFor e s) is ends
 
 fault_from : (why : OpenError) (s : Status) → EndsFor why s → s ≡ status.DiskFault → why ≡ why_not.DiskFault

@@ -1,5 +1,5 @@
 -- What a call of the program is answered with.
-use Rattle.std.specs.Prelude.{◌≡◌, ◌⊎◌, ℕ, List, [], ◌++◌, take, Option, Some, Ok, Err, codes}
+use Rattle.std.specs.Prelude.{◌≡◌, ◌⊎◌, ℕ, List, [], ◌∷◌, ◌++◌, take, true, Option, Some, Ok, Err, codes}
 use Rattle.ode_areas.specs.Image.{AreasMean}
 use Rattle.ode_causes.specs.Lines.{cause_line, format_line}
 use Rattle.ode_dump.specs.Dumping.{check_text, dump_text}
@@ -9,14 +9,19 @@ use Rattle.ode_host.specs.declared.status.Status.{Status}
 use Rattle.ode_host.specs.declared.status.Status.TheVariants as status
 use Rattle.ode_keep.specs.Entries.{Entries}
 use Rattle.ode_language.specs.Languages.{ode}
-use Rattle.ode_machine.specs.Runs.{run_status, run_text, run_world}
+use Rattle.ode_gen.specs.Generating.{gen_line, gen_script}
+use Rattle.ode_machine.specs.Runs.{Item, Refuses, run_status, run_text, run_world, trace}
 use Rattle.ode_make.specs.Making.{IsInUse, IsInitialised, first_rows}
 use Rattle.ode_open.specs.Opening.{IsOpenedTo}
 use Rattle.ode_open.specs.declared.error.OpenError.{OpenError}
 use Rattle.ode_open.specs.declared.error.OpenError.TheVariants.{Memory, DiskFault, NoDatabase, NewerFormat, BadFile}
 use Rattle.ode_opening_records.specs.Reading.{AreOpened}
 use Rattle.ode_opening_records.specs.declared.base.Base.{Base}
+use Rattle.ode_script.specs.Cutting.{pieces}
+use Rattle.ode_trace.specs.Hearing.{heard_items}
 use Rattle.ode_trace.specs.Running.{LeavesNothing}
+use Rattle.ode_trace.specs.Tallies.{tally_of}
+use Rattle.ode_trace.specs.declared.tally.Tally.{Tally}
 use Rattle.ode_value.specs.Language.{ListWorld}
 use Rattle.ode_value.specs.Records.{snapshot}
 use Rattle.ode_value.specs.Texts.{line}
@@ -48,6 +53,28 @@ pub record IsMachineRun (script : List ℕ) (w : ListWorld) (text : List ℕ) (l
   pub stated : status ≡ run_status ode w script
   pub ends : EndsWith view (run_world ode w script) (text ++ run_text ode w script)
   pub nothing : LeavesNothing status left
+
+-- the line of a number and what its script came to
+abbrev pub counts_line : ℕ → Tally → List ℕ
+counts_line number t = gen_line number t.pieces t.settled t.refused t.bytes
+
+-- what the script of a number comes to in a world
+abbrev pub gen_tally : ℕ → ListWorld → Tally
+gen_tally number w = tally_of (pieces (gen_script number)) (trace ode w (gen_script number))
+
+-- what is said of it
+abbrev pub gen_said : ℕ → ListWorld → List ℕ
+gen_said number w = counts_line number (gen_tally number w)
+
+-- Nothing is heard of the run of a number's script, and then its line, which settles nothing.
+abbrev pub gen_items : ℕ → ListWorld → List Item
+gen_items number w = heard_items true (trace ode w (gen_script number)) ++ (Refuses (gen_said number w) ∷ [])
+
+-- The run of a number's script from a world, behind this text, is the machine's: its status, the world that the file then holds, and
+-- what is said of it.
+pub record IsGenerated (number : ℕ) (w : ListWorld) (text : List ℕ) (view : View) (status : Status) : Type 0 where
+  pub stated : status ≡ run_status ode w (gen_script number)
+  pub ends : EndsWith view (run_world ode w (gen_script number)) (text ++ gen_said number w)
 
 -- A new file was made of this one, which every stop leaves: the parts of an empty database stand at their places, every
 -- other byte of the file stayed, and it was said.
@@ -109,6 +136,7 @@ mode_text mode.Check classes entries = check_text entries
 mode_text mode.Dump classes entries = dump_text classes entries
 mode_text mode.Init classes entries = []
 mode_text mode.Run classes entries = []
+mode_text (mode.Gen number) classes entries = []
 
 -- The records of a file, and what they are opened to; this is said of them.
 pub record SaysRecords (m : Mode) (image said : List ℕ) : Type 0 where
@@ -143,6 +171,19 @@ IsInitStatus status.ReadFault = ⊥
 IsInitStatus status.Memory = ⊥
 IsInitStatus status.LongStatement = ⊥
 IsInitStatus status.LongScript = ⊥
+
+-- the statuses that the run of a number's script may end with
+abbrev pub IsGenStatus : Status → Type 0
+IsGenStatus status.Ok = Unit {0}
+IsGenStatus status.Refused = Unit {0}
+IsGenStatus status.DiskFault = Unit {0}
+IsGenStatus status.WriteFault = Unit {0}
+IsGenStatus status.Memory = Unit {0}
+IsGenStatus status.Usage = ⊥
+IsGenStatus status.BadFile = ⊥
+IsGenStatus status.ReadFault = ⊥
+IsGenStatus status.LongStatement = ⊥
+IsGenStatus status.LongScript = ⊥
 
 -- the statuses that a run may end with where the file breaks a rule
 abbrev pub IsNoRun : Status → Type 0

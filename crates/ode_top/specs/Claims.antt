@@ -1,5 +1,5 @@
--- What a call of the program claims, each field a claim: of a run where the file holds a world, of one where it breaks a rule, of
--- `init`, and of `check` and `dump`. The views are the host's at the start and at the end, and so is what is left of the script.
+-- What a call of the program claims, each field a claim: of a run where the file holds a world, of one of a number's script there, of
+-- one where the file breaks a rule, of `init`, and of `check` and `dump`. The views are the host's at the start and at the end, and so is what is left of the script.
 use Rattle.std.specs.Prelude.{◌≡◌, ◌≢◌, ℕ, List, Option, Some}
 use Rattle.ode_host.specs.FirstSync.{SyncedRun}
 use Rattle.ode_host.specs.Host.{Tells}
@@ -12,7 +12,7 @@ use Rattle.ode_machine.specs.Runs.{trace}
 use Rattle.ode_make.specs.Making.{IsInUse}
 use Rattle.ode_trace.specs.Statuses.{IsEnding, IsRunStatus}
 use Rattle.ode_value.specs.Language.{ListWorld}
-use Rattle.ode_top.specs.Answers.{BreaksRule, IsBadFile, IsBadFileCut, IsIdle, IsInitCut, IsInitStatus, IsInspectStatus, IsInspected, IsInspectedCut, IsMachineRun, IsMade, IsNoRun, IsRefused, IsSilent}
+use Rattle.ode_top.specs.Answers.{BreaksRule, IsBadFile, IsBadFileCut, IsGenStatus, IsGenerated, IsIdle, IsInitCut, IsInitStatus, IsInspectStatus, IsInspected, IsInspectedCut, IsMachineRun, IsMade, IsNoRun, IsRefused, IsSilent, gen_items}
 use Rattle.ode_top.specs.Holds.{Holds}
 use Rattle.ode_top.specs.Stops.{CutShort, IsCut}
 use Rattle.ode_top.specs.declared.call.Mode.{Mode}
@@ -39,6 +39,20 @@ pub record RunsWorld (before after : Option (List ℕ)) (old new : View) (result
       → SyncedRun old new image (result ≡ DiskFault) (IsAfterSome Holds (trace ode w script) w text)
   -- It ends as the machine does, by a fault, or for want of memory.
   pub answers : (image : List ℕ) (w : ListWorld) → Tells old image → Holds image w → IsRunStatus result
+
+-- A run of a number's script where the file holds a world.
+pub record Generates (number : ℕ) (old new : View) (result : Status) : Type 0 where
+  -- It is the machine's.
+  pub run : (image text : List ℕ) (w : ListWorld) → Tells old image → Holds image w → old.text ≡ Some text → IsEnding result → IsGenerated number w text new result
+  -- Where the disk or the output fails or memory is short, the file holds the world after some of the settled transactions, and what is
+  -- printed is a front of the line, and that only behind the last of them.
+  pub cut : (image text : List ℕ) (w : ListWorld) → Tells old image → Holds image w → old.text ≡ Some text → IsCut result → CutShort (gen_items number w) w text new
+  -- So does a stop at any moment from the first sync on, at which the file is as it was at the start. Before it, a stop leaves what it
+  -- might have left at the start. The sync lies within the run, unless the disk failed.
+  pub stops : (image text : List ℕ) (w : ListWorld) → Tells old image → Holds image w → old.text ≡ Some text
+      → SyncedRun old new image (result ≡ DiskFault) (IsAfterSome Holds (gen_items number w) w text)
+  -- It ends as the machine does, which never meets a limit there, by a fault, or for want of memory.
+  pub answers : (image text : List ℕ) (w : ListWorld) → Tells old image → Holds image w → old.text ≡ Some text → IsGenStatus result
 
 -- A run where the file breaks a rule, and so holds no world.
 pub record RunsNone (before after : Option (List ℕ)) (old new : View) (result : Status) : Type 0 where

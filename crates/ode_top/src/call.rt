@@ -1,7 +1,10 @@
 //! The words of a call.
 ghost use Rattle.std.specs.Prelude.{◌≡◌, length};
 ghost use Rattle.std.specs.Option.{option_copied, option_map};
-ghost use Rattle.ode_top.specs.Calls.{bytes_of, call_of, is_file, mode_named};
+ghost use Rattle.ode_top.specs.Calls.{bytes_of, call_of, file_call, gen_call, is_file, mode_named, script_number};
+
+use ode_gen::GEN_LIMIT;
+use ode_value::parse_decimal;
 
 /// What a call does.
 #[derive(Clone, Copy, Debug, PartialEq, Eq)]
@@ -14,6 +17,8 @@ pub enum Mode {
     Check,
     /// Prints the records of a file.
     Dump,
+    /// Makes a script from a number, and runs it on a file.
+    Gen(u32),
 }
 
 /// What a right list of words asks for.
@@ -48,24 +53,59 @@ fn mode_named(word: &str) -> Option<Mode>
     }
 }
 
-/// The mode and the file, where the words are a right list.
-pub fn call_of(words: &[String]) -> Option<Call<'_>>
-    ensures { option_map (λ call. (call.mode, call.file.now)) result ≡ call_of (bytes_of words.now) }
+// The number that a word gives to a script: in decimal, not led by 0, from 1 to the largest.
+fn script_number(word: &str) -> Option<u32>
+    ensures { result ≡ script_number word.now }
 {
-    let [mode, file] = words else {
-        return None;
-    };
-    let file = file.as_str();
+    let number = parse_decimal(word.as_bytes())?;
+    if 1 <= number && number <= u64::from(GEN_LIMIT) {
+        Some(number as u32)
+    } else {
+        None
+    }
+}
+
+// What a mode's word and a file ask for.
+fn file_call<'a>(mode: &str, file: &'a str) -> Option<Call<'a>>
+    ensures { option_map (λ call. (call.mode, call.file.now)) result ≡ file_call mode.now file.now }
+{
     if !is_file(file) {
         return None;
     }
-    match mode_named(mode.as_str()) {
+    match mode_named(mode) {
         Some(mode) => Some(Call { mode, file }),
         None => None,
     }
 }
 
-/// The name of the file, where the words are a right list: `init FILE`, `run FILE`, `check FILE` or `dump FILE`.
+// What a mode's word, a file and a number ask for.
+fn gen_call<'a>(mode: &str, file: &'a str, number: &str) -> Option<Call<'a>>
+    ensures { option_map (λ call. (call.mode, call.file.now)) result ≡ gen_call mode.now file.now number.now }
+{
+    if mode != "gen" || !is_file(file) {
+        return None;
+    }
+    match script_number(number) {
+        Some(number) => Some(Call {
+            mode: Mode::Gen(number),
+            file,
+        }),
+        None => None,
+    }
+}
+
+/// The mode and the file, where the words are a right list.
+pub fn call_of(words: &[String]) -> Option<Call<'_>>
+    ensures { option_map (λ call. (call.mode, call.file.now)) result ≡ call_of (bytes_of words.now) }
+{
+    match words {
+        [mode, file] => file_call(mode.as_str(), file.as_str()),
+        [mode, file, number] => gen_call(mode.as_str(), file.as_str(), number.as_str()),
+        _ => None,
+    }
+}
+
+/// The name of the file, where the words are a right list: `init FILE`, `run FILE`, `check FILE`, `dump FILE` or `gen FILE N`.
 pub fn file_word(words: &Vec<String>) -> Option<&str>
     ensures { option_copied result ≡ option_map (λ call. call.1) (call_of (bytes_of words.now.items)) }
 {

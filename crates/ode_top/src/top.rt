@@ -1,10 +1,11 @@
 //! The call of the whole program.
-ghost use Rattle.std.specs.Prelude.{◌≡◌, ◌≢◌, ◌⊎◌, ◌↔◌, ◌++◌, ℕ, List as Items, Some, None, IfOk, IsErrOf, IsTrue};
+ghost use Rattle.std.specs.Prelude.{◌≡◌, ◌≢◌, ◌⊎◌, ◌↔◌, ◌++◌, ◌≤◌, ℕ, List as Items, Option, Some, None, IfOk, IsErrOf, IsTrue};
 ghost use Rattle.ode_areas.specs.Holding.{AreasHold, is_live};
 ghost use Rattle.ode_declared_laws.specs.Adding.{AreAligned};
 ghost use Rattle.ode_dump.specs.Dumping.{AreRecords};
 ghost use Rattle.ode_host.specs.Causes.{RoseIf};
-ghost use Rattle.ode_host.specs.Host.{HostCalls, LeavesOnly, Looks, Prints, Tells};
+ghost use Rattle.ode_gen.specs.Generating.{gen_limit};
+ghost use Rattle.ode_host.specs.Host.{HostCalls, LeavesCut, LeavesOnly, Looks, Prints, Stands, Tells};
 ghost use Rattle.ode_keep.specs.Entries.{Entries};
 ghost use Rattle.ode_language.specs.Languages.{ode};
 ghost use Rattle.ode_machine.specs.Moments.{IsAfterSome};
@@ -15,9 +16,9 @@ ghost use Rattle.ode_schema.specs.Parts.{AreFit};
 ghost use Rattle.ode_trace.specs.Statuses.{IsEnding, IsRunStatus};
 ghost use Rattle.ode_transact.specs.Resting.{resting_parts};
 ghost use Rattle.ode_value.specs.Language.{ListWorld};
-ghost use Rattle.ode_top.specs.Answers.{Asks, BreaksRule, EndsFor, IsIdle, IsMachineRun, IsSilent, SaidFront, SaysRecords, mode_text, usage_line, why_line};
+ghost use Rattle.ode_top.specs.Answers.{Asks, BreaksRule, EndsFor, IsGenStatus, IsGenerated, IsIdle, IsMachineRun, IsSilent, SaidFront, SaysRecords, counts_line, gen_items, mode_text, usage_line, why_line};
 ghost use Rattle.ode_top.specs.Calls.{bytes_of, call_of};
-ghost use Rattle.ode_top.specs.Claims.{Initialises, Inspects, RunsNone, RunsWorld};
+ghost use Rattle.ode_top.specs.Claims.{Generates, Initialises, Inspects, RunsNone, RunsWorld};
 ghost use Rattle.ode_top.specs.Holds.{Holds, OpensTo};
 
 use crate::call::{Mode, call_of};
@@ -25,6 +26,7 @@ use ode_areas::Areas;
 use ode_causes::{cause_line, format_line};
 use ode_dump::{check_text, dump_text, tallied_records_decode};
 use ode_file_laws::files_of_worlds_are_opened;
+use ode_gen::{TextSource, gen_line, gen_script, generated_scripts_end};
 use ode_good_runs::runs_stay_good;
 use ode_host::{Failed, Host, Source, Status};
 use ode_language_laws::language_has_sound_rules;
@@ -33,7 +35,7 @@ use ode_open::{OpenError, open_base};
 use ode_opened::Opened;
 use ode_passes::{Cause, OpenError as ReadError};
 use ode_start_laws::opened_files_are_at_rest;
-use ode_trace::run_script;
+use ode_trace::{Tally, run_quietly, run_script};
 use ode_value::{Key, List};
 use std::alloc::Global;
 
@@ -149,6 +151,97 @@ fn run<H: Host, S: Source>(alloc: Global, script: &mut S, host: &mut H) -> Statu
     }
 }
 
+// Whether a run ended by itself.
+fn has_ended(status: Status) -> bool
+    ensures { IsTrue result ↔ IsEnding status }
+{
+    matches!(
+        status,
+        Status::Ok | Status::Refused | Status::LongStatement | Status::LongScript
+    )
+}
+
+// Says what the run of a number's script came to, which ended by itself.
+fn say_counts<H: Host>(
+    alloc: Global,
+    host: &mut H,
+    number: u32,
+    tally: &Tally,
+    status: Status,
+) -> Status
+    requires { IsEnding status }
+    ensures status { (result ≡ status) ⊎ ((result ≡ Status.Memory) ⊎ (result ≡ Status.WriteFault)) }
+    ensures said { result ≡ status → (text : Items ℕ) → (H.view host.old).text ≡ Some text
+        → (H.view host.new).text ≡ Some (text ++ counts_line number tally.now) }
+    ensures stands { (file : Items ℕ) → Stands file (H.view host.old) → Stands file (H.view host.new) }
+    ensures any_moment { (file text : Items ℕ) → Stands file (H.view host.old) → (H.view host.old).text ≡ Some text
+        → LeavesOnly (H.view host.old) (H.view host.new) (LeavesCut file text (counts_line number tally.now)) }
+    ensures leaves { HostCalls (result ≡ Status.DiskFault) (result ≡ Status.WriteFault) (H.view host.old) (H.view host.new) }
+{
+    match gen_line(
+        alloc,
+        number,
+        tally.pieces,
+        tally.settled,
+        tally.refused,
+        tally.bytes,
+    ) {
+        Ok(line) => end_with(host, line.as_slice(), status),
+        Err(_) => Status::Memory,
+    }
+}
+
+// A run of a number's script over an opened file. What it prints is the line behind it.
+fn gen_opened<H: Host>(alloc: Global, host: &mut H, opened: Opened<Areas>, number: u32) -> Status
+    requires live { IsTrue (is_live opened.keeper) }
+    requires fit { AreFit (resting_parts opened) }
+    requires aligned { AreAligned (resting_parts opened) }
+    ensures ran { (image text : Items ℕ) (w : ListWorld) → OpensTo image w opened (H.view host.old) → (H.view host.old).text ≡ Some text
+        → IsEnding result → IsGenerated number w text (H.view host.new) result }
+    ensures any_moment { (image text : Items ℕ) (w : ListWorld) → OpensTo image w opened (H.view host.old) → (H.view host.old).text ≡ Some text
+        → LeavesOnly (H.view host.old) (H.view host.new) (IsAfterSome Holds (gen_items number w) w text) }
+    ensures answers { (image text : Items ℕ) (w : ListWorld) → number ≤ gen_limit → OpensTo image w opened (H.view host.old) → (H.view host.old).text ≡ Some text → IsGenStatus result }
+    ensures not_usage { result ≢ Status.Usage }
+    ensures not_read { result ≢ Status.ReadFault }
+    ensures leaves { HostCalls (result ≡ Status.DiskFault) (result ≡ Status.WriteFault) (H.view host.old) (H.view host.new) }
+{
+    runs_stay_good();
+    language_has_sound_rules();
+    generated_scripts_end();
+    opened_files_are_at_rest(&opened, host);
+    let script = match gen_script(alloc, number) {
+        Ok(script) => script,
+        Err(_) => return Status::Memory,
+    };
+    let mut source = TextSource::new(script);
+    let mut tally = Tally::new();
+    match run_quietly(alloc, &mut source, host, opened, &mut tally) {
+        Ok(status) => {
+            if has_ended(status) {
+                say_counts(alloc, host, number, &tally, status)
+            } else {
+                status
+            }
+        }
+        Err(key) => damaged(alloc, host, key),
+    }
+}
+
+// A run of a number's script, which begins with the opening.
+fn generate<H: Host>(alloc: Global, host: &mut H, number: u32) -> Status
+    ensures world { number ≤ gen_limit → Generates number (H.view host.old) (H.view host.new) result }
+    ensures no_world { (left : Option (Items ℕ)) → RunsNone left left (H.view host.old) (H.view host.new) result }
+    ensures not_usage { result ≢ Status.Usage }
+    ensures not_read { result ≢ Status.ReadFault }
+    ensures leaves { HostCalls (result ≡ Status.DiskFault) (result ≡ Status.WriteFault) (H.view host.old) (H.view host.new) }
+{
+    files_of_worlds_are_opened();
+    match open_base(alloc, host) {
+        Ok(opened) => gen_opened(alloc, host, opened, number),
+        Err(why) => refuse(alloc, host, why),
+    }
+}
+
 // The text of a mode, of the records of an opened file.
 fn text_of<H: Host>(
     alloc: Global,
@@ -171,7 +264,7 @@ fn text_of<H: Host>(
     match mode {
         Mode::Check => check_text(alloc, &mut keeper, host),
         Mode::Dump => dump_text(alloc, &mut keeper, host, &classes),
-        Mode::Init | Mode::Run => Ok(List::new(alloc)),
+        Mode::Init | Mode::Run | Mode::Gen(_) => Ok(List::new(alloc)),
     }
 }
 
@@ -201,7 +294,8 @@ fn inspect<H: Host>(alloc: Global, host: &mut H, mode: Mode) -> Status
 }
 
 /// Does what the words ask for: `init FILE` makes a database in the host's file, `run FILE` runs the script on it, `check FILE` counts its
-/// records and `dump FILE` prints them. Wrong words and `init` take no memory.
+/// records, `dump FILE` prints them, and `gen FILE N` runs the script that a number gives, and says what it came to. Wrong words and `init`
+/// take no memory.
 pub fn run_ode<H: Host, S: Source>(
     alloc: Global,
     words: &Vec<String>,
@@ -220,6 +314,10 @@ pub fn run_ode<H: Host, S: Source>(
     // `check` and `dump` say what a file's records are, or which rule it breaks, and change nothing.
     ensures check { Asks Mode.Check (bytes_of words.now.items) → Inspects Mode.Check (H.view host.old) (H.view host.new) result }
     ensures dump { Asks Mode.Dump (bytes_of words.now.items) → Inspects Mode.Dump (H.view host.old) (H.view host.new) result }
+    // `gen` runs a number's script as `run` would, but says only what it came to.
+    ensures generated { (number : ℕ) → Asks (Mode.Gen number) (bytes_of words.now.items) → Generates number (H.view host.old) (H.view host.new) result }
+    ensures gen_no_world { (number : ℕ) → Asks (Mode.Gen number) (bytes_of words.now.items)
+        → RunsNone (S.left script.old) (S.left script.new) (H.view host.old) (H.view host.new) result }
     ensures unread { ¬ Asks Mode.Run (bytes_of words.now.items) → S.left script.new ≡ S.left script.old }
 
     // Wrong words are answered with the usage line, and change nothing.
@@ -239,6 +337,7 @@ pub fn run_ode<H: Host, S: Source>(
             Mode::Run => run(alloc, script, host),
             Mode::Check => inspect(alloc, host, Mode::Check),
             Mode::Dump => inspect(alloc, host, Mode::Dump),
+            Mode::Gen(number) => generate(alloc, host, number),
         },
         None => end_with(host, USAGE, Status::Usage),
     }

@@ -1,11 +1,14 @@
-use Rattle.std.proofs.Common.{◌≡◌, ◌∙◌, ⊎_elim, List, Some, ap, sym}
+use Rattle.std.proofs.Common.{◌≡◌, ◌∙◌, ◌≤◌, ⊎_elim, ℕ, List, Some, ap, subst, sym}
 use Rattle.ode_host.specs.declared.status.Status.TheVariants as status
 use Rattle.std.specs.declared.string.String.{String}
 use Rattle.std.specs.declared.alloc.Global.{Global}
 use Rattle.ode_top.specs.Calls.{bytes_of, call_of}
 use Rattle.ode_top.specs.declared.call.Mode.{Mode}
 use Rattle.ode_host.proofs.Calls.{rose_none}
+use Rattle.ode_gen.specs.Generating.{gen_limit}
+use Rattle.ode_top.proofs.Asking.{asked_same, asked_within}
 use Rattle.ode_top.proofs.Leaving.{line_idle, line_leaves}
+use Rattle.ode_top.specs.Claims.{Generates}
 use Rattle.ode_top.proofs.top.run_ode.Goals as goal
 
 pub returns-in-None-clause-said : goal.returns-in-None-clause-said
@@ -25,3 +28,19 @@ returns-in-Run-clause-unread g c no_run =
     let file = c.in-Some.call.file.now in
     let words = rw c.in-Some.is at c.call_of.ensures in
     absurd (no_run (file, ap (λ (l : List (String Global)). call_of (bytes_of l)) (sym c.deref.ensures.value) ∙ sym words ∙ ap (λ (m : Mode). Some (m, file)) c.in-Run.is))
+
+-- the number was read from the words
+pub returns-in-Gen-clause-generated : goal.returns-in-Gen-clause-generated
+returns-in-Gen-clause-generated g c number asks =
+    let file = c.in-Some.call.file.now in
+    let words = rw c.in-Some.is at c.call_of.ensures in
+    let is = ap (λ (l : List (String Global)). call_of (bytes_of l)) (sym c.deref.ensures.value) ∙ sym words ∙ ap (λ (m : Mode). Some (m, file)) c.in-Gen.is in
+    let same : c.in-Gen.number ≡ number = asked_same (bytes_of c.args.words.now.items) c.in-Gen.number number file is asks in
+    subst (λ (n : ℕ). Generates n (g.H.Host.view c.args.host.now) (g.H.Host.view c.generate.new.host) c.generate.result) same
+    (c.generate.ensures.world (subst (λ (n : ℕ). n ≤ gen_limit) (sym same) (asked_within (bytes_of c.args.words.now.items) number asks)))
+
+pub returns-in-Gen-clause-gen_no_world : goal.returns-in-Gen-clause-gen_no_world
+returns-in-Gen-clause-gen_no_world g c number asks = c.generate.ensures.no_world (g.S.Source.left c.args.script.now)
+
+pub returns-in-Gen-clause-reads : goal.returns-in-Gen-clause-reads
+returns-in-Gen-clause-reads g c = rose_none _ _ c.generate.ensures.not_read
