@@ -13,6 +13,7 @@ import sys
 import tempfile
 
 CASES = os.path.join(os.path.dirname(os.path.abspath(__file__)), "..", "crates", "ode_cases")
+WORDS = re.compile(r"(init|run|check|dump) f|gen f [1-9]\d*")
 SKIPPED = re.compile(r'//[^\n]*|"(?:\\[^\n]|[^"\\\n])*"?|[{};]')
 
 
@@ -41,7 +42,7 @@ def cases():
         answers = ("\n" + expected[name]).split("\n$")[1:]
         steps = [(words.strip(), script_of(lines)) for words, _, lines in (call.partition("\n") for call in calls)]
         told = [re.fullmatch(r"[^\n]*\n(.*?)status (\d+)([^\n]*)\n*", answer, re.S) for answer in answers]
-        if "chunks" in notes or any(words not in ("init f", "run f", "check f", "dump f") for words, _ in steps) or None in told:
+        if "chunks" in notes or not all(WORDS.fullmatch(words) for words, _ in steps) or None in told:
             continue
         if not any("without memory" in it[3] for it in told):
             yield name, [(*step, it[1], int(it[2])) for step, it in zip(steps, told)]

@@ -227,9 +227,23 @@ ended 'a file that is cut short is refused' 3
 is 'its journal is told' grep -q '^bad file journal [0-9]*$' text
 is 'the file that is cut short is as it was' cmp cut.db cut.before
 
+# --- a script that a number gives
+
+# gen FILE NUMBER: the same twice, side by side
+fresh made.db
+fresh again.db
+timeout -k 5 300 ./ode gen made.db 4000 > made 2> errors &
+timeout -k 5 300 ./ode gen again.db 4000 > text 2>> errors
+status=$?
+wait $! || status=$?
+said 'gen says what the largest script comes to' 0 $'gen 4000 statements 6838 settled 4002 refused 0 bytes 132636\n'
+is 'and says the same of another file' cmp made text
+is 'and leaves the same file' cmp made.db again.db
+rm -f made.db again.db
+
 # --- wrong words
 
-for words in '' 'run' 'run -x' 'fly f' 'check' 'dump -f' 'gen f 1' 'init' 'init -f' 'init f f' 'run f f' 'run f -x'; do
+for words in '' 'run' 'run -x' 'fly f' 'check' 'dump -f' 'gen f' 'gen f 0' 'gen f 01' 'gen f 4001' 'gen -f 1' 'gen f 1 1' 'init' 'init -f' 'init f f' 'run f f' 'run f 1' 'run f -x'; do
     # shellcheck disable=SC2086 # the words are cut at blanks
     run $words < /dev/null
     said "wrong words: ode $words" 2 "$usage"

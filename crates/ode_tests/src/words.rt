@@ -35,13 +35,15 @@ fn names(rt: &impl Abort, alloc: Global, words: &[&str], file: Option<&str>) {
     );
 }
 
-const NAMELESS: [&[&str]; 7] = [
+const NAMELESS: [&[&str]; 9] = [
     &[],
     &["run"],
     &["run", "-x"],
     &["check"],
     &["dump", "-f"],
-    &["gen", "f", "1"],
+    &["gen", "f"],
+    &["gen", "f", "0"],
+    &["run", "f", "1"],
     &["init", ""],
 ];
 
@@ -52,12 +54,13 @@ fn wrong_words_name_no_file(rt: HostRuntime) {
     }
 }
 
-const NAMED: [&[&str]; 6] = [
+const NAMED: [&[&str]; 7] = [
     &["init", "f"],
     &["run", "f"],
     &["run", "run"],
     &["check", "f"],
     &["dump", "f"],
+    &["gen", "f", "4000"],
     &["init", "a b/c-d.db"],
 ];
 
