@@ -1,5 +1,5 @@
 -- A declaration, compiled: its checked class within the limits, and a table and an alphabet for each trigger.
-use Rattle.std.specs.Prelude.{◌≡◌, ℕ, min, nat_lt, true, List, [], ◌∷◌}
+use Rattle.std.specs.Prelude.{◌≡◌, ℕ, ◌≤◌, map, min, nat_lt, true, List, [], ◌∷◌}
 use Rattle.std.specs.List.{AllByRecursion}
 use Rattle.ode_value.specs.Answers.{Answer, ◌>>=◌, checks, refuses}
 use Rattle.ode_value.specs.ClassLimits.{limits_class}
@@ -15,6 +15,7 @@ use Rattle.ode_value.specs.declared.reason.Refusal.TheVariants as refusal
 use Rattle.ode_value.specs.declared.statement.ClassDecl.{ClassDecl}
 use Rattle.ode_value.specs.declared.statement.Member.{Member}
 use Rattle.ode_value.specs.declared.statement.Member.TheVariants as member
+use Rattle.ode_minimal.specs.Minimal.{IsMinimal, IsReached}
 use Rattle.ode_symbols.specs.Alphabets.{alphabet}
 use Rattle.ode_table.specs.Whole.{IsWhole}
 use Rattle.ode_types.specs.Static.{check_class}
@@ -50,12 +51,12 @@ few_records count = refuses (nat_lt class_limit count) (refusal.ClassTooLarge co
 
 -- ---- tables and alphabets
 
--- The table of a trigger fits together, means its event and has as many states as that has trees; its symbols are those of the event's
+-- The table of a trigger fits together, means its event and has no more states than that has trees; its symbols are those of the event's
 -- alphabet.
 pub record IsCompiled (t : TriggerDecl) (table : Table) (rows : List MaskedKind) : Type 0 where
   pub whole : IsWhole table
   pub means : Means table t.event
-  pub states : table.states ≡ tree_count t.event
+  pub states : table.states ≤ tree_count t.event
   pub rows_are : rows ≡ alphabet t.event
 
 -- as many of both as there are triggers, in order
@@ -64,6 +65,20 @@ AreCompiled [] [] [] = Unit {0}
 AreCompiled (t ∷ ts) (table ∷ tables) (rows ∷ alphabets) = IsCompiled t table rows × AreCompiled ts tables alphabets
 AreCompiled _ _ _ = ⊥
 
+-- words lead to each state of a table, and no two of them are alike
+pub record IsShrunk (table : Table) : Type 0 where
+  pub reached : IsReached table
+  pub minimal : IsMinimal table
+
 -- the states and symbols of a table
 abbrev pub size_of_table : Table → ℕ × ℕ
 size_of_table t = (t.states, t.symbols)
+
+-- the states and symbols with which tables count, each with the states beside it
+abbrev pub counted_sizes : List ℕ → List Table → List (ℕ × ℕ)
+counted_sizes (states ∷ counts) (t ∷ tables) = (states, t.symbols) ∷ counted_sizes counts tables
+counted_sizes _ _ = []
+
+-- how many trees the event of each trigger has
+abbrev pub tree_counts : List TriggerDecl → List ℕ
+tree_counts triggers = map (λ t. tree_count t.event) triggers

@@ -1,5 +1,5 @@
 //! A declaration, compiled.
-ghost use Rattle.std.specs.Prelude.{◌≡◌, IfOk, length, map};
+ghost use Rattle.std.specs.Prelude.{◌≡◌, IfOk, length};
 ghost use Rattle.std.specs.List.{AllByRecursion};
 ghost use Rattle.ode_value.specs.Answers.{checks};
 ghost use Rattle.ode_value.specs.Lengths.{class_records};
@@ -7,7 +7,7 @@ ghost use Rattle.ode_value.specs.PrintedClasses.{decl_text};
 ghost use Rattle.ode_types.specs.Checked.{IsChecked};
 ghost use Rattle.ode_types.specs.Static.{check_class};
 ghost use Rattle.ode_compile.specs.Answers.{Answers, Gives, Passes};
-ghost use Rattle.ode_compile.specs.Compiling.{AreCompiled, HaveNumbers, compiled, few_records, size_of_table};
+ghost use Rattle.ode_compile.specs.Compiling.{AreCompiled, HaveNumbers, IsShrunk, compiled, counted_sizes, few_records, tree_counts};
 
 use crate::counting::class_records;
 use crate::stop::CompileStop;
@@ -27,6 +27,8 @@ pub struct Compiled {
     pub text: List<u8>,
     pub tables: List<Table>,
     pub alphabets: List<Alphabet>,
+    /// For each trigger in order the trees of its event: with how many states its table counts.
+    pub counts: List<u16>,
 }
 
 fn checked(alloc: Global, known: &Classes, decl: &ClassDecl) -> Result<Class, CompileStop>
@@ -39,12 +41,13 @@ fn checked(alloc: Global, known: &Classes, decl: &ClassDecl) -> Result<Class, Co
     }
 }
 
-// Whether the records of a class are few. What 32 bits don't count is no memory for.
+// Whether the records of a class are few, where its tables count with so many states. What 32 bits don't count is no memory for.
 #[tactic(auto, unfolding(ode_value::specs::Limits::class_limit))]
-fn few_records(text: &[u8], tables: &[Table]) -> Result<(), CompileStop>
-    ensures { Passes (few_records (class_records (length text.now) (map size_of_table tables.now))) result }
+fn few_records(text: &[u8], counts: &[u16], tables: &[Table]) -> Result<(), CompileStop>
+    requires { length counts.now ≡ length tables.now }
+    ensures { Passes (few_records (class_records (length text.now) (counted_sizes counts.now tables.now))) result }
 {
-    match class_records(text, tables) {
+    match class_records(text, counts, tables) {
         Some(count) if count <= CLASS_LIMIT => Ok(()),
         Some(count) => Err(CompileStop::Refused(Refusal::ClassTooLarge { count })),
         None => Err(CompileStop::Memory),
@@ -53,22 +56,25 @@ fn few_records(text: &[u8], tables: &[Table]) -> Result<(), CompileStop>
 
 /// The class of a declaration behind those that are known, compiled, or its first refusal: the static rules, then for each trigger in
 /// order its symbols before its states, then the number of records. Each number of a `choose` or an `every` is in its range, as in
-/// each tree that a text has.
+/// each tree that a text has. The tables are the least ones, and each counts with as many states as its event has trees.
 pub fn compile(alloc: Global, known: &Classes, decl: &ClassDecl) -> Result<Compiled, CompileStop>
     requires numbers { HaveNumbers decl.now }
     ensures answers { Answers decl.now (compiled known.now decl.now) result }
     ensures checked { IfOk result (λ made. IsChecked known.now made.class) }
     ensures text { IfOk result (λ made. made.text ≡ decl_text decl.now) }
     ensures tables { IfOk result (λ made. AreCompiled made.class.triggers made.tables made.alphabets) }
+    ensures counts { IfOk result (λ made. made.counts ≡ tree_counts made.class.triggers) }
+    ensures shrunk { IfOk result (λ made. AllByRecursion IsShrunk made.tables) }
 {
     let class = checked(alloc, known, decl)?;
-    let (tables, alphabets) = compile_triggers(alloc, class.triggers.as_slice())?;
+    let (tables, alphabets, counts) = compile_triggers(alloc, class.triggers.as_slice())?;
     let text = print_class(alloc, decl)?;
-    few_records(text.as_slice(), tables.as_slice())?;
+    few_records(text.as_slice(), counts.as_slice(), tables.as_slice())?;
     Ok(Compiled {
         class,
         text,
         tables,
         alphabets,
+        counts,
     })
 }

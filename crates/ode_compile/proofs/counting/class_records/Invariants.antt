@@ -1,7 +1,9 @@
-use Rattle.std.proofs.Common.{◌≡◌, length, map, take}
-use Rattle.ode_value.specs.Lengths.{class_records}
-use Rattle.ode_compile.specs.Compiling.{size_of_table}
+use Rattle.std.proofs.Common.{◌≡◌, ◌+◌, drop, length}
+use Rattle.std.specs.List.{sum_by}
+use Rattle.ode_value.specs.Lengths.{class_records, table_records}
+use Rattle.ode_compile.specs.Compiling.{counted_sizes}
 use Rattle.ode_compile.proofs.counting.class_records.Given as goal
 
-abbrev pub invariant-loop-table : goal.invariant-loop-table
-invariant-loop-table l = l.count ≡ class_records (length l.text) (map size_of_table (take l.table-index l.tables))
+abbrev pub invariant-loop-place : goal.invariant-loop-place
+invariant-loop-place l =
+    l.count + sum_by table_records (counted_sizes (drop l.place l.counts) (drop l.place l.tables)) ≡ class_records (length l.text) (counted_sizes l.counts l.tables)

@@ -2,18 +2,10 @@ use Rattle.std.proofs.Common.{subst}
 use Rattle.ode_table.specs.Built.{IsRefused}
 use Rattle.ode_table.proofs.BuiltLaws.{over-own}
 use Rattle.ode_compile.proofs.LimitLaws.{states_pass, states_stop}
-use Rattle.ode_compile.proofs.triggers.table_of.Goals as goal
+use Rattle.ode_compile.proofs.triggers.built.Goals as goal
 
 pub returns-in-Ok-clause-few : goal.returns-in-Ok-clause-few
 returns-in-Ok-clause-few c = states_pass c.args.trigger.now c.in-Ok.table.states (c.in-Ok.ensures.count c.requires.own) c.in-Ok.ensures.few
-
-pub returns-in-Ok-clause-table : goal.returns-in-Ok-clause-table
-returns-in-Ok-clause-table c = record {
-  whole = c.in-Ok.ensures.whole;
-  means = c.in-Ok.ensures.means c.requires.own;
-  states = c.in-Ok.ensures.count c.requires.own;
-  rows_are = c.requires.own;
-}
 
 pub returns-in_ok-trigger-in-Err-TooManyStates-clause-few : goal.returns-in_ok-trigger-in-Err-TooManyStates-clause-few
 returns-in_ok-trigger-in-Err-TooManyStates-clause-few c =
