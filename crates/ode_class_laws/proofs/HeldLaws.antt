@@ -7,7 +7,7 @@ use Rattle.std.proofs.lemmas.List.Sums.{sum_by-cons}
 use Rattle.ode_codec.specs.Standing.{HoldsWorld}
 use Rattle.ode_codec.specs.StoredRows.{Stored, rows}
 use Rattle.ode_compile.specs.Compiling.{AreCompiled, size_of_table}
-use Rattle.ode_compile.proofs.TriggerLaws.{sizes_are}
+use Rattle.ode_compile.proofs.TriggerLaws.{tables_fewer}
 use Rattle.ode_keep.specs.Entries.{applied}
 use Rattle.ode_laws.proofs.GoodNumbers.{good_numbered}
 use Rattle.ode_value.specs.Answers.{Answer, ◌>>=◌, ◌>>◌, refuses}
@@ -64,8 +64,8 @@ own_sized : (c : Declared) (own : List Table) (alphabets : List (List MaskedKind
 unfolding record_count class_limit
 own_sized c own alphabets all limits =
     let few : class_records (length (decl_text c.tree)) (map table_size c.class.triggers) ≤ class_limit = few_of_limits c limits in
-    let same : sum_by table_records (map size_of_table own) ≡ sum_by table_records (map table_size c.class.triggers) = ap (sum_by table_records) (sizes_are c.class.triggers own alphabets all) in
-    sized_of_few c.class.triggers own alphabets all (omega (arith, few, same))
+    let fewer = tables_fewer c.class.triggers own alphabets all in
+    sized_of_few c.class.triggers own alphabets all (omega (arith, few, fewer))
 
 pub class_held : (l : Language) (records : List Row) (w : ListWorld) (held : HoldsWorld l records w) (c : Declared) (own : List Table) (alphabets : List (List MaskedKind))
     → IsClass l w.bones.classes c → AreCompiled c.class.triggers own alphabets → weight (bones_with c w.bones) ≤ weight_limit

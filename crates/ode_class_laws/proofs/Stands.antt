@@ -41,7 +41,7 @@ module _ (by : ℕ → ℕ → Table) (class : ℕ) where
   table_of : (place : ℕ) (t : TriggerDecl) (table : Table) (rows : List MaskedKind) → by class place ≡ table → IsCompiled t table rows → IsTableOf by (trigger_of class (place, t))
   table_of place t table rows is made = record {
     whole = subst IsWhole (sym is) (whole_table table made.whole);
-    small = subst (λ u. u.states ≤ tree_count t.event) (sym is) (omega (arith, made.states));
+    small = subst (λ u. u.states ≤ tree_count t.event) (sym is) made.states;
     means = subst (λ u. Means u t.event) (sym is) made.means;
   }
 

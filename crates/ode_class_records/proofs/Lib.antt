@@ -3,3 +3,4 @@ pub mod HeadLaws
 pub mod PieceLaws
 pub mod PutLaws
 pub mod RowLaws
+pub mod Weighed

@@ -1,12 +1,12 @@
 -- What is built of classes: of one that is accepted, and of one behind others.
-use Rattle.std.proofs.Common.{◌≡◌, ◌≤◌, List, [], ◌∷◌, ◌++◌, map, length, Bool, true, false, Ok, Err, refl, sym, subst, ◌∙◌, arith, ap}
+use Rattle.std.proofs.Common.{◌≡◌, ◌≤◌, ℕ, List, [], ◌∷◌, ◌++◌, map, length, Bool, true, false, Ok, Err, refl, sym, subst, ◌∙◌, arith, ap}
 use Rattle.std.specs.Prelude.{nat_lt}
 use Rattle.std.specs.List.{AllByRecursion, sum_by}
 use Rattle.std.proofs.lemmas.Bool.Decides.{nat_tests}
 use Rattle.std.proofs.lemmas.Grind.{flat_map-append}
-use Rattle.std.proofs.lemmas.List.{append-nil}
+use Rattle.std.proofs.lemmas.List.{append-nil, map-append}
 use Rattle.std.proofs.lemmas.List.Sums.{sum_by-cons}
-use Rattle.ode_compile.specs.Compiling.{AreCompiled, compiled}
+use Rattle.ode_compile.specs.Compiling.{AreCompiled, compiled, tree_counts}
 use Rattle.ode_compile.specs.declared.compiling.Compiled.{Compiled}
 use Rattle.ode_opening.specs.Building.{AreBuilt, HasFewTriggers, IsBuilt, triggers_of}
 use Rattle.ode_opening.specs.declared.accepted.Accepted.{Accepted}
@@ -17,6 +17,7 @@ use Rattle.ode_value.specs.Lengths.{table_records}
 use Rattle.ode_value.specs.Limits.{class_limit}
 use Rattle.ode_value.specs.Symbols.{MaskedKind}
 use Rattle.ode_value.specs.Tables.{Table}
+use Rattle.ode_value.specs.TreeCount.{tree_count}
 use Rattle.ode_value.specs.Weights.{record_count, table_size}
 use Rattle.ode_value.specs.Worlds.{Declared}
 use Rattle.ode_value.specs.declared.class.Class.{Class}
@@ -73,10 +74,15 @@ triggers_more : (cs : List Class) (c : Class) → triggers_of (cs ++ c ∷ []) �
 triggers_more cs c = flat_map-append (λ (d : Class). d.triggers) cs (c ∷ []) ∙ ap (λ (ts : List TriggerDecl). triggers_of cs ++ ts) (append-nil c.triggers)
 
 pub built_more : (a : Accepted) (made : Compiled) → AreBuilt a → IsBuilt made
-    → AreBuilt (record { classes = a.classes ++ made.class ∷ []; tables = a.tables ++ made.tables; alphabets = a.alphabets ++ made.alphabets })
+    → AreBuilt (record { classes = a.classes ++ made.class ∷ []; tables = a.tables ++ made.tables; alphabets = a.alphabets ++ made.alphabets; counts = a.counts ++ made.counts })
 built_more a made are is = record {
   compiled =
       subst (λ (ts : List TriggerDecl). AreCompiled ts (a.tables ++ made.tables) (a.alphabets ++ made.alphabets)) (sym (triggers_more a.classes made.class))
       (both_compiled (triggers_of a.classes) made.class.triggers a.tables made.tables a.alphabets made.alphabets are.compiled is.compiled);
+  counts =
+      ap (λ (ns : List ℕ). ns ++ made.counts) are.counts
+      ∙ ap (λ (ns : List ℕ). tree_counts (triggers_of a.classes) ++ ns) is.counts
+      ∙ sym (map-append (λ (t : TriggerDecl). tree_count t.event) (triggers_of a.classes) made.class.triggers)
+      ∙ ap tree_counts (sym (triggers_more a.classes made.class));
   few = few_more a.classes made.class are.few is.few;
 }

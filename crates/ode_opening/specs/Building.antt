@@ -1,7 +1,7 @@
 -- What is built of the classes that records declare.
-use Rattle.std.specs.Prelude.{◌<◌, ◌^◌, List, length}
+use Rattle.std.specs.Prelude.{◌≡◌, ◌<◌, ◌^◌, List, length}
 use Rattle.std.specs.List.{AllByRecursion, flat_map}
-use Rattle.ode_compile.specs.Compiling.{AreCompiled}
+use Rattle.ode_compile.specs.Compiling.{AreCompiled, tree_counts}
 use Rattle.ode_compile.specs.declared.compiling.Compiled.{Compiled}
 use Rattle.ode_value.specs.declared.class.Class.{Class}
 use Rattle.ode_value.specs.declared.member.TriggerDecl.{TriggerDecl}
@@ -15,12 +15,14 @@ triggers_of classes = flat_map (λ (c : Class). c.triggers) classes
 abbrev pub HasFewTriggers : Class → Type 0
 HasFewTriggers c = length c.triggers < 2 ^ 16
 
--- a class has a table and an alphabet for each of its triggers
+-- a class has a table and an alphabet for each of its triggers, and the number of its event's trees
 pub record IsBuilt (made : Compiled) : Type 0 where
   pub compiled : AreCompiled made.class.triggers made.tables made.alphabets
+  pub counts : made.counts ≡ tree_counts made.class.triggers
   pub few : HasFewTriggers made.class
 
 -- and so have all
 pub record AreBuilt (a : Accepted) : Type 0 where
   pub compiled : AreCompiled (triggers_of a.classes) a.tables a.alphabets
+  pub counts : a.counts ≡ tree_counts (triggers_of a.classes)
   pub few : AllByRecursion HasFewTriggers a.classes

@@ -225,6 +225,16 @@ fn put_alphabets(alphabets: &mut List<Alphabet>, own: List<Alphabet>) -> Result<
     Ok(())
 }
 
+// How many trees their events have, behind the others'.
+fn put_counts(counts: &mut List<u16>, own: List<u16>) -> Result<(), AllocError>
+    ensures { OnOk result (counts.new ≡ counts.old ++ own) }
+{
+    'counts: for count in own.into_vec() {
+        counts.push(count)?;
+    }
+    Ok(())
+}
+
 // A class behind the others, with what was built of it.
 fn put_class(accepted: &mut Accepted, made: Compiled) -> Result<(), OpenError>
     requires checked { IsChecked accepted.old.classes made.class }
@@ -237,11 +247,13 @@ fn put_class(accepted: &mut Accepted, made: Compiled) -> Result<(), OpenError>
         class,
         tables,
         alphabets,
+        counts,
         ..
     } = made;
     accepted.classes.add(class)?;
     put_tables(&mut accepted.tables, tables)?;
     put_alphabets(&mut accepted.alphabets, alphabets)?;
+    put_counts(&mut accepted.counts, counts)?;
     Ok(())
 }
 
@@ -317,6 +329,7 @@ fn none_accepted(alloc: Global) -> Accepted
         classes: Classes::new(alloc),
         tables: List::new(alloc),
         alphabets: List::new(alloc),
+        counts: List::new(alloc),
     }
 }
 

@@ -9,9 +9,9 @@ use Rattle.ode_opening.specs.Classes.{classes_in}
 use Rattle.ode_opening.specs.declared.accepted.Accepted.{Accepted}
 use Rattle.ode_opening_objects.specs.Objects.{objects_keep}
 use Rattle.ode_opening_objects.specs.Triggers.{is_reached_in}
-use Rattle.ode_opening_tables.proofs.BuiltLaws.{alphabets_are, spare_is}
-use Rattle.ode_opening_tables.specs.Answers.{Tells, spare_beside}
-use Rattle.ode_opening_tables.specs.Tables.{TablesIn, all_triggers, places_from}
+use Rattle.ode_opening_tables.proofs.BuiltLaws.{alphabets_are}
+use Rattle.ode_opening_tables.specs.Answers.{Tells}
+use Rattle.ode_opening_tables.specs.Tables.{TablesIn, all_triggers, places_from, spare_in}
 use Rattle.ode_passes.specs.Answers.{Answers}
 use Rattle.ode_passes.specs.Rules.{Ruled, ◌>>=◌}
 use Rattle.ode_passes.specs.Tally.{is_light, tally_in}
@@ -131,9 +131,8 @@ module _ (entries : Entries) where
         all_opens kept few = all_kept entries t tally classes read own have (sym (ap (objects_by own) places) ∙ kept) few
 
 -- what is handed on is what was meant
-pub base_is : (a : Accepted) (tables : List Table) (maps : List ℕ) (bytes spare : ℕ) → AreBuilt a → maps ≡ places_from 0 a.classes → spare ≡ spare_beside a.tables tables
+pub base_is : (a : Accepted) (tables : List Table) (maps : List ℕ) (bytes spare : ℕ) → AreBuilt a → maps ≡ places_from 0 a.classes → spare ≡ spare_in (triggers_of a.classes) tables
     → record { classes = a.classes; tables = tables; alphabets = a.alphabets; maps = maps; bytes = bytes + spare } ≡ base_of a.classes tables bytes
 base_is a tables maps bytes spare built places more =
     let alphabets = alphabets_are (triggers_of a.classes) a.tables a.alphabets built.compiled in
-    let weighed = more ∙ spare_is (triggers_of a.classes) a.tables a.alphabets tables built.compiled in
-    cc (alphabets, places, weighed)
+    cc (alphabets, places, more)

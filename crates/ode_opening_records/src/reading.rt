@@ -11,11 +11,12 @@ ghost use Rattle.ode_passes.specs.Walking.{within};
 ghost use Rattle.ode_schema.specs.Parts.{AreFit};
 
 use crate::base::Base;
+use ode_class_records::spare;
 use ode_host::Host;
 use ode_keep::Keep;
 use ode_opening::{Accepted, read_classes};
 use ode_opening_objects::check_objects;
-use ode_opening_tables::{read_tables, spare};
+use ode_opening_tables::read_tables;
 use ode_passes::{OpenError, is_light, read_tally};
 use std::alloc::Global;
 
@@ -45,7 +46,7 @@ pub fn open_records<H: Host, K: Keep<H>>(
     let classes = &accepted.classes;
     check_objects(alloc, keeper, host, counters, classes, &tables, &maps)?;
     is_light(bytes)?;
-    let spare = spare(accepted.tables.as_slice(), tables.as_slice());
+    let spare = spare(accepted.counts.as_slice(), tables.as_slice());
     let Accepted {
         classes,
         alphabets,

@@ -1,16 +1,16 @@
--- What was built of triggers: alphabets, tables that mean their events, and what stored tables weigh beside them.
+-- What was built of triggers: alphabets, tables that mean their events, and what stored tables weigh beside their counts.
 use Rattle.std.proofs.Common.{◌≡◌, ℕ, zero, suc, ◌+◌, ◌-◌, List, [], ◌∷◌, map, length, Some, refl, ap, subst, ◌∙◌, arith}
 use Rattle.std.specs.Prelude.{slice_get}
 use Rattle.std.specs.Option.{IsSomeAnd}
-use Rattle.ode_compile.specs.Compiling.{AreCompiled, IsCompiled}
-use Rattle.ode_opening_tables.specs.Answers.{AreBuiltFrom, spare_beside}
-use Rattle.ode_opening_tables.specs.Tables.{spare_in}
+use Rattle.ode_class_records.specs.Weighing.{spare_beside}
+use Rattle.ode_compile.specs.Compiling.{AreCompiled, tree_counts}
+use Rattle.ode_opening_tables.specs.Answers.{AreBeside, AreBuiltFrom}
+use Rattle.ode_opening_tables.specs.Tables.{spare_in, spare_of}
 use Rattle.ode_symbols.specs.Alphabets.{alphabet}
 use Rattle.ode_value.specs.Lengths.{trigger_length}
-use Rattle.ode_value.specs.Symbols.{MaskedKind}
+use Rattle.ode_value.specs.Symbols.{MaskedKind, symbol_count}
 use Rattle.ode_value.specs.Tables.{Means, Table}
 use Rattle.ode_value.specs.TreeCount.{tree_count}
-use Rattle.ode_value.specs.Weights.{trigger_weight}
 use Rattle.ode_value.specs.declared.member.TriggerDecl.{TriggerDecl}
 
 pub alphabets_are : (ts : List TriggerDecl) (built : List Table) (rows : List (List MaskedKind)) → AreCompiled ts built rows → rows ≡ map (λ (t : TriggerDecl). alphabet t.event) ts
@@ -30,21 +30,18 @@ as_many (t ∷ ts) [] rows all = absurd all
 as_many (t ∷ ts) (b ∷ built) [] all = absurd all
 as_many (t ∷ ts) (b ∷ built) (r ∷ rows) all = ap suc (as_many ts built rows all.1)
 
--- a built table weighs as its trigger does
-weighs : (t : TriggerDecl) (b : Table) (r : List MaskedKind) → IsCompiled t b r → trigger_length b.states b.symbols ≡ trigger_weight t
-weighs t b r is = ap (λ n. trigger_length n b.symbols) is.states ∙ ap (trigger_length (tree_count t.event)) is.means.symbols
-
-pub spare_is : (ts : List TriggerDecl) (built : List Table) (rows : List (List MaskedKind)) (stored : List Table) → AreCompiled ts built rows → spare_beside built stored ≡ spare_in ts stored
-spare_is [] [] [] [] all = refl
-spare_is [] [] [] (s ∷ stored) all = refl
-spare_is [] [] (r ∷ rows) stored all = absurd all
-spare_is [] (b ∷ built) rows stored all = absurd all
-spare_is (t ∷ ts) [] rows stored all = absurd all
-spare_is (t ∷ ts) (b ∷ built) [] stored all = absurd all
-spare_is (t ∷ ts) (b ∷ built) (r ∷ rows) [] all = refl
-spare_is (t ∷ ts) (b ∷ built) (r ∷ rows) (s ∷ stored) all =
-    ap (λ n. (n - trigger_length s.states s.symbols) + spare_beside built stored) (weighs t b r all.0)
-    ∙ ap (λ n. (trigger_weight t - trigger_length s.states s.symbols) + n) (spare_is ts built rows stored all.1)
+-- stored tables weigh beside the counts what they do beside their triggers
+pub spare_is : (ts : List TriggerDecl) (built : List Table) (rows : List (List MaskedKind)) (stored : List Table) → AreCompiled ts built rows → AreBeside built stored
+    → spare_beside (tree_counts ts) stored ≡ spare_in ts stored
+spare_is [] built rows [] all beside = refl
+spare_is [] built rows (s ∷ stored) all beside = refl
+spare_is (t ∷ ts) built rows [] all beside = refl
+spare_is (t ∷ ts) [] rows (s ∷ stored) all beside = absurd all
+spare_is (t ∷ ts) (b ∷ built) [] (s ∷ stored) all beside = absurd all
+spare_is (t ∷ ts) (b ∷ built) (r ∷ rows) (s ∷ stored) all beside =
+    let symbols : s.symbols ≡ symbol_count t.event = beside 0 s refl ∙ all.0.means.symbols in
+    ap (λ n. (trigger_length (tree_count t.event) n - trigger_length s.states s.symbols) + spare_beside (tree_counts ts) stored) symbols
+    ∙ ap (λ n. spare_of t s + n) (spare_is ts built rows stored all.1 (λ at table there. beside (suc at) table there))
 
 -- the table at a trigger's place means its event
 means_at : (ts : List TriggerDecl) (built : List Table) (rows : List (List MaskedKind)) → AreCompiled ts built rows → (place : ℕ) (t : TriggerDecl) → slice_get ts place ≡ Some t

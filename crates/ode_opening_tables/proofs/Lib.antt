@@ -7,5 +7,4 @@ pub mod Spelled
 pub mod Pieces
 pub mod Under
 pub mod Gathering
-pub mod Weighed
 pub mod Fitted

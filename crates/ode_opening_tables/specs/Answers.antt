@@ -1,5 +1,5 @@
 -- What calls that read tables answer.
-use Rattle.std.specs.Prelude.{◌≡◌, ◌+◌, ◌-◌, ℕ, List, ◌∷◌, ◌++◌, map, length, min, Bool, true, false, cond, ◌==◌, Option, Some, None, Result, Ok, Err, slice_get}
+use Rattle.std.specs.Prelude.{◌≡◌, ◌+◌, ℕ, List, ◌++◌, map, length, min, Bool, true, false, cond, ◌==◌, Option, Some, None, Result, Ok, Err, slice_get}
 use Rattle.std.specs.List.{AllByRecursion, AllZip}
 use Rattle.std.specs.Option.{IsSomeAnd, option_and_then}
 use Rattle.ode_codec.specs.StoredRows.{bit, pieces_of, table_bytes, table_row, u16}
@@ -12,7 +12,6 @@ use Rattle.ode_schema.specs.Parts.{Parts}
 use Rattle.ode_table.specs.Whole.{IsWhole}
 use Rattle.ode_value.specs.Classes.{Trigger}
 use Rattle.ode_value.specs.Keys.{key, table_head_kind}
-use Rattle.ode_value.specs.Lengths.{trigger_length}
 use Rattle.ode_value.specs.Limits.{value_limit}
 use Rattle.ode_value.specs.Records.{byte}
 use Rattle.ode_value.specs.Tables.{Means, Table}
@@ -129,8 +128,3 @@ AreBeside built stored = (at : ℕ) (table : Table) → slice_get stored at ≡ 
 -- accepted classes with their stored tables
 abbrev pub parts_of : Accepted → List Table × List ℕ → Parts
 parts_of a r = record { classes = a.classes; tables = r.0; alphabets = a.alphabets; maps = r.1 }
-
--- the bytes that the records of built tables take more than those of stored ones
-abbrev pub spare_beside : List Table → List Table → ℕ
-spare_beside (b ∷ built) (s ∷ stored) = (trigger_length b.states b.symbols - trigger_length s.states s.symbols) + spare_beside built stored
-spare_beside _ _ = 0

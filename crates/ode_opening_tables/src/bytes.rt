@@ -14,8 +14,8 @@ use std::alloc::{AllocError, Global};
 // The bytes of a state's number.
 const STATE_LEN: usize = 2;
 
-/// The bytes of the value of a table's head.
-pub(crate) const HEAD_LEN: usize = 3;
+// The bytes of the value of a table's head.
+const HEAD_LEN: usize = 3;
 
 /// The states and symbols of a table by the value of its head.
 pub(crate) fn size_in(value: &[u8]) -> Option<(u16, u8)>

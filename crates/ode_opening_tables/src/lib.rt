@@ -6,8 +6,6 @@ mod comparing;
 mod laws;
 mod records;
 mod tables;
-mod weighing;
 
 pub use laws::{one_table_is_stored, tables_come_to_one_thing};
 pub use tables::read_tables;
-pub use weighing::spare;

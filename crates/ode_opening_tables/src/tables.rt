@@ -2,12 +2,13 @@
 ghost use Rattle.std.specs.Prelude.{◌≡◌, ◌<◌, ◌+◌, ◌^◌, ◌∷◌, [], Err, IfOk, IsErrOf, IsTrue, OnOk, length, slice_get};
 ghost use Rattle.std.specs.List.{AllByRecursion};
 ghost use Rattle.std.specs.Option.{IsSomeAnd};
+ghost use Rattle.ode_class_records.specs.Weighing.{spare_beside};
 ghost use Rattle.ode_host.specs.Causes.{RoseIf};
 ghost use Rattle.ode_host.specs.Host.{Looks};
 ghost use Rattle.ode_keep.specs.Entries.{Entries};
 ghost use Rattle.ode_opening.specs.Building.{AreBuilt, HasFewTriggers, triggers_of};
 ghost use Rattle.ode_opening_tables.specs.Answers.{AreBeside, AreBuiltFrom, ReadsTo, TableFor, Tells, parts_of};
-ghost use Rattle.ode_opening_tables.specs.Tables.{all_triggers, places_from};
+ghost use Rattle.ode_opening_tables.specs.Tables.{all_triggers, places_from, spare_in};
 ghost use Rattle.ode_passes.specs.Answers.{UnlessFault, is_usable};
 ghost use Rattle.ode_schema.specs.Parts.{AreFit};
 ghost use Rattle.ode_value.specs.Classes.{Trigger, own_triggers};
@@ -176,7 +177,9 @@ pub fn read_tables<H: Host, K: Keep<H>>(
     ensures maps { IfOk result (λ r. r.1 ≡ places_from 0 accepted.now.classes) }
     ensures fit { IfOk result (λ r. AreFit (parts_of accepted.now r)) }
     ensures aligned { IfOk result (λ r. (length r.1 ≡ length accepted.now.classes) × (length accepted.now.alphabets ≡ length r.0)) }
+    ensures spare { IfOk result (λ r. spare_beside accepted.now.counts r.0 ≡ spare_in (triggers_of accepted.now.classes) r.0) }
     ensures few { OnOk result (length accepted.now.tables < 2 ^ 32) }
+    ensures counted { OnOk result (length accepted.now.counts < 2 ^ 32) }
     ensures holds { UnlessFault result ((entries : Entries) → K.holds keeper.old (H.view host.old) entries
         → K.holds keeper.new (H.view host.new) entries) }
     ensures looks { Looks (H.view host.old) (H.view host.new) }

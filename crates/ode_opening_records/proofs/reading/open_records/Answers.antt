@@ -1,8 +1,7 @@
-use Rattle.std.proofs.Common.{◌∙◌, List, ap, sym}
+use Rattle.std.proofs.Common.{◌∙◌, ℕ, List, ap, sym}
 use Rattle.std.proofs.lemmas.Result.{err_from_is_err_and}
+use Rattle.ode_class_records.specs.Weighing.{spare_beside}
 use Rattle.ode_host.proofs.Moments.{looks_joined}
-use Rattle.ode_opening_tables.specs.Answers.{spare_beside}
-use Rattle.ode_value.specs.Tables.{Table}
 use Rattle.ode_opening_records.proofs.Chained.{all_opens, base_is, classes_fail, light_fails, objects_fail, tables_fail, tally_fails}
 use Rattle.ode_opening_records.proofs.reading.open_records.Goals as goal
 
@@ -55,8 +54,8 @@ returns-clause-meant g c = λ entries holds.
     let holds_2 = c.in_ok-accepted.ensures.holds entries holds_1 in
     let holds_3 = c.in_ok-tables.ensures.holds entries holds_2 in
     let spare =
-    c.spare-spare.ensures.spare ∙ ap (λ (built : List Table). spare_beside built c.as_slice-2.result.now) c.as_slice.ensures
-    ∙ ap (spare_beside c.in_ok-accepted.accepted.tables) c.as_slice-2.ensures in
+    c.spare-spare.ensures.spare ∙ ap (λ (counts : List ℕ). spare_beside counts c.as_slice-2.result.now) c.as_slice.ensures
+    ∙ ap (spare_beside c.in_ok-accepted.accepted.counts) c.as_slice-2.ensures ∙ c.in_ok-tables.ensures.spare in
     let is = base_is c.in_ok-accepted.accepted c.in_ok-tables.tables c.in_ok-tables.maps c.in_ok-counters.bytes c.spare-spare.result c.in_ok-accepted.ensures.built c.in_ok-tables.ensures.maps spare in
     rw is
     (all_opens entries (c.in_ok-counters.counters, c.in_ok-counters.bytes) (c.in_ok-counters.ensures.meant entries holds) c.in_ok-accepted.accepted.classes

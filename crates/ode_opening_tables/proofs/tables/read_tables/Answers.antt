@@ -1,13 +1,18 @@
-use Rattle.std.proofs.Common.{◌≡◌, ◌<◌, ◌^◌, List, length, sym, subst}
-use Rattle.std.specs.Prelude.{IfOk}
+use Rattle.std.proofs.Common.{◌≡◌, ◌<◌, ◌^◌, List, Result, Ok, Err, length, sym, subst}
+use Rattle.std.specs.Prelude.{IfOk, OnOk}
 use Rattle.ode_opening.specs.Building.{triggers_of}
 use Rattle.ode_value.specs.Tables.{Table}
 use Rattle.ode_value.specs.declared.class.Class.{Class}
 use Rattle.ode_opening_tables.proofs.BuiltLaws.{built_from}
-use Rattle.ode_opening_tables.proofs.Fitted.{all_aligned, all_fit}
+use Rattle.ode_opening_tables.proofs.Fitted.{all_aligned, all_fit, all_spared, few_counts}
 use Rattle.ode_opening_tables.specs.Answers.{AreBeside, AreBuiltFrom}
 use Rattle.ode_opening_tables.specs.Tables.{places_from}
 use Rattle.ode_opening_tables.proofs.tables.read_tables.Goals as goal
+
+-- what holds is so where something is answered
+given : {R E P : Type 0} (r : Result R E) → P → OnOk r P
+given (Ok x) p = p
+given (Err e) p = tt
 
 pub read_all-requires-clause-built : goal.read_all-requires-clause-built
 read_all-requires-clause-built g c =
@@ -31,3 +36,14 @@ returns-clause-aligned g c =
     let maps = subst (λ (cs : List Class). IfOk c.read_all.result (λ r. r.1 ≡ places_from 0 cs)) c.as_slice.ensures.all c.read_all.ensures.maps in
     let count = subst (λ (cs : List Class). IfOk c.read_all.result (λ r. length r.0 ≡ length (triggers_of cs))) c.as_slice.ensures.all c.read_all.ensures.count in
     all_aligned a c.requires.built c.read_all.result maps count
+
+pub returns-clause-spare : goal.returns-clause-spare
+returns-clause-spare g c =
+    let a = c.args.accepted.now in
+    all_spared a c.requires.built c.read_all.result (subst (λ (ts : List Table). IfOk c.read_all.result (λ r. AreBeside ts r.0)) c.as_slice-built.ensures c.read_all.ensures.beside)
+
+pub returns-clause-counted : goal.returns-clause-counted
+returns-clause-counted g c =
+    let a = c.args.accepted.now in
+    let few : length a.tables < 2 ^ 32 = subst (λ (ts : List Table). length ts < 2 ^ 32) c.as_slice-built.ensures c.in_ok-are_few.ensures in
+    given c.read_all.result (few_counts a c.requires.built few)
