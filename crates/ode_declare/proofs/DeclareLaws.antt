@@ -1,12 +1,12 @@
 -- What a declaration comes to.
-use Rattle.std.proofs.Common.{◌≡◌, ◌≤◌, ◌+◌, ◌∙◌, ℕ, Bool, true, false, List, [], ◌∷◌, map, length, Some, None, Ok, Err, ap, sym, subst, arith, refl}
+use Rattle.std.proofs.Common.{◌≡◌, ◌≤◌, ◌+◌, ◌∙◌, Bool, true, false, List, [], ◌∷◌, map, length, Some, None, Ok, Err, ap, sym, subst, arith, refl}
 use Rattle.std.specs.Prelude.{nat_lt}
 use Rattle.std.specs.List.{AllByRecursion}
 use Rattle.std.proofs.lemmas.Bool.{ltb-false}
 use Rattle.std.proofs.lemmas.List.Sums.{sum_by-append, sum_by-cons}
 use Rattle.ode_accepted_laws.specs.Languages.{HasSoundRules}
 use Rattle.ode_class_laws.specs.Declaring.{bones_with}
-use Rattle.ode_compile.proofs.TriggerLaws.{records_are}
+use Rattle.ode_compile.proofs.TriggerLaws.{records_fewer}
 use Rattle.ode_compile.specs.Compiling.{AreCompiled, compiled, size_of_table}
 use Rattle.ode_compile.specs.declared.compiling.Compiled.{Compiled}
 use Rattle.ode_declare.specs.Declaring.{Declares, IsMade}
@@ -104,7 +104,8 @@ module _ (known : List Class) (d : ClassDecl) (made : Compiled) (answers : compi
   pub few_made : AreCompiled made.class.triggers made.tables made.alphabets → class_records (length made.text) (map size_of_table made.tables) ≤ class_limit
   few_made all =
       let few : record_count own ≤ class_limit = few_records own (limits_of known d own answers) in
-      subst (λ (n : ℕ). n ≤ class_limit) (sym (records_are made.class d made.text made.tables made.alphabets printed all)) few
+      let fewer = records_fewer made.class d made.text made.tables made.alphabets printed all in
+      omega (arith, few, fewer)
 
   module _ (w : ListWorld) (same : known ≡ classes_in w.bones) where
     -- the machine declares it

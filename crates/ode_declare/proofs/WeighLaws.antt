@@ -6,8 +6,9 @@ use Rattle.ode_class_laws.proofs.StoredLaws.{own_is}
 use Rattle.ode_class_laws.specs.Declaring.{bones_with, stored_with}
 use Rattle.ode_class_records.specs.ClassRows.{IsStoredBy, class_rows}
 use Rattle.ode_class_records.specs.Puts.{puts}
+use Rattle.ode_class_records.specs.Weighing.{spare_beside}
 use Rattle.ode_codec.specs.StoredRows.{Stored}
-use Rattle.ode_compile.specs.Compiling.{AreCompiled, size_of_table}
+use Rattle.ode_compile.specs.Compiling.{AreCompiled, size_of_table, tree_counts}
 use Rattle.ode_compile.specs.declared.compiling.Compiled.{Compiled}
 use Rattle.ode_declare.proofs.DeclareLaws.{more_weighs}
 use Rattle.ode_declare.specs.Declaring.{IsMade, IsTaken}
@@ -56,16 +57,19 @@ few_changes text text2 own own2 n same_text same_own count few =
 abbrev pub PutsMade : Compiled → Changes → Type 0
 PutsMade made changes = (by : ℕ → ℕ → Table) (c : Declared) → IsStoredBy by c made.class made.text made.tables → changes ≡ puts (class_rows by c)
 
-module _ (l : Language) (w : ListWorld) (c : Declared) (made : Compiled) (is : IsMade l w c made) (all : AreCompiled made.class.triggers made.tables made.alphabets) where
+module _ (l : Language) (w : ListWorld) (c : Declared) (made : Compiled) (is : IsMade l w c made) (all : AreCompiled made.class.triggers made.tables made.alphabets) (trees : made.counts ≡ tree_counts made.class.triggers) where
   compiled_is : AreCompiled c.class.triggers made.tables made.alphabets
   compiled_is = subst (λ (k : Class). AreCompiled k.triggers made.tables made.alphabets) (sym is.class) all
 
-  module _ (changes : Changes) (rows : PutsMade made changes) (stored : Stored) (before bytes : ℕ) (was : before ≡ weight w.bones) (sum : bytes ≡ min (before + min (put_bytes changes) (2 ^ 64 - 1)) (2 ^ 64 - 1)) where
-    puts_weigh : put_bytes changes ≡ class_weight c
+  module _ (changes : Changes) (rows : PutsMade made changes) (stored : Stored) (before bytes : ℕ) (was : before ≡ weight w.bones) (sum : bytes ≡ min (before + min (put_bytes changes + spare_beside made.counts made.tables) (2 ^ 64 - 1)) (2 ^ 64 - 1)) where
+    puts_weigh : put_bytes changes + spare_beside made.counts made.tables ≡ class_weight c
     puts_weigh =
         let by : ℕ → ℕ → Table = (stored_with c made.tables stored).tables in
         let here : IsStoredBy by c c.class (decl_text c.tree) made.tables = own_is stored c made.tables (as_many c.class.triggers made.tables made.alphabets compiled_is) in
-        ap put_bytes (rows by c (stored_made by c made is.class is.text here)) ∙ class_weighs by c made.tables made.alphabets here compiled_is
+        let own : made.counts ≡ tree_counts c.class.triggers = trees ∙ ap (λ (k : Class). tree_counts k.triggers) (sym is.class) in
+        ap (λ n. n + spare_beside made.counts made.tables) (ap put_bytes (rows by c (stored_made by c made is.class is.text here)))
+        ∙ ap (λ (ns : List ℕ). put_bytes (puts (class_rows by c)) + spare_beside ns made.tables) own
+        ∙ class_weighs by c made.tables made.alphabets here compiled_is
 
     -- there is no room for it
     pub heavy_is : weight_limit < bytes → weight_limit < weight (bones_with c w.bones)

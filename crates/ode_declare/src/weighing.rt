@@ -2,7 +2,8 @@
 ghost use Rattle.std.specs.Prelude.{◌≡◌, ◌<◌, ◌≤◌, ◌+◌, ◌-◌, ◌^◌, ℕ, List as Items, IfOk, IsErrOf, IsTrue, OnOk, Some, length, map, min};
 ghost use Rattle.ode_class_records.specs.ClassRows.{IsStoredBy, class_rows};
 ghost use Rattle.ode_class_records.specs.Puts.{puts};
-ghost use Rattle.ode_compile.specs.Compiling.{AreCompiled, size_of_table};
+ghost use Rattle.ode_class_records.specs.Weighing.{spare_beside};
+ghost use Rattle.ode_compile.specs.Compiling.{AreCompiled, size_of_table, tree_counts};
 ghost use Rattle.ode_declare.specs.Declaring.{IsMade};
 ghost use Rattle.ode_declared_laws.specs.Adding.{AreAligned};
 ghost use Rattle.ode_good_laws.specs.Well.{IsWell};
@@ -28,7 +29,7 @@ ghost use Rattle.ode_value.specs.Worlds.{Declared};
 use crate::batches::bytes_put;
 use crate::taking::take_in;
 use crate::turning::turn_away;
-use ode_class_records::class_changes;
+use ode_class_records::{class_changes, spare};
 use ode_compile::Compiled;
 use ode_declared_laws::{classes_weigh_their_records, declarations_settle};
 use ode_host::Host;
@@ -38,11 +39,12 @@ use ode_transact::{EngineError, Output};
 use ode_value::limits::WEIGHT_LIMIT;
 use std::alloc::{AllocError, Global};
 
-// The changes that put a class's records, and the bytes of a file of so many with it.
+// The changes that put a class's records, and the bytes of a file of so many with it: with those that its tables count more.
 fn weigh(alloc: Global, made: &Compiled, before: u64) -> Result<(Batch, u64), AllocError>
     requires few { class_records (length made.now.text) (map size_of_table made.now.tables) ≤ class_limit }
+    requires level { length made.now.counts ≡ length made.now.tables }
     ensures rows { IfOk result (λ r. (by : ℕ → ℕ → Table) (c : Declared) → IsStoredBy by c made.now.class made.now.text made.now.tables → r.0 ≡ puts (class_rows by c)) }
-    ensures bytes { IfOk result (λ r. r.1 ≡ min (before + min (put_bytes r.0) (2 ^ 64 - 1)) (2 ^ 64 - 1)) }
+    ensures bytes { IfOk result (λ r. r.1 ≡ min (before + min (put_bytes r.0 + spare_beside made.now.counts made.now.tables) (2 ^ 64 - 1)) (2 ^ 64 - 1)) }
     ensures short { IfOk result (λ r. HasShortValues r.0) }
     ensures few { IfOk result (λ r. length r.0 ≤ class_limit) }
 {
@@ -52,7 +54,8 @@ fn weigh(alloc: Global, made: &Compiled, before: u64) -> Result<(Batch, u64), Al
         made.text.as_slice(),
         made.tables.as_slice(),
     )?;
-    let bytes = before.saturating_add(bytes_put(&changes));
+    let more = spare(made.counts.as_slice(), made.tables.as_slice());
+    let bytes = before.saturating_add(bytes_put(&changes).saturating_add(more));
     Ok((changes, bytes))
 }
 
@@ -69,6 +72,7 @@ pub(crate) fn bring_in<H: Host, K: Keep<H> + Drop>(
     requires aligned { AreAligned (resting_parts rest) }
     requires checked { IsChecked rest.classes made.class }
     requires compiled { AreCompiled made.class.triggers made.tables made.alphabets }
+    requires trees { made.counts ≡ tree_counts made.class.triggers }
     requires few { class_records (length made.text) (map size_of_table made.tables) ≤ class_limit }
     // Where it is a declared class of the file's world, the file holds what the machine's transaction leaves.
     ensures done { (l : Language) (w : ListWorld) (c : Declared) → IsWell l w → IsAtRest H.view K.holds K.live l w rest host.old → IsMade l w c made

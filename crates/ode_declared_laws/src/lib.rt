@@ -7,7 +7,8 @@ ghost use Rattle.std.specs.List.{AllByRecursion};
 ghost use Rattle.ode_class_laws.specs.Declaring.{bones_with, tables_with, world_with};
 ghost use Rattle.ode_class_records.specs.ClassRows.{IsStoredBy, class_rows};
 ghost use Rattle.ode_class_records.specs.Puts.{puts};
-ghost use Rattle.ode_compile.specs.Compiling.{AreCompiled};
+ghost use Rattle.ode_class_records.specs.Weighing.{spare_beside};
+ghost use Rattle.ode_compile.specs.Compiling.{AreCompiled, tree_counts};
 ghost use Rattle.ode_declared_laws.specs.Adding.{AreAligned, parts_with, tables_in};
 ghost use Rattle.ode_declared_laws.specs.Declared.{DeclaredOver, IsDeclared};
 ghost use Rattle.ode_heap_laws.specs.Few.{HasFewParams, HasFewParts, HoldsCounted};
@@ -44,10 +45,10 @@ use ode_laws::{acts_run_alike, good_worlds_are_numbered};
 use ode_settled_laws::tables_may_differ;
 use ode_view_laws::{overlays_have_views, transactions_begin_with_views};
 
-/// The records of a class with its compiled tables are as many bytes as the class weighs.
+/// The records of a class with its compiled tables are as many bytes as the class weighs, with what its tables count more.
 pub fn classes_weigh_their_records()
     ensures { (by : ℕ → ℕ → Table) (c : Declared) (own : Items Table) (alphabets : Items (Items MaskedKind)) → IsStoredBy by c c.class (decl_text c.tree) own → AreCompiled c.class.triggers own alphabets
-        → put_bytes (puts (class_rows by c)) ≡ class_weight c }
+        → put_bytes (puts (class_rows by c)) + spare_beside (tree_counts c.class.triggers) own ≡ class_weight c }
 {}
 
 /// A checked class has fields that a record can count; and so have its triggers parameters, where these are few.

@@ -28,6 +28,7 @@ bring_in-requires g c = record {
   aligned = c.requires.aligned;
   checked = c.in-Ok.ensures.checked;
   compiled = c.in-Ok.ensures.tables;
+  trees = c.in-Ok.ensures.counts;
   few = few_made c.args.rest.classes c.args.decl.now c.in-Ok.made c.in-Ok.ensures.answers c.in-Ok.ensures.text c.in-Ok.ensures.tables;
 }
 
