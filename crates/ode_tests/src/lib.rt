@@ -17,6 +17,8 @@ mod full_queue;
 #[cfg(test)]
 mod gates;
 #[cfg(test)]
+mod generated;
+#[cfg(test)]
 mod images;
 #[cfg(test)]
 mod journal;

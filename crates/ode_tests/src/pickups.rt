@@ -7,8 +7,8 @@ use ode_host::{Plan, Status, Torn};
 use std::alloc::Global;
 use std::process::Abort;
 
-// Statements that settle one transaction, and what they print.
-type Step = (&'static str, &'static str);
+/// Statements that settle one transaction, and what they print.
+pub type Step = (&'static str, &'static str);
 
 const TRANSACTIONS: &[Step] = &[
     (
@@ -93,16 +93,17 @@ fn printed(steps: &[Step], text: &str) -> Option<usize> {
     if rest.is_empty() { Some(count) } else { None }
 }
 
-// Steps, and the image that a whole run of them on a new file leaves.
+/// Steps, a new file, and the image that a whole run of them on it leaves.
 #[derive(Drop)]
-struct Course {
-    steps: &'static [Step],
+pub struct Course {
+    pub steps: &'static [Step],
     script: String,
-    file: Vec<u8>,
+    pub file: Vec<u8>,
     whole: Vec<u8>,
 }
 
-fn course_of(rt: &impl Abort, alloc: Global, steps: &'static [Step]) -> Course {
+/// Steps that print what they say in a whole run on a new file.
+pub fn course_of(rt: &impl Abort, alloc: Global, steps: &'static [Step]) -> Course {
     let Joined { script, text } = join(rt, alloc, steps);
     let file = new_file(rt, alloc);
     let case = Case {
@@ -125,8 +126,14 @@ fn is_whole(ran: &Trial, text: &str, image: &[u8]) -> bool {
     ran.status == Status::Ok && ran.text() == text && ran.host.image() == image
 }
 
-// Whether the steps behind so many make a file what it is without a cut.
-fn goes_on(rt: &impl Abort, alloc: Global, course: &Course, image: &[u8], count: usize) -> bool {
+/// Whether the steps behind so many make a file what it is without a cut.
+pub fn goes_on(
+    rt: &impl Abort,
+    alloc: Global,
+    course: &Course,
+    image: &[u8],
+    count: usize,
+) -> bool {
     let rest = join(rt, alloc, course.steps.get(count..).unwrap_or(&[]));
     let ran = run(rt, alloc, image, rest.script.as_str());
     is_whole(&ran, rest.text.as_str(), &course.whole)
@@ -142,21 +149,21 @@ fn is_picked_up(rt: &impl Abort, alloc: Global, ran: Trial, course: &Course, nam
     holds(rt, is_kept, name);
 }
 
-// What fails: the host as a whole, its disk, its output, or the reads of the script.
+/// What fails: the host as a whole, its disk, its output, or the reads of the script.
 #[derive(Clone, Copy, Debug, PartialEq)]
-enum Part {
+pub enum Part {
     Host,
     Disk,
     Output,
     Script,
 }
 
-// The call of this number fails, and a stop, there or later, tears what is pending.
+/// The call of this number fails, and a stop, there or later, tears what is pending.
 #[derive(Clone, Copy, Debug)]
-struct Cut {
-    part: Part,
-    number: u64,
-    torn: Torn,
+pub struct Cut {
+    pub part: Part,
+    pub number: u64,
+    pub torn: Torn,
 }
 
 // A number behind all calls.
@@ -168,7 +175,8 @@ impl Cut {
         if part == self.part { self.number } else { LATE }
     }
 
-    fn plan(&self, rt: &impl Abort, alloc: Global) -> Plan {
+    /// The plan by which it is cut.
+    pub fn plan(&self, rt: &impl Abort, alloc: Global) -> Plan {
         let disk = self.number_of(Part::Disk);
         let output = self.number_of(Part::Output);
         let mut plan = failing(rt, alloc, &[disk], &[output]);
@@ -189,8 +197,8 @@ impl Cut {
         )
     }
 
-    // The run may end so.
-    fn ends(&self, status: Status) -> bool {
+    /// The run may end so.
+    pub fn ends(&self, status: Status) -> bool {
         match self.part {
             Part::Host => matches!(status, Status::DiskFault | Status::WriteFault),
             Part::Disk => status == Status::DiskFault,
@@ -229,8 +237,8 @@ fn are_picked_up(
     cuts
 }
 
-// The ways in which a stop tears what is pending.
-const TEARS: [Torn; 4] = [Torn::Nothing, Torn::Whole, Torn::Front(9), Torn::Fill(0xA5)];
+/// The ways in which a stop tears what is pending.
+pub const TEARS: [Torn; 4] = [Torn::Nothing, Torn::Whole, Torn::Front(9), Torn::Fill(0xA5)];
 
 // How many calls a run of these steps makes: at least a sync at the opening, and five a step.
 fn calls(rt: &impl Abort, alloc: Global, course: &Course) -> u64 {
