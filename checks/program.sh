@@ -452,6 +452,7 @@ END
 
     is '200 random scripts, whole and in two halves' python3 "$here/checks/scripts.py" "$folder/ode" 200
     is 'the cases, whole and opened again behind each transaction' python3 "$here/checks/cases.py" "$folder/ode"
+    is 'files that an earlier program stored go on' python3 "$here/checks/stored.py" "$folder/ode"
 else
     skip 'random scripts, and the cases: there is no python3'
 fi
