@@ -30,7 +30,7 @@ mkdir "$runs"
 printf '%s\n' init "$file" > "$runs/1 init.args"
 cp examples/first.ode "$runs/2 run first.ode"
 printf '%s\n' run "$file" > "$runs/2 run first.ode.args"
-echo 'There is no proved program yet, so rt builds one without proofs. This takes about a minute.'
+echo 'There is no proved program yet, so rt builds one without proofs. This takes a minute or two.'
 checks/joined.py "$work/joined"
 if ! (cd "$work/joined/crates/ode" && rt try --steps 1000 --cases "$runs" 2> "$work/errors"); then
     cat "$work/errors" >&2
