@@ -13,3 +13,4 @@ pub use examples::second_of_two;
 pub use laws::{one_page, read_again};
 pub use layout::{COUNT_LEN, MAX_SIZE, MIN_SIZE};
 pub use page::{NoRoom, PageOf};
+pub use reader::Reader;

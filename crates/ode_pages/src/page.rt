@@ -85,8 +85,8 @@ impl<const N: usize> PageOf<N> {
         })
     }
 
-    // The entries, to be read.
-    fn entries(&self) -> Reader<'_>
+    /// The entries, to be read.
+    pub fn entries(&self) -> Reader<'_>
         ensures entries { result ≡ self.now }
         ensures fits { FitsPage N self.now }
         ensures small { N ≤ MAX_SIZE }

@@ -9,9 +9,9 @@ use ode_keep::{first_row, next_row};
 use ode_value::Key;
 use std::marker::Model;
 
-/// The entries that are still to be read.
+/// The entries of a page that are still to be read. Contracts see them.
 #[derive(Drop)]
-pub(crate) struct Reader<'a> {
+pub struct Reader<'a> {
     /// How many they are.
     pub(crate) left: u16,
     /// Their bytes, and others behind them.
@@ -31,7 +31,7 @@ impl<'a> Model for Reader<'a> {
 
 impl<'a> Reader<'a> {
     /// The next one.
-    pub(crate) fn next(&mut self) -> Option<(Key, &'a [u8])>
+    pub fn next(&mut self) -> Option<(Key, &'a [u8])>
         ensures some { IfSome result (λ e. self.old ≡ (e.0, e.1.now) ∷ self.new) }
         ensures none { IfNone result (self.old ≡ []) }
     {
