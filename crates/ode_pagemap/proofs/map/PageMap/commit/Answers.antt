@@ -1,0 +1,20 @@
+use Rattle.ode_host.proofs.Moments.{joined, weaker}
+use Rattle.ode_keep.specs.Keeping.{LeavesOldOrNew}
+use Rattle.ode_paging.specs.Meaning.{PagesMean}
+use Rattle.ode_pagemap.specs.Laws.{stands_law}
+use Rattle.ode_pagemap.proofs.Committed.{looked}
+use Rattle.ode_pagemap.proofs.Framing.{text_back}
+use Rattle.ode_pagemap.proofs.map.PageMap.commit.Goals as goal
+
+pub returns-in-Ok-clause-any_moment : goal.returns-in-Ok-clause-any_moment
+returns-in-Ok-clause-any_moment g c entries h =
+    let old = g.H.Host.view c.args.host.now in
+    let mid = g.H.Host.view c.prepare.new.host in
+    let new = g.H.Host.view c.write_out.new.host in
+    let batch = c.args.batch.now in
+    let stands = stands_law c.args.self.now old entries h in
+    let looks = c.in-Ok.ensures.looks in
+    joined old mid new (LeavesOldOrNew PagesMean entries batch old)
+    (looked stands.0 old mid entries batch (g.met.H.Host.text_stands c.args.host.now) stands.1 stands.2 looks)
+    (weaker mid new (LeavesOldOrNew PagesMean entries batch mid) (LeavesOldOrNew PagesMean entries batch old) (text_back entries batch old mid looks.text)
+    (c.write_out.ensures.any_moment batch entries (c.in-Ok.ensures.ready entries h)))

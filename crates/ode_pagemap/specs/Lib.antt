@@ -1,0 +1,11 @@
+pub mod Reserving
+pub mod Cached
+pub mod Paged
+pub mod Holding
+pub mod Reaching
+pub mod Running
+pub mod Placing
+pub mod Alike
+pub mod Steps
+pub mod Ready
+pub mod Laws
