@@ -1,0 +1,5 @@
+pub mod Files
+pub mod Holding
+pub mod Starting
+pub mod OneMap
+pub mod Laws
