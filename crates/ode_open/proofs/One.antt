@@ -1,19 +1,17 @@
 -- A file is opened to one thing alone.
 use Rattle.std.proofs.Common.{◌≡◌, inl, inr, ℕ, ◌<◌, ◌≤◌, List, Result, Ok, Err, sym, ap, subst, ◌∙◌, arith}
-use Rattle.ode_areas.specs.Image.{HasMap, IsBadAt}
-use Rattle.ode_areas.specs.OneMap.{never_both, one_has, one_place}
-use Rattle.ode_gate.specs.Headers.{IsOfAreas}
 use Rattle.ode_gate.specs.Readings.{Says}
-use Rattle.ode_gate.specs.Slots.{Counts, place_of}
+use Rattle.ode_gate.specs.Slots.{Counts}
 use Rattle.ode_gate.specs.declared.error.GateError.{GateError}
 use Rattle.ode_gate.specs.declared.header.Header.{Header}
-use Rattle.ode_gate.specs.declared.places.TheConstants.{PAGES, TWO_AREAS}
 use Rattle.ode_gate.proofs.Counting.{one_counts, says_counts, says_one}
 use Rattle.ode_keep.specs.Entries.{Entries, record_bytes}
 use Rattle.ode_keep.specs.declared.limits.TheConstants.{MAX_RECORD_BYTES}
+use Rattle.ode_keeper.specs.Files.{HasMap, IsBadJournal, IsBadPage}
+use Rattle.ode_keeper.specs.OneMap.{has_not_bad_journal, has_not_bad_page, one_bad_journal, one_bad_page, one_has, page_not_bad_journal}
 use Rattle.ode_language.specs.Languages.{ode}
 use Rattle.ode_passes.specs.declared.cause.Cause.TheVariants as cause
-use Rattle.ode_open.specs.Opening.{Found, HasRecords, IsBroken, IsHeaderless, IsHeavy, IsOfPages, IsOpenedTo, found_of, gate_error}
+use Rattle.ode_open.specs.Opening.{Found, HasBadPage, HasRecords, IsBroken, IsHeaderless, IsHeavy, IsOpenedTo, found_of, gate_error}
 use Rattle.ode_opening_records.specs.Reading.{AreOpened}
 use Rattle.ode_opening_records.specs.declared.base.Base.{Base}
 use Rattle.ode_passes.specs.Rules.{Ruled}
@@ -28,16 +26,21 @@ module _ (once : OpenedOnce) (image : List ℕ) where
   no_header : (e : GateError) (h : Header) → Says image (Err e) → Counts image h → ⊥
   no_header e h says counts = let same : Result.Err e ≡ Ok h = says_one image (Err e) (Ok h) says (says_counts image h counts) in cc (same)
 
-  two_layouts : (h : Header) → IsOfAreas h → h.layout ≡ PAGES → ⊥
-  two_layouts h areas pages = let one : h.layout ≡ TWO_AREAS = areas.layout in omega (arith, one, pages)
-
   -- two headers that count are one
   same : (g h : Header) → Counts image g → Counts image h → g ≡ h
   same = one_counts image
 
-  bad_and_map : (g h : Header) (at : ℕ) (entries : Entries) → Counts image g → Counts image h → IsOfAreas h → IsBadAt g image at → HasMap h image entries → ⊥
-  bad_and_map g h at entries first second areas bad has =
-      never_both h image areas entries at has (subst (λ (k : Header). IsBadAt k image at) (same g h first second) bad)
+  bad_and_map : (g h : Header) (at : ℕ) (entries : Entries) → Counts image g → Counts image h → IsBadJournal g image at → HasMap h image entries → ⊥
+  bad_and_map g h at entries first second bad has =
+      has_not_bad_journal h image entries at has (subst (λ (k : Header). IsBadJournal k image at) (same g h first second) bad)
+
+  page_and_map : (g h : Header) (page : ℕ) (entries : Entries) → Counts image g → Counts image h → IsBadPage g image page → HasMap h image entries → ⊥
+  page_and_map g h page entries first second bad has =
+      has_not_bad_page h image entries page has (subst (λ (k : Header). IsBadPage k image page) (same g h first second) bad)
+
+  page_and_journal : (g h : Header) (page at : ℕ) → Counts image g → Counts image h → IsBadPage g image page → IsBadJournal h image at → ⊥
+  page_and_journal g h page at first second bad other =
+      page_not_bad_journal h image page at (subst (λ (k : Header). IsBadPage k image page) (same g h first second) bad) other
 
   one_entries : (g h : Header) (es ds : Entries) → Counts image g → Counts image h → HasMap g image es → HasMap h image ds → es ≡ ds
   one_entries g h es ds first second one other = one_has h image es ds (subst (λ (k : Header). HasMap k image es) (same g h first second) one) other
@@ -53,33 +56,32 @@ module _ (once : OpenedOnce) (image : List ℕ) where
   headerless_one a b x (inr (inr (inr (inl y)))) = absurd (no_header x.error y.header x.says y.counts)
   headerless_one a b x (inr (inr (inr (inr y)))) = absurd (no_header x.error y.header x.says y.counts)
 
-  pages_and_areas : (g h : Header) → Counts image g → Counts image h → g.layout ≡ PAGES → IsOfAreas h → ⊥
-  pages_and_areas g h first second pages areas =
-      two_layouts h areas (subst (λ (k : Header). k.layout ≡ PAGES) (same g h first second) pages)
-
-  pages_one : (a b : Found) → IsOfPages image a → IsOpenedTo image b → a ≡ b
-  pages_one a b x (inl y) = absurd (no_header y.error x.header y.says x.counts)
-  pages_one a b x (inr (inl y)) = x.is ∙ ap (λ (k : Header). Err (BadFile (cause.Header (place_of k.slot)))) (same x.header y.header x.counts y.counts) ∙ sym y.is
-  pages_one a b x (inr (inr (inl y))) = absurd (pages_and_areas x.header y.header x.counts y.counts x.layout y.areas)
-  pages_one a b x (inr (inr (inr (inl y)))) = absurd (pages_and_areas x.header y.header x.counts y.counts x.layout y.areas)
-  pages_one a b x (inr (inr (inr (inr y)))) = absurd (pages_and_areas x.header y.header x.counts y.counts x.layout y.areas)
-
   broken_one : (a b : Found) → IsBroken image a → IsOpenedTo image b → a ≡ b
   broken_one a b x (inl y) = absurd (no_header y.error x.header y.says x.counts)
-  broken_one a b x (inr (inl y)) = absurd (pages_and_areas y.header x.header y.counts x.counts y.layout x.areas)
-  broken_one a b x (inr (inr (inl y))) =
-      let at : x.at ≡ y.at = one_place y.header image x.at y.at (subst (λ (k : Header). IsBadAt k image x.at) (same x.header y.header x.counts y.counts) x.bad) y.bad in
+  broken_one a b x (inr (inl y)) =
+      let at : x.at ≡ y.at = one_bad_journal y.header image x.at y.at (subst (λ (k : Header). IsBadJournal k image x.at) (same x.header y.header x.counts y.counts) x.bad) y.bad in
       x.is ∙ ap (λ (n : ℕ). Err (BadFile (cause.Journal n))) at ∙ sym y.is
-  broken_one a b x (inr (inr (inr (inl y)))) = absurd (bad_and_map x.header y.header x.at y.entries x.counts y.counts y.areas x.bad y.has)
-  broken_one a b x (inr (inr (inr (inr y)))) = absurd (bad_and_map x.header y.header x.at y.entries x.counts y.counts y.areas x.bad y.has)
+  broken_one a b x (inr (inr (inl y))) = absurd (page_and_journal y.header x.header y.page x.at y.counts x.counts y.bad x.bad)
+  broken_one a b x (inr (inr (inr (inl y)))) = absurd (bad_and_map x.header y.header x.at y.entries x.counts y.counts x.bad y.has)
+  broken_one a b x (inr (inr (inr (inr y)))) = absurd (bad_and_map x.header y.header x.at y.entries x.counts y.counts x.bad y.has)
+
+  page_one : (a b : Found) → HasBadPage image a → IsOpenedTo image b → a ≡ b
+  page_one a b x (inl y) = absurd (no_header y.error x.header y.says x.counts)
+  page_one a b x (inr (inl y)) = absurd (page_and_journal x.header y.header x.page y.at x.counts y.counts x.bad y.bad)
+  page_one a b x (inr (inr (inl y))) =
+      let page : x.page ≡ y.page
+      = one_bad_page y.header image x.page y.page (subst (λ (k : Header). IsBadPage k image x.page) (same x.header y.header x.counts y.counts) x.bad) y.bad in
+      x.is ∙ ap (λ (n : ℕ). Err (BadFile (cause.Page n))) page ∙ sym y.is
+  page_one a b x (inr (inr (inr (inl y)))) = absurd (page_and_map x.header y.header x.page y.entries x.counts y.counts x.bad y.has)
+  page_one a b x (inr (inr (inr (inr y)))) = absurd (page_and_map x.header y.header x.page y.entries x.counts y.counts x.bad y.has)
 
   no_size : (es ds : Entries) → es ≡ ds → MAX_RECORD_BYTES < record_bytes es → record_bytes ds ≤ MAX_RECORD_BYTES → ⊥
   no_size es ds one heavy within = let bytes : record_bytes es ≡ record_bytes ds = ap record_bytes one in omega (arith, bytes, heavy, within)
 
   heavy_one : (a b : Found) → IsHeavy image a → IsOpenedTo image b → a ≡ b
   heavy_one a b x (inl y) = absurd (no_header y.error x.header y.says x.counts)
-  heavy_one a b x (inr (inl y)) = absurd (pages_and_areas y.header x.header y.counts x.counts y.layout x.areas)
-  heavy_one a b x (inr (inr (inl y))) = absurd (bad_and_map y.header x.header y.at x.entries y.counts x.counts x.areas y.bad x.has)
+  heavy_one a b x (inr (inl y)) = absurd (bad_and_map y.header x.header y.at x.entries y.counts x.counts y.bad x.has)
+  heavy_one a b x (inr (inr (inl y))) = absurd (page_and_map y.header x.header y.page x.entries y.counts x.counts y.bad x.has)
   heavy_one a b x (inr (inr (inr (inl y)))) =
       x.is ∙ ap (λ (es : Entries). Err (BadFile (cause.Size (record_bytes es)))) (one_entries x.header y.header x.entries y.entries x.counts y.counts x.has y.has) ∙ sym y.is
   heavy_one a b x (inr (inr (inr (inr y)))) =
@@ -87,8 +89,8 @@ module _ (once : OpenedOnce) (image : List ℕ) where
 
   records_one : (a b : Found) → HasRecords image a → IsOpenedTo image b → a ≡ b
   records_one a b x (inl y) = absurd (no_header y.error x.header y.says x.counts)
-  records_one a b x (inr (inl y)) = absurd (pages_and_areas y.header x.header y.counts x.counts y.layout x.areas)
-  records_one a b x (inr (inr (inl y))) = absurd (bad_and_map y.header x.header y.at x.entries y.counts x.counts x.areas y.bad x.has)
+  records_one a b x (inr (inl y)) = absurd (bad_and_map y.header x.header y.at x.entries y.counts x.counts y.bad x.has)
+  records_one a b x (inr (inr (inl y))) = absurd (page_and_map y.header x.header y.page x.entries y.counts x.counts y.bad x.has)
   records_one a b x (inr (inr (inr (inl y)))) =
       absurd (no_size y.entries x.entries (one_entries y.header x.header y.entries x.entries y.counts x.counts y.has x.has) y.heavy x.within)
   records_one a b x (inr (inr (inr (inr y)))) =
@@ -97,7 +99,7 @@ module _ (once : OpenedOnce) (image : List ℕ) where
 
   pub one_opening : (a b : Found) → IsOpenedTo image a → IsOpenedTo image b → a ≡ b
   one_opening a b (inl x) y = headerless_one a b x y
-  one_opening a b (inr (inl x)) y = pages_one a b x y
-  one_opening a b (inr (inr (inl x))) y = broken_one a b x y
+  one_opening a b (inr (inl x)) y = broken_one a b x y
+  one_opening a b (inr (inr (inl x))) y = page_one a b x y
   one_opening a b (inr (inr (inr (inl x)))) y = heavy_one a b x y
   one_opening a b (inr (inr (inr (inr x)))) y = records_one a b x y

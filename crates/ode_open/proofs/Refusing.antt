@@ -1,19 +1,16 @@
 -- Why a file isn't opened, part by part.
 use Rattle.std.proofs.Common.{◌≡◌, ◌⊎◌, inl, inr, ⊎_elim, ℕ, ◌<◌, ◌≤◌, List, Result, Ok, Err, refl, ap, subst, arith}
 use Rattle.std.specs.Prelude.{IfOk, IsErrOf}
-use Rattle.ode_areas.specs.Image.{HasMap, IsBadAt}
-use Rattle.ode_areas.specs.declared.error.StartError.{StartError}
-use Rattle.ode_areas.specs.declared.error.StartError.TheVariants as start
-use Rattle.ode_gate.specs.Headers as headers
-use Rattle.ode_gate.specs.Headers.{IsHeader, IsOfAreas}
 use Rattle.ode_gate.specs.Readings.{Says}
-use Rattle.ode_gate.specs.Slots.{Counts, place_of}
+use Rattle.ode_gate.specs.Slots.{Counts}
 use Rattle.ode_gate.specs.declared.error.GateError.{GateError}
 use Rattle.ode_gate.specs.declared.error.GateError.TheVariants as gate
 use Rattle.ode_gate.specs.declared.header.Header.{Header}
-use Rattle.ode_gate.specs.declared.places.TheConstants.{PAGES, TWO_AREAS}
 use Rattle.ode_keep.specs.Entries.{Entries, record_bytes}
 use Rattle.ode_keep.specs.declared.limits.TheConstants.{MAX_RECORD_BYTES}
+use Rattle.ode_keeper.specs.Files.{HasMap, IsBadJournal, IsBadPage}
+use Rattle.ode_keeper.specs.declared.error.StartError.{StartError}
+use Rattle.ode_keeper.specs.declared.error.StartError.TheVariants as start
 use Rattle.ode_language.specs.Languages.{ode}
 use Rattle.ode_passes.specs.Rules.{Ruled}
 use Rattle.ode_passes.specs.declared.cause.Cause.TheVariants as cause
@@ -38,28 +35,14 @@ why_header image e answer = ⊎_elim
     (λ (says : Says image (Err e)). inr (inl (record { error = e; says = says; is = refl })))
     answer
 
--- ---- the layout
-
-one_layout : (n : ℕ) → n ≡ TWO_AREAS → n ≡ PAGES → ⊥
-one_layout n one other = omega arith
-
-pub are_areas : (h : Header) → IsHeader h → h.layout ≡ TWO_AREAS → IsOfAreas h
-are_areas h rules is = ⊎_elim (λ (areas : IsOfAreas h). areas) (λ (pages : headers.IsOfPages h). absurd (one_layout h.layout is pages.layout)) rules.layout
-
-pub are_pages : (h : Header) → IsHeader h → (h.layout ≡ TWO_AREAS → ⊥) → h.layout ≡ PAGES
-are_pages h rules other = ⊎_elim (λ (areas : IsOfAreas h). absurd (other areas.layout)) (λ (pages : headers.IsOfPages h). pages.layout) rules.layout
-
-pub why_pages : (image : List ℕ) (h : Header) → Counts image h → h.layout ≡ PAGES → IsWhy image (BadFile (cause.Header (place_of h.slot)))
-why_pages image h counts pages = inr (inr (inl (record { header = h; counts = counts; layout = pages; is = refl })))
-
 -- ---- the keeper
 
-module _ (image : List ℕ) (h : Header) (counts : Counts image h) (areas : IsOfAreas h) where
-  pub why_start : (e : StartError) → ((at : ℕ) → e ≡ start.BadJournal at → IsBadAt h image at) → ((page : ℕ) → e ≡ start.BadPage page → ⊥) → IsWhy image (start_error e)
-  why_start start.Memory bad none = inl tt
-  why_start start.DiskFault bad none = inl tt
-  why_start (start.BadJournal at) bad none = inr (inr (inr (inl (record { header = h; counts = counts; areas = areas; at = at; bad = bad at refl; is = refl }))))
-  why_start (start.BadPage page) bad none = absurd (none page refl)
+module _ (image : List ℕ) (h : Header) (counts : Counts image h) where
+  pub why_start : (e : StartError) → ((at : ℕ) → e ≡ start.BadJournal at → IsBadJournal h image at) → ((page : ℕ) → e ≡ start.BadPage page → IsBadPage h image page) → IsWhy image (start_error e)
+  why_start start.Memory bad worse = inl tt
+  why_start start.DiskFault bad worse = inl tt
+  why_start (start.BadJournal at) bad worse = inr (inr (inl (record { header = h; counts = counts; at = at; bad = bad at refl; is = refl })))
+  why_start (start.BadPage page) bad worse = inr (inr (inr (inl (record { header = h; counts = counts; page = page; bad = worse page refl; is = refl }))))
 
   module _ (entries : Entries) (has : HasMap h image entries) where
     pub why_heavy : (bytes : ℕ) → bytes ≡ record_bytes entries → MAX_RECORD_BYTES < bytes → IsWhy image (BadFile (cause.Size bytes))
@@ -67,7 +50,6 @@ module _ (image : List ℕ) (h : Header) (counts : Counts image h) (areas : IsOf
         inr (inr (inr (inr (inl (record {
           header = h;
           counts = counts;
-          areas = areas;
           entries = entries;
           has = has;
           heavy = omega (arith, is, heavy);
@@ -78,7 +60,7 @@ module _ (image : List ℕ) (h : Header) (counts : Counts image h) (areas : IsOf
 
     module _ (within : record_bytes entries ≤ MAX_RECORD_BYTES) where
       opened : (to : Ruled Base) → AreOpened ode entries to → IsOpenedTo image (found_of to)
-      opened to are = inr (inr (inr (inr (record { header = h; counts = counts; areas = areas; entries = entries; has = has; within = within; opened = to; are = are; is = refl }))))
+      opened to are = inr (inr (inr (inr (record { header = h; counts = counts; entries = entries; has = has; within = within; opened = to; are = are; is = refl }))))
 
       pub why_records : (e : ReadError) → Opens ode entries (Err e) → IsWhy image (read_error e)
       why_records read.Memory answers = inl tt

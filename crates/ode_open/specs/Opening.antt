@@ -1,17 +1,15 @@
 -- What a file is opened to, and what the opening answers.
 use Rattle.std.specs.Prelude.{◌≡◌, ◌<◌, ◌≤◌, ◌⊎◌, ℕ, List, Result, Ok, Err}
-use Rattle.ode_areas.specs.Image.{HasMap, IsBadAt}
-use Rattle.ode_areas.specs.declared.error.StartError.{StartError}
-use Rattle.ode_areas.specs.declared.error.StartError.TheVariants as start
-use Rattle.ode_gate.specs.Headers.{IsOfAreas}
 use Rattle.ode_gate.specs.Readings.{Says}
-use Rattle.ode_gate.specs.Slots.{Counts, place_of}
+use Rattle.ode_gate.specs.Slots.{Counts}
 use Rattle.ode_gate.specs.declared.error.GateError.{GateError}
 use Rattle.ode_gate.specs.declared.error.GateError.TheVariants as gate
 use Rattle.ode_gate.specs.declared.header.Header.{Header}
-use Rattle.ode_gate.specs.declared.places.TheConstants.{PAGES}
 use Rattle.ode_keep.specs.Entries.{Entries, record_bytes}
 use Rattle.ode_keep.specs.declared.limits.TheConstants.{MAX_RECORD_BYTES}
+use Rattle.ode_keeper.specs.Files.{HasMap, IsBadJournal, IsBadPage}
+use Rattle.ode_keeper.specs.declared.error.StartError.{StartError}
+use Rattle.ode_keeper.specs.declared.error.StartError.TheVariants as start
 use Rattle.ode_language.specs.Languages.{ode}
 use Rattle.ode_passes.specs.Rules.{Ruled}
 use Rattle.ode_passes.specs.declared.cause.Cause.TheVariants as cause
@@ -62,27 +60,26 @@ pub record IsHeaderless (image : List ℕ) (found : Found) : Type 0 where
   pub says : Says image (Err error)
   pub is : found ≡ Err (gate_error error)
 
--- the header that counts is that of pages, which aren't built
-pub record IsOfPages (image : List ℕ) (found : Found) : Type 0 where
-  pub header : Header
-  pub counts : Counts image header
-  pub layout : header.layout ≡ PAGES
-  pub is : found ≡ Err (BadFile (cause.Header (place_of header.slot)))
-
 -- the snapshot or the journal is bad at a place
 pub record IsBroken (image : List ℕ) (found : Found) : Type 0 where
   pub header : Header
   pub counts : Counts image header
-  pub areas : IsOfAreas header
   pub at : ℕ
-  pub bad : IsBadAt header image at
+  pub bad : IsBadJournal header image at
   pub is : found ≡ Err (BadFile (cause.Journal at))
+
+-- a page is bad, behind a journal that is whole
+pub record HasBadPage (image : List ℕ) (found : Found) : Type 0 where
+  pub header : Header
+  pub counts : Counts image header
+  pub page : ℕ
+  pub bad : IsBadPage header image page
+  pub is : found ≡ Err (BadFile (cause.Page page))
 
 -- it has more records than a keeper holds
 pub record IsHeavy (image : List ℕ) (found : Found) : Type 0 where
   pub header : Header
   pub counts : Counts image header
-  pub areas : IsOfAreas header
   pub entries : Entries
   pub has : HasMap header image entries
   pub heavy : MAX_RECORD_BYTES < record_bytes entries
@@ -92,7 +89,6 @@ pub record IsHeavy (image : List ℕ) (found : Found) : Type 0 where
 pub record HasRecords (image : List ℕ) (found : Found) : Type 0 where
   pub header : Header
   pub counts : Counts image header
-  pub areas : IsOfAreas header
   pub entries : Entries
   pub has : HasMap header image entries
   pub within : record_bytes entries ≤ MAX_RECORD_BYTES
@@ -102,7 +98,7 @@ pub record HasRecords (image : List ℕ) (found : Found) : Type 0 where
 
 abbrev pub IsOpenedTo : List ℕ → Found → Type 0
 IsOpenedTo image found =
-    IsHeaderless image found ⊎ (IsOfPages image found ⊎ (IsBroken image found ⊎ (IsHeavy image found ⊎ HasRecords image found)))
+    IsHeaderless image found ⊎ (IsBroken image found ⊎ (HasBadPage image found ⊎ (IsHeavy image found ⊎ HasRecords image found)))
 
 -- ---- what is answered
 

@@ -1,9 +1,9 @@
 //! Why a file isn't opened.
 ghost use Rattle.std.specs.Prelude.{◌≡◌};
 
-use ode_areas::StartError;
 use ode_gate::GateError;
 use ode_host::Failed;
+use ode_keeper::StartError;
 use ode_passes::Cause;
 use std::alloc::AllocError;
 

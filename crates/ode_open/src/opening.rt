@@ -1,46 +1,40 @@
 //! A file is opened to what a run needs.
 ghost use Rattle.std.specs.Prelude.{◌≡◌, ◌⊎◌, List as Items, ℕ, length, IfOk, IsErrOf, IsTrue, Ok, Some};
-ghost use Rattle.ode_areas.specs.Holding.{AreasHold, is_live};
-ghost use Rattle.ode_areas.specs.Image.{AreasMean, HasMap};
-ghost use Rattle.ode_gate.specs.Headers.{IsHeader, IsOfAreas};
+ghost use Rattle.ode_gate.specs.Headers.{IsHeader};
 ghost use Rattle.ode_gate.specs.Slots.{Counts};
 ghost use Rattle.ode_host.specs.Causes.{RoseIf};
 ghost use Rattle.ode_host.specs.FirstSync.{SyncedRun};
 ghost use Rattle.ode_host.specs.Host.{Looks, Only, Stands, Tells};
 ghost use Rattle.ode_keep.specs.Entries.{AreBytes, Entries};
+ghost use Rattle.ode_keeper.specs.Files.{FileMeans, HasMap};
+ghost use Rattle.ode_keeper.specs.Holding.{KeeperHolds, is_live};
 ghost use Rattle.ode_language.specs.Languages.{ode};
 ghost use Rattle.ode_open.specs.Opening.{Found, HasOutsideFailed, IsOpenedTo, IsRefused, Stays, base_in, program_of, seen};
 ghost use Rattle.ode_opening_records.specs.Reading.{AreOpened};
 ghost use Rattle.ode_schema.specs.Parts.{AreFit};
 
 use crate::error::OpenError;
-use ode_areas::Areas;
-use ode_gate::{Header, SLOT_LEN, SLOT_STEP, TWO_AREAS, read_header};
+use ode_gate::{Header, SLOT_LEN, read_header};
 use ode_host::Host;
 use ode_keep::MAX_RECORD_BYTES;
+use ode_keeper::Keeper;
 use ode_opened::Opened;
 use ode_opening_records::{Base, open_records, records_are_opened_to_one_thing};
 use ode_passes::Cause;
 use std::alloc::Global;
 
-// The keeper of the two areas under a header.
-fn start_keeper<H: Host>(alloc: Global, host: &mut H, header: &Header) -> Result<Areas, OpenError>
-    requires rules { IsHeader header.now }
+// The keeper of the file under a header.
+fn start_keeper<H: Host>(alloc: Global, host: &mut H, header: &Header) -> Result<Keeper, OpenError>
+    requires { IsHeader header.now }
     ensures holds { IfOk result (λ keeper. (image : Items ℕ) → Stands image (H.view host.old) → Counts image header.now
-        → (entries : Entries) × HasMap header.now image entries × AreasHold keeper (H.view host.new) entries) }
-    ensures areas { IfOk result (λ _. IsOfAreas header.now) }
+        → (entries : Entries) × HasMap header.now image entries × KeeperHolds keeper (H.view host.new) entries) }
     ensures live { IfOk result (λ keeper. IsTrue (is_live keeper)) }
     ensures answer { (image : Items ℕ) → Tells (H.view host.old) image → Counts image header.now
         → IsRefused image result }
     ensures looks { Looks (H.view host.old) (H.view host.new) }
     ensures cause { RoseIf (IsErrOf result OpenError.DiskFault) (H.view host.old).disk_faults (H.view host.new).disk_faults }
 {
-    if header.layout != TWO_AREAS {
-        return Err(OpenError::BadFile(Cause::Header {
-            at: SLOT_STEP * u64::from(header.slot),
-        }));
-    }
-    let keeper = Areas::start(alloc, host, header)?;
+    let keeper = Keeper::start(alloc, host, header)?;
     let bytes = keeper.bytes();
     if bytes > MAX_RECORD_BYTES {
         return Err(OpenError::BadFile(Cause::Size(bytes)));
@@ -49,13 +43,13 @@ fn start_keeper<H: Host>(alloc: Global, host: &mut H, header: &Header) -> Result
 }
 
 // Opens a file that was synced.
-fn open_file<H: Host>(alloc: Global, host: &mut H) -> Result<Opened<Areas>, OpenError>
+fn open_file<H: Host>(alloc: Global, host: &mut H) -> Result<Opened<Keeper>, OpenError>
     ensures answer { (image : Items ℕ) → Stands image (H.view host.old)
         → HasOutsideFailed result ⊎ IsOpenedTo image (seen result) }
     ensures keeper { IfOk result (λ o. (image : Items ℕ) → Stands image (H.view host.old)
-        → (entries : Entries) × AreasMean image entries × AreasHold o.keeper (H.view host.new) entries × AreOpened ode entries (Ok (base_in o))) }
+        → (entries : Entries) × FileMeans image entries × KeeperHolds o.keeper (H.view host.new) entries × AreOpened ode entries (Ok (base_in o))) }
     ensures bytes { IfOk result (λ o. (image : Items ℕ) → Stands image (H.view host.old)
-        → (entries : Entries) → AreasHold o.keeper (H.view host.new) entries → AreBytes entries) }
+        → (entries : Entries) → KeeperHolds o.keeper (H.view host.new) entries → AreBytes entries) }
     ensures live { IfOk result (λ o. IsTrue (is_live o.keeper)) }
     ensures fit { IfOk result (λ o. AreFit (program_of o)) }
     ensures aligned { IfOk result (λ o. (length o.maps ≡ length o.classes) × (length o.alphabets ≡ length o.tables)) }
@@ -84,7 +78,7 @@ fn open_file<H: Host>(alloc: Global, host: &mut H) -> Result<Opened<Areas>, Open
 
 /// Opens a file. It begins with a sync, and nothing is written. A file is opened to its classes, their tables as they are stored and the
 /// bytes of its records, or refused by the first rule that it breaks; want of memory or a fault of the disk may come instead.
-pub fn open_base<H: Host>(alloc: Global, host: &mut H) -> Result<Opened<Areas>, OpenError>
+pub fn open_base<H: Host>(alloc: Global, host: &mut H) -> Result<Opened<Keeper>, OpenError>
     ensures answer { (image : Items ℕ) → Tells (H.view host.old) image
         → HasOutsideFailed result ⊎ IsOpenedTo image (seen result) }
     ensures only { (image : Items ℕ) (found : Found) → Tells (H.view host.old) image → IsOpenedTo image found
@@ -92,9 +86,9 @@ pub fn open_base<H: Host>(alloc: Global, host: &mut H) -> Result<Opened<Areas>, 
 
     // At `Ok` what was written before stands on the disk, and the keeper holds the file's records, which were opened.
     ensures keeper { IfOk result (λ o. (image : Items ℕ) → Tells (H.view host.old) image
-        → (entries : Entries) × AreasMean image entries × AreasHold o.keeper (H.view host.new) entries × AreOpened ode entries (Ok (base_in o))) }
+        → (entries : Entries) × FileMeans image entries × KeeperHolds o.keeper (H.view host.new) entries × AreOpened ode entries (Ok (base_in o))) }
     ensures bytes { IfOk result (λ o. (image : Items ℕ) → Tells (H.view host.old) image
-        → (entries : Entries) → AreasHold o.keeper (H.view host.new) entries → AreBytes entries) }
+        → (entries : Entries) → KeeperHolds o.keeper (H.view host.new) entries → AreBytes entries) }
     ensures live { IfOk result (λ o. IsTrue (is_live o.keeper)) }
     ensures fit { IfOk result (λ o. AreFit (program_of o)) }
     ensures aligned { IfOk result (λ o. (length o.maps ≡ length o.classes) × (length o.alphabets ≡ length o.tables)) }
