@@ -5,38 +5,37 @@ ghost use Rattle.ode_gate.specs.Slots.{HasOpenSlot};
 ghost use Rattle.ode_gate.specs.declared.error.GateError.TheVariants as gate;
 ghost use Rattle.ode_host.specs.Causes.{RoseIf};
 ghost use Rattle.ode_host.specs.Host.{DiskCalls, Looks, Stands, Tells, written_over};
-ghost use Rattle.ode_areas.specs.Image.{AreasMean};
-ghost use Rattle.ode_value.specs.Records.{snapshot};
-ghost use Rattle.ode_make.specs.Making.{IsInUse, IsInitialised, first_header, first_rows};
+ghost use Rattle.ode_paging.specs.Meaning.{PagesMean};
+ghost use Rattle.ode_make.specs.Making.{IsInUse, IsInitialised, first_frame, first_header, first_rows};
 
 use ode_gate::{
-    AREA_0, AREA_1, FORMAT, GateError, Header, OPEN, SHUT, SLOT_LEN, SLOT_STEP, TWO_AREAS,
-    fill_slot, open_slot, read_header,
+    FORMAT, GateError, Header, OPEN, PAGES, PAGES_AT, REGION_0, REGION_1, SHUT, SLOT_LEN,
+    SLOT_STEP, fill_slot, open_slot, read_header,
 };
 use ode_host::{Failed, Host};
 
 /// The longest file that may be made anew, in bytes.
 pub const MAX_TAKEN_OVER: u64 = 8_192;
 
-/// The snapshot of an empty database, in bytes.
-pub const EMPTY_LEN: u64 = 64;
+/// What the journal of a new file has, in bytes: an open gate, and a frame behind it.
+pub const FIRST_LEN: u64 = 81;
 
-// The snapshot of an empty database, which is the counters alone, and a shut gate behind it.
-const EMPTY: [u8; 65] = [
-    1, 0, 0, 0, 0, 0, 0, 0, 0, 0, 0, 0, 0, 0, 0, 0, 0, 0, 45, 0, 0, 0, 0, 0, 0, 0, 1, 0, 0, 0, 0,
-    0, 0, 0, 1, 0, 0, 0, 0, 0, 0, 0, 1, 0, 0, 0, 0, 0, 0, 0, 0, 0, 0, 0, 0, 0, 0, 0, 0, 0, 0, 0, 0,
-    0, SHUT,
+// An open gate, a frame with page 0 of an empty database, which has the counters alone, and a shut gate behind it.
+const FIRST_FRAME: [u8; 82] = [
+    OPEN, 0, 0, 0, 76, 0, 0, 0, 1, 0, 0, 0, 0, 0, 66, 0, 1, 1, 0, 0, 0, 0, 0, 0, 0, 0, 0, 0, 0, 0,
+    0, 0, 0, 0, 0, 45, 0, 0, 0, 0, 0, 0, 0, 1, 0, 0, 0, 0, 0, 0, 0, 1, 0, 0, 0, 0, 0, 0, 0, 1, 0,
+    0, 0, 0, 0, 0, 0, 0, 0, 0, 0, 0, 0, 0, 0, 0, 0, 0, 0, 0, 0, SHUT,
 ];
 
 // The header of a new file.
 const FIRST: Header = Header {
     format: FORMAT,
-    layout: TWO_AREAS,
+    layout: PAGES,
     generation: 1,
-    body_at: AREA_0,
-    body_len: EMPTY_LEN,
-    journal_at: AREA_0 + EMPTY_LEN,
-    journal_end: AREA_1,
+    body_at: PAGES_AT,
+    body_len: 0,
+    journal_at: REGION_0,
+    journal_end: REGION_1,
     slot: 0,
 };
 
@@ -99,14 +98,14 @@ fn is_in_use<H: Host>(host: &mut H) -> Result<bool, Failed>
     has_open_slot(host)
 }
 
-// Shuts slot 1, and writes the snapshot of an empty database with a shut gate behind it.
-fn write_body<H: Host>(host: &mut H) -> Result<(), Failed>
+// Shuts slot 1, and writes the first frame with a shut gate behind it.
+fn write_frame<H: Host>(host: &mut H) -> Result<(), Failed>
     ensures done { OnOk result ((file : List ℕ) → Tells (H.view host.old) file → Tells (H.view host.new)
-        (written_over (written_over file SLOT_STEP (SHUT ∷ [])) AREA_0 (snapshot first_rows ++ SHUT ∷ []))) }
+        (written_over (written_over file SLOT_STEP (SHUT ∷ [])) REGION_0 (first_frame ++ SHUT ∷ []))) }
     ensures leaves { DiskCalls (IsErr result) (H.view host.old) (H.view host.new) }
 {
     host.write_at(SLOT_STEP, &[SHUT])?;
-    host.write_at(AREA_0, &EMPTY)
+    host.write_at(REGION_0, &FIRST_FRAME)
 }
 
 // Writes the header of a new file, syncs, opens it, and syncs.
@@ -120,13 +119,13 @@ fn write_header<H: Host>(host: &mut H) -> Result<(), GateError>
     open_slot(host, 0)
 }
 
-/// Makes a new file that holds an empty database, of two areas. Takes no memory. At `FileExists` nothing was written; at
+/// Makes a new file that holds an empty database, of pages. Takes no memory. At `FileExists` nothing was written; at
 /// `DiskFault` some of it may be.
 pub fn initialise<H: Host>(host: &mut H) -> Result<(), InitError>
     ensures made { OnOk result ((file : List ℕ) → Tells (H.view host.old) file
-        → (image : List ℕ) × Stands image (H.view host.new) × IsInitialised (snapshot first_rows) file image) }
+        → (image : List ℕ) × Stands image (H.view host.new) × IsInitialised first_frame file image) }
     ensures means { OnOk result ((file image : List ℕ) → Tells (H.view host.old) file
-        → Tells (H.view host.new) image → AreasMean image first_rows) }
+        → Tells (H.view host.new) image → PagesMean image first_rows) }
 
     ensures exists { IsErrOf result InitError.FileExists
         → (file : List ℕ) → Tells (H.view host.old) file → IsInUse file }
@@ -138,7 +137,7 @@ pub fn initialise<H: Host>(host: &mut H) -> Result<(), InitError>
     if is_in_use(host)? {
         return Err(InitError::FileExists);
     }
-    write_body(host)?;
+    write_frame(host)?;
     write_header(host)?;
     Ok(())
 }

@@ -1,8 +1,7 @@
 use Rattle.std.proofs.Common.{List, ℕ, refl, subst}
 use Rattle.ode_host.proofs.Moments.{tells_looks}
-use Rattle.ode_value.specs.Records.{snapshot}
-use Rattle.ode_areas.specs.Image.{AreasMean}
-use Rattle.ode_make.specs.Making.{first_rows}
+use Rattle.ode_paging.specs.Meaning.{PagesMean}
+use Rattle.ode_make.specs.Making.{first_frame, first_rows}
 use Rattle.ode_make.proofs.Making.{initialised, initialised_means, made}
 use Rattle.ode_make.proofs.Telling.{tells_one}
 use Rattle.ode_make.proofs.make.initialise.Goals as goal
@@ -10,15 +9,15 @@ use Rattle.ode_make.proofs.make.initialise.Goals as goal
 pub returns-clause-made : goal.returns-clause-made
 returns-clause-made g c file tells =
     let looked = tells_looks file _ _ c.is_in_use.ensures.looks tells in (
-      made (snapshot first_rows) file refl,
-      c.in_ok-write_header.ensures.done _ (c.in_ok-write_body.ensures.done file looked),
-      initialised (snapshot first_rows) file refl,
+      made first_frame file refl,
+      c.in_ok-write_header.ensures.done _ (c.in_ok-write_frame.ensures.done file looked),
+      initialised first_frame file refl,
     )
 
 pub returns-clause-means : goal.returns-clause-means
 returns-clause-means g c file image tells told =
     let made_is = returns-clause-made g c file tells in
-    subst (λ (l : List ℕ). AreasMean l first_rows) (tells_one _ made_is.0 image made_is.1.tells told) (initialised_means file made_is.0 made_is.2)
+    subst (λ (l : List ℕ). PagesMean l first_rows) (tells_one _ made_is.0 image made_is.1.tells told) (initialised_means file made_is.0 made_is.2)
 
 pub returns-clause-refused : goal.returns-clause-refused
 returns-clause-refused g c file tells in_use =
@@ -26,8 +25,8 @@ returns-clause-refused g c file tells in_use =
     let no = c.if-branch.false in
     cc (yes, no)
 
-pub returns-in_err-write_body-clause-spared : goal.returns-in_err-write_body-clause-spared
-returns-in_err-write_body-clause-spared g c file tells in_use =
+pub returns-in_err-write_frame-clause-spared : goal.returns-in_err-write_frame-clause-spared
+returns-in_err-write_frame-clause-spared g c file tells in_use =
     let yes = (c.in_ok-is_in_use.ensures.in_use file tells).1 in_use in
     let no = c.if-branch.false in
     cc (yes, no)
