@@ -2,7 +2,7 @@
 #![tactic(auto)]
 
 ghost use Rattle.std.specs.Prelude.{ℕ, List as Items, Err, Ok};
-ghost use Rattle.ode_areas.specs.Image.{AreasMean};
+ghost use Rattle.ode_keeper.specs.Files.{FileMeans};
 ghost use Rattle.ode_codec.specs.Standing.{HoldsWorld};
 ghost use Rattle.ode_keep.specs.Entries.{Entries};
 ghost use Rattle.ode_language.specs.Languages.{ode};
@@ -19,9 +19,9 @@ use ode_resting_laws::read_classes_have_few_parts;
 /// A file whose records hold a world with versions from 1 on is opened to the world's classes, the tables of their triggers and its weight,
 /// so it breaks no rule.
 pub fn files_of_worlds_are_opened()
-    ensures opened { (image : Items ℕ) (entries : Entries) (w : ListWorld) → AreasMean image entries → (is : HoldsWorld ode entries w) → AreFromOne w.bones
+    ensures opened { (image : Items ℕ) (entries : Entries) (w : ListWorld) → FileMeans image entries → (is : HoldsWorld ode entries w) → AreFromOne w.bones
         → IsOpenedTo image (Ok (world_base is.stored.tables w.bones)) }
-    ensures unbroken { (image : Items ℕ) (entries : Entries) (w : ListWorld) → AreasMean image entries → HoldsWorld ode entries w → AreFromOne w.bones
+    ensures unbroken { (image : Items ℕ) (entries : Entries) (w : ListWorld) → FileMeans image entries → HoldsWorld ode entries w → AreFromOne w.bones
         → (error : OpenError) → IsOpenedTo image (Err error) → ⊥ }
 {
     read_classes_have_few_parts();

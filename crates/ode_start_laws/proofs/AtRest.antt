@@ -1,9 +1,9 @@
 -- A file that was opened to the records of a world is at rest in it.
 use Rattle.std.proofs.Common.{◌≡◌, ℕ, List, Ok, true, subst}
-use Rattle.ode_areas.specs.Holding.{AreasHold, is_live}
-use Rattle.ode_areas.specs.Image.{AreasMean}
-use Rattle.ode_areas.specs.Laws.{one_map_law}
-use Rattle.ode_areas.specs.declared.areas.Areas.{Areas}
+use Rattle.ode_keeper.specs.Holding.{KeeperHolds, is_live}
+use Rattle.ode_keeper.specs.Files.{FileMeans}
+use Rattle.ode_keeper.specs.Laws.{one_map_law}
+use Rattle.ode_keeper.specs.declared.keeper.Keeper.{Keeper}
 use Rattle.ode_codec.specs.Standing.{HoldsWorld}
 use Rattle.ode_host.specs.View.{View}
 use Rattle.ode_keep.specs.Entries.{Entries}
@@ -23,9 +23,9 @@ abbrev pub ShowWorlds : Type 0
 ShowWorlds =
     (records : Entries) (w : ListWorld) (opened : Base) → HoldsWorld ode records w → AreFromOne w.bones → AreOpened ode records (Ok opened) → IsShown records w opened
 
-module _ {H : Type 0} (seen : H → View) (host : H) (image : List ℕ) (w : ListWorld) (o : Opened Areas) (entries : Entries) where
-  pub at_rest : ShowWorlds → HoldsBy ode AreasMean image w → AreasMean image entries → AreasHold o.keeper (seen host) entries → AreOpened ode entries (Ok (base_in o))
-      → is_live o.keeper ≡ true → AreFit (resting_parts o) → IsAtRest seen AreasHold is_live ode w o host
+module _ {H : Type 0} (seen : H → View) (host : H) (image : List ℕ) (w : ListWorld) (o : Opened Keeper) (entries : Entries) where
+  pub at_rest : ShowWorlds → HoldsBy ode FileMeans image w → FileMeans image entries → KeeperHolds o.keeper (seen host) entries → AreOpened ode entries (Ok (base_in o))
+      → is_live o.keeper ≡ true → AreFit (resting_parts o) → IsAtRest seen KeeperHolds is_live ode w o host
   at_rest show holds means kept opened live fit =
       let same : holds.entries ≡ entries = one_map_law image holds.entries entries holds.are means in
       let world : HoldsWorld ode entries w = subst (λ (es : Entries). HoldsWorld ode es w) same holds.world in

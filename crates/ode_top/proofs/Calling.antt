@@ -2,7 +2,7 @@
 use Rattle.std.proofs.Common.{◌≡◌, ◌<◌, ◌≤◌, ◌⊎◌, ⊎_elim, List, ℕ, Option, Some, None, IsSome, IsTrue, refl, sym, ◌∙◌, subst, arith}
 use Rattle.std.proofs.lemmas.Bool.{cases_lt}
 use Rattle.std.specs.Prelude.{◌≢◌}
-use Rattle.ode_areas.specs.Image.{AreasMean}
+use Rattle.ode_keeper.specs.Files.{FileMeans}
 use Rattle.ode_host.specs.Host.{Keeps, LeavesOnly, Only, Tells}
 use Rattle.ode_host.specs.View.{View}
 use Rattle.ode_host.specs.declared.status.Status.{Status}
@@ -25,7 +25,7 @@ same_text a b is = cc (is)
 
 -- a run has ended as the machine's, and what its keeper holds stands on the disk
 pub machine_run : (bytes text : List ℕ) (w : ListWorld) (left : Option (List ℕ)) (view : View) (status : Status)
-    → RanAs AreasMean (trace ode w bytes) (ending_of (pieces bytes)) w text left view status → IsMachineRun bytes w text left view status
+    → RanAs FileMeans (trace ode w bytes) (ending_of (pieces bytes)) w text left view status → IsMachineRun bytes w text left view status
 machine_run bytes text w left view status ran =
     record {
       stated = ran.stated;

@@ -1,8 +1,8 @@
 -- When the claims of a run hold.
 use Rattle.std.proofs.Common.{◌≡◌, ◌⊎◌, ◌∙◌, ◌++◌, ⊎_elim, List, ℕ, Option, Some, Ok, refl, sym, subst}
-use Rattle.ode_areas.specs.Holding.{AreasHold}
-use Rattle.ode_areas.specs.Image.{AreasMean}
-use Rattle.ode_areas.specs.declared.areas.Areas.{Areas}
+use Rattle.ode_keeper.specs.Holding.{KeeperHolds}
+use Rattle.ode_keeper.specs.Files.{FileMeans}
+use Rattle.ode_keeper.specs.declared.keeper.Keeper.{Keeper}
 use Rattle.ode_host.specs.Causes.{RoseIf}
 use Rattle.ode_host.specs.FirstSync.{SyncedRun}
 use Rattle.ode_host.specs.Host.{Keeps, LeavesOnly, Looks, Only, Prints, Tells}
@@ -62,9 +62,9 @@ module _ (script : Option (List ℕ)) (old new : View) (result : Status) (held :
   }
 
 -- The keeper of a file that was opened has what the file holds.
-module _ (old mid : View) (o : Opened Areas)
+module _ (old mid : View) (o : Opened Keeper)
     (keeper : (image : List ℕ) → Tells old image
-    → (entries : Entries) × AreasMean image entries × AreasHold o.keeper mid entries × AreOpened ode entries (Ok (base_in o))) where
+    → (entries : Entries) × FileMeans image entries × KeeperHolds o.keeper mid entries × AreOpened ode entries (Ok (base_in o))) where
   pub opens_to : (image : List ℕ) (w : ListWorld) → Tells old image → Holds image w → OpensTo image w o mid
   opens_to image w tells holds =
       let kept = keeper image tells in
@@ -93,8 +93,8 @@ module _ (script : Option (List ℕ)) (old mid : View) (failed : Type 0) (looks 
   }
 
   -- A script was run over its keeper.
-  pub world_opened : (o : Opened Areas)
-      → ((image : List ℕ) → Tells old image → (entries : Entries) × AreasMean image entries × AreasHold o.keeper mid entries × AreOpened ode entries (Ok (base_in o)))
+  pub world_opened : (o : Opened Keeper)
+      → ((image : List ℕ) → Tells old image → (entries : Entries) × FileMeans image entries × KeeperHolds o.keeper mid entries × AreOpened ode entries (Ok (base_in o)))
       → (failed → ⊥) → ((image : List ℕ) → Tells old image → Only image mid)
       → ((c p : List ℕ) → mid.left mid.moment c p → mid.text ≡ Some p)
       → (new : View) (after : Option (List ℕ)) (result : Status) → ((file out : List ℕ) → Tells new file → new.text ≡ Some out → new.left new.moment file out) → Keeps mid new

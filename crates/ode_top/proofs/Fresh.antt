@@ -1,6 +1,6 @@
 -- The fresh database.
 use Rattle.std.proofs.Common.{ℕ, List, [], refl}
-use Rattle.ode_areas.specs.Image.{AreasMean}
+use Rattle.ode_keeper.specs.Files.{FileMeans}
 use Rattle.ode_language.specs.Languages.{ode}
 use Rattle.ode_make.specs.Making.{first_rows}
 use Rattle.ode_value.specs.GoodWorlds.{IsGood}
@@ -12,7 +12,7 @@ use Rattle.ode_top.specs.Holds.{Holds}
 no_table : Table
 no_table = record { states = 0; symbols = 0; next = []; yes = [] }
 
-pub fresh_holds : IsGood ode empty_world → (image : List ℕ) → AreasMean image first_rows → Holds image empty_world
+pub fresh_holds : IsGood ode empty_world → (image : List ℕ) → FileMeans image first_rows → Holds image empty_world
 fresh_holds good image means = record {
   entries = first_rows;
   are = means;

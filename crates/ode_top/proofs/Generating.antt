@@ -1,8 +1,8 @@
 -- A run of a number's script.
 use Rattle.std.proofs.Common.{◌≡◌, ◌⊎◌, ◌∙◌, ⊎_elim, ℕ, zero, suc, List, [], ◌∷◌, ◌++◌, Bool, true, false, Option, Some, Ok, Err, append-nil, append_assoc, ap, refl, sym, subst}
-use Rattle.ode_areas.specs.Holding.{AreasHold}
-use Rattle.ode_areas.specs.Image.{AreasMean}
-use Rattle.ode_areas.specs.declared.areas.Areas.{Areas}
+use Rattle.ode_keeper.specs.Holding.{KeeperHolds}
+use Rattle.ode_keeper.specs.Files.{FileMeans}
+use Rattle.ode_keeper.specs.declared.keeper.Keeper.{Keeper}
 use Rattle.ode_gen.specs.Generating.{gen_script}
 use Rattle.ode_host.proofs.Moments.{tells_looks, weaker}
 use Rattle.ode_host.specs.FirstSync.{SyncedRun}
@@ -82,7 +82,7 @@ module _ (number : ℕ) (w : ListWorld) (text : List ℕ) where
       weaker old new (IsAfterSome Holds items w text) (IsAfterSome Holds (gen_items number w) w text) (λ c o some. before_line Holds items (gen_said number w) w text c o some) run
 
   -- and its line
-  module _ (tally : Tally) (left : Option (List ℕ)) (mid new : View) (result : Status) (ran : RanAs AreasMean items (ending_of (pieces (gen_script number))) w text left mid result)
+  module _ (tally : Tally) (left : Option (List ℕ)) (mid new : View) (result : Status) (ran : RanAs FileMeans items (ending_of (pieces (gen_script number))) w text left mid result)
       (counted : tally ≡ gen_tally number w) where
     said_before : mid.text ≡ Some text
     said_before = ran.ends.printed ∙ ap (λ (l : List ℕ). Some (text ++ l)) (nothing_heard (trace ode w (gen_script number))) ∙ ap Some (append-nil text)
@@ -158,8 +158,8 @@ module _ (number : ℕ) (old mid : View) (failed : Type 0) (looks : Looks old mi
   }
 
   -- The script was run over its keeper.
-  pub generates_opened : (o : Opened Areas)
-      → ((image : List ℕ) → Tells old image → (entries : Entries) × AreasMean image entries × AreasHold o.keeper mid entries × AreOpened ode entries (Ok (base_in o)))
+  pub generates_opened : (o : Opened Keeper)
+      → ((image : List ℕ) → Tells old image → (entries : Entries) × FileMeans image entries × KeeperHolds o.keeper mid entries × AreOpened ode entries (Ok (base_in o)))
       → (failed → ⊥) → ((image : List ℕ) → Tells old image → Only image mid) → ((c p : List ℕ) → mid.left mid.moment c p → mid.text ≡ Some p)
       → (new : View) (result : Status) → ((file out : List ℕ) → Tells new file → new.text ≡ Some out → new.left new.moment file out) → Keeps mid new
       → ((image text : List ℕ) (w : ListWorld) → OpensTo image w o mid → mid.text ≡ Some text → IsEnding result → IsGenerated number w text new result)

@@ -1,6 +1,6 @@
 -- What a call of the program is answered with.
 use Rattle.std.specs.Prelude.{◌≡◌, ◌⊎◌, ℕ, List, [], ◌∷◌, ◌++◌, take, true, Option, Some, Ok, Err, codes}
-use Rattle.ode_areas.specs.Image.{AreasMean}
+use Rattle.ode_keeper.specs.Files.{FileMeans}
 use Rattle.ode_causes.specs.Lines.{cause_line, format_line}
 use Rattle.ode_dump.specs.Dumping.{check_text, dump_text}
 use Rattle.ode_host.specs.Host.{Spares, Stands, Tells}
@@ -11,7 +11,7 @@ use Rattle.ode_keep.specs.Entries.{Entries}
 use Rattle.ode_language.specs.Languages.{ode}
 use Rattle.ode_gen.specs.Generating.{gen_line, gen_script}
 use Rattle.ode_machine.specs.Runs.{Item, Refuses, run_status, run_text, run_world, trace}
-use Rattle.ode_make.specs.Making.{IsInUse, IsInitialised, first_rows}
+use Rattle.ode_make.specs.Making.{IsInUse, IsInitialised, first_frame}
 use Rattle.ode_open.specs.Opening.{IsOpenedTo}
 use Rattle.ode_open.specs.declared.error.OpenError.{OpenError}
 use Rattle.ode_open.specs.declared.error.OpenError.TheVariants.{Memory, DiskFault, NoDatabase, NewerFormat, BadFile}
@@ -23,7 +23,6 @@ use Rattle.ode_trace.specs.Running.{LeavesNothing}
 use Rattle.ode_trace.specs.Tallies.{tally_of}
 use Rattle.ode_trace.specs.declared.tally.Tally.{Tally}
 use Rattle.ode_value.specs.Language.{ListWorld}
-use Rattle.ode_value.specs.Records.{snapshot}
 use Rattle.ode_value.specs.Texts.{line}
 use Rattle.ode_value.specs.Worlds.{empty_world}
 use Rattle.ode_value.specs.declared.class.Class.{Class}
@@ -81,7 +80,7 @@ pub record IsGenerated (number : ℕ) (w : ListWorld) (text : List ℕ) (view : 
 pub record IsMade (file text : List ℕ) (view : View) : Type 0 where
   pub image : List ℕ
   pub stands : Stands image view
-  pub made : IsInitialised (snapshot first_rows) file image
+  pub made : IsInitialised first_frame file image
   pub holds : Holds image empty_world
   pub printed : view.text ≡ Some (text ++ line (codes "ready"))
 
@@ -142,7 +141,7 @@ mode_text (mode.Gen number) classes entries = []
 pub record SaysRecords (m : Mode) (image said : List ℕ) : Type 0 where
   pub entries : Entries
   pub base : Base
-  pub means : AreasMean image entries
+  pub means : FileMeans image entries
   pub opened : AreOpened ode entries (Ok base)
   pub is : said ≡ mode_text m base.classes entries
 

@@ -1,8 +1,8 @@
 -- What it is that a file holds a world.
 use Rattle.std.specs.Prelude.{ℕ, List, Ok}
-use Rattle.ode_areas.specs.Holding.{AreasHold}
-use Rattle.ode_areas.specs.Image.{AreasMean}
-use Rattle.ode_areas.specs.declared.areas.Areas.{Areas}
+use Rattle.ode_keeper.specs.Holding.{KeeperHolds}
+use Rattle.ode_keeper.specs.Files.{FileMeans}
+use Rattle.ode_keeper.specs.declared.keeper.Keeper.{Keeper}
 use Rattle.ode_host.specs.View.{View}
 use Rattle.ode_keep.specs.Entries.{Entries}
 use Rattle.ode_open.specs.Opening.{base_in}
@@ -12,14 +12,14 @@ use Rattle.ode_language.specs.Languages.{ode}
 use Rattle.ode_transact.specs.Resting.{HoldsBy}
 use Rattle.ode_value.specs.Language.{ListWorld}
 
--- the file of two areas stands for records that hold this world
+-- the file stands for records that hold this world
 abbrev pub Holds : List ℕ → ListWorld → Type 0
-Holds image w = HoldsBy ode AreasMean image w
+Holds image w = HoldsBy ode FileMeans image w
 
 -- A file that holds this world was opened, and its keeper holds the records that were opened.
-pub record OpensTo (image : List ℕ) (w : ListWorld) (o : Opened Areas) (view : View) : Type 0 where
+pub record OpensTo (image : List ℕ) (w : ListWorld) (o : Opened Keeper) (view : View) : Type 0 where
   pub holds : Holds image w
   pub entries : Entries
-  pub means : AreasMean image entries
-  pub kept : AreasHold o.keeper view entries
+  pub means : FileMeans image entries
+  pub kept : KeeperHolds o.keeper view entries
   pub opened : AreOpened ode entries (Ok (base_in o))

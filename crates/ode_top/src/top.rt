@@ -1,6 +1,6 @@
 //! The call of the whole program.
 ghost use Rattle.std.specs.Prelude.{◌≡◌, ◌≢◌, ◌⊎◌, ◌↔◌, ◌++◌, ◌≤◌, ℕ, List as Items, Option, Some, None, IfOk, IsErrOf, IsTrue};
-ghost use Rattle.ode_areas.specs.Holding.{AreasHold, is_live};
+ghost use Rattle.ode_keeper.specs.Holding.{KeeperHolds, is_live};
 ghost use Rattle.ode_declared_laws.specs.Adding.{AreAligned};
 ghost use Rattle.ode_dump.specs.Dumping.{AreRecords};
 ghost use Rattle.ode_host.specs.Causes.{RoseIf};
@@ -22,13 +22,13 @@ ghost use Rattle.ode_top.specs.Claims.{Generates, Initialises, Inspects, RunsNon
 ghost use Rattle.ode_top.specs.Holds.{Holds, OpensTo};
 
 use crate::call::{Mode, call_of};
-use ode_areas::Areas;
 use ode_causes::{cause_line, format_line};
 use ode_dump::{check_text, dump_text, tallied_records_decode};
 use ode_file_laws::files_of_worlds_are_opened;
 use ode_gen::{TextSource, gen_line, gen_script, generated_scripts_end};
 use ode_good_runs::runs_stay_good;
 use ode_host::{Failed, Host, Source, Status};
+use ode_keeper::Keeper;
 use ode_language_laws::language_has_sound_rules;
 use ode_make::{InitError, initialise};
 use ode_open::{OpenError, open_base};
@@ -87,7 +87,7 @@ fn run_opened<H: Host, S: Source>(
     alloc: Global,
     script: &mut S,
     host: &mut H,
-    opened: Opened<Areas>,
+    opened: Opened<Keeper>,
 ) -> Status
     requires live { IsTrue (is_live opened.keeper) }
     requires fit { AreFit (resting_parts opened) }
@@ -192,7 +192,7 @@ fn say_counts<H: Host>(
 }
 
 // A run of a number's script over an opened file. What it prints is the line behind it.
-fn gen_opened<H: Host>(alloc: Global, host: &mut H, opened: Opened<Areas>, number: u32) -> Status
+fn gen_opened<H: Host>(alloc: Global, host: &mut H, opened: Opened<Keeper>, number: u32) -> Status
     requires live { IsTrue (is_live opened.keeper) }
     requires fit { AreFit (resting_parts opened) }
     requires aligned { AreAligned (resting_parts opened) }
@@ -247,12 +247,12 @@ fn text_of<H: Host>(
     alloc: Global,
     host: &mut H,
     mode: Mode,
-    opened: Opened<Areas>,
+    opened: Opened<Keeper>,
 ) -> Result<List<u8>, ReadError>
     requires live { IsTrue (is_live opened.keeper) }
-    ensures text { IfOk result (λ text. (entries : Entries) → AreasHold opened.keeper (H.view host.old) entries
+    ensures text { IfOk result (λ text. (entries : Entries) → KeeperHolds opened.keeper (H.view host.old) entries
         → text ≡ mode_text mode opened.classes entries) }
-    ensures broken { OnBroken result ((entries : Entries) → AreasHold opened.keeper (H.view host.old) entries → AreRecords entries → ⊥) }
+    ensures broken { OnBroken result ((entries : Entries) → KeeperHolds opened.keeper (H.view host.old) entries → AreRecords entries → ⊥) }
     ensures looks { Looks (H.view host.old) (H.view host.new) }
     ensures cause { RoseIf (IsErrOf result ReadError.DiskFault) (H.view host.old).disk_faults (H.view host.new).disk_faults }
 {

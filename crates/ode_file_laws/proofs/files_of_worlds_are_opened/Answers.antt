@@ -1,4 +1,5 @@
 use Rattle.std.proofs.Common.{Err, Ok, inr, refl}
+use Rattle.ode_keeper.proofs.Held.{meant_map}
 use Rattle.ode_open.proofs.One.{one_opening}
 use Rattle.ode_opened_laws.specs.WorldBases.{world_base}
 use Rattle.ode_language.specs.Languages.{ode}
@@ -7,12 +8,12 @@ use Rattle.ode_file_laws.proofs.files_of_worlds_are_opened.Goals as goal
 
 pub returns-clause-opened : goal.returns-clause-opened
 returns-clause-opened c = λ image entries w means holds ones.
+    let under = meant_map image entries means in
     inr (inr (inr (inr (record {
-      header = means.header;
-      counts = means.counts;
-      areas = means.areas;
+      header = under.0;
+      counts = under.1;
       entries = entries;
-      has = means.has;
+      has = under.2;
       within = records_are_light ode entries w holds;
       opened = Ok (world_base holds.stored.tables w.bones);
       are =
