@@ -1,9 +1,11 @@
 //! What a test does with a file, act by act.
 use crate::images::{
-    Numbers, class_file, file_with, filled, first_file, front, next_numbers, put_at, put_queue,
-    three_frames, turned, two_slots,
+    Numbers, areas_file, class_file, file_with, filled, first_file, front, next_numbers, put_at,
+    put_queue, three_frames, three_pages, turned, two_slots,
 };
-use crate::trial::{Case, FIRST, MEMORY, equal, holds, new_file, run, run_case, stays};
+use crate::trial::{
+    Case, FIRST, MEMORY, call, equal, holds, new_file, run, run_case, smooth, source, stays,
+};
 use ode_host::Status;
 use std::alloc::Global;
 use std::process::Abort;
@@ -12,10 +14,14 @@ use std::process::Abort;
 pub enum Made {
     /// The one that `init` makes.
     New,
+    /// An empty database in two areas, as `init` made it once. So are those below that aren't of pages.
+    Areas,
     /// One whose snapshot has what the first script leaves.
     First,
-    /// A new one with the three frames of the first script.
+    /// One with the three frames of the first script.
     Frames,
+    /// A new one of pages with the three frames of the first script.
+    Pages,
     /// One whose snapshot has a class `P` with this text.
     Class(&'static str),
     /// One whose snapshot has a class of two texts, and so many of its longest objects.
@@ -29,8 +35,10 @@ pub enum Made {
 fn file_of(rt: &impl Abort, alloc: Global, made: &Made) -> Vec<u8> {
     match made {
         Made::New => new_file(rt, alloc),
+        Made::Areas => areas_file(rt, alloc),
         Made::First => first_file(rt, alloc),
         Made::Frames => three_frames(rt, alloc),
+        Made::Pages => three_pages(rt, alloc),
         Made::Class(text) => class_file(rt, alloc, text),
         Made::Filled(objects) => filled(rt, alloc, *objects),
         Made::Counters(object, next) => file_with(rt, alloc, next_numbers(*object, *next)),
@@ -51,7 +59,8 @@ pub enum Act {
     Put(usize, &'static [u8]),
     /// A script runs on it and ends with `Ok`.
     Run(&'static str),
-    /// So many entries more wait for the first object's first trigger, and this is the next transaction.
+    /// So many entries more wait for the first object's first trigger, and this is the next transaction. The file is one of two
+    /// areas.
     Queue(u64, u64),
     /// A run is as the case says.
     Case(Case<'static>),
@@ -59,7 +68,9 @@ pub enum Act {
     Stays(Case<'static>),
     /// A run of the first script on a file of this name prints this line, ends as on a bad file, and leaves it as it was.
     Refused(&'static str, &'static str),
-    /// The same with any line that says which rule the file breaks.
+    /// The same of a check.
+    Checked(&'static str, &'static str),
+    /// The same as of the run, with any line that says which rule the file breaks.
     Bad(&'static str),
     /// The same where these bits are turned at one of these places.
     BadTurned(&'static [Turned]),
@@ -78,6 +89,14 @@ fn is_refused(rt: &impl Abort, alloc: Global, image: &[u8], name: &str, line: &s
         status: Status::BadFile,
     };
     stays(rt, alloc, image, &case);
+}
+
+// A check prints this line, ends as on a bad file, and writes nothing.
+fn is_checked(rt: &impl Abort, alloc: Global, image: &[u8], name: &str, line: &str) {
+    let script = source(rt, alloc, "", &[], 1);
+    let checked = call(rt, alloc, &["check", "f"], script, image, smooth(alloc));
+    checked.is(rt, line, Status::BadFile, name);
+    checked.leaves(rt, image, name);
 }
 
 // A run of the first script says which rule the file breaks, ends as on a bad file, and writes nothing.
@@ -139,6 +158,7 @@ fn change(rt: &impl Abort, alloc: Global, file: &mut Vec<u8>, act: &Act) {
         Act::Case(case) => *file = run_case(rt, alloc, file, case).image(rt, alloc),
         Act::Stays(_)
         | Act::Refused(_, _)
+        | Act::Checked(_, _)
         | Act::Bad(_)
         | Act::BadTurned(_)
         | Act::BadCut(_)
@@ -151,6 +171,7 @@ fn check(rt: &impl Abort, alloc: Global, file: &[u8], act: &Act) {
     match act {
         Act::Stays(case) => stays(rt, alloc, file, case),
         Act::Refused(name, line) => is_refused(rt, alloc, file, name, line),
+        Act::Checked(name, line) => is_checked(rt, alloc, file, name, line),
         Act::Bad(name) => is_bad(rt, alloc, file, name),
         Act::BadTurned(rows) => turned_are_bad(rt, alloc, file, rows),
         Act::BadCut(lengths) => cut_are_bad(rt, alloc, file, lengths),

@@ -3,27 +3,27 @@ use crate::acts::{Act, Made, Turned, play};
 use crate::trial::{Case, FIRST, FIRST_TEXT};
 use ode_host::Status;
 
-// Changes of a new file, and what is then said of it.
+// Changes of an empty database in two areas, and what is then said of it.
 const BROKEN: &[Act] = &[
-    Act::Make(Made::New),
+    Act::Make(Made::Areas),
     Act::Put(0, b"\0"),
     Act::Refused("a shut slot", "no database\n"),
-    Act::Make(Made::New),
+    Act::Make(Made::Areas),
     Act::Put(1, b"\0"),
     Act::Refused("another name", "bad file header 0\n"),
-    Act::Make(Made::New),
+    Act::Make(Made::Areas),
     Act::Put(12, b"\x09"),
     Act::Refused("format 9", "newer format 9\n"),
-    Act::Make(Made::New),
+    Act::Make(Made::Areas),
     Act::Put(16, b"\x03"),
     Act::Refused("layout 3", "bad file header 0\n"),
-    Act::Make(Made::New),
+    Act::Make(Made::Areas),
     Act::Put(4096, b"\0"),
     Act::Refused("a record of no kind", "bad file record 0 0 0\n"),
-    Act::Make(Made::New),
+    Act::Make(Made::Areas),
     Act::Put(4156, b"\x02"),
     Act::Refused("counters with another end", "bad file record 1 0 0\n"),
-    Act::Make(Made::New),
+    Act::Make(Made::Areas),
     Act::Length(4100),
     Act::Refused("a snapshot that is cut short", "bad file journal 4096\n"),
 ];
@@ -33,11 +33,51 @@ fn a_refused_file_says_which_rule_it_breaks(rt: HostRuntime) {
     play(&rt, rt.alloc(), BROKEN);
 }
 
+// Changes of a new file, and what a check then says of it.
+const BROKEN_PAGES: &[Act] = &[
+    Act::Make(Made::New),
+    Act::HasLength(4178),
+    Act::Put(0, b"\0"),
+    Act::Checked("a shut slot", "no database\n"),
+    Act::Make(Made::New),
+    Act::Put(1, b"\0"),
+    Act::Checked("another name", "bad file header 0\n"),
+    Act::Make(Made::New),
+    Act::Put(12, b"\x09"),
+    Act::Checked("format 9", "newer format 9\n"),
+    Act::Make(Made::New),
+    Act::Put(16, b"\x03"),
+    Act::Checked("layout 3", "bad file header 0\n"),
+    Act::Make(Made::New),
+    Act::Length(4100),
+    Act::Checked("a frame that is cut short", "bad file journal 4096\n"),
+    Act::Make(Made::New),
+    Act::Put(4097, b"\xFF\xFF\xFF\xFF"),
+    Act::Checked("a frame that is too long", "bad file journal 4096\n"),
+    Act::Make(Made::New),
+    Act::Put(4156, b"\x02"),
+    Act::Checked("a clock neither set nor not", "bad file record 1 0 0\n"),
+    Act::Make(Made::New),
+    Act::Put(4096, b"\0"),
+    Act::Checked("no counters", "bad file missing 1 0 0\n"),
+    Act::Make(Made::New),
+    Act::Put(40, b"\x02"),
+    Act::Checked("a page that is not there", "bad file page 1\n"),
+    Act::Make(Made::New),
+    Act::Put(4112, b"\x02"),
+    Act::Checked("a page with an entry too much", "bad file page 0\n"),
+];
+
+#[test]
+fn a_check_says_which_rule_a_file_of_pages_breaks(rt: HostRuntime) {
+    play(&rt, rt.alloc(), BROKEN_PAGES);
+}
+
 const SHUT: &[Act] = &[
     Act::Refused("an empty file", "no database\n"),
     Act::Length(5000),
     Act::Refused("a file of zeros", "no database\n"),
-    Act::Make(Made::New),
+    Act::Make(Made::Areas),
     Act::Put(0, b"\x25"),
     Act::Refused("a file whose slot is shut", "no database\n"),
 ];
@@ -61,10 +101,27 @@ const HEADER: &[Turned] = &[
     (56, 56, 0x01),
 ];
 
-const NEW_HEADER: &[Act] = &[Act::Make(Made::New), Act::BadTurned(HEADER)];
+const AREAS_HEADER: &[Act] = &[Act::Make(Made::Areas), Act::BadTurned(HEADER)];
+
+// One page more is one that isn't there, but for the first one, which has an image.
+const PAGES_HEADER: &[Turned] = &[
+    (1, 56, 0x80),
+    (1, 1, 0x01),
+    (8, 8, 0x01),
+    (12, 12, 0x01),
+    (16, 16, 0x01),
+    (24, 24, 0x01),
+    (31, 32, 0x01),
+    (33, 39, 0x01),
+    (40, 40, 0x02),
+    (41, 56, 0x01),
+];
+
+const NEW_HEADER: &[Act] = &[Act::Make(Made::New), Act::BadTurned(PAGES_HEADER)];
 
 #[test]
 fn a_header_with_a_wrong_byte_is_bad(rt: HostRuntime) {
+    play(&rt, rt.alloc(), AREAS_HEADER);
     play(&rt, rt.alloc(), NEW_HEADER);
 }
 
@@ -81,10 +138,26 @@ const COUNTERS: &[Turned] = &[
     (4138, 4138, 0x01),
 ];
 
-const NEW_COUNTERS: &[Act] = &[Act::Make(Made::New), Act::BadTurned(COUNTERS)];
+const AREAS_COUNTERS: &[Act] = &[Act::Make(Made::Areas), Act::BadTurned(COUNTERS)];
+
+// The same of a file of pages, behind the length, the number of images, the number and the length of the page, and the number of
+// its records.
+const PAGES_COUNTERS: &[Turned] = &[
+    (4097, 4132, 0x80),
+    (4097, 4131, 0x01),
+    (4156, 4176, 0x80),
+    (4140, 4140, 0x80),
+    (4148, 4148, 0x80),
+    (4139, 4139, 0x01),
+    (4147, 4147, 0x01),
+    (4155, 4155, 0x01),
+];
+
+const NEW_COUNTERS: &[Act] = &[Act::Make(Made::New), Act::BadTurned(PAGES_COUNTERS)];
 
 #[test]
 fn counters_with_a_wrong_byte_are_bad(rt: HostRuntime) {
+    play(&rt, rt.alloc(), AREAS_COUNTERS);
     play(&rt, rt.alloc(), NEW_COUNTERS);
 }
 
@@ -156,9 +229,16 @@ const FRAME: &[Turned] = &[(4161, 4188, 0x80), (4161, 4188, 0x01)];
 
 const FIRST_FRAME: &[Act] = &[Act::Make(Made::Frames), Act::BadTurned(FRAME)];
 
+// The length, the number of images, the number and the length of the page in the first frame behind that of a new file. The next
+// frame has the page anew.
+const PAGE_FRAME: &[Turned] = &[(4178, 4191, 0x80), (4178, 4191, 0x01)];
+
+const FIRST_PAGE: &[Act] = &[Act::Make(Made::Pages), Act::BadTurned(PAGE_FRAME)];
+
 #[test]
 fn a_frame_with_a_wrong_byte_is_bad(rt: HostRuntime) {
     play(&rt, rt.alloc(), FIRST_FRAME);
+    play(&rt, rt.alloc(), FIRST_PAGE);
 }
 
 const FRAMES: &[Act] = &[
@@ -167,17 +247,33 @@ const FRAMES: &[Act] = &[
     Act::BadCut(&[(4161, 4515)]),
 ];
 
+const PAGES: &[Act] = &[
+    Act::Make(Made::Pages),
+    Act::HasLength(4747),
+    Act::BadCut(&[(4178, 4746)]),
+];
+
 #[test]
 fn a_journal_that_is_cut_short_is_bad(rt: HostRuntime) {
     play(&rt, rt.alloc(), FRAMES);
+    play(&rt, rt.alloc(), PAGES);
 }
 
 const LENGTHS: &[(usize, usize)] = &[(1, 1), (9, 9), (56, 57), (4095, 4097), (4159, 4160)];
 
-const NEW_LENGTHS: &[Act] = &[Act::Make(Made::New), Act::BadCut(LENGTHS)];
+const AREAS_LENGTHS: &[Act] = &[
+    Act::Make(Made::Areas),
+    Act::HasLength(4161),
+    Act::BadCut(LENGTHS),
+];
+
+const PAGES_LENGTHS: &[(usize, usize)] = &[(1, 1), (9, 9), (56, 57), (4095, 4177)];
+
+const NEW_LENGTHS: &[Act] = &[Act::Make(Made::New), Act::BadCut(PAGES_LENGTHS)];
 
 #[test]
 fn a_file_that_is_cut_short_is_bad(rt: HostRuntime) {
+    play(&rt, rt.alloc(), AREAS_LENGTHS);
     play(&rt, rt.alloc(), NEW_LENGTHS);
 }
 
@@ -189,27 +285,46 @@ const GOOD: Case = Case {
     status: Status::Ok,
 };
 
-// The gate behind the snapshot.
+// The gate behind the snapshot of a file of two areas.
 const GATES: &[Act] = &[
-    Act::Make(Made::New),
+    Act::Make(Made::Areas),
     Act::Put(4160, b"\xA5"),
     Act::Bad("a file with an open gate"),
     Act::Put(4160, b"\x01"),
     Act::Case(GOOD),
-    Act::Make(Made::New),
+    Act::Make(Made::Areas),
     Act::Put(4160, b"\x25"),
     Act::Case(GOOD),
-    Act::Make(Made::New),
+    Act::Make(Made::Areas),
     Act::Put(4160, b"\xA4"),
     Act::Case(GOOD),
-    Act::Make(Made::New),
+    Act::Make(Made::Areas),
     Act::Put(4160, b"\xFF"),
     Act::Case(GOOD),
 ];
 
+// The gate behind the frame of a new file.
+const NEW_GATES: &[Act] = &[
+    Act::Make(Made::New),
+    Act::Put(4177, b"\xA5"),
+    Act::Bad("a new file with an open gate"),
+    Act::Put(4177, b"\x01"),
+    Act::Case(GOOD),
+    Act::Make(Made::New),
+    Act::Put(4177, b"\x25"),
+    Act::Case(GOOD),
+    Act::Make(Made::New),
+    Act::Put(4177, b"\xA4"),
+    Act::Case(GOOD),
+    Act::Make(Made::New),
+    Act::Put(4177, b"\xFF"),
+    Act::Case(GOOD),
+];
+
 #[test]
-fn an_open_gate_behind_the_snapshot_is_bad_and_any_other_is_shut(rt: HostRuntime) {
+fn an_open_gate_at_the_end_is_bad_and_any_other_is_shut(rt: HostRuntime) {
     play(&rt, rt.alloc(), GATES);
+    play(&rt, rt.alloc(), NEW_GATES);
 }
 
 const SLOTS: &[Act] = &[
@@ -239,7 +354,7 @@ fn of_two_open_slots_one_comes_after_the_other(rt: HostRuntime) {
 }
 
 const BROKEN_SLOTS: &[Act] = &[
-    Act::Make(Made::New),
+    Act::Make(Made::Areas),
     Act::Length(5000),
     Act::Put(2048, b"\xA5"),
     Act::Bad("a second slot that is broken"),

@@ -1,5 +1,6 @@
 //! A stop within the write of a gate: what the gate reads then says whether the transaction is there.
-use crate::trial::{Case, calls_of, equal, new_file, run_case, run_stopped, stopped_image};
+use crate::images::{LAYOUTS, empty_file};
+use crate::trial::{Case, calls_of, equal, run_case, run_stopped, stopped_image};
 use ode_host::{Status, Torn};
 use std::alloc::Global;
 use std::process::Abort;
@@ -102,9 +103,11 @@ static WITHDRAWAL: Stopped = Stopped {
 
 #[test]
 fn a_withdrawal_is_there_where_its_gate_is_open(rt: HostRuntime) {
-    let file = new_file(&rt, rt.alloc());
-    let ran = run_case(&rt, rt.alloc(), &file, &ACCOUNT_RUN);
-    is_there_where_its_gate_is_open(&rt, rt.alloc(), ran.host.image(), &WITHDRAWAL);
+    for layout in &LAYOUTS {
+        let file = empty_file(&rt, rt.alloc(), *layout);
+        let ran = run_case(&rt, rt.alloc(), &file, &ACCOUNT_RUN);
+        is_there_where_its_gate_is_open(&rt, rt.alloc(), ran.host.image(), &WITHDRAWAL);
+    }
 }
 
 // The last transaction is the queued action's own.
@@ -133,6 +136,8 @@ begin; pnew P(); activate #1.d(); commit; #1.a();
 
 #[test]
 fn a_queued_action_runs_again_where_its_gate_is_shut(rt: HostRuntime) {
-    let file = new_file(&rt, rt.alloc());
-    is_there_where_its_gate_is_open(&rt, rt.alloc(), &file, &ENTRY);
+    for layout in &LAYOUTS {
+        let file = empty_file(&rt, rt.alloc(), *layout);
+        is_there_where_its_gate_is_open(&rt, rt.alloc(), &file, &ENTRY);
+    }
 }

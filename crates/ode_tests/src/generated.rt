@@ -1,4 +1,5 @@
 //! A `gen` that is cut leaves what some first statements of its script make.
+use crate::images::{LAYOUTS, Layout};
 use crate::pickups::{Course, Cut, Part, Step, TEARS, course_of, goes_on};
 use crate::trial::{MEMORY, call, equal, holds, source};
 use ode_host::{Status, Torn};
@@ -70,18 +71,23 @@ fn cuts(rt: &impl Abort, alloc: Global, course: &Course, part: Part, torn: Torn)
 }
 
 // Each of the four transactions makes four calls of the disk, and the line is printed by one call.
+fn stops_of_course(rt: &impl Abort, alloc: Global, course: &Course) {
+    for torn in &TEARS {
+        let stops = cuts(rt, alloc, course, Part::Host, *torn);
+        holds(rt, stops >= 17 && stops < 40, "the stops");
+    }
+}
+
 #[test]
 fn a_gen_that_is_stopped_anywhere_leaves_first_steps(rt: HostRuntime) {
-    let course = course_of(&rt, rt.alloc(), MADE);
-    for torn in &TEARS {
-        let stops = cuts(&rt, rt.alloc(), &course, Part::Host, *torn);
-        holds(&rt, stops >= 17 && stops < 40, "the stops");
+    for layout in &LAYOUTS {
+        stops_of_course(&rt, rt.alloc(), &course_of(&rt, rt.alloc(), MADE, *layout));
     }
 }
 
 #[test]
 fn a_gen_whose_disk_or_output_fails_anywhere_leaves_first_steps(rt: HostRuntime) {
-    let course = course_of(&rt, rt.alloc(), MADE);
+    let course = course_of(&rt, rt.alloc(), MADE, Layout::Pages);
     let calls = cuts(&rt, rt.alloc(), &course, Part::Host, Torn::Whole);
     let prints = cuts(&rt, rt.alloc(), &course, Part::Output, Torn::Whole);
     equal(&rt, prints, 1, "the print");

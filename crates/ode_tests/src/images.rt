@@ -3,6 +3,18 @@ use crate::trial::{MEMORY, bytes_of, new_file};
 use std::alloc::Global;
 use std::process::Abort;
 
+/// A layout of files.
+#[derive(Clone, Copy, Debug, PartialEq)]
+pub enum Layout {
+    /// Layout 1: a snapshot and a journal in two areas, as `init` made it once.
+    Areas,
+    /// Layout 2: pages and a journal of their images, as `init` makes it.
+    Pages,
+}
+
+/// All layouts.
+pub const LAYOUTS: [Layout; 2] = [Layout::Areas, Layout::Pages];
+
 /// The numbers that come next.
 #[derive(Clone, Copy)]
 pub struct Numbers {
@@ -136,11 +148,14 @@ fn body_of(rt: &impl Abort, alloc: Global, records: &[Record]) -> Vec<u8> {
     body
 }
 
+// The front of the first slot of a file of two areas: its gate, the name, format 1, layout 1 and generation 1; the snapshot stands
+// at 4,096.
+const AREAS_FRONT: &[u8] = b"\xA5ODEBASE1\0\0\0\x01\0\0\0\x01\0\0\0\0\0\0\0\x01\0\0\0\0\0\0\x10\0";
+
 // A file with this snapshot in its first area, and an empty journal. The numbers of the snapshot and of the areas stand behind
-// the first 33 bytes.
+// the front of the slot.
 fn file_of(rt: &impl Abort, alloc: Global, body: &[u8]) -> Vec<u8> {
-    let mut file = new_file(rt, alloc);
-    file.truncate(33);
+    let mut file = bytes_of(rt, alloc, AREAS_FRONT);
     let length = body.len() as u64;
     put_numbers(
         rt,
@@ -155,6 +170,20 @@ fn file_of(rt: &impl Abort, alloc: Global, body: &[u8]) -> Vec<u8> {
     file.extend_from_slice(body).expect(rt, MEMORY);
     file.push(0).expect(rt, MEMORY);
     file
+}
+
+/// An empty database in two areas: its snapshot has the counters alone.
+pub fn areas_file(rt: &impl Abort, alloc: Global) -> Vec<u8> {
+    let counters = Record::Counters(next_numbers(1, 1));
+    file_of(rt, alloc, &body_of(rt, alloc, &[counters]))
+}
+
+/// An empty database of this layout.
+pub fn empty_file(rt: &impl Abort, alloc: Global, layout: Layout) -> Vec<u8> {
+    match layout {
+        Layout::Areas => areas_file(rt, alloc),
+        Layout::Pages => new_file(rt, alloc),
+    }
 }
 
 // The text of the first script's class.
@@ -219,13 +248,29 @@ fn payload_of(rt: &impl Abort, alloc: Global, records: &[Record]) -> Vec<u8> {
     payload
 }
 
-// The file with a frame more, which puts these records, behind the gate that ends the file.
-fn put_frame(rt: &impl Abort, alloc: Global, file: &mut Vec<u8>, records: &[Record]) {
-    let payload = payload_of(rt, alloc, records);
+// The file with a frame more, which has this payload, behind the gate that ends the file.
+fn put_payload(rt: &impl Abort, file: &mut Vec<u8>, payload: &[u8]) {
     let _ = file.pop();
     put_numbers(rt, file, &[(1, 0xA5), (4, payload.len() as u64)]);
-    file.extend_from_slice(&payload).expect(rt, MEMORY);
+    file.extend_from_slice(payload).expect(rt, MEMORY);
     put_numbers(rt, file, &[(1, 0)]);
+}
+
+// The file of two areas with a frame more, which puts these records.
+fn put_frame(rt: &impl Abort, alloc: Global, file: &mut Vec<u8>, records: &[Record]) {
+    let payload = payload_of(rt, alloc, records);
+    put_payload(rt, file, &payload);
+}
+
+// The file of pages with a frame more, in which page 0 has these records and no others.
+fn put_page(rt: &impl Abort, alloc: Global, file: &mut Vec<u8>, records: &[Record]) {
+    let entries = body_of(rt, alloc, records);
+    let used = (entries.len() as u64).saturating_add(2);
+    let count = records.len() as u64;
+    let mut payload = Vec::new(alloc);
+    put_numbers(rt, &mut payload, &[(4, 1), (4, 0), (2, used), (2, count)]);
+    payload.extend_from_slice(&entries).expect(rt, MEMORY);
+    put_payload(rt, file, &payload);
 }
 
 /// The file with these counters and so many entries more, numbered from 1 on, each in a frame of its own.
@@ -236,10 +281,10 @@ pub fn put_queue(rt: &impl Abort, alloc: Global, file: &mut Vec<u8>, entries: u6
     }
 }
 
-/// A new file with the three frames of the first script: one declares the class, one makes an object, and one draws its number
-/// alone.
+/// An empty database of two areas with the three frames of the first script: one declares the class, one makes an object, and
+/// one draws its number alone.
 pub fn three_frames(rt: &impl Abort, alloc: Global) -> Vec<u8> {
-    let mut file = new_file(rt, alloc);
+    let mut file = areas_file(rt, alloc);
     let counters = Record::Counters(next_numbers(1, 2));
     let class = [counters, Record::Head(CLASS), Record::Text(CLASS)];
     put_frame(rt, alloc, &mut file, &class);
@@ -248,6 +293,29 @@ pub fn three_frames(rt: &impl Abort, alloc: Global) -> Vec<u8> {
     put_frame(rt, alloc, &mut file, &object);
     let counters = Record::Counters(next_numbers(2, 4));
     put_frame(rt, alloc, &mut file, &[counters]);
+    file
+}
+
+// A page with these counters, the first script's class and its object.
+fn put_object(rt: &impl Abort, alloc: Global, file: &mut Vec<u8>, next: Numbers) {
+    let records = [
+        Record::Counters(next),
+        Record::Head(CLASS),
+        Record::Text(CLASS),
+        Record::Object(1),
+        Record::Version(1),
+    ];
+    put_page(rt, alloc, file, &records);
+}
+
+/// A new file of pages with the three frames of the first script, each of which has page 0 as it is then.
+pub fn three_pages(rt: &impl Abort, alloc: Global) -> Vec<u8> {
+    let mut file = new_file(rt, alloc);
+    let counters = Record::Counters(next_numbers(1, 2));
+    let class = [counters, Record::Head(CLASS), Record::Text(CLASS)];
+    put_page(rt, alloc, &mut file, &class);
+    put_object(rt, alloc, &mut file, next_numbers(2, 3));
+    put_object(rt, alloc, &mut file, next_numbers(2, 4));
     file
 }
 
@@ -283,9 +351,9 @@ pub fn front(image: &[u8], length: usize) -> &[u8] {
     image.get(..length).unwrap_or(&[])
 }
 
-// A file of 5,000 bytes with this generation in slot 0. Slot 1 is shut.
+// A file of two areas and 5,000 bytes with this generation in slot 0. Slot 1 is shut.
 fn one_slot(rt: &impl Abort, alloc: Global, generation: u8) -> Vec<u8> {
-    let mut file = new_file(rt, alloc);
+    let mut file = areas_file(rt, alloc);
     file.resize(5000, 0).expect(rt, MEMORY);
     put_at(&mut file, 24, &[generation]);
     file

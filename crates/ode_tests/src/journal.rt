@@ -1,5 +1,7 @@
-//! What a run writes behind the snapshot, and in which calls.
-use crate::images::{first_file, front, patched, three_frames};
+//! What a run adds to a journal, and in which calls.
+use crate::images::{
+    Layout, areas_file, empty_file, first_file, front, patched, three_frames, three_pages,
+};
 use crate::trial::{
     Case, FIRST, FIRST_TEXT, Trial, calls_of, equal, new_file, run_case, run_stopped, stopped_image,
 };
@@ -14,11 +16,19 @@ static FIRST_RUN: Case = Case {
     status: Status::Ok,
 };
 
+// The first script adds these frames to a file.
+fn adds(rt: &impl Abort, alloc: Global, file: &[u8], frames: &[u8]) {
+    let ran = run_case(rt, alloc, file, &FIRST_RUN);
+    ran.leaves(rt, frames, FIRST_RUN.name);
+}
+
+// A file of two areas stays one.
 #[test]
 fn each_transaction_adds_a_frame_and_nothing_else_changes(rt: HostRuntime) {
-    let file = new_file(&rt, rt.alloc());
-    let ran = run_case(&rt, rt.alloc(), &file, &FIRST_RUN);
-    ran.leaves(&rt, &three_frames(&rt, rt.alloc()), FIRST_RUN.name);
+    let areas = areas_file(&rt, rt.alloc());
+    adds(&rt, rt.alloc(), &areas, &three_frames(&rt, rt.alloc()));
+    let pages = new_file(&rt, rt.alloc());
+    adds(&rt, rt.alloc(), &pages, &three_pages(&rt, rt.alloc()));
 }
 
 static MORE: Case = Case {
@@ -73,47 +83,77 @@ fn a_file_with_a_snapshot_goes_on_as_it_is(rt: HostRuntime) {
     }
 }
 
-// Where the gate of the first script's second transaction stands. Each transaction makes five calls of the host, and none
-// follows those of the third, which is the last.
-const GATE: usize = 4304;
+// A layout, where the gate of the first script's second transaction stands in a file of it, and how long the file is behind that
+// transaction.
+#[derive(Clone, Copy)]
+struct Kind {
+    layout: Layout,
+    gate: usize,
+    length: usize,
+}
 
-// A stop at so many calls before the end of the first script, the file's length then, and what the gate reads.
-type Stop = (u64, Torn, usize, u8);
+// Each transaction makes five calls of the host, and none follows those of the third, which is the last.
+const KINDS: [Kind; 2] = [
+    Kind {
+        layout: Layout::Areas,
+        gate: 4304,
+        length: 4442,
+    },
+    Kind {
+        layout: Layout::Pages,
+        gate: 4326,
+        length: 4537,
+    },
+];
+
+// A stop at so many calls before the end of the first script, whether the frame is in the file then, and what the gate reads.
+type Stop = (u64, Torn, bool, u8);
 
 // The second transaction's five calls: a write, a sync, a write, a sync and a print. Of a stop at each there is one where
 // nothing of what is pending is left, and one where all is.
 const STOPS: [Stop; 10] = [
-    (10, Torn::Nothing, 4305, 0),
-    (10, Torn::Whole, 4442, 0),
-    (9, Torn::Nothing, 4305, 0),
-    (9, Torn::Whole, 4442, 0),
-    (8, Torn::Nothing, 4442, 0),
-    (8, Torn::Whole, 4442, 0xA5),
-    (7, Torn::Nothing, 4442, 0),
-    (7, Torn::Whole, 4442, 0xA5),
-    (6, Torn::Nothing, 4442, 0xA5),
-    (6, Torn::Whole, 4442, 0xA5),
+    (10, Torn::Nothing, false, 0),
+    (10, Torn::Whole, true, 0),
+    (9, Torn::Nothing, false, 0),
+    (9, Torn::Whole, true, 0),
+    (8, Torn::Nothing, true, 0),
+    (8, Torn::Whole, true, 0xA5),
+    (7, Torn::Nothing, true, 0),
+    (7, Torn::Whole, true, 0xA5),
+    (6, Torn::Nothing, true, 0xA5),
+    (6, Torn::Whole, true, 0xA5),
 ];
 
-fn is_left(rt: &impl Abort, alloc: Global, file: &[u8], calls: u64, row: &Stop) {
-    let (back, torn, _, _) = *row;
+// How long a file of this kind is with the frame or without it.
+fn length(kind: &Kind, has_frame: bool) -> usize {
+    if has_frame {
+        kind.length
+    } else {
+        kind.gate.saturating_add(1)
+    }
+}
+
+fn is_left(rt: &impl Abort, alloc: Global, file: &[u8], calls: u64, kind: &Kind, row: &Stop) {
+    let (back, torn, has_frame, gate) = *row;
     let at = calls.saturating_sub(back);
     let image = run_stopped(rt, alloc, file, FIRST, at, torn).after_stop(rt, alloc);
-    let gate = image.get(GATE).copied().unwrap_or(1);
+    let found = image.get(kind.gate).copied().unwrap_or(1);
     equal(
         rt,
-        (back, torn, image.len(), gate),
-        *row,
+        (back, torn, image.len(), found),
+        (back, torn, length(kind, has_frame), gate),
         "what a stop leaves",
     );
 }
 
 #[test]
 fn a_transaction_makes_two_writes_two_syncs_and_a_print(rt: HostRuntime) {
-    let file = new_file(&rt, rt.alloc());
-    let calls = calls_of(&rt, rt.alloc(), &file, FIRST);
-    for row in &STOPS {
-        is_left(&rt, rt.alloc(), &file, calls, row);
+    for kind in &KINDS {
+        let file = empty_file(&rt, rt.alloc(), kind.layout);
+        let calls = calls_of(&rt, rt.alloc(), &file, FIRST);
+        for row in &STOPS {
+            is_left(&rt, rt.alloc(), &file, calls, kind, row);
+        }
     }
 }
 
@@ -144,9 +184,9 @@ const GATES: [TornGate; 7] = [
 // The write of the gate is the third call of the second transaction.
 const GATE_AND_BEHIND: u64 = 8;
 
-fn is_there(rt: &impl Abort, alloc: Global, image: &[u8], row: &TornGate) {
+fn is_there(rt: &impl Abort, alloc: Global, image: &[u8], place: usize, row: &TornGate) {
     let (torn, gate, text) = *row;
-    let found = image.get(GATE).copied();
+    let found = image.get(place).copied();
     equal(rt, (torn, found), (torn, Some(gate)), "the gate");
     let more = Case {
         name: "an object more",
@@ -159,11 +199,13 @@ fn is_there(rt: &impl Abort, alloc: Global, image: &[u8], row: &TornGate) {
 
 #[test]
 fn a_transaction_is_there_where_its_gate_is_open(rt: HostRuntime) {
-    let file = new_file(&rt, rt.alloc());
-    let calls = calls_of(&rt, rt.alloc(), &file, FIRST);
-    let at = calls.saturating_sub(GATE_AND_BEHIND);
-    for row in &GATES {
-        let image = stopped_image(&rt, rt.alloc(), &file, &STOP, at, row.0);
-        is_there(&rt, rt.alloc(), &image, row);
+    for kind in &KINDS {
+        let file = empty_file(&rt, rt.alloc(), kind.layout);
+        let calls = calls_of(&rt, rt.alloc(), &file, FIRST);
+        let at = calls.saturating_sub(GATE_AND_BEHIND);
+        for row in &GATES {
+            let image = stopped_image(&rt, rt.alloc(), &file, &STOP, at, row.0);
+            is_there(&rt, rt.alloc(), &image, kind.gate, row);
+        }
     }
 }

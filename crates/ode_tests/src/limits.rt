@@ -139,8 +139,11 @@ fn a_transaction_prints_so_much_and_no_more(rt: HostRuntime) {
     );
 }
 
-// The place of the next entry's number in a new file, and the last one that an entry may have.
+// The place of the next entry's number in an empty database of two areas and in a new file, and the last one that an entry may
+// have.
 const NEXT_ENTRY: usize = 4131;
+
+const NEW_NEXT_ENTRY: usize = 4148;
 
 const LAST_ENTRY: &[u8] = b"\x3F\xFF\xFF\xFF\xFF\xFF\xFF\xFF";
 
@@ -194,11 +197,17 @@ tx 4 committed
 };
 
 const ENTRIES: &[Act] = &[
-    Act::Make(Made::New),
+    Act::Make(Made::Areas),
     Act::Put(NEXT_ENTRY, LAST_ENTRY),
     Act::Case(LAST_DEPENDENT),
-    Act::Make(Made::New),
+    Act::Make(Made::Areas),
     Act::Put(NEXT_ENTRY, LAST_ENTRY),
+    Act::Case(LAST_INDEPENDENT),
+    Act::Make(Made::New),
+    Act::Put(NEW_NEXT_ENTRY, LAST_ENTRY),
+    Act::Case(LAST_DEPENDENT),
+    Act::Make(Made::New),
+    Act::Put(NEW_NEXT_ENTRY, LAST_ENTRY),
     Act::Case(LAST_INDEPENDENT),
 ];
 

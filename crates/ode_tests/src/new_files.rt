@@ -5,11 +5,14 @@ use ode_host::Status;
 use std::alloc::Global;
 use std::process::Abort;
 
-// The first slot: its gate, the name, format 1, layout 1 and generation 1; the snapshot stands at 4,096 and has 64 bytes;
-// the journal begins at 4,160, and its area ends at 33,558,528.
-const SLOT: &[u8] = b"\xA5ODEBASE1\0\0\0\x01\0\0\0\x01\0\0\0\0\0\0\0\x01\
-    \0\0\0\0\0\0\x10\0\0\0\0\0\0\0\0\x40\
-    \0\0\0\0\0\0\x10\x40\0\0\0\0\x02\0\x10\0";
+// The first slot: its gate, the name, format 1, layout 2 and generation 1; the pages stand at 33,558,528, and there is none;
+// the journal begins at 4,096, and its region ends at 16,781,312.
+const SLOT: &[u8] = b"\xA5ODEBASE1\0\0\0\x01\0\0\0\x02\0\0\0\0\0\0\0\x01\
+    \0\0\0\0\x02\0\x10\0\0\0\0\0\0\0\0\0\
+    \0\0\0\0\0\0\x10\0\0\0\0\0\x01\0\x10\0";
+
+// The front of the journal's frame: an open gate, the length 76, one image, of page 0, of 66 bytes, which has one record.
+const FRAME: &[u8] = b"\xA5\0\0\0\x4C\0\0\0\x01\0\0\0\0\0\x42\0\x01";
 
 // The counters' record: its key, the length 45, three numbers that are 1, and 21 zeros.
 const COUNTERS: &[u8] = b"\x01\0\0\0\0\0\0\0\0\0\0\0\0\0\0\0\0\0\x2D\
@@ -21,8 +24,17 @@ fn fill(rt: &impl Abort, alloc: Global, byte: u8, count: usize) -> Vec<u8> {
     vec![in alloc; byte; count].expect(rt, MEMORY)
 }
 
-// What a new file of at least 4,161 bytes has at which places.
-const PIECES: [(usize, &[u8]); 4] = [(0, SLOT), (2048, b"\0"), (4096, COUNTERS), (4160, b"\0")];
+// How long a new file is.
+const LENGTH: usize = 4178;
+
+// What a new file of at least so many bytes has at which places.
+const PIECES: [(usize, &[u8]); 5] = [
+    (0, SLOT),
+    (2048, b"\0"),
+    (4096, FRAME),
+    (4113, COUNTERS),
+    (4177, b"\0"),
+];
 
 // A new file of so many bytes, in which those that nothing says of are `rest`.
 fn expected(rt: &impl Abort, alloc: Global, rest: u8, length: usize) -> Vec<u8> {
@@ -43,12 +55,12 @@ fn is_made(rt: &impl Abort, alloc: Global, old: &[u8], length: usize, name: &str
 
 #[test]
 fn a_new_file_has_its_header_its_counters_and_shut_gates(rt: HostRuntime) {
-    is_made(&rt, rt.alloc(), &[], 4161, "init");
+    is_made(&rt, rt.alloc(), &[], LENGTH, "init");
 }
 
 #[test]
 fn other_bytes_of_a_short_file_stay(rt: HostRuntime) {
-    for length in &[4161, 4162, 5000, 8192usize] {
+    for length in &[LENGTH, LENGTH + 1, 5000, 8192usize] {
         let old = fill(&rt, rt.alloc(), b'x', *length);
         is_made(&rt, rt.alloc(), &old, *length, "init of a short file");
     }
@@ -127,7 +139,7 @@ fn unprinted(rt: &impl Abort, alloc: Global, file: &[u8]) -> u32 {
 
 #[test]
 fn a_file_whose_ready_is_not_printed_is_whole(rt: HostRuntime) {
-    let file = expected(&rt, rt.alloc(), 0, 4161);
+    let file = expected(&rt, rt.alloc(), 0, LENGTH);
     let cut = unprinted(&rt, rt.alloc(), &file);
     equal(&rt, cut, 1, "the prints of init");
 }

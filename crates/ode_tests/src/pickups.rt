@@ -1,7 +1,8 @@
 //! A run that is cut is picked up by the next one.
+use crate::images::{LAYOUTS, Layout, empty_file};
 use crate::trial::{
-    Case, MEMORY, Trial, call, calls_of, equal, failing, holds, init, new_file, run, run_case,
-    source, stopping,
+    Case, MEMORY, Trial, call, calls_of, equal, failing, holds, init, run, run_case, source,
+    stopping,
 };
 use ode_host::{Plan, Status, Torn};
 use std::alloc::Global;
@@ -93,7 +94,7 @@ fn printed(steps: &[Step], text: &str) -> Option<usize> {
     if rest.is_empty() { Some(count) } else { None }
 }
 
-/// Steps, a new file, and the image that a whole run of them on it leaves.
+/// Steps, an empty database, and the image that a whole run of them on it leaves.
 #[derive(Drop)]
 pub struct Course {
     pub steps: &'static [Step],
@@ -102,10 +103,10 @@ pub struct Course {
     whole: Vec<u8>,
 }
 
-/// Steps that print what they say in a whole run on a new file.
-pub fn course_of(rt: &impl Abort, alloc: Global, steps: &'static [Step]) -> Course {
+/// Steps that print what they say in a whole run on an empty database of this layout.
+pub fn course_of(rt: &impl Abort, alloc: Global, steps: &'static [Step], layout: Layout) -> Course {
     let Joined { script, text } = join(rt, alloc, steps);
-    let file = new_file(rt, alloc);
+    let file = empty_file(rt, alloc, layout);
     let case = Case {
         name: "a whole run",
         script: script.as_str(),
@@ -251,13 +252,19 @@ fn calls(rt: &impl Abort, alloc: Global, course: &Course) -> u64 {
     calls
 }
 
-// However a run of these steps is stopped, it is picked up.
-fn stops_are_picked_up(rt: &impl Abort, alloc: Global, steps: &'static [Step]) {
-    let course = course_of(rt, alloc, steps);
-    let calls = calls(rt, alloc, &course);
+// However a run of a course is stopped, it is picked up.
+fn stops_of_course(rt: &impl Abort, alloc: Global, course: &Course) {
+    let calls = calls(rt, alloc, course);
     for torn in &TEARS {
-        let cuts = are_picked_up(rt, alloc, &course, Part::Host, *torn, calls);
+        let cuts = are_picked_up(rt, alloc, course, Part::Host, *torn, calls);
         equal(rt, cuts, calls, "the stops");
+    }
+}
+
+// However a run of these steps is stopped, on a file of either layout, it is picked up.
+fn stops_are_picked_up(rt: &impl Abort, alloc: Global, steps: &'static [Step]) {
+    for layout in &LAYOUTS {
+        stops_of_course(rt, alloc, &course_of(rt, alloc, steps, *layout));
     }
 }
 
@@ -276,15 +283,14 @@ fn triggers_that_are_stopped_anywhere_are_picked_up(rt: HostRuntime) {
     stops_are_picked_up(&rt, rt.alloc(), TRIGGERS);
 }
 
-#[test]
-fn a_run_whose_disk_or_output_fails_anywhere_is_picked_up(rt: HostRuntime) {
-    let course = course_of(&rt, rt.alloc(), TRANSACTIONS);
-    let calls = calls(&rt, rt.alloc(), &course);
-    let prints = are_picked_up(&rt, rt.alloc(), &course, Part::Output, Torn::Whole, calls);
-    equal(&rt, prints, TRANSACTIONS.len() as u64, "the prints");
-    let disk = are_picked_up(&rt, rt.alloc(), &course, Part::Disk, Torn::Nothing, calls);
+// However the disk or the output of a course fails, it is picked up.
+fn faults_of_course(rt: &impl Abort, alloc: Global, course: &Course) {
+    let calls = calls(rt, alloc, course);
+    let prints = are_picked_up(rt, alloc, course, Part::Output, Torn::Whole, calls);
+    equal(rt, prints, course.steps.len() as u64, "the prints");
+    let disk = are_picked_up(rt, alloc, course, Part::Disk, Torn::Nothing, calls);
     equal(
-        &rt,
+        rt,
         disk.saturating_add(prints),
         calls,
         "the disk calls and the prints",
@@ -292,8 +298,16 @@ fn a_run_whose_disk_or_output_fails_anywhere_is_picked_up(rt: HostRuntime) {
 }
 
 #[test]
+fn a_run_whose_disk_or_output_fails_anywhere_is_picked_up(rt: HostRuntime) {
+    for layout in &LAYOUTS {
+        let course = course_of(&rt, rt.alloc(), TRANSACTIONS, *layout);
+        faults_of_course(&rt, rt.alloc(), &course);
+    }
+}
+
+#[test]
 fn a_run_whose_script_fails_anywhere_is_picked_up(rt: HostRuntime) {
-    let course = course_of(&rt, rt.alloc(), TRANSACTIONS);
+    let course = course_of(&rt, rt.alloc(), TRANSACTIONS, Layout::Pages);
     let reads = are_picked_up(&rt, rt.alloc(), &course, Part::Script, Torn::Nothing, 40);
     holds(
         &rt,

@@ -1,7 +1,7 @@
 //! Stored tables, states and activations that are changed in a file.
-use crate::acts::{Act, Made, file_behind, play};
+use crate::acts::{Act, Made, file_behind};
 use crate::images::{patched, turned};
-use crate::trial::{Case, Trial, equal, holds, run, stays};
+use crate::trial::{Case, Trial, equal, holds, run, run_case, stays};
 use ode_host::Status;
 use ode_value::Key;
 use std::alloc::Global;
@@ -13,7 +13,11 @@ const ACCOUNT: &str =
 begin; pnew Account(); activate #1.low(100); #1.deposit(150); commit;
 ";
 
-const ACCOUNT_FILE: &[Act] = &[Act::Make(Made::New), Act::Run(ACCOUNT)];
+const AREAS_FILE: &[Act] = &[Act::Make(Made::Areas), Act::Run(ACCOUNT)];
+
+const PAGES_FILE: &[Act] = &[Act::Make(Made::New), Act::Run(ACCOUNT)];
+
+const ACCOUNT_FILES: [&[Act]; 2] = [AREAS_FILE, PAGES_FILE];
 
 // What goes on behind it, and what it prints.
 const LATER: &str = "#1.withdraw(60);";
@@ -29,14 +33,15 @@ fn key_of(kind: u8, a: u8, b: u8) -> [u8; 17] {
     key
 }
 
-// The first place behind these bytes.
+// The last place behind these bytes: a journal may have the same page again.
 fn behind(image: &[u8], bytes: &[u8]) -> Option<usize> {
+    let mut found = None;
     for at in 0..image.len() {
         if image.get(at..).unwrap_or(&[]).starts_with(bytes) {
-            return Some(at.saturating_add(bytes.len()));
+            found = Some(at.saturating_add(bytes.len()));
         }
     }
-    None
+    found
 }
 
 // The number in the two bytes at a place.
@@ -53,7 +58,7 @@ struct Value {
     length: usize,
 }
 
-// The value of the record under a key, in a file that has it once.
+// The value of the record under a key, in a file that has it.
 fn value_of(rt: &impl Abort, image: &[u8], key: &[u8]) -> Value {
     let at = behind(image, key).expect(rt, "a record");
     Value {
@@ -73,20 +78,19 @@ fn is_refused(rt: &impl Abort, alloc: Global, file: &[u8], at: usize, bytes: &[u
     stays(rt, alloc, &patched(rt, alloc, file, at, bytes), &case);
 }
 
-const GOES_ON: &[Act] = &[
-    Act::Make(Made::New),
-    Act::Run(ACCOUNT),
-    Act::Case(Case {
-        name: "the account",
-        script: LATER,
-        text: LATER_TEXT,
-        status: Status::Ok,
-    }),
-];
+static GOES_ON: Case = Case {
+    name: "the account",
+    script: LATER,
+    text: LATER_TEXT,
+    status: Status::Ok,
+};
 
 #[test]
 fn the_file_as_it_was_goes_on(rt: HostRuntime) {
-    play(&rt, rt.alloc(), GOES_ON);
+    for acts in &ACCOUNT_FILES {
+        let file = file_behind(&rt, rt.alloc(), acts);
+        run_case(&rt, rt.alloc(), &file, &GOES_ON);
+    }
 }
 
 // A run on another table is refused with its line and leaves the image, or goes on as before. Whether it is refused.
@@ -125,16 +129,22 @@ fn others(rt: &impl Abort, alloc: Global, file: &[u8], value: Value) -> usize {
 }
 
 // A table that answers otherwise on some word is refused, and one that answers the same goes on as before.
-#[test]
-fn a_table_with_another_answer_is_refused(rt: HostRuntime) {
-    let file = file_behind(&rt, rt.alloc(), ACCOUNT_FILE);
-    let value = value_of(&rt, &file, &key_of(Key::TABLE_PIECE, 1, 0));
-    let refused = others(&rt, rt.alloc(), &file, value);
+fn other_tables_are_refused(rt: &impl Abort, alloc: Global, file: &[u8]) {
+    let value = value_of(rt, file, &key_of(Key::TABLE_PIECE, 1, 0));
+    let refused = others(rt, alloc, file, value);
     holds(
-        &rt,
+        rt,
         refused.saturating_mul(2) >= value.length,
         "half of the tables",
     );
+}
+
+#[test]
+fn a_table_with_another_answer_is_refused(rt: HostRuntime) {
+    for acts in &ACCOUNT_FILES {
+        let file = file_behind(&rt, rt.alloc(), acts);
+        other_tables_are_refused(&rt, rt.alloc(), &file);
+    }
 }
 
 // A place in an activation, other bytes there, and the line that refuses them: of the class, the trigger, the count of
@@ -149,13 +159,19 @@ const WRONG: [Wrong; 5] = [
     (6, &[0xFF, 0xFF], "bad file state #1 2\n"),
 ];
 
-#[test]
-fn an_activation_with_a_wrong_part_is_refused(rt: HostRuntime) {
-    let file = file_behind(&rt, rt.alloc(), ACCOUNT_FILE);
-    let value = value_of(&rt, &file, &key_of(Key::ACTIVATION, 1, 2));
-    equal(&rt, value.length, 18, "the length of an activation");
+fn wrong_parts_are_refused(rt: &impl Abort, alloc: Global, file: &[u8]) {
+    let value = value_of(rt, file, &key_of(Key::ACTIVATION, 1, 2));
+    equal(rt, value.length, 18, "the length of an activation");
     for (place, bytes, line) in &WRONG {
         let at = value.at.saturating_add(*place);
-        is_refused(&rt, rt.alloc(), &file, at, bytes, line);
+        is_refused(rt, alloc, file, at, bytes, line);
+    }
+}
+
+#[test]
+fn an_activation_with_a_wrong_part_is_refused(rt: HostRuntime) {
+    for acts in &ACCOUNT_FILES {
+        let file = file_behind(&rt, rt.alloc(), acts);
+        wrong_parts_are_refused(&rt, rt.alloc(), &file);
     }
 }

@@ -68,7 +68,7 @@ const NUMBERLESS: Case = Case {
 };
 
 const LAST: &[Act] = &[
-    Act::Make(Made::New),
+    Act::Make(Made::Areas),
     Act::Run(COUNTS),
     Act::Queue(0, (1 << 62) - 2),
     Act::Case(NUMBERS),
