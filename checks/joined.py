@@ -11,6 +11,8 @@ from pathlib import Path
 
 TOP = Path(__file__).resolve().parent.parent
 PROGRAM = "ode"
+# Of these crates of the kit the program takes what stands in a part, which a try reads in less time than the whole.
+PARTS = {"jiff": "jiff_core"}
 
 
 def needs():
@@ -32,6 +34,7 @@ def joined(text, names, own):
     """A file's text as it stands in a module of the crate's name."""
     text = re.sub(r"^(#!\[.*\]|//!.*|\s*#\[tactic\(.*\)\])\n", "", text, flags=re.M)
     text = re.sub(r"(?<![\w$])crate::", f"crate::{own}::" if own else "crate::", text)
+    text = re.sub(rf"\b({'|'.join(PARTS)})::", lambda found: f"{PARTS[found[1]]}::", text)
     return re.sub(rf"(?<![\w:])({'|'.join(names)})::", r"crate::\1::", text)
 
 
@@ -51,7 +54,8 @@ def main():
     modules = "".join(f"mod {name};\n" for name in names)
     main_file = TOP / "crates" / PROGRAM / "src" / "main.rt"
     (source / "main.rt").write_text(modules + joined(main_file.read_text(), names, ""))
-    (target / "crates.txt").write_text(f"{PROGRAM}: {' '.join(sorted(found - rows.keys()))}\n")
+    kit = sorted(PARTS.get(name, name) for name in found - rows.keys())
+    (target / "crates.txt").write_text(f"{PROGRAM}: {' '.join(kit)}\n")
 
 
 main()

@@ -99,6 +99,22 @@ zeros() {
     head -c "$1" /dev/zero
 }
 
+# number FILE AT COUNT: the number in so many bytes, 1, 2, 4 or 8, at a place.
+number() {
+    od -An -v --endian=big "-tu$3" "-j$2" "-N$3" "$1" | tr -d ' '
+}
+
+# last_frame FILE: where the gate of the last frame stands in a journal that begins at 4,096.
+last_frame() {
+    local at=4096 next
+    while true; do
+        next=$((at + 5 + $(number "$1" $((at + 1)) 4)))
+        if [ "$(number "$1" "$next" 1)" -ne 165 ]; then break; fi
+        at=$next
+    done
+    echo "$at"
+}
+
 printf 'class P { int n; };\n' > declare.ode
 usage=$'usage: ode (init|run|check|dump) FILE | ode gen FILE N\n'
 
@@ -107,13 +123,13 @@ usage=$'usage: ode (init|run|check|dump) FILE | ode gen FILE N\n'
 run init new.db < /dev/null
 said 'init prints ready' 0 $'ready\n'
 
-# the first slot: its gate, the name, format 1, layout 1, generation 1; the body at 4,096 has 64 bytes, the journal
-# begins at 4,160 and ends at 33,558,528
+# the first slot: its gate, the name, format 1, layout 2, generation 1; no page at 33,558,528 yet, the journal begins at 4,096
+# and its region ends at 16,781,312
 {
     printf '\xA5ODEBASE1'
-    printf '\0\0\0\1\0\0\0\1\0\0\0\0\0\0\0\1'
-    printf '\0\0\0\0\0\0\x10\0\0\0\0\0\0\0\0\x40'
-    printf '\0\0\0\0\0\0\x10\x40\0\0\0\0\2\0\x10\0'
+    printf '\0\0\0\1\0\0\0\2\0\0\0\0\0\0\0\1'
+    printf '\0\0\0\0\2\0\x10\0\0\0\0\0\0\0\0\0'
+    printf '\0\0\0\0\0\0\x10\0\0\0\0\0\1\0\x10\0'
 } > slot
 # the counters' record: its key, the length 45, three numbers that are 1, a clock that isn't set
 {
@@ -122,14 +138,20 @@ said 'init prints ready' 0 $'ready\n'
     printf '\0\x2D\0\0\0\0\0\0\0\1\0\0\0\0\0\0\0\1\0\0\0\0\0\0\0\1'
     zeros 21
 } > counters
+# the journal: an open gate, the length 76, one image, of page 0, of 66 bytes, which has one record; and a gate that is shut
+{
+    printf '\xA5\0\0\0\x4C'
+    printf '\0\0\0\1\0\0\0\0\0\x42\0\1'
+    cat counters
+    zeros 1
+} > journal
 {
     cat slot
     zeros $((4096 - 57))
-    cat counters
-    zeros 1
+    cat journal
 } > expected.db
-is 'a new file has 4,161 bytes' [ "$(stat -c %s new.db)" -eq 4161 ]
-is 'a new file has its header, its record and a shut gate' cmp new.db expected.db
+is 'a new file has 4,178 bytes' [ "$(stat -c %s new.db)" -eq 4178 ]
+is 'a new file has its header, its page in a frame and a shut gate' cmp new.db expected.db
 
 run run new.db < /dev/null
 said 'an empty script prints nothing' 0 ''
@@ -153,9 +175,8 @@ said 'init takes a file of other bytes' 0 $'ready\n'
     zeros $((2048 - 57)) | tr '\0' x
     zeros 1
     zeros 2047 | tr '\0' x
-    cat counters
-    zeros 1
-    zeros $((5000 - 4161)) | tr '\0' x
+    cat journal
+    zeros $((5000 - 4178)) | tr '\0' x
 } > expected_short.db
 is 'init leaves the other bytes as they were' cmp short.db expected_short.db
 
@@ -171,12 +192,13 @@ is 'the long file is as it was' cmp long.db <(zeros 8193)
     printf '%s\n' 'pnew A();' 'clock "1970-01-01T00:00:02Z";'
 } > set.ode
 printf '%s\n' 'clock "1970-01-01T00:00:01Z";' 'clock "1970-01-01T00:00:10Z";' > later.ode
-# of its record: the clock is set, and stands at second 2, behind every object and place
+# the clock is set, and stands at second 2, behind every object and place
 printf '\1\0\0\0\0\0\0\0\2\xFF\xFF\xFF\xFF\xFF\xFF\xFF\xFF\xFF\xFF\xFF\xFF' > position
 fresh set.db
 run run set.db < set.ode
 said 'a script sets the clock' 0 $'class A\ntx 1 committed\nnew #1\nactive 2\ntx 2 committed\ntx 3 committed\n'
-is 'its position is in the last frame' cmp position <(tail -c 22 set.db | head -c 21)
+# The last frame has page 0 first, whose first record is that of the counters, and its numbers are in front of the clock.
+is 'its position is in the last frame' cmp position <(tail -c +$(($(last_frame set.db) + 61)) set.db | head -c 21)
 cp set.db set.before
 run run set.db < /dev/null
 said 'a file whose clock is set is opened' 0 ''
@@ -202,6 +224,38 @@ for script in "$examples"/*.ode; do
     if [ "$name" = first ]; then example again first.db; fi
 done
 
+# --- a file that an earlier program made
+
+# the first slot of layout 1: the snapshot at 4,096 has 64 bytes, the journal begins at 4,160 and ends at 33,558,528
+{
+    printf '\xA5ODEBASE1'
+    printf '\0\0\0\1\0\0\0\1\0\0\0\0\0\0\0\1'
+    printf '\0\0\0\0\0\0\x10\0\0\0\0\0\0\0\0\x40'
+    printf '\0\0\0\0\0\0\x10\x40\0\0\0\0\2\0\x10\0'
+} > areas_slot
+# an empty database of two areas
+{
+    cat areas_slot
+    zeros $((4096 - 57))
+    cat counters
+    zeros 1
+} > areas.db
+cp areas.db areas.before
+run check areas.db < /dev/null
+said 'a check counts the records of a file of two areas' 0 $'good classes 0 objects 0 activations 0 entries 0\n'
+run dump areas.db < /dev/null
+said 'a dump prints them' 0 $'counters next 1 tx 1 entry 1\nclock none\n'
+run run areas.db < /dev/null
+said 'a file of two areas is opened' 0 ''
+run init areas.db < /dev/null
+said 'init refuses a file of two areas' 3 $'file exists\n'
+is 'the file of two areas is as it was' cmp areas.db areas.before
+example first areas.db
+example again areas.db
+is 'what stands before its journal is as it was' cmp -n 4160 areas.db areas.before
+is 'it stays a file of two areas' [ "$(number areas.db 13 4)" -eq 1 ]
+is 'a new file is one of pages' [ "$(number first.db 13 4)" -eq 2 ]
+
 # --- files that hold no database
 
 run run missing.db < "$examples/first.ode"
@@ -220,7 +274,7 @@ run run format.db < "$examples/first.ode"
 said 'a newer format is refused' 3 $'newer format 2\n'
 is 'the file of a newer format is as it was' cmp format.db format.before
 
-head -c 4160 new.db > cut.db
+head -c 4177 new.db > cut.db
 cp cut.db cut.before
 run run cut.db < "$examples/first.ode"
 ended 'a file that is cut short is refused' 3
@@ -383,26 +437,44 @@ fi
 
 # --- a large file
 
-# 5,000 classes, each a transaction of its own; in memory, where a sync takes no time.
+# classes FILE: 5,000 classes, each a transaction of its own.
+classes() {
+    run run "$1" < classes.ode
+    ended "5,000 classes: $(basename "$1")" 0
+    is '5,000 transactions are printed' [ "$(grep -c '^tx [0-9]* committed$' text)" -eq 5000 ]
+    run run "$1" <<< 'pnew C5000(n = 7); show #1.n;'
+    said 'the last class is there' 0 $'new #1\ntx 5001 committed\nvalue 7\ntx 5002 committed\n'
+}
+
+# damaged NAME WANTED: the file damaged.db is refused with a line of this form, and stays as it was.
+damaged() {
+    cp damaged.db damaged.before
+    run run damaged.db < declare.ode
+    ended "$1 is no want of memory" 3
+    is "$1 is told" grep -q "^bad file $2\$" text
+    is "the file stays as it was: $1" cmp damaged.db damaged.before
+}
+
+# In memory, where a sync takes no time: a file of pages, and one of two areas.
 if [ -d /dev/shm ] && [ -w /dev/shm ]; then
     large=$(mktemp -d /dev/shm/ode.XXXXXX)
     trap 'rm -rf "$folder" "$large"' EXIT
     seq 5000 | sed 's/.*/class C& { int n; };/' > classes.ode
     fresh "$large/classes.db"
-    run run "$large/classes.db" < classes.ode
-    ended '5,000 classes' 0
-    is '5,000 transactions are printed' [ "$(grep -c '^tx [0-9]* committed$' text)" -eq 5000 ]
-    run run "$large/classes.db" <<< 'pnew C5000(n = 7); show #1.n;'
-    said 'the last class is there' 0 $'new #1\ntx 5001 committed\nvalue 7\ntx 5002 committed\n'
+    classes "$large/classes.db"
+    cp areas.before "$large/areas.db"
+    classes "$large/areas.db"
+    is 'the journal of 5,000 transactions left its first region' [ "$(number "$large/classes.db" 2048 1)" -eq 165 ]
 
     # The length of the first record of the snapshot, one too low, in front of a long journal.
-    cp "$large/classes.db" damaged.db
+    cp "$large/areas.db" damaged.db
     printf '\x2C' | dd of=damaged.db bs=1 seek=$((4096 + 18)) conv=notrunc 2> errors
-    cp damaged.db damaged.before
-    run run damaged.db < declare.ode
-    ended 'a damaged record is no want of memory' 3
-    is 'the damaged place is told' grep -q '^bad file journal [0-9]*$' text
-    is 'the damaged file is as it was' cmp damaged.db damaged.before
+    damaged 'a damaged record' 'journal [0-9]*'
+
+    # Page 1 has more records than there is room for. It is full, so that the journal has no image of it.
+    cp "$large/classes.db" damaged.db
+    printf '\xFF\xFF' | dd of=damaged.db bs=1 seek=$((33558528 + 4096)) conv=notrunc 2> errors
+    damaged 'a damaged page' 'page 1'
 else
     skip 'a large file: there is no /dev/shm'
 fi
@@ -472,15 +544,32 @@ calls() {
     sed -n 's/^\([a-z0-9]*\)(.*/\1/p' trace | grep -v '^pread64$' | tr '\n' ' '
 }
 
+# without_checkpoints: calls without those of the checkpoints in front of transactions: the pages, a sync, and then the other
+# region's first gate, perhaps the other slot's, its header and its gate again, each with a sync.
+without_checkpoints() {
+    sed -E 's/(pwrite64 )+fdatasync (pwrite64 fdatasync ){3,4}((pwrite64 fdatasync ){2}write )/\3/g'
+}
+
 # in_order COUNT: one sync at the opening, and for each of so many transactions its frame, a sync, its gate, a sync and its
-# text.
+# text; besides these, the calls of checkpoints.
 in_order() {
-    local wanted='fdatasync ' round
+    local wanted='fdatasync ' found round
     for round in $(seq "$1"); do
         wanted+='pwrite64 fdatasync pwrite64 fdatasync write '
     done
-    if [ "$(calls)" != "$wanted" ]; then
+    found=$(calls | without_checkpoints)
+    if [ "$found" != "$wanted" ]; then
         echo "  $(calls | head -c 400)"
+        return 1
+    fi
+}
+
+# syncs COUNT: the run made so many syncs.
+syncs() {
+    local count
+    count=$(grep -c '^fdatasync(' trace)
+    if [ "$count" -ne "$1" ]; then
+        echo "  $count syncs"
         return 1
     fi
 }
@@ -505,9 +594,14 @@ if command -v strace > strace.path && strace -o trace true 2> errors; then
     traced traced.db -e "$watched" < ten.ode
     ended 'a run under strace' 0
     is 'two syncs a transaction, one at the opening, and the writes in their order' in_order 10
+    is 'and no checkpoint' syncs 21
     if [ -e "$large/classes.db" ]; then
-        traced "$large/classes.db" -e "$watched" < /dev/null
+        traced "$large/areas.db" -e "$watched" < /dev/null
         is 'a journal of 5,000 transactions is read in blocks' reads_most 24
+        # A region has 256 blocks. Each page in place is read by the start and by five passes of the opening, at most once by each.
+        traced "$large/classes.db" -e "$watched" < /dev/null
+        pages=$((($(stat -c %s "$large/classes.db") - 33558528) / 4096))
+        is 'and one of pages too, beside its pages' reads_most $((256 + 6 * pages + 24))
     fi
 
     # 4,096 queued actions, of which 2,048 wait at a time, run in as many transactions, each with its two syncs, and in no more.
