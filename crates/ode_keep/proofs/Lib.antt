@@ -4,7 +4,10 @@ pub mod Growing
 pub mod Keys
 pub mod Least
 pub mod Maps
+pub mod SameMaps
 pub mod Firsts
 pub mod Lists
+pub mod Counted
 pub mod Lengths
 pub mod Spanning
+pub mod Starting

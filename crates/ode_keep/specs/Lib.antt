@@ -1,8 +1,10 @@
 pub mod Entries
 pub mod Growth
 pub mod Keeping
+pub mod Starting
 pub mod Rising
 pub mod ShortValues
 pub mod Snapshots
+pub mod Counted
 pub mod Payloads
 pub mod Spans

@@ -1,11 +1,11 @@
 -- A payload: the changes of a batch in rising order of their keys, behind their number.
-use Rattle.std.specs.Prelude.{◌≡◌, ◌<◌, ◌^◌, ℕ, List, ◌++◌, length, Option, Some, None}
-use Rattle.std.specs.Int.{w32, to_be_bytes}
-use Rattle.std.specs.List.{AllByRecursion, flat_map}
+use Rattle.std.specs.Prelude.{◌<◌, ◌^◌, ℕ, List, ◌++◌, length, Option, Some, None}
 use Rattle.std.specs.Option.{IfSome}
 use Rattle.ode_value.specs.declared.key.Key.{Key}
 use Rattle.ode_value.specs.Records.{byte, key_bytes, row_bytes}
-use Rattle.ode_keep.specs.Entries.{Changes, HasRisingKeys}
+use Rattle.ode_value.specs.Keys.{key_cmp}
+use Rattle.ode_keep.specs.Counted.{IsCounted, counted}
+use Rattle.ode_keep.specs.Entries.{Changes}
 use Rattle.ode_keep.specs.Snapshots.{FitsKey}
 use Rattle.ode_keep.specs.declared.spelling.TheConstants.{PUT, REMOVAL}
 
@@ -18,7 +18,7 @@ abbrev pub change_bytes : Key × Option (List ℕ) → List ℕ
 change_bytes c = spelled_change c.0 c.1
 
 abbrev pub payload_of : Changes → List ℕ
-payload_of changes = to_be_bytes w32 (length changes) ++ flat_map change_bytes changes
+payload_of changes = counted change_bytes changes
 
 -- a change whose key and whose value's length fit their fields
 pub record FitsChange (c : Key × Option (List ℕ)) : Type 0 where
@@ -26,8 +26,5 @@ pub record FitsChange (c : Key × Option (List ℕ)) : Type 0 where
   pub value : IfSome c.1 (λ v. length v < 2 ^ 16)
 
 -- the bytes are the payload of these changes
-pub record IsPayload (changes : Changes) (bytes : List ℕ) : Type 0 where
-  pub spelled : bytes ≡ payload_of changes
-  pub few : length changes < 2 ^ 32
-  pub each : AllByRecursion FitsChange changes
-  pub rising : HasRisingKeys changes
+abbrev pub IsPayload : Changes → List ℕ → Type 0
+IsPayload = IsCounted change_bytes FitsChange key_cmp

@@ -1,7 +1,7 @@
-//! Why a keeper doesn't answer.
+//! Why a keeper doesn't answer, and why it can't be started.
 
 use ode_host::Failed;
-use std::alloc::AllocError;
+use std::alloc::{AllocError, AllocFailed};
 
 /// Why a keeper doesn't answer.
 #[derive(Clone, Copy, Debug, PartialEq, Eq)]
@@ -35,5 +35,51 @@ impl From<Failed> for KeepError {
 
     fn from(_: Failed) -> Self {
         KeepError::DiskFault
+    }
+}
+
+/// Why a keeper can't be started.
+#[derive(Clone, Copy, Debug, PartialEq, Eq)]
+pub enum StartError {
+    /// There was no memory.
+    Memory,
+    /// The disk failed.
+    DiskFault,
+    /// At this offset the file has no record of its snapshot, or no gate of its journal with what belongs behind it.
+    BadJournal { at: u64 },
+    /// This page isn't there, or isn't in its form, or has a key of a page before it.
+    BadPage { page: u32 },
+}
+
+impl From<AllocError> for StartError {
+    ghost use Rattle.std.specs.Prelude.{◌≡◌};
+    ghost use Rattle.ode_keep.specs.declared.error.StartError.TheVariants.{Memory};
+
+    ghost from_gives = { λ _ e. e ≡ Memory };
+
+    fn from(_: AllocError) -> Self {
+        StartError::Memory
+    }
+}
+
+impl<T: Drop> From<AllocFailed<T>> for StartError {
+    ghost use Rattle.std.specs.Prelude.{◌≡◌};
+    ghost use Rattle.ode_keep.specs.declared.error.StartError.TheVariants.{Memory};
+
+    ghost from_gives = { λ _ e. e ≡ Memory };
+
+    fn from(_: AllocFailed<T>) -> Self {
+        StartError::Memory
+    }
+}
+
+impl From<Failed> for StartError {
+    ghost use Rattle.std.specs.Prelude.{◌≡◌};
+    ghost use Rattle.ode_keep.specs.declared.error.StartError.TheVariants.{DiskFault};
+
+    ghost from_gives = { λ _ e. e ≡ DiskFault };
+
+    fn from(_: Failed) -> Self {
+        StartError::DiskFault
     }
 }

@@ -9,7 +9,7 @@ mod rows;
 mod spelling;
 
 pub use batch::Batch;
-pub use error::KeepError;
+pub use error::{KeepError, StartError};
 pub use keep::Keep;
 pub use limits::{
     MAX_CHANGE_LEN, MAX_CHANGES, MAX_GROWTH, MAX_PAYLOAD_LEN, MAX_RECORD_BYTES, MAX_VALUE,
