@@ -3,4 +3,7 @@ pub mod Appending
 pub mod Exact
 pub mod Frames
 pub mod Shapes
+pub mod Starting
 pub mod Unique
+pub mod Histories
+pub mod Windows

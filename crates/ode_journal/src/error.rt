@@ -1,5 +1,6 @@
 //! Why a journal can't be read or lengthened.
 use ode_host::Failed;
+use ode_keep::StartError;
 use std::alloc::{AllocError, AllocFailed};
 use thiserror::Error;
 
@@ -69,5 +70,20 @@ impl<T: Drop> From<AllocFailed<T>> for JournalError {
 
     fn from(_: AllocFailed<T>) -> Self {
         JournalError::Memory
+    }
+}
+
+impl From<JournalError> for StartError {
+    ghost use Rattle.std.specs.Prelude.{◌≡◌};
+    ghost use Rattle.ode_journal.specs.Starting.{journal_error};
+
+    ghost from_gives = { λ e s. s ≡ journal_error e };
+
+    fn from(e: JournalError) -> Self {
+        match e {
+            JournalError::Memory => StartError::Memory,
+            JournalError::DiskFault => StartError::DiskFault,
+            JournalError::BadJournal { at } => StartError::BadJournal { at },
+        }
     }
 }
