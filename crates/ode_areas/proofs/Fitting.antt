@@ -1,5 +1,5 @@
 -- What batches leave of records fits a snapshot.
-use Rattle.std.proofs.Common.{◌≡◌, ℕ, List, [], ◌∷◌, ◌++◌, Bool, true, false, cond, Option, Some, None, refl, subst, sym}
+use Rattle.std.proofs.Common.{ℕ, List, [], ◌∷◌, Bool, true, false, cond, Option, Some, None, subst, sym}
 use Rattle.std.specs.Prelude.{not}
 use Rattle.std.specs.BTreeMap.{is_at, insert_entry}
 use Rattle.std.specs.List.{AllByRecursion, filter}
@@ -9,11 +9,11 @@ use Rattle.std.specs.declared.cmp.Ordering.TheVariants.{Less, Equal, Greater}
 use Rattle.ode_value.specs.declared.key.Key.{Key}
 use Rattle.ode_value.specs.Records.{Row}
 use Rattle.ode_gate.specs.declared.header.Header.{Header}
+use Rattle.ode_journal.specs.Histories.{ArePayloads, in_turn}
 use Rattle.ode_keep.specs.Entries.{Changes, Entries, applied, changed}
 use Rattle.ode_value.specs.Keys.{key_cmp}
 use Rattle.ode_keep.proofs.Applying.{applied_rising}
 use Rattle.ode_areas.specs.Image.{HasMap}
-use Rattle.ode_areas.specs.Batches.{ArePayloads, replayed}
 use Rattle.ode_keep.specs.Payloads.{FitsChange, IsPayload}
 use Rattle.ode_keep.specs.Snapshots.{FitsRow, FitsSnapshot}
 
@@ -46,7 +46,7 @@ pub applied_fits : (cs : Changes) (es : Entries) → AllByRecursion FitsChange c
 applied_fits [] es each all = all
 applied_fits (c ∷ cs) es each all = applied_fits cs (changed es c.0 c.1) each.1 (changed_fits es c.0 c.1 each.0 all)
 
-replayed_fits : (batches : List Changes) (frames : List (List ℕ)) (es : Entries) → ArePayloads batches frames → FitsSnapshot es → FitsSnapshot (replayed batches es)
+replayed_fits : (batches : List Changes) (frames : List (List ℕ)) (es : Entries) → ArePayloads IsPayload batches frames → FitsSnapshot es → FitsSnapshot (in_turn applied batches es)
 replayed_fits [] [] es are fits = fits
 replayed_fits [] (f ∷ fs) es are fits = absurd are
 replayed_fits (b ∷ bs) [] es are fits = absurd are
@@ -57,14 +57,3 @@ replayed_fits (b ∷ bs) (f ∷ fs) es are fits =
 pub map_fits : (h : Header) (file : List ℕ) (entries : Entries) → HasMap h file entries → FitsSnapshot entries
 map_fits h file entries has =
     subst FitsSnapshot (sym has.map) (replayed_fits has.batches has.frames has.body has.payloads has.snapshot.fits)
-
-pub payloads_more : (batches : List Changes) (frames : List (List ℕ)) (changes : Changes) (payload : List ℕ) → ArePayloads batches frames → IsPayload changes payload
-    → ArePayloads (batches ++ changes ∷ []) (frames ++ payload ∷ [])
-payloads_more [] [] changes payload are is = (is, tt)
-payloads_more [] (f ∷ fs) changes payload are is = absurd are
-payloads_more (b ∷ bs) [] changes payload are is = absurd are
-payloads_more (b ∷ bs) (f ∷ fs) changes payload are is = (are.0, payloads_more bs fs changes payload are.1 is)
-
-pub replayed_more : (batches : List Changes) (changes : Changes) (es : Entries) → replayed (batches ++ changes ∷ []) es ≡ applied changes (replayed batches es)
-replayed_more [] changes es = refl
-replayed_more (b ∷ bs) changes es = replayed_more bs changes (applied b es)

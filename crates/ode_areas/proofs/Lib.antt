@@ -1,6 +1,5 @@
 pub mod InMemory
 pub mod Loading
-pub mod Replayed
 pub mod Started
 pub mod Encoding
 pub mod Splitting

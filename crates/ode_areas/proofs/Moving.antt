@@ -2,8 +2,9 @@
 use Rattle.std.proofs.Common.{◌≡◌, ◌≢◌, ◌≤◌, ◌⊎◌, inl, inr, ⊎_elim, ℕ, ◌+◌, ◌-◌, List, [], ◌∷◌, ◌++◌, length, take, drop, refl, sym, ◌∙◌, ap, subst, arith, append_assoc, length-append}
 use Rattle.std.proofs.lemmas.List.{take_at, drop_at, drop-drop}
 use Rattle.ode_host.specs.View.{View}
-use Rattle.ode_host.specs.Host.{LeavesTorn, Stands, Torn, written_over}
+use Rattle.ode_host.specs.Host.{LeavesOnly, LeavesTorn, Stands, Torn, written_over}
 use Rattle.ode_host.proofs.Bytes.{length-written_over, same_part, written-torn, wrote_here}
+use Rattle.ode_host.proofs.Moments.{joined, weaker}
 use Rattle.ode_gate.specs.declared.header.Header.{Header}
 use Rattle.ode_gate.specs.Changes.{IsChanged, IsSameBehind, LeavesHeader, MayReplace}
 use Rattle.ode_gate.specs.declared.gate.TheConstants.{OPEN}
@@ -14,6 +15,7 @@ use Rattle.ode_gate.specs.declared.places.TheConstants.{AREA_0, AREA_1, AREA_LEN
 use Rattle.ode_journal.specs.declared.journal.Journal.{Journal}
 use Rattle.ode_journal.specs.Appends.{IsBeforeOrAfter, JournalStands, SameOutside}
 use Rattle.ode_journal.specs.Frames.{IsJournal, spelled}
+use Rattle.ode_journal.proofs.Histories.{in_turn-push, payloads_push}
 use Rattle.ode_keep.specs.Entries.{Changes, Entries, applied}
 use Rattle.ode_keep.specs.Keeping.{LeavesOldOrNew}
 use Rattle.ode_value.specs.Records.{snapshot}
@@ -21,8 +23,9 @@ use Rattle.ode_areas.specs.Image.{AreasMean, HasMap}
 use Rattle.ode_keep.specs.Payloads.{IsPayload}
 use Rattle.ode_keep.specs.Snapshots.{IsSnapshot}
 use Rattle.ode_areas.specs.Steps.{LeavesMap, MovesOver, StandUnder, empty_under}
-use Rattle.ode_areas.proofs.Fitting.{map_fits, payloads_more, replayed_more}
-use Rattle.ode_areas.proofs.Windows.{has_window, has_window-frames, journal_spelled, still_counts, still_has, wide}
+use Rattle.ode_areas.proofs.Fitting.{map_fits}
+use Rattle.ode_journal.proofs.Windows.{journal_spelled}
+use Rattle.ode_areas.proofs.Windows.{has_window, has_window-frames, still_counts, still_has, wide}
 
 area_of : (h : Header) → IsOfAreas h → (h.body_at ≡ AREA_0) ⊎ (h.body_at ≡ AREA_1)
 area_of h areas = ⊎_elim (λ first. inl first.0) (λ second. inr second.0) areas.area
@@ -138,6 +141,13 @@ module _ (older h : Header) (place : Journal) (entries : Entries) (bytes : List 
     text = sym same ∙ left.text;
   }
 
+  -- so a stop leaves the records while the snapshot is written and in the change
+  pub move_leaves : (mid new : View) → mid.text ≡ old.text → LeavesOnly old mid (LeavesTorn h.body_at (length bytes) file old) → LeavesOnly mid new (LeavesHeader staged older h mid)
+      → LeavesOnly old new (LeavesMap entries old)
+  move_leaves mid new same write change =
+      joined old mid new (LeavesMap entries old) (weaker old mid (LeavesTorn h.body_at (length bytes) file old) (LeavesMap entries old) snapshot_leaves write)
+      (weaker mid new (LeavesHeader staged older h mid) (LeavesMap entries old) (header_leaves mid same) change)
+
   -- and then the new one does
   pub moved_over : (new : View) (next : List ℕ) → Stands next new → IsChanged staged h next → StandUnder h (empty_under h) entries new
   moved_over new next stands changed = record {
@@ -177,8 +187,8 @@ module _ (h : Header) (place : Journal) (entries : Entries) (changes : Changes) 
     frames = stand.has.frames ++ payload ∷ [];
     journal = journal;
     batches = stand.has.batches ++ changes ∷ [];
-    payloads = payloads_more stand.has.batches stand.has.frames changes payload stand.has.payloads is;
-    map = ap (applied changes) stand.has.map ∙ sym (replayed_more stand.has.batches changes stand.has.body);
+    payloads = payloads_push IsPayload stand.has.batches stand.has.frames changes payload stand.has.payloads is;
+    map = ap (applied changes) stand.has.map ∙ sym (in_turn-push applied stand.has.batches changes stand.has.body);
   }
 
   -- while the frame is added

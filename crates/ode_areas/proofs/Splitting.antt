@@ -1,14 +1,12 @@
 -- A batch makes what its puts and then its removals make, and a put can be undone.
 use Rattle.std.proofs.Common.{◌≡◌, ◌≤◌, ℕ, suc, ◌+◌, ◌*◌, List, [], ◌∷◌, ◌++◌, reverse, Bool, true, false, cond, length, Option, Some, None, refl, sym, ap, ◌∙◌, subst, arith}
-use Rattle.std.specs.Prelude.{T, ◌&&◌, not, is_some, IsSome}
+use Rattle.std.specs.Prelude.{not, is_some, IsSome}
 use Rattle.std.specs.BTreeMap.{is_at, insert_entry}
-use Rattle.std.specs.FinMap.Entries.{same_entries, find, below_all, is_sorted}
 use Rattle.std.specs.List.{AllByRecursion}
 use Rattle.std.specs.List.Sorted.{IsStrictlySortedBy}
 use Rattle.std.specs.Map.{lookup, keys_of}
 use Rattle.std.specs.Option.{IfSome, unwrap_or}
-use Rattle.std.specs.Ordering.{is_eq, is_lt}
-use Rattle.std.specs.declared.cmp.Ordering.TheVariants.{Less}
+use Rattle.std.specs.Ordering.{is_eq}
 use Rattle.std.proofs.lemmas.Cmp.{eq_by_cmp_equiv, tied_itself}
 use Rattle.std.proofs.lemmas.List.{reverse-append}
 use Rattle.std.proofs.lemmas.Map.Entries.{option_filter, lookup-filter-values}
@@ -22,31 +20,9 @@ use Rattle.ode_keep.proofs.Keys.{distinct_keys, key_total, same_key}
 use Rattle.ode_keep.proofs.Maps.{lookup_put, rising_put, rising_some}
 use Rattle.ode_areas.specs.Puts.{LeadBack, NeedNoRoom, puts, removals}
 use Rattle.ode_keep.proofs.Lengths.{IsShortChange}
+use Rattle.ode_keep.proofs.SameMaps.{same_map}
 use Rattle.ode_keep.specs.declared.limits.TheConstants.{MAX_CHANGES, MAX_GROWTH, MAX_VALUE}
 use Rattle.ode_keep.specs.declared.spelling.TheConstants.{KEY_LEN}
-
-both : (a b : Bool) → T a → T b → T (a && b)
-both true b p q = q
-both false b p q = p
-
-found_same : (q : Key) (es : Entries) → find key_cmp q es ≡ value_under es q
-found_same q [] = refl
-found_same q (e ∷ es) = ap (λ (r : Option (List ℕ)). cond (is_at (key_cmp q) e.0) (Some e.1) r) (found_same q es)
-
-below : (k : Key) (es : Entries) → AllByRecursion (λ y. key_cmp k y ≡ Less) (keys_of es) → T (below_all key_cmp k es)
-below k [] all = tt
-below k (e ∷ es) all = both (is_lt (key_cmp k e.0)) (below_all key_cmp k es) (subst (λ o. T (is_lt o)) (sym all.0) tt) (below k es all.1)
-
-sorted : (es : Entries) → HasRisingKeys es → T (is_sorted key_cmp es)
-unfolding IsStrictlySortedBy
-sorted [] rising = tt
-sorted (e ∷ es) rising = both (below_all key_cmp e.0 es) (is_sorted key_cmp es) (below e.0 es rising.0) (sorted es rising.1)
-
--- records with the same value under each key are the same
-pub same_map : (es fs : Entries) → HasRisingKeys es → HasRisingKeys fs → ((q : Key) → value_under es q ≡ value_under fs q) → es ≡ fs
-same_map es fs s t same =
-    same_entries key_cmp key_total (λ x y e. sym (same_key x y (ap is_eq e))) es fs (sorted es s) (sorted fs t)
-    (λ q. found_same q es ∙ same q ∙ sym (found_same q fs))
 
 one_of : (found : Option (Option (List ℕ))) (was : Option (List ℕ))
     → unwrap_or (option_filter (λ w. not (is_some w)) found) (unwrap_or (option_filter is_some found) was) ≡ unwrap_or found was

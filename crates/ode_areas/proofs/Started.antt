@@ -1,44 +1,45 @@
 -- What a keeper has that was started, and that its answer is decided by the file.
-use Rattle.std.proofs.Common.{◌≡◌, ◌≤◌, inl, inr, ⊎_elim, ℕ, List, Result, Ok, Err, IfOk, IsErrOf, refl, sym, ap, subst, arith}
+use Rattle.std.proofs.Common.{◌≡◌, ◌≤◌, ⊎_elim, ℕ, List, Result, IfOk, IsErrOf, refl, sym, ap, subst, arith}
+use Rattle.std.proofs.lemmas.Result.{IfOk-weaker}
 use Rattle.ode_gate.specs.declared.header.Header.{Header}
 use Rattle.ode_gate.specs.Headers.{IsHeader, IsOfAreas, IsOfPages}
 use Rattle.ode_gate.specs.Slots.{Counts}
 use Rattle.ode_host.specs.View.{View}
 use Rattle.ode_host.specs.Host.{Stands}
-use Rattle.ode_journal.specs.declared.error.JournalError.{JournalError}
-use Rattle.ode_journal.specs.declared.error.JournalError.TheVariants as journal
 use Rattle.ode_journal.specs.declared.journal.Journal.{Journal}
 use Rattle.ode_journal.specs.Frames.{IsJournal}
-use Rattle.ode_keep.specs.Entries.{Entries, record_bytes}
+use Rattle.ode_journal.specs.Histories.{IsReplayed}
+use Rattle.ode_keep.specs.Entries.{Entries, applied, record_bytes}
+use Rattle.ode_keep.specs.Payloads.{IsPayload}
 use Rattle.ode_areas.specs.declared.areas.Areas.{Areas}
-use Rattle.ode_areas.specs.declared.error.StartError.{StartError}
-use Rattle.ode_areas.specs.declared.error.StartError.TheVariants.{Memory, DiskFault, BadJournal, BadPage}
+use Rattle.ode_keep.specs.declared.error.StartError.{StartError}
+use Rattle.ode_keep.specs.declared.error.StartError.TheVariants.{BadJournal, BadPage}
 use Rattle.ode_areas.specs.Holding.{AreasHold}
 use Rattle.ode_areas.specs.Image.{HasMap, IsBadAt, body_of}
 use Rattle.ode_areas.specs.OneMap.{never_both, one_has, one_place}
-use Rattle.ode_areas.specs.Replaying.{IsReplayed}
 use Rattle.ode_keep.specs.Snapshots.{IsSnapshot}
 use Rattle.ode_keep.specs.declared.limits.TheConstants.{MAX_RECORD_BYTES}
-use Rattle.ode_areas.specs.Starting.{Refuses, Starts, journal_error}
+use Rattle.ode_keep.specs.Starting.{Refuses, Starts}
+use Rattle.ode_keep.proofs.Starting.{refuses_journal, starts}
 
 pub of_areas : (h : Header) → IsHeader h → h.layout ≡ 1 → IsOfAreas h
 of_areas h rules one = ⊎_elim (λ (is : IsOfAreas h). is) (λ (is : IsOfPages h). absurd (omega (arith, is.layout, one))) rules.layout
 
 -- the snapshot and what the journal makes of it are the map
 abbrev pub has_map : (header : Header) (file : List ℕ) (body map : Entries) (journal : Journal) → IsSnapshot body (body_of header file)
-    → IsReplayed header.journal_at header.journal_end body map journal file → HasMap header file map
+    → IsReplayed IsPayload applied header.journal_at header.journal_end body map journal file → HasMap header file map
 has_map header file body map journal snapshot after = record {
   body = body;
   snapshot = snapshot;
   frames = after.frames;
   journal = after.stands;
-  batches = after.batches;
+  batches = after.steps;
   payloads = after.payloads;
-  map = after.map;
+  map = after.state;
 }
 
 pub holds_map : (keeper : Areas) (file : List ℕ) (body entries : Entries) (view : View) → IsOfAreas keeper.header → Stands file view → Counts file keeper.header
-    → IsSnapshot body (body_of keeper.header file) → IsReplayed keeper.header.journal_at keeper.header.journal_end body keeper.map keeper.journal file
+    → IsSnapshot body (body_of keeper.header file) → IsReplayed IsPayload applied keeper.header.journal_at keeper.header.journal_end body keeper.map keeper.journal file
     → HasMap keeper.header file entries → record_bytes entries ≤ MAX_RECORD_BYTES → AreasHold keeper view entries
 holds_map keeper file body entries view areas stands counts snapshot after has within =
     let own = has_map keeper.header file body keeper.map keeper.journal snapshot after in
@@ -58,30 +59,15 @@ holds_map keeper file body entries view areas stands counts snapshot after has w
       within = subst (λ (l : Entries). record_bytes l ≤ MAX_RECORD_BYTES) (sym same) within;
     })
 
-pub only_bad : (e : JournalError) (at : ℕ) → journal_error e ≡ BadJournal at → e ≡ journal.BadJournal at
-only_bad journal.Memory at same = absurd (cc (same))
-only_bad journal.DiskFault at same = absurd (cc (same))
-only_bad (journal.BadJournal place) at same = cc (same)
-
-pub no_page : (e : JournalError) (page : ℕ) → journal_error e ≡ BadPage page → ⊥
-no_page journal.Memory page same = cc (same)
-no_page journal.DiskFault page same = cc (same)
-no_page (journal.BadJournal place) page same = cc (same)
-
 -- What is true of the file is answered, where the answers are true and at most one of them can be.
 module _ (header : Header) (file : List ℕ) (areas : IsOfAreas header) where
   pub exact_starts : (r : Result Areas StartError) → ((p : ℕ) → IsErrOf r (BadJournal p) → IsBadAt header file p) → ((page : ℕ) → IsErrOf r (BadPage page) → ⊥)
       → (entries : Entries) → HasMap header file entries → Starts r
-  exact_starts (Ok keeper) bad page entries has = inl refl
-  exact_starts (Err Memory) bad page entries has = inr (inl refl)
-  exact_starts (Err DiskFault) bad page entries has = inr (inr refl)
-  exact_starts (Err (BadJournal p)) bad page entries has = absurd (never_both header file areas entries p has (bad p refl))
-  exact_starts (Err (BadPage p)) bad page entries has = absurd (page p refl)
+  exact_starts r bad page entries has =
+      starts (λ p. IsBadAt header file p) (λ _. ⊥) r bad page (λ p is. never_both header file areas entries p has is) (λ _ no. no)
 
   pub exact_refuses : (r : Result Areas StartError) → IfOk r (λ _. (entries : Entries) × HasMap header file entries) → ((p : ℕ) → IsErrOf r (BadJournal p) → IsBadAt header file p)
       → ((page : ℕ) → IsErrOf r (BadPage page) → ⊥) → (at : ℕ) → IsBadAt header file at → Refuses r (BadJournal at)
-  exact_refuses (Ok keeper) found bad page at is = absurd (never_both header file areas found.0 at found.1 is)
-  exact_refuses (Err Memory) found bad page at is = inr (inl refl)
-  exact_refuses (Err DiskFault) found bad page at is = inr (inr refl)
-  exact_refuses (Err (BadJournal p)) found bad page at is = inl (ap (λ (k : ℕ). Err (BadJournal k)) (one_place header file p at (bad p refl) is))
-  exact_refuses (Err (BadPage p)) found bad page at is = absurd (page p refl)
+  exact_refuses r found bad page at is =
+      refuses_journal (λ p. IsBadAt header file p) (λ _. ⊥) r bad page (IfOk-weaker r _ _ (λ _ own. never_both header file areas own.0 at own.1 is) found) at
+      (λ other also. one_place header file other at also is) (λ _ no. no)

@@ -1,60 +1,22 @@
 -- What an image stands for rests on its slots and on the bytes from the body's start to the journal's last gate.
-use Rattle.std.proofs.Common.{◌≡◌, ◌≢◌, ◌≤◌, ◌<◌, ◌⊎◌, inl, inr, ⊎_elim, ℕ, ◌+◌, ◌-◌, List, [], ◌∷◌, ◌++◌, length, take, drop, refl, sym, ◌∙◌, ap, subst, arith, append_assoc, length-append, length-take, length-drop, take-append-drop}
-use Rattle.std.proofs.lemmas.List.{take_at, drop-drop, take-take}
+use Rattle.std.proofs.Common.{◌≡◌, ◌≢◌, ◌≤◌, ◌⊎◌, inl, inr, ⊎_elim, ℕ, ◌+◌, ◌-◌, List, [], ◌∷◌, ◌++◌, length, take, drop, refl, sym, ◌∙◌, ap, subst, arith}
+use Rattle.std.proofs.lemmas.List.{drop-drop, take-take}
 use Rattle.ode_host.specs.Host.{Torn}
 use Rattle.ode_host.proofs.Bytes.{same_part, torn_apart}
 use Rattle.ode_gate.specs.declared.header.Header.{Header}
-use Rattle.ode_gate.specs.declared.gate.TheConstants.{OPEN}
 use Rattle.ode_gate.specs.Headers.{IsOfAreas}
 use Rattle.ode_gate.specs.Slots.{Counts}
 use Rattle.ode_gate.proofs.Fronts.{counts_front}
 use Rattle.ode_gate.specs.declared.places.TheConstants.{AREAS_END, AREA_0, AREA_1, AREA_LEN, SLOTS_END}
-use Rattle.ode_journal.specs.Frames.{AreShort, IsJournal, gate_behind, spelled}
-use Rattle.ode_journal.proofs.Appending.{is_journal}
+use Rattle.ode_journal.specs.Frames.{gate_behind, spelled}
+use Rattle.ode_journal.proofs.Windows.{gate_inside, journal_window, size_is}
 use Rattle.ode_keep.specs.Entries.{Entries}
 use Rattle.ode_areas.specs.Image.{HasMap}
 use Rattle.ode_keep.specs.Snapshots.{IsSnapshot}
 
--- frames and a shut gate from a place on are a journal
-pub journal_spelled : (start end : ℕ) (frames : List (List ℕ)) (gate : ℕ) (behind c : List ℕ) → drop start c ≡ spelled frames ++ gate ∷ behind
-    → AreShort frames → gate ≢ OPEN → gate_behind start frames < end → IsJournal start end frames c
-journal_spelled start end frames gate behind c stand short shut within =
-    let long : length (take start c) ≡ start =
-    omega (arith, length-take start c, ap length stand, length-drop start c, length-append (spelled frames) (gate ∷ behind)) in
-    let split : c ≡ (take start c ++ spelled frames) ++ gate ∷ behind =
-    sym (take-append-drop start c) ∙ ap (λ (l : List ℕ). take start c ++ l) stand ∙ sym (append_assoc (take start c) (spelled frames) (gate ∷ behind)) in
-    is_journal start end (take start c) long frames gate behind c split short shut within
-
--- a journal rests on its frames and its last gate
-module _ (start end : ℕ) (frames : List (List ℕ)) (file c : List ℕ) (is : IsJournal start end frames file) where
-  abbrev gate : ℕ
-  gate = is.shut.gate
-
-  abbrev size : ℕ
-  size = length (spelled frames ++ gate ∷ [])
-
-  reads : drop start file ≡ (spelled frames ++ gate ∷ []) ++ drop (gate_behind start frames + 1) file
-  reads =
-      is.has.stand ∙ ap (λ (l : List ℕ). spelled frames ++ l) is.shut.stands
-      ∙ sym (append_assoc (spelled frames) (gate ∷ []) (drop (gate_behind start frames + 1) file))
-
-  journal_window : take size (drop start c) ≡ take size (drop start file) → IsJournal start end frames c
-  journal_window same =
-      let front : take size (drop start c) ≡ spelled frames ++ gate ∷ [] =
-      same ∙ ap (λ (l : List ℕ). take size l) reads
-      ∙ take_at (spelled frames ++ gate ∷ []) (drop (gate_behind start frames + 1) file) size refl in
-      let stand : drop start c ≡ spelled frames ++ gate ∷ drop size (drop start c) =
-      sym (take-append-drop size (drop start c)) ∙ ap (λ (l : List ℕ). l ++ drop size (drop start c)) front
-      ∙ append_assoc (spelled frames) (gate ∷ []) (drop size (drop start c)) in
-      journal_spelled start end frames gate (drop size (drop start c)) c stand is.has.short is.shut.shut is.shut.within
-
 -- where the last gate of some records stands, and how far they reach
 abbrev pub reach : (h : Header) (file : List ℕ) (entries : Entries) → HasMap h file entries → ℕ
 reach h file entries has = gate_behind h.journal_at has.frames + 1
-
-pub gate_inside : (h : Header) (file : List ℕ) (entries : Entries) (has : HasMap h file entries) → reach h file entries has ≤ length file
-gate_inside h file entries has =
-    omega (arith, ap length has.journal.shut.stands, length-drop (gate_behind h.journal_at has.frames) file)
 
 -- records of a file are those of another, where both are the same from the body's start to the last gate
 module _ (h : Header) (areas : IsOfAreas h) (file c : List ℕ) (entries : Entries) (has : HasMap h file entries) where
@@ -67,9 +29,8 @@ module _ (h : Header) (areas : IsOfAreas h) (file c : List ℕ) (entries : Entri
       sym (take-take h.body_len wide (drop h.body_at c) (omega (arith, areas.journal)))
       ∙ ap (λ (l : List ℕ). take h.body_len l) same
       ∙ take-take h.body_len wide (drop h.body_at file) (omega (arith, areas.journal)) in
-      let length_is : length (spelled has.frames ++ has.journal.shut.gate ∷ []) ≡ length (spelled has.frames) + 1 =
-      omega (arith, length-append (spelled has.frames) (has.journal.shut.gate ∷ [])) in
       let size = length (spelled has.frames ++ has.journal.shut.gate ∷ []) in
+      let length_is : size ≡ length (spelled has.frames) + 1 = size_is h.journal_at h.journal_end has.frames file c has.journal in
       let part : take size (drop h.body_len (drop h.body_at c)) ≡ take size (drop h.body_len (drop h.body_at file)) =
       same_part wide h.body_len size (drop h.body_at file) (drop h.body_at c) (omega (arith, areas.journal, length_is)) same in
       let at : (l : List ℕ) → drop h.body_len (drop h.body_at l) ≡ drop h.journal_at l =
@@ -94,7 +55,7 @@ module _ (h : Header) (areas : IsOfAreas h) (file c : List ℕ) (entries : Entri
 module _ (h : Header) (areas : IsOfAreas h) (file c : List ℕ) (entries : Entries) (has : HasMap h file entries) (counts : Counts file h)
     (at n : ℕ) (other : at ≢ h.body_at) (is_area : (at ≡ AREA_0) ⊎ (at ≡ AREA_1)) (within : n ≤ AREA_LEN) (torn : Torn at n file c) where
   long : reach h file entries has ≤ length file
-  long = gate_inside h file entries has
+  long = gate_inside h.journal_at h.journal_end has.frames file c has.journal
 
   pub still_counts : Counts c h
   still_counts =

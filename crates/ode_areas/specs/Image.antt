@@ -3,10 +3,10 @@ use Rattle.std.specs.Prelude.{◌≡◌, ◌⊎◌, ℕ, ◌+◌, List, length, 
 use Rattle.ode_gate.specs.declared.header.Header.{Header}
 use Rattle.ode_gate.specs.Headers.{IsOfAreas}
 use Rattle.ode_gate.specs.Slots.{Counts}
-use Rattle.ode_journal.specs.Frames.{HasFrames, IsBad, IsFramed, IsJournal, gate_behind}
-use Rattle.ode_keep.specs.Entries.{Changes, Entries}
+use Rattle.ode_journal.specs.Frames.{IsJournal}
+use Rattle.ode_journal.specs.Histories.{ArePayloads, IsBadFrom, in_turn}
+use Rattle.ode_keep.specs.Entries.{Changes, Entries, applied}
 use Rattle.ode_keep.specs.Snapshots.{IsBrokenSnapshot, IsSnapshot}
-use Rattle.ode_areas.specs.Batches.{ArePayloads, replayed}
 use Rattle.ode_keep.specs.Payloads.{IsPayload}
 
 -- the bytes of the body, as far as the file has them
@@ -20,23 +20,8 @@ pub record HasMap (header : Header) (image : List ℕ) (entries : Entries) : Typ
   pub frames : List (List ℕ)
   pub journal : IsJournal header.journal_at header.journal_end frames image
   pub batches : List Changes
-  pub payloads : ArePayloads batches frames
-  pub map : entries ≡ replayed batches body
-
--- a whole frame stands at this place, and its payload has another form
-pub record IsMalformed (end at : ℕ) (file : List ℕ) : Type 0 where
-  pub payload : List ℕ
-  pub stands : IsFramed end at payload file
-  pub other : (changes : Changes) → IsPayload changes payload → ⊥
-
--- from `start` on some frames of their form, and then at this place one that is bad
-pub record IsBadFrom (start end at : ℕ) (file : List ℕ) : Type 0 where
-  pub frames : List (List ℕ)
-  pub has : HasFrames start end frames file
-  pub batches : List Changes
-  pub payloads : ArePayloads batches frames
-  pub place : at ≡ gate_behind start frames
-  pub bad : IsBad end at file ⊎ IsMalformed end at file
+  pub payloads : ArePayloads IsPayload batches frames
+  pub map : entries ≡ in_turn applied batches body
 
 -- the snapshot is broken at this place of the file
 pub record IsBadBody (header : Header) (image : List ℕ) (at : ℕ) : Type 0 where
@@ -49,7 +34,7 @@ pub record IsBadJournal (header : Header) (image : List ℕ) (at : ℕ) : Type 0
   pub body : Entries
   pub snapshot : IsSnapshot body (body_of header image)
   pub whole : length (body_of header image) ≡ header.body_len
-  pub journal : IsBadFrom header.journal_at header.journal_end at image
+  pub journal : IsBadFrom IsPayload header.journal_at header.journal_end at image
 
 -- under this header the first thing that is wrong stands at this place
 abbrev pub IsBadAt : Header → List ℕ → ℕ → Type 0

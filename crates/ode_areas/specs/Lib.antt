@@ -1,8 +1,5 @@
-pub mod Batches
 pub mod Image
-pub mod Replaying
 pub mod Holding
-pub mod Starting
 pub mod OneMap
 pub mod Puts
 pub mod Steps

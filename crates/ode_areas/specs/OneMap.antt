@@ -8,20 +8,21 @@ use Rattle.ode_value.specs.Records.{Row, row_bytes, snapshot}
 use Rattle.ode_gate.specs.declared.header.Header.{Header}
 use Rattle.ode_gate.specs.Headers.{IsOfAreas}
 use Rattle.ode_gate.proofs.Counting.{one_counts}
-use Rattle.ode_journal.specs.Frames.{HasGate, IsBad, IsJournal, IsShut, gate_behind}
-use Rattle.ode_journal.proofs.Unique.{NoneHas, bad_stops, framed_unique, frames_unique, journal_unique, shut_not_bad, shut_stops}
+use Rattle.ode_journal.specs.Frames.{HasGate, gate_behind}
+use Rattle.ode_journal.specs.Histories.{ArePayloads, in_turn}
+use Rattle.ode_journal.proofs.Histories.{journal_not_bad, one_bad, one_history}
+use Rattle.ode_journal.proofs.Unique.{journal_unique}
 use Rattle.ode_keep.specs.Entries.{Changes, Entries, HasRisingKeys, applied}
 use Rattle.ode_value.specs.Keys.{key_cmp}
 use Rattle.ode_keep.proofs.Applying.{applied_rising}
 use Rattle.ode_keep.specs.Snapshots.{FitsRow, FitsSnapshot, IsBrokenSnapshot, IsSnapshot}
-use Rattle.ode_areas.specs.Batches.{ArePayloads, replayed}
 use Rattle.ode_keep.specs.Payloads.{FitsChange, IsPayload, change_bytes, spelled_change}
-use Rattle.ode_areas.specs.Image.{AreasMean, HasMap, IsBadAt, IsBadBody, IsBadFrom, IsBadJournal, IsMalformed, body_of}
+use Rattle.ode_areas.specs.Image.{AreasMean, HasMap, IsBadAt, IsBadBody, IsBadJournal, body_of}
 use Rattle.ode_host.proofs.Determinacy.{IsOnce, Reads, Stops, one_list, one_reading}
+use Rattle.ode_keep.proofs.Counted.{one_counted}
 use Rattle.ode_keep.proofs.Lists.{all_behind, all_front}
 use Rattle.ode_keep.specs.Rising.{rising_front}
 use Rattle.ode_keep.proofs.Firsts.{same_change_first, same_row_first}
-use Rattle.ode_keep.specs.declared.spelling.TheConstants.{COUNT_LEN}
 
 row_some : (r : Row) (rest : List ℕ) → [] ≡ row_bytes r ++ rest → ⊥
 row_some r rest same = absurd (omega (arith, ap length same))
@@ -93,62 +94,7 @@ change_some : (c : Key × Option (List ℕ)) (rest : List ℕ) → [] ≡ change
 change_some c rest same = spelled_some c.0 c.1 rest same
 
 pub one_batch : (a b : Changes) (payload : List ℕ) → IsPayload a payload → IsPayload b payload → a ≡ b
-one_batch a b payload first second =
-    one_list change_bytes FitsChange same_change_first change_some a b first.each second.each (ap (λ (l : List ℕ). drop COUNT_LEN l) (sym first.spelled ∙ second.spelled))
-
-pub one_history : (a b : List Changes) (frames : List (List ℕ)) → ArePayloads a frames → ArePayloads b frames → a ≡ b
-one_history [] [] [] first second = refl
-one_history [] (c ∷ b) [] first second = absurd second
-one_history (c ∷ a) b [] first second = absurd first
-one_history [] b (p ∷ frames) first second = absurd first
-one_history (c ∷ a) [] (p ∷ frames) first second = absurd second
-one_history (c ∷ a) (d ∷ b) (p ∷ frames) first second =
-    ap (λ (e : Changes). e ∷ a) (one_batch c d p first.0 second.0) ∙ ap (λ (l : List Changes). d ∷ l) (one_history a b frames first.1 second.1)
-
--- Frames of their form, up to a place where none stands.
-HasForm : List ℕ → Type 0
-HasForm payload = (changes : Changes) × IsPayload changes payload
-
-formed : (batches : List Changes) (frames : List (List ℕ)) → ArePayloads batches frames → AllByRecursion HasForm frames
-unfolding HasForm
-formed [] [] are = tt
-formed [] (p ∷ frames) are = absurd are
-formed (c ∷ batches) [] are = absurd are
-formed (c ∷ batches) (p ∷ frames) are = ((c, are.0), formed batches frames are.1)
-
-module _ (end : ℕ) (file : List ℕ) where
-  abbrev NoneAt : ℕ → Type 0
-  NoneAt at = NoneHas HasForm end file at
-
-  none_shut : (at : ℕ) → IsShut end at file → NoneAt at
-  none_shut at shut payload framed_is form = shut_stops end at file shut payload framed_is
-
-  none_bad : (at : ℕ) → IsBad end at file ⊎ IsMalformed end at file → NoneAt at
-  unfolding HasForm
-  none_bad at bad payload framed_is form = ⊎_elim
-      (λ (is : IsBad end at file). bad_stops end at file is payload framed_is)
-      (λ (is : IsMalformed end at file). is.other form.0 (subst (λ (l : List ℕ). IsPayload form.0 l) (framed_unique end at payload is.payload file framed_is is.stands) form.1))
-      bad
-
-  module _ (start : ℕ) where
-    none_from : (at : ℕ) (is : IsBadFrom start end at file) → NoneAt (gate_behind start is.frames)
-    none_from at is = subst (λ (k : ℕ). NoneAt k) is.place (none_bad at is.bad)
-
-    pub one_bad : (p q : ℕ) → IsBadFrom start end p file → IsBadFrom start end q file → p ≡ q
-    one_bad p q first second =
-        let same = frames_unique HasForm end file first.frames second.frames start first.has second.has (formed first.batches first.frames first.payloads) (formed second.batches second.frames second.payloads)
-        (none_from p first) (none_from q second) in
-        first.place ∙ ap (λ (l : List (List ℕ)). gate_behind start l) same ∙ sym second.place
-
-    pub journal_not_bad : (frames : List (List ℕ)) (batches : List Changes) (at : ℕ) → IsJournal start end frames file → ArePayloads batches frames → IsBadFrom start end at file → ⊥
-    journal_not_bad frames batches at is are bad =
-        let same = frames_unique HasForm end file frames bad.frames start is.has bad.has (formed batches frames are) (formed bad.batches bad.frames bad.payloads) (none_shut (gate_behind start frames) is.shut) (none_from at bad) in
-        let here : gate_behind start frames ≡ at = ap (λ (l : List (List ℕ)). gate_behind start l) same ∙ sym bad.place in
-        let shut : IsShut end at file = subst (λ (k : ℕ). IsShut end k file) here is.shut in
-        ⊎_elim
-        (λ (is_bad : IsBad end at file). shut_not_bad end at file shut is_bad)
-        (λ (is_bad : IsMalformed end at file). shut_stops end at file shut is_bad.payload is_bad.stands)
-        bad.bad
+one_batch = one_counted change_bytes FitsChange key_cmp same_change_first change_some
 
 gate_inside : (at gate : ℕ) (file : List ℕ) → HasGate at gate file → at < length file
 gate_inside at gate file has = omega (arith, ap length has, length-drop at file)
@@ -160,8 +106,8 @@ module _ (header : Header) (image : List ℕ) where
       let body : first.body ≡ second.body = one_snapshot first.body second.body (body_of header image) first.snapshot second.snapshot in
       let frames : first.frames ≡ second.frames = journal_unique header.journal_at header.journal_end image first.frames second.frames first.journal second.journal in
       let batches : first.batches ≡ second.batches =
-      one_history first.batches second.batches second.frames (subst (λ (l : List (List ℕ)). ArePayloads first.batches l) frames first.payloads) second.payloads in
-      first.map ∙ ap (λ (l : List Changes). replayed l first.body) batches ∙ ap (λ (l : Entries). replayed second.batches l) body ∙ sym second.map
+      one_history IsPayload one_batch first.batches second.batches second.frames (subst (λ (l : List (List ℕ)). ArePayloads IsPayload first.batches l) frames first.payloads) second.payloads in
+      first.map ∙ ap (λ (l : List Changes). in_turn applied l first.body) batches ∙ ap (λ (l : Entries). in_turn applied second.batches l) body ∙ sym second.map
 
   body_long : header.body_at + header.body_len ≤ length image → length (body_of header image) ≡ header.body_len
   body_long whole = omega (arith, whole, length-take header.body_len (drop header.body_at image), length-drop header.body_at image)
@@ -173,7 +119,7 @@ module _ (header : Header) (image : List ℕ) where
     pub never_both : (entries : Entries) (at : ℕ) → HasMap header image entries → IsBadAt header image at → ⊥
     never_both entries at has bad = ⊎_elim
         (λ (is : IsBadBody header image at). snapshot_not_broken header.body_len is.behind (body_of header image) is.broken has.body has.snapshot (body_long (has_whole entries has)))
-        (λ (is : IsBadJournal header image at). journal_not_bad header.journal_end image header.journal_at has.frames has.batches at has.journal has.payloads is.journal)
+        (λ (is : IsBadJournal header image at). journal_not_bad IsPayload header.journal_end image header.journal_at has.frames has.batches at has.journal has.payloads is.journal)
         bad
 
   body_or_journal : (p q : ℕ) → IsBadBody header image p → IsBadJournal header image q → ⊥
@@ -188,7 +134,7 @@ module _ (header : Header) (image : List ℕ) where
       second)
       (λ (a : IsBadJournal header image p). ⊎_elim
       (λ (b : IsBadBody header image q). absurd (body_or_journal q p b a))
-      (λ (b : IsBadJournal header image q). one_bad header.journal_end image header.journal_at p q a.journal b.journal)
+      (λ (b : IsBadJournal header image q). one_bad IsPayload header.journal_end image header.journal_at p q a.journal b.journal)
       second)
       first
 
@@ -198,7 +144,7 @@ one_map image entries others first second =
     let same : first.header ≡ second.header = one_counts image first.header second.header first.counts second.counts in
     one_has second.header image entries others (subst (λ (h : Header). HasMap h image entries) same first.has) second.has
 
-replayed_rising : (batches : List Changes) (entries : Entries) → HasRisingKeys entries → HasRisingKeys (replayed batches entries)
+replayed_rising : (batches : List Changes) (entries : Entries) → HasRisingKeys entries → HasRisingKeys (in_turn applied batches entries)
 replayed_rising [] entries rising = rising
 replayed_rising (changes ∷ batches) entries rising = replayed_rising batches (applied changes entries) (applied_rising changes entries rising)
 

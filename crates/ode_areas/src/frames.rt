@@ -2,8 +2,9 @@
 ghost use Rattle.std.specs.Prelude.{IfOk, IsErrOf, List, ℕ};
 ghost use Rattle.ode_host.specs.Causes.{RoseIf};
 ghost use Rattle.ode_host.specs.Host.{Looks, Tells};
-ghost use Rattle.ode_areas.specs.Image.{IsBadFrom};
-ghost use Rattle.ode_areas.specs.Replaying.{IsReplayed};
+ghost use Rattle.ode_journal.specs.Histories.{IsBadFrom, IsReplayed};
+ghost use Rattle.ode_keep.specs.Entries.{applied};
+ghost use Rattle.ode_keep.specs.Payloads.{IsPayload};
 
 use crate::map::Map;
 use crate::payload::replay;
@@ -21,9 +22,9 @@ pub(crate) fn replay_frames<H: Host>(
     map: &mut Map,
 ) -> Result<Journal, JournalError>
     ensures found { IfOk result (λ journal. (file : List ℕ) → Tells (H.view host.old) file
-        → IsReplayed start end map.old map.new journal file) }
+        → IsReplayed IsPayload applied start end map.old map.new journal file) }
     ensures bad { (at : ℕ) → IsErrOf result (JournalError.BadJournal at)
-        → (file : List ℕ) → Tells (H.view host.old) file → IsBadFrom start end at file }
+        → (file : List ℕ) → Tells (H.view host.old) file → IsBadFrom IsPayload start end at file }
     ensures looks { Looks (H.view host.old) (H.view host.new) }
     ensures cause { RoseIf (IsErrOf result JournalError.DiskFault) (H.view host.old).disk_faults (H.view host.new).disk_faults }
 {

@@ -4,7 +4,6 @@
 mod areas;
 mod changing;
 mod encode;
-mod error;
 mod frames;
 mod keeping;
 mod map;
@@ -15,4 +14,3 @@ mod start;
 mod steps;
 
 pub use areas::Areas;
-pub use error::StartError;

@@ -8,16 +8,15 @@ ghost use Rattle.ode_keep.specs.Entries.{Entries, record_bytes};
 ghost use Rattle.ode_areas.specs.Holding.{AreasHold, held_bytes, is_live};
 ghost use Rattle.ode_areas.specs.Image.{HasMap, IsBadAt, IsBadBody, body_of};
 ghost use Rattle.ode_keep.specs.Snapshots.{IsSnapshot};
-ghost use Rattle.ode_areas.specs.Starting.{Refuses, Starts};
+ghost use Rattle.ode_keep.specs.Starting.{Refuses, Starts};
 
 use crate::areas::Areas;
-use crate::error::StartError;
 use crate::frames::replay_frames;
 use crate::map::Map;
 use crate::snapshot::load_rows;
 use ode_gate::{Header, TWO_AREAS};
 use ode_host::{Host, read_whole};
-use ode_keep::MAX_RECORD_BYTES;
+use ode_keep::{MAX_RECORD_BYTES, StartError};
 use std::alloc::Global;
 
 // Puts the records of the snapshot into an empty map.

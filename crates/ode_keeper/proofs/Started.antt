@@ -1,21 +1,19 @@
 -- What the layout of a header says, and that the answer of a start is decided by the file.
-use Rattle.std.proofs.Common.{◌≡◌, inl, inr, ⊎_elim, ℕ, List, Result, Ok, Err, IfOk, IsErrOf, refl, ap, arith}
+use Rattle.std.proofs.Common.{◌≡◌, inl, inr, ⊎_elim, ℕ, List, Result, IfOk, IsErrOf, arith}
+use Rattle.std.proofs.lemmas.Result.{IfOk-weaker}
 use Rattle.ode_areas.specs.Image as areas_image
-use Rattle.ode_areas.specs.declared.error.StartError.{StartError as AreasError}
-use Rattle.ode_areas.specs.declared.error.StartError.TheVariants as areas_start
 use Rattle.ode_gate.specs.Headers.{IsHeader, IsOfAreas, IsOfPages}
 use Rattle.ode_gate.specs.declared.header.Header.{Header}
 use Rattle.ode_gate.specs.declared.places.TheConstants.{PAGES, TWO_AREAS}
 use Rattle.ode_keep.specs.Entries.{Entries}
 use Rattle.ode_keeper.specs.Files.{HasMap, IsBadJournal, IsBadPage}
 use Rattle.ode_keeper.specs.OneMap.{has_not_bad_journal, has_not_bad_page, one_bad_journal, one_bad_page, page_not_bad_journal, two_layouts}
-use Rattle.ode_keeper.specs.Starting.{Refuses, Starts, areas_error, pages_error}
-use Rattle.ode_keeper.specs.declared.error.StartError.{StartError}
-use Rattle.ode_keeper.specs.declared.error.StartError.TheVariants.{Memory, DiskFault, BadJournal, BadPage}
+use Rattle.ode_keep.specs.Starting.{Refuses, Starts}
+use Rattle.ode_keep.proofs.Starting.{refuses_journal, refuses_page, starts}
+use Rattle.ode_keep.specs.declared.error.StartError.{StartError}
+use Rattle.ode_keep.specs.declared.error.StartError.TheVariants.{BadJournal, BadPage}
 use Rattle.ode_keeper.specs.declared.keeper.Keeper.{Keeper}
 use Rattle.ode_paging.specs.Meaning as pages_image
-use Rattle.ode_paging.specs.declared.error.StartError.{StartError as PagesError}
-use Rattle.ode_paging.specs.declared.error.StartError.TheVariants as pages_start
 
 -- ---- the layout
 
@@ -38,56 +36,28 @@ pub pages_map : (h : Header) (file : List ℕ) (entries : Entries) → IsOfPages
 pages_map h file entries pages (inl x) = absurd (two_layouts h file x.0 pages)
 pages_map h file entries pages (inr x) = x.1
 
--- ---- the errors
-
-pub areas_journal : (e : AreasError) (at : ℕ) → areas_error e ≡ BadJournal at → e ≡ areas_start.BadJournal at
-areas_journal areas_start.Memory at same = absurd (cc (same))
-areas_journal areas_start.DiskFault at same = absurd (cc (same))
-areas_journal (areas_start.BadJournal place) at same = cc (same)
-areas_journal (areas_start.BadPage page) at same = absurd (cc (same))
-
-pub areas_page : (e : AreasError) (page : ℕ) → areas_error e ≡ BadPage page → e ≡ areas_start.BadPage page
-areas_page areas_start.Memory page same = absurd (cc (same))
-areas_page areas_start.DiskFault page same = absurd (cc (same))
-areas_page (areas_start.BadJournal place) page same = absurd (cc (same))
-areas_page (areas_start.BadPage other) page same = cc (same)
-
-pub pages_journal : (e : PagesError) (at : ℕ) → pages_error e ≡ BadJournal at → e ≡ pages_start.BadJournal at
-pages_journal pages_start.Memory at same = absurd (cc (same))
-pages_journal pages_start.DiskFault at same = absurd (cc (same))
-pages_journal (pages_start.BadJournal place) at same = cc (same)
-pages_journal (pages_start.BadPage page) at same = absurd (cc (same))
-
-pub pages_page : (e : PagesError) (page : ℕ) → pages_error e ≡ BadPage page → e ≡ pages_start.BadPage page
-pages_page pages_start.Memory page same = absurd (cc (same))
-pages_page pages_start.DiskFault page same = absurd (cc (same))
-pages_page (pages_start.BadJournal place) page same = absurd (cc (same))
-pages_page (pages_start.BadPage other) page same = cc (same)
-
 -- ---- the answer
 
 -- What is true of the file is answered, where the answers are true and at most one of them can be.
 module _ (header : Header) (file : List ℕ) where
-  pub exact_starts : (r : Result Keeper StartError) → ((p : ℕ) → IsErrOf r (BadJournal p) → IsBadJournal header file p) → ((page : ℕ) → IsErrOf r (BadPage page) → IsBadPage header file page)
-      → (entries : Entries) → HasMap header file entries → Starts r
-  exact_starts (Ok keeper) bad page entries has = inl refl
-  exact_starts (Err Memory) bad page entries has = inr (inl refl)
-  exact_starts (Err DiskFault) bad page entries has = inr (inr refl)
-  exact_starts (Err (BadJournal p)) bad page entries has = absurd (has_not_bad_journal header file entries p has (bad p refl))
-  exact_starts (Err (BadPage p)) bad page entries has = absurd (has_not_bad_page header file entries p has (page p refl))
+  abbrev IsBadAt : ℕ → Type 0
+  IsBadAt at = IsBadJournal header file at
 
-  pub refuses_journal : (r : Result Keeper StartError) → IfOk r (λ _. (entries : Entries) × HasMap header file entries) → ((p : ℕ) → IsErrOf r (BadJournal p) → IsBadJournal header file p)
-      → ((page : ℕ) → IsErrOf r (BadPage page) → IsBadPage header file page) → (at : ℕ) → IsBadJournal header file at → Refuses r (BadJournal at)
-  refuses_journal (Ok keeper) found bad page at is = absurd (has_not_bad_journal header file found.0 at found.1 is)
-  refuses_journal (Err Memory) found bad page at is = inr (inl refl)
-  refuses_journal (Err DiskFault) found bad page at is = inr (inr refl)
-  refuses_journal (Err (BadJournal p)) found bad page at is = inl (ap (λ (k : ℕ). Err (BadJournal k)) (one_bad_journal header file p at (bad p refl) is))
-  refuses_journal (Err (BadPage p)) found bad page at is = absurd (page_not_bad_journal header file p at (page p refl) is)
+  abbrev IsBadIn : ℕ → Type 0
+  IsBadIn page = IsBadPage header file page
 
-  pub refuses_page : (r : Result Keeper StartError) → IfOk r (λ _. (entries : Entries) × HasMap header file entries) → ((p : ℕ) → IsErrOf r (BadJournal p) → IsBadJournal header file p)
-      → ((page : ℕ) → IsErrOf r (BadPage page) → IsBadPage header file page) → (place : ℕ) → IsBadPage header file place → Refuses r (BadPage place)
-  refuses_page (Ok keeper) found bad page place is = absurd (has_not_bad_page header file found.0 place found.1 is)
-  refuses_page (Err Memory) found bad page place is = inr (inl refl)
-  refuses_page (Err DiskFault) found bad page place is = inr (inr refl)
-  refuses_page (Err (BadJournal p)) found bad page place is = absurd (page_not_bad_journal header file place p is (bad p refl))
-  refuses_page (Err (BadPage p)) found bad page place is = inl (ap (λ (k : ℕ). Err (BadPage k)) (one_bad_page header file p place (page p refl) is))
+  module _ (r : Result Keeper StartError) (bad_at : (at : ℕ) → IsErrOf r (BadJournal at) → IsBadAt at) (bad_in : (page : ℕ) → IsErrOf r (BadPage page) → IsBadIn page) where
+    pub exact_starts : (entries : Entries) → HasMap header file entries → Starts r
+    exact_starts entries has =
+        starts IsBadAt IsBadIn r bad_at bad_in (λ at is. has_not_bad_journal header file entries at has is) (λ page is. has_not_bad_page header file entries page has is)
+
+    module _ (found : IfOk r (λ _. (entries : Entries) × HasMap header file entries)) where
+      pub exact_journal : (at : ℕ) → IsBadAt at → Refuses r (BadJournal at)
+      exact_journal at is =
+          refuses_journal IsBadAt IsBadIn r bad_at bad_in (IfOk-weaker r _ _ (λ _ own. has_not_bad_journal header file own.0 at own.1 is) found) at
+          (λ other also. one_bad_journal header file other at also is) (λ page also. page_not_bad_journal header file page at also is)
+
+      pub exact_page : (page : ℕ) → IsBadIn page → Refuses r (BadPage page)
+      exact_page page is =
+          refuses_page IsBadAt IsBadIn r bad_at bad_in (IfOk-weaker r _ _ (λ _ own. has_not_bad_page header file own.0 page own.1 is) found) page
+          (λ other also. one_bad_page header file other page also is) (λ at also. page_not_bad_journal header file page at is also)

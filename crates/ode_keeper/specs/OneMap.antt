@@ -6,8 +6,10 @@ use Rattle.ode_gate.specs.Headers.{IsOfAreas, IsOfPages}
 use Rattle.ode_gate.specs.Slots.{Counts}
 use Rattle.ode_gate.specs.declared.header.Header.{Header}
 use Rattle.ode_gate.specs.declared.places.TheConstants.{PAGES, TWO_AREAS}
+use Rattle.ode_journal.proofs.Histories.{one_bad}
 use Rattle.ode_keep.specs.Entries.{Entries, HasRisingKeys}
 use Rattle.ode_keeper.specs.Files.{FileMeans, HasMap, IsBadJournal, IsBadPage}
+use Rattle.ode_paging.specs.Images.{IsPayload}
 use Rattle.ode_paging.specs.OneMap as of_pages
 
 one_layout : (n : ℕ) → n ≡ TWO_AREAS → n ≡ PAGES → ⊥
@@ -42,7 +44,7 @@ module _ (header : Header) (image : List ℕ) where
   one_bad_journal p q (inl x) (inl y) = of_areas.one_place header image p q x.1 y.1
   one_bad_journal p q (inl x) (inr y) = absurd (two_layouts x.0 y.0)
   one_bad_journal p q (inr x) (inl y) = absurd (two_layouts y.0 x.0)
-  one_bad_journal p q (inr x) (inr y) = of_pages.one_bad header.journal_end image header.journal_at p q x.1 y.1
+  one_bad_journal p q (inr x) (inr y) = one_bad IsPayload header.journal_end image header.journal_at p q x.1 y.1
 
   pub one_bad_page : (p q : ℕ) → IsBadPage header image p → IsBadPage header image q → p ≡ q
   one_bad_page p q first second = of_pages.one_bad_page header image p q first.1 second.1

@@ -7,14 +7,13 @@ ghost use Rattle.ode_host.specs.Host.{Looks, Stands, Tells};
 ghost use Rattle.ode_keep.specs.Entries.{Entries, record_bytes};
 ghost use Rattle.ode_keeper.specs.Files.{HasMap, IsBadJournal, IsBadPage};
 ghost use Rattle.ode_keeper.specs.Holding.{KeeperHolds, held_bytes, is_live};
-ghost use Rattle.ode_keeper.specs.Starting.{Refuses, Starts};
+ghost use Rattle.ode_keep.specs.Starting.{Refuses, Starts};
 
-use crate::error::StartError;
 use crate::keeper::{CACHE_PAGES, Keeper};
 use ode_areas::Areas;
 use ode_gate::{Header, TWO_AREAS};
 use ode_host::Host;
-use ode_keep::MAX_RECORD_BYTES;
+use ode_keep::{MAX_RECORD_BYTES, StartError};
 use ode_pagemap::PageMap;
 use std::alloc::Global;
 

@@ -9,8 +9,8 @@ use Rattle.ode_gate.specs.declared.header.Header.{Header}
 use Rattle.ode_keep.specs.Entries.{Entries, record_bytes}
 use Rattle.ode_keep.specs.declared.limits.TheConstants.{MAX_RECORD_BYTES}
 use Rattle.ode_keeper.specs.Files.{HasMap, IsBadJournal, IsBadPage}
-use Rattle.ode_keeper.specs.declared.error.StartError.{StartError}
-use Rattle.ode_keeper.specs.declared.error.StartError.TheVariants as start
+use Rattle.ode_keep.specs.declared.error.StartError.{StartError}
+use Rattle.ode_keep.specs.declared.error.StartError.TheVariants as start
 use Rattle.ode_language.specs.Languages.{ode}
 use Rattle.ode_passes.specs.Rules.{Ruled}
 use Rattle.ode_passes.specs.declared.cause.Cause.TheVariants as cause

@@ -3,7 +3,7 @@ ghost use Rattle.std.specs.Prelude.{◌≡◌};
 
 use ode_gate::GateError;
 use ode_host::Failed;
-use ode_keeper::StartError;
+use ode_keep::StartError;
 use ode_passes::Cause;
 use std::alloc::AllocError;
 

@@ -5,7 +5,7 @@ use crate::equal::equal;
 use crate::images::{NEW_LEN, new_file};
 use crate::store::Store;
 use ode_host::Torn;
-use ode_keep::KeepError;
+use ode_keep::{KeepError, MAX_VALUE};
 use std::alloc::{AllocError, Global};
 use std::process::Abort;
 use std::test::Fail;
@@ -49,9 +49,9 @@ const PUTS: &[Put] = &[
     (1, 1, (1, 0)),
     (1, 3000, (1, 0)),
     (2, 2000, (1, 1)),
-    (1, 3968, (1, 0)),
+    (1, MAX_VALUE, (1, 0)),
     (3, 100, (1, 1)),
-    (2, 3968, (2, 1)),
+    (2, MAX_VALUE, (2, 1)),
     (4, 1, (1, 0)),
 ];
 
@@ -72,7 +72,7 @@ fn each_is_put(rt: &impl Abort, store: &mut Store, puts: &[Put]) {
 }
 
 // Each entry, and the size of its value.
-const SIZES: &[(u64, usize)] = &[(1, 3968), (2, 3968), (3, 100), (4, 1)];
+const SIZES: &[(u64, usize)] = &[(1, MAX_VALUE), (2, MAX_VALUE), (3, 100), (4, 1)];
 
 fn each_is_found(rt: &impl Abort, store: &mut Store, sizes: &[(u64, usize)]) {
     for (a, size) in sizes {
@@ -112,8 +112,8 @@ fn a_batch_of_many_values_is_one_frame(rt: HostRuntime) -> Result<(), Fail> {
     equal(&rt, &store.frame_at(gate), &Some((50, 0)));
     equal(&rt, &store.queued(), &Ok(50));
     equal(&rt, &store.reopens(1), &true);
-    equal(&rt, &store.found(0), &Ok(Some((3968, 7))));
-    equal(&rt, &store.found(49), &Ok(Some((3968, 7))));
+    equal(&rt, &store.found(0), &Ok(Some((MAX_VALUE, 7))));
+    equal(&rt, &store.found(49), &Ok(Some((MAX_VALUE, 7))));
     equal(&rt, &store.least_from(9, 50), &Ok(None));
     Ok(())
 }

@@ -6,7 +6,7 @@ use crate::batches::{key, putting, putting_many, removing};
 use crate::disk::smooth;
 use crate::images::new_file;
 use crate::meter::Meter;
-use ode_gate::{SLOT_LEN, read_header};
+use ode_gate::{PAGES, SLOT_LEN, read_header};
 use ode_host::{Host, take_u32};
 use ode_keep::{Batch, Keep, KeepError, MAX_VALUE};
 use ode_pagemap::PageMap;
@@ -22,7 +22,7 @@ fn start(alloc: Global, host: &mut Meter, cache: u32) -> Option<PageMap> {
     let Ok(header) = read_header(host, &mut [0; SLOT_LEN]) else {
         return None;
     };
-    if header.layout != 2 {
+    if header.layout != PAGES {
         return None;
     }
     PageMap::start(alloc, host, &header, cache).ok()

@@ -19,7 +19,7 @@ use Rattle.ode_paging.specs.Standing.{HasPage, HavePages, bytes_at, filled, imag
 use Rattle.ode_pagemap.specs.Alike.{AreAlike, HaveSamePages, journal_bytes}
 use Rattle.ode_pagemap.specs.Placing.{in_place, place_at}
 use Rattle.ode_pagemap.specs.Steps.{StandIn}
-use Rattle.ode_pagemap.proofs.Windows.{gate_inside, journal_window, size, size_is}
+use Rattle.ode_journal.proofs.Windows.{gate_inside, journal_window, size, size_is}
 
 -- a page behind its test
 pub cond_some : {A : Type 0} (b : Bool) (x y : A) → cond b (Some x) None ≡ Some y → (b ≡ true) × (x ≡ y)

@@ -10,14 +10,14 @@ use Rattle.ode_host.proofs.Bytes.{same_part}
 use Rattle.ode_journal.specs.declared.journal.Journal.{Journal}
 use Rattle.ode_journal.specs.Appends.{IsBeforeOrAfter, JournalStands, SameOutside}
 use Rattle.ode_journal.specs.Frames.{IsJournal, gate_behind}
+use Rattle.ode_journal.proofs.Histories.{in_turn-push, payloads_push}
 use Rattle.ode_keep.specs.Entries.{Changes, Entries}
 use Rattle.ode_keep.specs.Keeping.{LeavesOldOrNew}
 use Rattle.ode_paging.specs.Gathering.{gathered}
-use Rattle.ode_paging.specs.Images.{Image}
+use Rattle.ode_paging.specs.Images.{Image, IsPayload}
 use Rattle.ode_paging.specs.Meaning.{HasImages, PagesMean}
 use Rattle.ode_paging.specs.Overlays.{laid}
 use Rattle.ode_paging.specs.Standing.{HavePages}
-use Rattle.ode_paging.proofs.Overlaid.{all_laid_more, payloads_more}
 use Rattle.ode_pagemap.specs.Alike.{HaveSamePages}
 use Rattle.ode_pagemap.specs.Placing.{place_at}
 use Rattle.ode_pagemap.specs.Steps.{LeavesPages, Makes, StandIn, StandUnder}
@@ -78,8 +78,8 @@ module _ (h : Header) (place : Journal) (images : List Image) (pages : List Entr
         frames = frames ++ payload ∷ [];
         journal = subst (λ (e : ℕ). IsJournal h.journal_at e (frames ++ payload ∷ []) c) (end_is h place images pages file stand.has) journal;
         overlays = stand.has.over.overlays ++ over ∷ [];
-        payloads = payloads_more stand.has.over.overlays frames over payload stand.has.over.payloads makes.payload_is;
-        laid = ap (λ (l : List Image). laid over l) stand.has.over.laid ∙ sym (all_laid_more stand.has.over.overlays over []);
+        payloads = payloads_push IsPayload stand.has.over.overlays frames over payload stand.has.over.payloads makes.payload_is;
+        laid = ap (λ (l : List Image). laid over l) stand.has.over.laid ∙ sym (in_turn-push laid stand.has.over.overlays over []);
       }
 
       after : (now : Journal) → IsJournal h.journal_at place.end (frames ++ payload ∷ []) c → now.at ≡ gate_behind h.journal_at (frames ++ payload ∷ []) → now.end ≡ place.end

@@ -4,7 +4,6 @@ pub mod InPages
 pub mod Running
 pub mod Looking
 pub mod Places
-pub mod Windows
 pub mod Alikes
 pub mod Renewing
 pub mod Short

@@ -9,9 +9,10 @@ use Rattle.ode_gate.specs.declared.places.TheConstants.{PAGES_AT, PAGE_LEN, REGI
 use Rattle.ode_gate.specs.Changes.{IsChanged, LeavesHeader, MayReplace}
 use Rattle.ode_gate.specs.Slots.{Counts}
 use Rattle.ode_gate.proofs.Fronts.{counts_front}
-use Rattle.ode_host.specs.Host.{LeavesTorn, Stands, Torn, written_over}
+use Rattle.ode_host.specs.Host.{LeavesOnly, LeavesTorn, Stands, Torn, written_over}
 use Rattle.ode_host.specs.View.{View}
 use Rattle.ode_host.proofs.Bytes.{torn_apart, written-torn, wrote_here}
+use Rattle.ode_host.proofs.Moments.{joined, weaker}
 use Rattle.ode_journal.specs.declared.journal.Journal.{Journal}
 use Rattle.ode_journal.specs.Frames.{IsJournal, gate_behind}
 use Rattle.ode_keep.specs.Entries.{Entries}
@@ -23,7 +24,7 @@ use Rattle.ode_pagemap.specs.Placing.{ArePlaced, IsSameBeside, LeavesBeside, Tou
 use Rattle.ode_pagemap.specs.Steps.{BothStand, IsNext, LeavesPages, StandIn, StandUnder, empty_under}
 use Rattle.ode_pagemap.proofs.Alikes.{alike, alike_behind, bytes_in_place, bytes_of_image, gate_before, gate_from, gate_within, has_in_place, means_in, page_among, pages_among, place_inside}
 use Rattle.ode_pagemap.proofs.Looking.{found_all, missing_misses}
-use Rattle.ode_pagemap.proofs.Windows.{journal_spelled}
+use Rattle.ode_journal.proofs.Windows.{journal_spelled}
 
 -- what lies in front of the pages touches no place
 in_front : (at n : ℕ) (images : List Image) → at + n ≤ PAGES_AT → TouchesNone at n images
@@ -197,6 +198,11 @@ module _ (older : Header) (place : Journal) (images : List Image) (h : Header) (
         left.counts;
     text = sym same ∙ left.text;
   }
+
+  -- so a stop leaves the pages before the change and in it
+  pub change_leaves : (old new : View) → mid.text ≡ old.text → LeavesOnly old mid (LeavesPages pages old) → LeavesOnly mid new (LeavesHeader file older h mid) → LeavesOnly old new (LeavesPages pages old)
+  change_leaves old new same before change =
+      joined old mid new (LeavesPages pages old) before (weaker mid new (LeavesHeader file older h mid) (LeavesPages pages old) (header_leaves old same) change)
 
   -- and then the new one does
   pub moved_over : (new : View) (c : List ℕ) → Stands c new → IsChanged file h c → StandUnder h (empty_under h) [] pages new

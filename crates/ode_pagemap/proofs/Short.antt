@@ -7,9 +7,10 @@ use Rattle.std.specs.declared.cmp.Ordering.{Ordering}
 use Rattle.std.specs.declared.cmp.Ordering.TheVariants.{Less, Equal, Greater}
 use Rattle.ode_gate.specs.declared.header.Header.{Header}
 use Rattle.ode_gate.specs.declared.places.TheConstants.{PAGE_LEN}
-use Rattle.ode_paging.specs.Images.{FitsImage, Image, IsShortImage}
+use Rattle.ode_journal.specs.Histories.{ArePayloads, in_turn}
+use Rattle.ode_paging.specs.Images.{FitsImage, Image, IsPayload, IsShortImage}
 use Rattle.ode_paging.specs.Meaning.{HasImages}
-use Rattle.ode_paging.specs.Overlays.{ArePayloads, all_laid, laid}
+use Rattle.ode_paging.specs.Overlays.{laid}
 
 put_at : (page : ℕ) (used : List ℕ) (i : Image) (images rest : List Image) → length used ≤ PAGE_LEN → AllByRecursion IsShortImage (i ∷ images) → AllByRecursion IsShortImage rest → (r : Ordering)
     → AllByRecursion IsShortImage (match_ordering r ((page, used) ∷ i ∷ images) ((i.0, used) ∷ images) (i ∷ rest))
@@ -25,7 +26,7 @@ short_laid : (over images : List Image) → AllByRecursion FitsImage over → Al
 short_laid [] images each all = all
 short_laid (i ∷ over) images each all = short_laid over (insert_entry nat_cmp images i.0 i.1) each.1 (put i.0 i.1 images each.0.used all)
 
-short_all : (overlays : List (List Image)) (frames : List (List ℕ)) (images : List Image) → ArePayloads overlays frames → AllByRecursion IsShortImage images → AllByRecursion IsShortImage (all_laid overlays images)
+short_all : (overlays : List (List Image)) (frames : List (List ℕ)) (images : List Image) → ArePayloads IsPayload overlays frames → AllByRecursion IsShortImage images → AllByRecursion IsShortImage (in_turn laid overlays images)
 short_all [] [] images are all = all
 short_all [] (f ∷ frames) images are all = absurd are
 short_all (over ∷ overlays) [] images are all = absurd are

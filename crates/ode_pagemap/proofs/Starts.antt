@@ -10,13 +10,13 @@ use Rattle.ode_journal.specs.declared.journal.Journal.{Journal}
 use Rattle.ode_journal.specs.Frames.{IsJournal}
 use Rattle.ode_keep.specs.Entries.{Entries, record_bytes}
 use Rattle.ode_keep.specs.declared.limits.TheConstants.{MAX_RECORD_BYTES}
-use Rattle.ode_paging.specs.declared.error.StartError.{StartError}
-use Rattle.ode_paging.specs.declared.error.StartError.TheVariants.{Memory, DiskFault}
+use Rattle.ode_keep.specs.declared.error.StartError.{StartError}
+use Rattle.ode_keep.specs.declared.error.StartError.TheVariants.{Memory, DiskFault}
 use Rattle.ode_paging.specs.Meaning.{HasMap}
 use Rattle.ode_paging.specs.OneMap.{one_has}
 use Rattle.ode_paging.specs.Opening.{OpensAs}
 use Rattle.ode_paging.specs.Standing.{HasPage}
-use Rattle.ode_paging.specs.Starting.{Refuses, Starts}
+use Rattle.ode_keep.specs.Starting.{Refuses, Starts}
 use Rattle.ode_pagemap.specs.declared.map.PageMap.{PageMap}
 use Rattle.ode_pagemap.specs.Holding.{PagesHold}
 

@@ -7,15 +7,15 @@ ghost use Rattle.ode_host.specs.Causes.{RoseIf};
 ghost use Rattle.ode_host.specs.Host.{Looks, Stands, Tells};
 ghost use Rattle.ode_keep.specs.Entries.{Entries, record_bytes};
 ghost use Rattle.ode_paging.specs.Meaning.{HasMap, IsBadJournal, IsBadPage};
-ghost use Rattle.ode_paging.specs.Starting.{Refuses, Starts};
+ghost use Rattle.ode_keep.specs.Starting.{Refuses, Starts};
 ghost use Rattle.ode_pagemap.specs.Holding.{PagesHold, bytes, held, index, is_live, room};
 
 use crate::cache::Cache;
 use crate::map::PageMap;
 use ode_gate::Header;
 use ode_host::Host;
-use ode_keep::MAX_RECORD_BYTES;
-use ode_paging::{Opened, Rooms, StartError};
+use ode_keep::{MAX_RECORD_BYTES, StartError};
+use ode_paging::{Opened, Rooms};
 use std::alloc::Global;
 
 impl PageMap {

@@ -16,12 +16,13 @@ use Rattle.ode_value.specs.Keys.{key_cmp}
 use Rattle.ode_keep.specs.Entries.{HasRisingKeys}
 use Rattle.ode_keep.proofs.Keys.{key_total, same_key}
 use Rattle.ode_keep.proofs.Maps.{lookup_put}
+use Rattle.ode_keep.proofs.SameMaps.{same_map}
 use Rattle.ode_paging.specs.Changing.{ArePresent, IsPresent, forgotten}
 use Rattle.ode_paging.specs.Indexing.{Leads}
 use Rattle.ode_paging.specs.Making.{Moves, all_pointed}
 use Rattle.ode_paging.specs.Replacing.{pointed}
 use Rattle.ode_paging.proofs.Made.{no_pointer}
-use Rattle.ode_paging.proofs.Replaced.{pointed_at, pointed_rising, pointed_twice, same_map}
+use Rattle.ode_paging.proofs.Replaced.{pointed_at, pointed_rising, pointed_twice}
 
 -- A key of these moves may be pointed anywhere before.
 swapped_at : (b c : Bool) → (b ≡ true → c ≡ true → ⊥) → (x y found : Option ℕ) → cond c y (cond b x found) ≡ cond b x (cond c y found)

@@ -1,5 +1,4 @@
 pub mod Laying
-pub mod Overlaid
 pub mod Indexed
 pub mod Summing
 pub mod Paging

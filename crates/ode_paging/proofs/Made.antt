@@ -11,6 +11,7 @@ use Rattle.ode_value.specs.Keys.{key_cmp}
 use Rattle.ode_keep.specs.Entries.{Entries, HasRisingKeys, changed, value_under}
 use Rattle.ode_keep.proofs.Applying.{changed_at, changed_rising}
 use Rattle.ode_keep.proofs.Keys.{key_total, same_key}
+use Rattle.ode_keep.proofs.SameMaps.{same_map}
 use Rattle.ode_paging.specs.declared.hand.Hand.{Hand}
 use Rattle.ode_paging.specs.Gathering.{gathered}
 use Rattle.ode_paging.specs.Hands.{HasInHand}
@@ -20,7 +21,7 @@ use Rattle.ode_paging.specs.Making.{IsMade}
 use Rattle.ode_paging.specs.Replacing.{ArePages, page_at, page_changed, pointed}
 use Rattle.ode_paging.proofs.Columns.{to_last, value_only}
 use Rattle.ode_paging.proofs.Indexed.{indexed_keys, same_none}
-use Rattle.ode_paging.proofs.Replaced.{all_rising, changed_twice, leads_rising, only_in, page_of, pointed_at, pointed_rising, pointed_twice, replaced, same_map, value_of}
+use Rattle.ode_paging.proofs.Replaced.{all_rising, changed_twice, leads_rising, only_in, page_of, pointed_at, pointed_rising, pointed_twice, replaced, value_of}
 
 none_at : {A : Type 0} (b : Bool) (found : Option A) → (b ≡ true → found ≡ None) → cond b None found ≡ found
 none_at true found none = sym (none refl)

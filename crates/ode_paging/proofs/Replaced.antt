@@ -1,13 +1,10 @@
 -- What a change of one page makes of all entries, and of where their keys lead.
-use Rattle.std.proofs.Common.{◌≡◌, ◌≤◌, ⊎_elim, ℕ, ◌+◌, List, [], ◌∷◌, Bool, true, false, cond, length, Option, Some, None, refl, sym, ap, subst, ◌∙◌, arith}
-use Rattle.std.specs.Prelude.{T, ◌&&◌, not}
+use Rattle.std.proofs.Common.{◌≡◌, ◌≤◌, ⊎_elim, ℕ, ◌+◌, List, [], Bool, true, false, cond, length, Option, Some, None, refl, sym, ap, subst, ◌∙◌, arith}
+use Rattle.std.specs.Prelude.{not}
 use Rattle.std.specs.BTreeMap.{is_at}
-use Rattle.std.specs.FinMap.Entries.{same_entries, find, below_all, is_sorted}
-use Rattle.std.specs.List.{AllByRecursion}
 use Rattle.std.specs.List.Sorted.{IsStrictlySortedBy}
-use Rattle.std.specs.Map.{lookup, keys_of}
-use Rattle.std.specs.Ordering.{is_eq, is_lt, eq_by_cmp}
-use Rattle.std.specs.declared.cmp.Ordering.TheVariants.{Less}
+use Rattle.std.specs.Map.{lookup}
+use Rattle.std.specs.Ordering.{eq_by_cmp}
 use Rattle.std.proofs.lemmas.Cmp.{eq_by_cmp_equiv}
 use Rattle.std.proofs.lemmas.Map.{lookup-remove_entry}
 use Rattle.ode_value.specs.declared.key.Key.{Key}
@@ -16,36 +13,13 @@ use Rattle.ode_keep.specs.Entries.{Entries, HasRisingKeys, changed, value_under}
 use Rattle.ode_keep.proofs.Applying.{changed_at, changed_rising}
 use Rattle.ode_keep.proofs.Keys.{distinct_keys, key_total, same_key}
 use Rattle.ode_keep.proofs.Maps.{lookup_put, one_gone, rising_put, rising_some}
+use Rattle.ode_keep.proofs.SameMaps.{same_map}
 use Rattle.ode_paging.specs.Gathering.{HaveNewKeys, gathered}
 use Rattle.ode_paging.specs.Indexing.{Leads, indexed}
 use Rattle.ode_paging.specs.OneMap.{gathered_rising}
 use Rattle.ode_paging.specs.Replacing.{ArePages, IsReplaced, LeadsOnlyTo, page_changed, page_with, pointed}
 use Rattle.ode_paging.proofs.Columns.{AreRising, OnlyIn, changed_in, changed_pages, gathered_at, indexed_at, lacks_only, new_at, new_changed, new_from, nowhere, only, or_none, page_in, value_in}
 use Rattle.ode_paging.proofs.Indexed.{indexed_keys}
-
-both : (a b : Bool) → T a → T b → T (a && b)
-both true b p q = q
-both false b p q = p
-
-module _ {X : Type 0} where
-  found_same : (q : Key) (es : List (Key × X)) → find key_cmp q es ≡ lookup (is_at (key_cmp q)) es
-  found_same q [] = refl
-  found_same q (e ∷ es) = ap (λ (r : Option X). cond (is_at (key_cmp q) e.0) (Some e.1) r) (found_same q es)
-
-  below : (k : Key) (es : List (Key × X)) → AllByRecursion (λ y. key_cmp k y ≡ Less) (keys_of es) → T (below_all key_cmp k es)
-  below k [] all = tt
-  below k (e ∷ es) all = both (is_lt (key_cmp k e.0)) (below_all key_cmp k es) (subst (λ o. T (is_lt o)) (sym all.0) tt) (below k es all.1)
-
-  sorted : (es : List (Key × X)) → HasRisingKeys es → T (is_sorted key_cmp es)
-  unfolding IsStrictlySortedBy
-  sorted [] rising = tt
-  sorted (e ∷ es) rising = both (below_all key_cmp e.0 es) (is_sorted key_cmp es) (below e.0 es rising.0) (sorted es rising.1)
-
-  -- rising keys under each of which the same stands
-  pub same_map : (es fs : List (Key × X)) → HasRisingKeys es → HasRisingKeys fs → ((q : Key) → lookup (is_at (key_cmp q)) es ≡ lookup (is_at (key_cmp q)) fs) → es ≡ fs
-  same_map es fs s t same =
-      same_entries key_cmp key_total (λ x y e. sym (same_key x y (ap is_eq e))) es fs (sorted es s) (sorted fs t)
-      (λ q. found_same q es ∙ same q ∙ sym (found_same q fs))
 
 one_key : (k x y : Key) → is_at (key_cmp k) x ≡ true → is_at (key_cmp k) y ≡ eq_by_cmp key_cmp x y
 one_key k x y h = ap (λ (z : Key). is_at (key_cmp z) y) (sym (same_key k x h))

@@ -1,11 +1,11 @@
 -- Images of pages, and the payload that spells them.
-use Rattle.std.specs.Prelude.{◌≡◌, ◌<◌, ◌≤◌, ◌^◌, ℕ, List, ◌++◌, length}
+use Rattle.std.specs.Prelude.{◌<◌, ◌≤◌, ◌^◌, ℕ, List, ◌++◌, length}
 use Rattle.std.specs.Int.{w16, w32, to_be_bytes}
-use Rattle.std.specs.List.{AllByRecursion, flat_map}
 use Rattle.std.specs.List.Sorted.{IsStrictlySortedBy}
 use Rattle.std.specs.Map.{keys_of}
 use Rattle.std.specs.Ordering.{nat_cmp}
 use Rattle.ode_gate.specs.declared.places.TheConstants.{PAGE_LEN}
+use Rattle.ode_keep.specs.Counted.{IsCounted, counted}
 
 -- the number of a page, and the bytes that it begins with; behind them it has zeros
 abbrev pub Image : Type 0
@@ -21,7 +21,7 @@ image_bytes i = to_be_bytes w32 i.0 ++ to_be_bytes w16 (length i.1) ++ i.1
 
 -- how many images there are, and these one behind the other
 abbrev pub payload_of : List Image → List ℕ
-payload_of images = to_be_bytes w32 (length images) ++ flat_map image_bytes images
+payload_of images = counted image_bytes images
 
 -- an image whose page's number fits its field, and whose bytes fit a page
 pub record FitsImage (i : Image) : Type 0 where
@@ -29,11 +29,8 @@ pub record FitsImage (i : Image) : Type 0 where
   pub used : length i.1 ≤ PAGE_LEN
 
 -- the bytes are the payload of these images, in rising order of their pages
-pub record IsPayload (images : List Image) (bytes : List ℕ) : Type 0 where
-  pub spelled : bytes ≡ payload_of images
-  pub few : length images < 2 ^ 32
-  pub each : AllByRecursion FitsImage images
-  pub rising : HasRisingPages images
+abbrev pub IsPayload : List Image → List ℕ → Type 0
+IsPayload = IsCounted image_bytes FitsImage nat_cmp
 
 -- an image that isn't longer than a page
 abbrev pub IsShortImage : Image → Type 0

@@ -5,7 +5,6 @@ pub mod Standing
 pub mod Gathering
 pub mod Meaning
 pub mod OneMap
-pub mod Starting
 pub mod Indexing
 pub mod Summed
 pub mod Replacing

@@ -1,32 +1,23 @@
 -- The map of a file of pages: what its header, its journal and its pages make together.
-use Rattle.std.specs.Prelude.{◌≡◌, ◌<◌, ◌⊎◌, ℕ, List, [], length}
+use Rattle.std.specs.Prelude.{◌≡◌, ◌<◌, ℕ, List, [], length}
 use Rattle.ode_gate.specs.declared.header.Header.{Header}
 use Rattle.ode_gate.specs.Headers.{IsOfPages}
 use Rattle.ode_gate.specs.Slots.{Counts}
-use Rattle.ode_journal.specs.declared.journal.Journal.{Journal}
-use Rattle.ode_journal.specs.Frames.{HasFrames, IsBad, IsFramed, IsJournal, gate_behind}
+use Rattle.ode_journal.specs.Frames.{IsJournal}
+use Rattle.ode_journal.specs.Histories.{ArePayloads, IsBadFrom, in_turn}
 use Rattle.ode_keep.specs.Entries.{Entries}
 use Rattle.ode_paging.specs.Gathering.{AreApart, HaveNewKeys, gathered}
 use Rattle.ode_paging.specs.Images.{Image, IsPayload}
-use Rattle.ode_paging.specs.Overlays.{ArePayloads, all_laid}
+use Rattle.ode_paging.specs.Overlays.{laid}
 use Rattle.ode_paging.specs.Standing.{HasPage, HavePages, page_count}
-
--- from `start` on this journal stands, and the images of its frames, laid over the old ones, are the new ones
-pub record IsOverlaid (start end : ℕ) (old new : List Image) (journal : Journal) (file : List ℕ) : Type 0 where
-  pub frames : List (List ℕ)
-  pub stands : IsJournal start end frames file
-  pub overlays : List (List Image)
-  pub payloads : ArePayloads overlays frames
-  pub images : new ≡ all_laid overlays old
-  pub behind : journal ≡ record { at = gate_behind start frames; end = end }
 
 -- under this header: the images of the journal
 pub record HasImages (header : Header) (file : List ℕ) (images : List Image) : Type 0 where
   pub frames : List (List ℕ)
   pub journal : IsJournal header.journal_at header.journal_end frames file
   pub overlays : List (List Image)
-  pub payloads : ArePayloads overlays frames
-  pub laid : images ≡ all_laid overlays []
+  pub payloads : ArePayloads IsPayload overlays frames
+  pub laid : images ≡ in_turn laid overlays []
 
 -- under this header: the entries of all pages, of which no two have a key in common
 pub record HasMap (header : Header) (file : List ℕ) (entries : Entries) : Type 0 where
@@ -38,24 +29,9 @@ pub record HasMap (header : Header) (file : List ℕ) (entries : Entries) : Type
   pub apart : HaveNewKeys [] pages
   pub map : entries ≡ gathered [] pages
 
--- a whole frame stands at this place, and its payload has another form
-pub record IsMalformed (end at : ℕ) (file : List ℕ) : Type 0 where
-  pub payload : List ℕ
-  pub stands : IsFramed end at payload file
-  pub other : (images : List Image) → IsPayload images payload → ⊥
-
--- from `start` on some frames of their form, and then at this place one that is bad
-pub record IsBadFrom (start end at : ℕ) (file : List ℕ) : Type 0 where
-  pub frames : List (List ℕ)
-  pub has : HasFrames start end frames file
-  pub overlays : List (List Image)
-  pub payloads : ArePayloads overlays frames
-  pub place : at ≡ gate_behind start frames
-  pub bad : IsBad end at file ⊎ IsMalformed end at file
-
 -- the journal is bad at this place
 abbrev pub IsBadJournal : Header → List ℕ → ℕ → Type 0
-IsBadJournal header file at = IsBadFrom header.journal_at header.journal_end at file
+IsBadJournal header file at = IsBadFrom IsPayload header.journal_at header.journal_end at file
 
 -- The journal is whole, and so are the pages before this one. It has no entries with keys of its own.
 pub record IsBadPage (header : Header) (file : List ℕ) (page : ℕ) : Type 0 where

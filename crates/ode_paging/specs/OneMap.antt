@@ -1,77 +1,22 @@
 -- An image has one map, or one place at which it is bad, and never both.
-use Rattle.std.proofs.Common.{◌≡◌, ◌<◌, ⊎_elim, ℕ, ◌+◌, List, [], ◌∷◌, length, Some, refl, sym, ◌∙◌, ap, subst, arith}
-use Rattle.std.specs.Prelude.{◌⊎◌}
-use Rattle.std.specs.List.{AllByRecursion}
+use Rattle.std.proofs.Common.{◌≡◌, ◌<◌, ℕ, ◌+◌, List, [], ◌∷◌, length, Some, refl, sym, ◌∙◌, ap, subst, arith}
 use Rattle.std.specs.List.Sorted.{IsStrictlySortedBy}
 use Rattle.ode_gate.specs.declared.header.Header.{Header}
 use Rattle.ode_gate.specs.declared.places.TheConstants.{PAGE_LEN}
 use Rattle.ode_gate.proofs.Counting.{one_counts}
-use Rattle.ode_journal.specs.Frames.{IsBad, IsJournal, IsShut, gate_behind}
-use Rattle.ode_journal.proofs.Unique.{NoneHas, bad_stops, framed_unique, frames_unique, journal_unique, shut_not_bad, shut_stops}
+use Rattle.ode_journal.specs.Histories.{ArePayloads, in_turn}
+use Rattle.ode_journal.proofs.Histories.{journal_not_bad, one_history}
+use Rattle.ode_journal.proofs.Unique.{journal_unique}
 use Rattle.ode_keep.specs.Entries.{Entries, HasRisingKeys, changed}
 use Rattle.ode_keep.proofs.Applying.{changed_rising}
 use Rattle.ode_pages.proofs.Decoding.{same_entries}
 use Rattle.ode_pages.specs.Pages.{IsPage}
 use Rattle.ode_paging.specs.Gathering.{AreApart, HaveNewKeys, gathered, joined}
 use Rattle.ode_paging.specs.Images.{Image, IsPayload}
-use Rattle.ode_paging.specs.Meaning.{HasImages, HasMap, IsBadFrom, IsBadJournal, IsBadPage, IsMalformed, PagesMean}
-use Rattle.ode_paging.specs.Overlays.{ArePayloads, all_laid}
+use Rattle.ode_paging.specs.Meaning.{HasImages, HasMap, IsBadJournal, IsBadPage, PagesMean}
+use Rattle.ode_paging.specs.Overlays.{laid}
 use Rattle.ode_paging.specs.Spelling.{one_payload}
 use Rattle.ode_paging.specs.Standing.{HasPage, HavePages, page_count}
-
-pub one_history : (a b : List (List Image)) (frames : List (List ℕ)) → ArePayloads a frames → ArePayloads b frames → a ≡ b
-one_history [] [] [] first second = refl
-one_history [] (c ∷ b) [] first second = absurd second
-one_history (c ∷ a) b [] first second = absurd first
-one_history [] b (p ∷ frames) first second = absurd first
-one_history (c ∷ a) [] (p ∷ frames) first second = absurd second
-one_history (c ∷ a) (d ∷ b) (p ∷ frames) first second =
-    ap (λ (e : List Image). e ∷ a) (one_payload c d p first.0 second.0) ∙ ap (λ (l : List (List Image)). d ∷ l) (one_history a b frames first.1 second.1)
-
--- Frames of their form, up to a place where none stands.
-HasForm : List ℕ → Type 0
-HasForm payload = (images : List Image) × IsPayload images payload
-
-formed : (overlays : List (List Image)) (frames : List (List ℕ)) → ArePayloads overlays frames → AllByRecursion HasForm frames
-unfolding HasForm
-formed [] [] are = tt
-formed [] (p ∷ frames) are = absurd are
-formed (c ∷ overlays) [] are = absurd are
-formed (c ∷ overlays) (p ∷ frames) are = ((c, are.0), formed overlays frames are.1)
-
-module _ (end : ℕ) (file : List ℕ) where
-  abbrev NoneAt : ℕ → Type 0
-  NoneAt at = NoneHas HasForm end file at
-
-  none_shut : (at : ℕ) → IsShut end at file → NoneAt at
-  none_shut at shut payload framed_is form = shut_stops end at file shut payload framed_is
-
-  none_bad : (at : ℕ) → IsBad end at file ⊎ IsMalformed end at file → NoneAt at
-  unfolding HasForm
-  none_bad at bad payload framed_is form = ⊎_elim
-      (λ (is : IsBad end at file). bad_stops end at file is payload framed_is)
-      (λ (is : IsMalformed end at file). is.other form.0 (subst (λ (l : List ℕ). IsPayload form.0 l) (framed_unique end at payload is.payload file framed_is is.stands) form.1))
-      bad
-
-  module _ (start : ℕ) where
-    none_from : (at : ℕ) (is : IsBadFrom start end at file) → NoneAt (gate_behind start is.frames)
-    none_from at is = subst (λ (k : ℕ). NoneAt k) is.place (none_bad at is.bad)
-
-    pub one_bad : (p q : ℕ) → IsBadFrom start end p file → IsBadFrom start end q file → p ≡ q
-    one_bad p q first second =
-        let same = frames_unique HasForm end file first.frames second.frames start first.has second.has (formed first.overlays first.frames first.payloads) (formed second.overlays second.frames second.payloads)
-        (none_from p first) (none_from q second) in
-        first.place ∙ ap (λ (l : List (List ℕ)). gate_behind start l) same ∙ sym second.place
-
-    pub journal_not_bad : (frames : List (List ℕ)) (overlays : List (List Image)) (at : ℕ) → IsJournal start end frames file → ArePayloads overlays frames → IsBadFrom start end at file → ⊥
-    journal_not_bad frames overlays at is are bad =
-        let same = frames_unique HasForm end file frames bad.frames start is.has bad.has (formed overlays frames are) (formed bad.overlays bad.frames bad.payloads) (none_shut (gate_behind start frames) is.shut) (none_from at bad) in
-        let here : gate_behind start frames ≡ at = ap (λ (l : List (List ℕ)). gate_behind start l) same ∙ sym bad.place in
-        let shut : IsShut end at file = subst (λ (k : ℕ). IsShut end k file) here is.shut in
-        ⊎_elim
-        (λ (is_bad : IsBad end at file). shut_not_bad end at file shut is_bad)
-        (λ (is_bad : IsMalformed end at file). shut_stops end at file shut is_bad.payload is_bad.stands)
-        bad.bad
 
 -- Under one header, and with the same images.
 module _ (header : Header) (images : List Image) (file : List ℕ) where
@@ -109,8 +54,8 @@ module _ (header : Header) (file : List ℕ) where
   one_overlay a b first second =
       let frames : first.frames ≡ second.frames = journal_unique header.journal_at header.journal_end file first.frames second.frames first.journal second.journal in
       let overlays : first.overlays ≡ second.overlays =
-      one_history first.overlays second.overlays second.frames (subst (λ (l : List (List ℕ)). ArePayloads first.overlays l) frames first.payloads) second.payloads in
-      first.laid ∙ ap (λ (l : List (List Image)). all_laid l []) overlays ∙ sym second.laid
+      one_history IsPayload one_payload first.overlays second.overlays second.frames (subst (λ (l : List (List ℕ)). ArePayloads IsPayload first.overlays l) frames first.payloads) second.payloads in
+      first.laid ∙ ap (λ (l : List (List Image)). in_turn laid l []) overlays ∙ sym second.laid
 
   pub one_has : (a b : Entries) → HasMap header file a → HasMap header file b → a ≡ b
   one_has a b first second =
@@ -121,10 +66,10 @@ module _ (header : Header) (file : List ℕ) where
       first.map ∙ ap (λ (l : List Entries). gathered [] l) pages ∙ sym second.map
 
   pub has_not_bad_journal : (entries : Entries) (at : ℕ) → HasMap header file entries → IsBadJournal header file at → ⊥
-  has_not_bad_journal entries at has bad = journal_not_bad header.journal_end file header.journal_at has.over.frames has.over.overlays at has.over.journal has.over.payloads bad
+  has_not_bad_journal entries at has bad = journal_not_bad IsPayload header.journal_end file header.journal_at has.over.frames has.over.overlays at has.over.journal has.over.payloads bad
 
   pub page_not_bad_journal : (page at : ℕ) → IsBadPage header file page → IsBadJournal header file at → ⊥
-  page_not_bad_journal page at is bad = journal_not_bad header.journal_end file header.journal_at is.over.frames is.over.overlays at is.over.journal is.over.payloads bad
+  page_not_bad_journal page at is bad = journal_not_bad IsPayload header.journal_end file header.journal_at is.over.frames is.over.overlays at is.over.journal is.over.payloads bad
 
   -- where other pages go on behind those before a bad one, it isn't bad
   not_further : (page : ℕ) (is : IsBadPage header file page) (images : List Image) (pages : List Entries) → HasImages header file images → HavePages header images file 0 pages

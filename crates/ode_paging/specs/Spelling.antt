@@ -1,11 +1,11 @@
 -- Of the images that some bytes begin with there is one at most.
 use Rattle.std.proofs.Common.{◌≡◌, ◌<◌, ◌^◌, ℕ, List, [], ◌++◌, length, take, drop, refl, sym, ap, ◌∙◌, arith}
 use Rattle.std.specs.Int.{w16, w32}
+use Rattle.std.specs.Ordering.{nat_cmp}
 use Rattle.std.proofs.lemmas.List.{take_at, drop_at}
 use Rattle.std.proofs.lemmas.Nat.{from_be_bytes-to_be_bytes_2, from_be_bytes-to_be_bytes_4}
 use Rattle.ode_host.specs.Fields.{number_at}
-use Rattle.ode_host.proofs.Determinacy.{one_list}
-use Rattle.ode_keep.specs.declared.spelling.TheConstants.{COUNT_LEN}
+use Rattle.ode_keep.proofs.Counted.{one_counted}
 use Rattle.ode_paging.specs.Images.{FitsImage, Image, IsPayload, image_bytes}
 use Rattle.ode_paging.specs.declared.image.TheConstants.{IMAGE_HEAD}
 
@@ -29,5 +29,4 @@ image_some i rest same = absurd (omega (arith, ap length same))
 
 -- a payload spells one list of images
 pub one_payload : (a b : List Image) (payload : List ℕ) → IsPayload a payload → IsPayload b payload → a ≡ b
-one_payload a b payload first second =
-    one_list image_bytes FitsImage same_image_first image_some a b first.each second.each (ap (λ (l : List ℕ). drop COUNT_LEN l) (sym first.spelled ∙ second.spelled))
+one_payload = one_counted image_bytes FitsImage nat_cmp same_image_first image_some

@@ -2,7 +2,9 @@
 ghost use Rattle.std.specs.Prelude.{IfOk, IsErrOf, List, ℕ};
 ghost use Rattle.ode_host.specs.Causes.{RoseIf};
 ghost use Rattle.ode_host.specs.Host.{Looks, Tells};
-ghost use Rattle.ode_paging.specs.Meaning.{IsBadFrom, IsOverlaid};
+ghost use Rattle.ode_journal.specs.Histories.{IsBadFrom, IsReplayed};
+ghost use Rattle.ode_paging.specs.Images.{IsPayload};
+ghost use Rattle.ode_paging.specs.Overlays.{laid};
 
 use crate::images::Images;
 use crate::payload::lay;
@@ -20,9 +22,9 @@ pub(crate) fn lay_frames<H: Host>(
     images: &mut Images,
 ) -> Result<Journal, JournalError>
     ensures found { IfOk result (λ journal. (file : List ℕ) → Tells (H.view host.old) file
-        → IsOverlaid start end images.old images.new journal file) }
+        → IsReplayed IsPayload laid start end images.old images.new journal file) }
     ensures bad { (at : ℕ) → IsErrOf result (JournalError.BadJournal at)
-        → (file : List ℕ) → Tells (H.view host.old) file → IsBadFrom start end at file }
+        → (file : List ℕ) → Tells (H.view host.old) file → IsBadFrom IsPayload start end at file }
     ensures looks { Looks (H.view host.old) (H.view host.new) }
     ensures cause { RoseIf (IsErrOf result JournalError.DiskFault) (H.view host.old).disk_faults (H.view host.new).disk_faults }
 {

@@ -3,7 +3,6 @@
 
 mod changing;
 mod encode;
-mod error;
 mod frames;
 mod hand;
 mod image;
@@ -21,7 +20,6 @@ mod rooms;
 mod sums;
 
 pub use encode::{MAX_IMAGES, payload_length};
-pub use error::StartError;
 pub use image::IMAGE_HEAD;
 pub use images::Images;
 pub use imaging::PageRoom;

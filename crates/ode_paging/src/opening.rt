@@ -6,9 +6,8 @@ ghost use Rattle.ode_host.specs.Causes.{RoseIf};
 ghost use Rattle.ode_host.specs.Host.{Looks, Tells};
 ghost use Rattle.ode_keep.specs.Entries.{Entries};
 ghost use Rattle.ode_paging.specs.Meaning.{HasMap, IsBadJournal, IsBadPage};
-ghost use Rattle.ode_paging.specs.Starting.{Refuses, Starts};
+ghost use Rattle.ode_keep.specs.Starting.{Refuses, Starts};
 
-use crate::error::StartError;
 use crate::frames::lay_frames;
 use crate::images::Images;
 use crate::index::Index;
@@ -17,6 +16,7 @@ use crate::rooms::Rooms;
 use ode_gate::Header;
 use ode_host::Host;
 use ode_journal::Journal;
+use ode_keep::StartError;
 use std::alloc::Global;
 
 /// What a keeper knows of a file: the images that its pages have in the journal and where this ends, how many pages there

@@ -5,7 +5,6 @@ ghost use Rattle.ode_host.specs.Causes.{RoseIf};
 ghost use Rattle.ode_host.specs.Host.{Looks, Tells};
 ghost use Rattle.ode_paging.specs.Pageful.{AreRead, StopsAt};
 
-use crate::error::StartError;
 use crate::images::Images;
 use crate::index::Index;
 use crate::pages::read_page;
@@ -13,6 +12,7 @@ use crate::rooms::Rooms;
 use crate::sums::Sums;
 use ode_gate::Header;
 use ode_host::Host;
+use ode_keep::StartError;
 
 /// Reads so many pages from the first one on, leads their keys to them, sums their records up, and tells how much room each has. It is
 /// `BadPage` at the first one, in order, that isn't there, or isn't in its form, or has a key of a page before it.

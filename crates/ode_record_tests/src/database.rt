@@ -3,12 +3,12 @@ ghost use Rattle.std.specs.Prelude.{IfOk};
 ghost use Rattle.ode_keep.specs.ShortValues.{HasShortValues};
 
 use crate::classes::{one_class, with_fields};
-use ode_areas::{Areas, StartError};
+use ode_areas::Areas;
 use ode_codec::{Activation, Entry};
 use ode_gate::read_header;
 use ode_heap::{Heap, HeapError, ObjectHead};
 use ode_host::{Host, MemHost, Plan};
-use ode_keep::{Batch, MAX_CHANGES, MAX_VALUE};
+use ode_keep::{Batch, MAX_CHANGES, MAX_VALUE, StartError};
 use ode_types::Classes;
 use ode_value::{Class, Key, List, Value};
 use std::alloc::{AllocError, Global};

@@ -4,10 +4,10 @@ ghost use Rattle.ode_keep.specs.ShortValues.{HasShortValues};
 
 use crate::disk::{TEARS, failing, smooth, stopping};
 use crate::equal::equal;
-use ode_areas::{Areas, StartError};
+use ode_areas::Areas;
 use ode_gate::{SLOT_LEN, read_header};
 use ode_host::{Host, MemHost, Torn};
-use ode_keep::{Batch, Keep, KeepError, MAX_CHANGES, MAX_VALUE};
+use ode_keep::{Batch, Keep, KeepError, MAX_CHANGES, MAX_VALUE, StartError};
 use ode_value::{Key, List};
 use std::alloc::{AllocError, Global};
 use std::ops::Range;

@@ -4,9 +4,10 @@ use Rattle.std.proofs.lemmas.Result.{err_from_is_err_and}
 use Rattle.ode_host.proofs.Moments.{looks_joined, looks_none, tells_looks}
 use Rattle.ode_journal.specs.declared.error.JournalError.TheVariants.{BadJournal}
 use Rattle.ode_journal.specs.Frames.{IsFramed, IsShut}
-use Rattle.ode_areas.specs.Image.{IsBadFrom}
+use Rattle.ode_journal.specs.Histories.{IsBadFrom}
+use Rattle.ode_journal.proofs.Histories.{all_frames, bad_frame, bad_payload, none_yet, one_frame}
 use Rattle.ode_keep.specs.Payloads.{IsPayload}
-use Rattle.ode_areas.proofs.Replayed.{none_yet, one_frame, all_frames, bad_frame, bad_payload}
+use Rattle.ode_keep.specs.Entries.{applied}
 use Rattle.ode_areas.proofs.frames.replay_frames.Goals as goal
 
 pub frames-init : goal.frames-init
@@ -14,7 +15,7 @@ frames-init g c = record {
   looks = looks_none (g.H.Host.view c.args.host.now);
   faults = refl;
   ahead = λ file tells. c.in_ok-ahead.ensures file;
-  so_far = λ file tells. none_yet c.args.start c.args.end c.args.map.now file;
+  so_far = λ file tells. none_yet IsPayload applied c.args.start c.args.end c.args.map.now file;
 }
 
 pub returns-in_err-payload-clause-bad : goal.returns-in_err-payload-clause-bad
@@ -24,14 +25,14 @@ returns-in_err-payload-clause-bad g c =
     let so_far = c.frames.invariant in
     let same : c.in_err-payload.field-0.0 ≡ BadJournal place = cc (e) in
     let bad = c.in_err-payload.ensures.bad place (ap Err same) in
-    subst (λ (k : ℕ). IsBadFrom c.args.start c.args.end k file) (sym bad.0)
-    (bad_frame c.args.start c.args.end c.frames.at c.args.map.now c.frames.map file (so_far.so_far file tells) (bad.1 file (record { tells = tells_looks file _ _ so_far.looks tells; ahead = so_far.ahead file tells }))))
+    subst (λ (k : ℕ). IsBadFrom IsPayload c.args.start c.args.end k file) (sym bad.0)
+    (bad_frame IsPayload applied c.args.start c.args.end c.frames.at c.args.map.now c.frames.map file (so_far.so_far file tells) (bad.1 file (record { tells = tells_looks file _ _ so_far.looks tells; ahead = so_far.ahead file tells }))))
 
 pub returns-in_default-clause-found : goal.returns-in_default-clause-found
 returns-in_default-clause-found g c file tells =
     let so_far = c.frames.invariant in
     let here : IsShut c.args.end c.frames.at file = (rw c.in_default.is at c.in_ok-payload.ensures.found) file (record { tells = tells_looks file _ _ so_far.looks tells; ahead = so_far.ahead file tells }) in
-    all_frames c.args.start c.args.end c.frames.at c.args.map.now c.frames.map file (so_far.so_far file tells) here
+    all_frames IsPayload applied c.args.start c.args.end c.frames.at c.args.map.now c.frames.map file (so_far.so_far file tells) here
 
 pub returns-then-not-branch-clause-bad : goal.returns-then-not-branch-clause-bad
 returns-then-not-branch-clause-bad g c place e file tells =
@@ -39,8 +40,8 @@ returns-then-not-branch-clause-bad g c place e file tells =
     let here : IsFramed c.args.end c.frames.at c.in-Some.payload file = (rw c.in-Some.is at c.in_ok-payload.ensures.found) file (record { tells = tells_looks file _ _ so_far.looks tells; ahead = so_far.ahead file tells }) in
     let same : c.frames.at ≡ place = cc (e) in
     let other = OnFalse_at c.if-not-branch.true c.in_ok-replay.ensures.other in
-    subst (λ (k : ℕ). IsBadFrom c.args.start c.args.end k file) same
-    (bad_payload c.args.start c.args.end c.frames.at c.args.map.now c.frames.map file (so_far.so_far file tells)
+    subst (λ (k : ℕ). IsBadFrom IsPayload c.args.start c.args.end k file) same
+    (bad_payload IsPayload applied c.args.start c.args.end c.frames.at c.args.map.now c.frames.map file (so_far.so_far file tells)
     (record { payload = c.in-Some.payload; stands = here; other = λ changes form. other changes (rw c.as_slice.ensures form) }))
 
 pub frames-preserved : goal.frames-preserved
@@ -55,5 +56,5 @@ frames-preserved g c =
           let here : IsFramed c.args.end c.frames.at c.in-Some.payload file = (rw c.in-Some.is at c.in_ok-payload.ensures.found) file (record { tells = tells_looks file _ _ so_far.looks tells; ahead = so_far.ahead file tells }) in
           let form : IsPayload made.0 c.in-Some.payload = rw (← c.as_slice.ensures) made.1 in
           let long : c.len.result ≡ length c.in-Some.payload = search rules in
-          rw long (one_frame c.args.start c.args.end c.frames.at c.args.map.now c.frames.map file (so_far.so_far file tells) c.in-Some.payload made.0 c.replay.new.map here form made.2);
+          rw long (one_frame IsPayload applied c.args.start c.args.end c.frames.at c.args.map.now c.frames.map file (so_far.so_far file tells) c.in-Some.payload made.0 c.replay.new.map here form made.2);
     }

@@ -1,9 +1,8 @@
 use Rattle.std.proofs.Common.{List, ℕ, length, subst}
 use Rattle.ode_host.specs.Host.{LeavesOnly, LeavesTorn, Stands, written_over}
-use Rattle.ode_host.proofs.Moments.{joined, weaker}
-use Rattle.ode_gate.specs.Changes.{LeavesHeader}
+use Rattle.ode_host.proofs.Moments.{weaker}
 use Rattle.ode_areas.specs.Steps.{LeavesMap}
-use Rattle.ode_areas.proofs.Moving.{header_leaves, may_replace, moved_over, snapshot_leaves}
+use Rattle.ode_areas.proofs.Moving.{may_replace, move_leaves, moved_over, snapshot_leaves}
 use Rattle.ode_areas.proofs.steps.move_over.Goals as goal
 
 pub returns-in_err-write_synced-clause-any_moment : goal.returns-in_err-write_synced-clause-any_moment
@@ -25,14 +24,10 @@ returns-in-Ok-clause-any_moment g c older place entries stand moves =
     let mid = g.H.Host.view c.write_synced.new.host in
     let torn = subst (λ (l : List ℕ). LeavesOnly old mid (LeavesTorn h.body_at (length l) stand.file old)) c.deref.ensures.value
     (c.write_synced.ensures.any_moment stand.file stand.journal.stands) in
-    let first = weaker old mid (LeavesTorn h.body_at (length bytes) stand.file old) (LeavesMap entries old) (snapshot_leaves older h place entries bytes old stand moves) torn in
-    let new = g.H.Host.view c.change_header.new.host in
     let staged = subst (λ (l : List ℕ). Stands (written_over stand.file h.body_at l) mid) c.deref.ensures.value
     (c.in_ok-write_synced.ensures.stands stand.file stand.journal.stands.tells) in
-    joined old mid new (LeavesMap entries old) first
-    (weaker mid new (LeavesHeader (written_over stand.file h.body_at bytes) older h mid) (LeavesMap entries old)
-    (header_leaves older h place entries bytes old stand moves mid c.write_synced.ensures.puts.text)
-    (c.change_header.ensures.any_moment (written_over stand.file h.body_at bytes) older (may_replace older h place entries bytes old stand moves) staged))
+    move_leaves older h place entries bytes old stand moves mid (g.H.Host.view c.change_header.new.host) c.write_synced.ensures.puts.text torn
+    (c.change_header.ensures.any_moment (written_over stand.file h.body_at bytes) older (may_replace older h place entries bytes old stand moves) staged)
 
 pub returns-in-Err-clause-any_moment : goal.returns-in-Err-clause-any_moment
 returns-in-Err-clause-any_moment g c older place entries stand moves =
@@ -42,14 +37,10 @@ returns-in-Err-clause-any_moment g c older place entries stand moves =
     let mid = g.H.Host.view c.write_synced.new.host in
     let torn = subst (λ (l : List ℕ). LeavesOnly old mid (LeavesTorn h.body_at (length l) stand.file old)) c.deref.ensures.value
     (c.write_synced.ensures.any_moment stand.file stand.journal.stands) in
-    let first = weaker old mid (LeavesTorn h.body_at (length bytes) stand.file old) (LeavesMap entries old) (snapshot_leaves older h place entries bytes old stand moves) torn in
-    let new = g.H.Host.view c.change_header.new.host in
     let staged = subst (λ (l : List ℕ). Stands (written_over stand.file h.body_at l) mid) c.deref.ensures.value
     (c.in_ok-write_synced.ensures.stands stand.file stand.journal.stands.tells) in
-    joined old mid new (LeavesMap entries old) first
-    (weaker mid new (LeavesHeader (written_over stand.file h.body_at bytes) older h mid) (LeavesMap entries old)
-    (header_leaves older h place entries bytes old stand moves mid c.write_synced.ensures.puts.text)
-    (c.change_header.ensures.any_moment (written_over stand.file h.body_at bytes) older (may_replace older h place entries bytes old stand moves) staged))
+    move_leaves older h place entries bytes old stand moves mid (g.H.Host.view c.change_header.new.host) c.write_synced.ensures.puts.text torn
+    (c.change_header.ensures.any_moment (written_over stand.file h.body_at bytes) older (may_replace older h place entries bytes old stand moves) staged)
 
 pub returns-in-Ok-clause-moved : goal.returns-in-Ok-clause-moved
 returns-in-Ok-clause-moved g c older place entries stand moves =

@@ -1,7 +1,9 @@
 use Rattle.std.proofs.Common.{◌≡◌, ◌-◌, List, ℕ}
 use Rattle.ode_host.specs.Host.{Looks, Tells}
 use Rattle.ode_journal.specs.Ahead.{IsOf}
-use Rattle.ode_paging.proofs.Overlaid.{IsSoFar}
+use Rattle.ode_journal.proofs.Histories.{IsSoFar}
+use Rattle.ode_paging.specs.Images.{IsPayload}
+use Rattle.ode_paging.specs.Overlays.{laid}
 use Rattle.ode_paging.proofs.frames.lay_frames.Given as goal
 
 abbrev pub invariant-frames : goal.invariant-frames
@@ -9,7 +11,7 @@ invariant-frames g l = record {
   looks : Looks (g.H.Host.view l.initial.host) (g.H.Host.view l.host);
   faults : (g.H.Host.view l.host).disk_faults ≡ (g.H.Host.view l.initial.host).disk_faults;
   ahead : (file : List ℕ) → Tells (g.H.Host.view l.initial.host) file → IsOf file l.ahead;
-  so_far : (file : List ℕ) → Tells (g.H.Host.view l.initial.host) file → IsSoFar l.start l.end l.at l.initial.images l.images file;
+  so_far : (file : List ℕ) → Tells (g.H.Host.view l.initial.host) file → IsSoFar IsPayload laid l.start l.end l.at l.initial.images l.images file;
 }
 
 abbrev pub decreases-frames : goal.decreases-frames

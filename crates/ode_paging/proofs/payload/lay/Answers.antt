@@ -5,7 +5,11 @@ use Rattle.std.proofs.lemmas.Bool.{OnFalse_from, OnTrue_from, eqb-true}
 use Rattle.std.specs.BTreeMap.{insert_entry}
 use Rattle.std.specs.Int.{w32, to_be_bytes}
 use Rattle.std.specs.Ordering.{nat_cmp}
-use Rattle.ode_paging.proofs.Laying.{laid_none, laid_more, laid_all, not_other, nothing_left}
+use Rattle.ode_keep.proofs.Counted.{all_taken, none_taken, not_other, nothing_left}
+use Rattle.ode_paging.specs.Images.{FitsImage, image_bytes}
+use Rattle.ode_paging.specs.Overlays.{laid}
+use Rattle.ode_paging.specs.Spelling.{same_image_first}
+use Rattle.ode_paging.proofs.Laying.{laid_more}
 use Rattle.ode_paging.proofs.payload.lay.Goals as goal
 
 empty_from : (l : List ℕ) → (length l == 0) ≡ true → l ≡ []
@@ -18,14 +22,14 @@ not_empty (x ∷ l) is none = absurd (omega (arith, none))
 
 pub images-init : goal.images-init
 images-init c =
-    laid_none c.args.payload.now c.in-Some.count c.args.images.now c.split_at.result.1.now
+    none_taken image_bytes FitsImage nat_cmp laid c.args.payload.now c.in-Some.count c.args.images.now c.split_at.result.1.now refl
     (sym (take-append-drop 4 c.args.payload.now) ∙ ap (λ (l : List ℕ). l ++ drop 4 c.args.payload.now) (sym c.in-Some.ensures.spelled)
     ∙ ap (λ (l : List ℕ). to_be_bytes w32 c.in-Some.count ++ l) (sym c.split_at.ensures.back))
 
 pub returns-in_default-next_image-clause-other : goal.returns-in_default-next_image-clause-other
 returns-in_default-next_image-clause-other c over form =
-    not_other c.args.payload.now c.in-Some.count c.images.made c.args.images.now c.images.images c.images.rest.now c.images.last c.images.invariant
-    (omega (arith, c.in-Some.ensures)) over form c.images-test.true
+    not_other image_bytes FitsImage nat_cmp laid c.args.payload.now c.in-Some.count c.images.made c.args.images.now c.images.images c.images.rest.now c.images.last c.images.invariant
+    same_image_first (omega (arith, c.in-Some.ensures)) over form c.images-test.true
     (rw c.in_default-next_image.is at c.next_image.ensures.none)
 
 pub images-preserved : goal.images-preserved
@@ -42,8 +46,8 @@ returns-clause-whole c =
     let all : c.images.made ≡ c.in-Some.count = omega (arith, so_far.within, c.images-test.false) in
     OnTrue_from c.is_empty.result _ (λ (empty : c.is_empty.result ≡ true). (
       so_far.done,
-      laid_all c.args.payload.now c.in-Some.count c.images.made c.args.images.now c.images.images c.images.rest.now c.images.last so_far (omega (arith, c.in-Some.ensures)) all (empty_from c.images.rest.now (sym c.is_empty.ensures ∙ empty)),
-      so_far.images_are,
+      all_taken image_bytes FitsImage nat_cmp laid c.args.payload.now c.in-Some.count c.images.made c.args.images.now c.images.images c.images.rest.now c.images.last so_far (omega (arith, c.in-Some.ensures)) all (empty_from c.images.rest.now (sym c.is_empty.ensures ∙ empty)),
+      so_far.state,
     ))
 
 pub returns-clause-other : goal.returns-clause-other
@@ -51,5 +55,5 @@ returns-clause-other c =
     let so_far = c.images.invariant in
     let all : c.images.made ≡ c.in-Some.count = omega (arith, so_far.within, c.images-test.false) in
     OnFalse_from c.is_empty.result _ (λ (some : c.is_empty.result ≡ false) over form.
-    let none = nothing_left c.args.payload.now c.in-Some.count c.images.made c.args.images.now c.images.images c.images.rest.now c.images.last so_far (omega (arith, c.in-Some.ensures)) over form all in
+    let none = nothing_left image_bytes FitsImage nat_cmp laid c.args.payload.now c.in-Some.count c.images.made c.args.images.now c.images.images c.images.rest.now c.images.last so_far same_image_first (omega (arith, c.in-Some.ensures)) over form all in
     not_empty c.images.rest.now (sym c.is_empty.ensures ∙ some) none)

@@ -1,10 +1,11 @@
 use Rattle.std.proofs.Common.{◌≡◌, ℕ, inl, inr, true, Err, IsErrOf, Ok, ap}
 use Rattle.std.proofs.lemmas.Result.{err_from_is_err_and}
 use Rattle.ode_host.proofs.Moments.{looks_joined, stands_looks, tells_looks}
+use Rattle.ode_journal.proofs.Starting.{no_page, only_bad}
 use Rattle.ode_keep.specs.Entries.{Entries, record_bytes}
 use Rattle.ode_areas.specs.OneMap.{one_has}
-use Rattle.ode_areas.specs.declared.error.StartError.TheVariants.{BadJournal, BadPage}
-use Rattle.ode_areas.proofs.Started.{exact_refuses, exact_starts, has_map, holds_map, no_page, of_areas, only_bad}
+use Rattle.ode_keep.specs.declared.error.StartError.TheVariants.{BadJournal, BadPage}
+use Rattle.ode_areas.proofs.Started.{exact_refuses, exact_starts, has_map, holds_map, of_areas}
 use Rattle.ode_areas.proofs.areas.Areas.start.Goals as goal
 
 pub returns-in_err-load_body-clause-whole : goal.returns-in_err-load_body-clause-whole

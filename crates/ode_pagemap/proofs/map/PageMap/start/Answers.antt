@@ -2,7 +2,7 @@ use Rattle.std.proofs.Common.{true, ◌∙◌, ap}
 use Rattle.std.proofs.lemmas.Result.{err_from_is_err_and}
 use Rattle.ode_host.proofs.Moments.{stands_looks}
 use Rattle.ode_keep.specs.Entries.{Entries, record_bytes}
-use Rattle.ode_paging.specs.declared.error.StartError.TheVariants.{BadJournal, BadPage}
+use Rattle.ode_keep.specs.declared.error.StartError.TheVariants.{BadJournal, BadPage}
 use Rattle.ode_paging.specs.OneMap.{has_not_bad_journal, has_not_bad_page, one_has}
 use Rattle.ode_pagemap.proofs.Paged.{paged}
 use Rattle.ode_pagemap.proofs.Starts.{holds_map, same_refuses, same_starts}

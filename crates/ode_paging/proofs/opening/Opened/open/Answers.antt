@@ -1,5 +1,5 @@
 use Rattle.std.proofs.lemmas.Result.{IfOk-weaker}
-use Rattle.ode_paging.proofs.Started.{exact_starts, opened_keys, refuses_journal, refuses_page}
+use Rattle.ode_paging.proofs.Started.{exact_journal, exact_page, exact_starts, opened_keys}
 use Rattle.ode_paging.proofs.opening.Opened.open.Goals as goal
 
 pub returns-clause-keys : goal.returns-clause-keys
@@ -14,10 +14,10 @@ returns-clause-whole g c file entries tells has =
 
 pub returns-clause-broken_journal : goal.returns-clause-broken_journal
 returns-clause-broken_journal g c file at tells is =
-    refuses_journal c.args.h.now file c.read.result (IfOk-weaker c.read.result _ _ (λ opened found. found file tells) c.read.ensures.found)
-    (λ at is. c.read.ensures.bad_journal at is file tells) (λ page is. c.read.ensures.bad_page page is file tells) at is
+    exact_journal c.args.h.now file c.read.result (λ at is. c.read.ensures.bad_journal at is file tells) (λ page is. c.read.ensures.bad_page page is file tells)
+    (IfOk-weaker c.read.result _ _ (λ opened found. found file tells) c.read.ensures.found) at is
 
 pub returns-clause-broken_page : goal.returns-clause-broken_page
 returns-clause-broken_page g c file page tells is =
-    refuses_page c.args.h.now file c.read.result (IfOk-weaker c.read.result _ _ (λ opened found. found file tells) c.read.ensures.found)
-    (λ at is. c.read.ensures.bad_journal at is file tells) (λ page is. c.read.ensures.bad_page page is file tells) page is
+    exact_page c.args.h.now file c.read.result (λ at is. c.read.ensures.bad_journal at is file tells) (λ page is. c.read.ensures.bad_page page is file tells)
+    (IfOk-weaker c.read.result _ _ (λ opened found. found file tells) c.read.ensures.found) page is

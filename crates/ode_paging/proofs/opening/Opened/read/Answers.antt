@@ -1,7 +1,7 @@
 use Rattle.std.proofs.Common.{◌≡◌, Err, ap}
 use Rattle.std.proofs.lemmas.Result.{err_from_is_err_and}
 use Rattle.ode_host.proofs.Moments.{tells_looks}
-use Rattle.ode_paging.specs.declared.error.StartError.TheVariants.{BadPage}
+use Rattle.ode_keep.specs.declared.error.StartError.TheVariants.{BadPage}
 use Rattle.ode_paging.proofs.Started.{bad_page, opened}
 use Rattle.ode_paging.proofs.opening.Opened.read.Goals as goal
 
