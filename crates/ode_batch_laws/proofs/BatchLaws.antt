@@ -1,11 +1,11 @@
 -- The records behind a batch hold the world that is left.
 use Rattle.std.proofs.Common.{◌≡◌, List, ◌∷◌, refl, sym, ap, subst, ◌∙◌}
-use Rattle.ode_areas.proofs.Splitting.{same_map}
 use Rattle.ode_batch_laws.proofs.ClimbLaws.{Climb}
 use Rattle.ode_batch_laws.proofs.RowLaws.{front_climbs, rows_rise}
 use Rattle.ode_codec.specs.Standing.{HoldsWorld, StandsAs}
 use Rattle.ode_codec.specs.StoredRows.{Stored, counters_row, rows}
 use Rattle.ode_keep.proofs.Applying.{applied_rising}
+use Rattle.ode_keep.proofs.SameMaps.{same_map}
 use Rattle.ode_keep.specs.Entries.{Changes, Entries, HasRisingKeys, applied, value_under}
 use Rattle.ode_laws.specs.Alike.{NumberTx, NumberWorld}
 use Rattle.ode_laws.specs.Numbered.{AreNumbered}

@@ -1,12 +1,12 @@
 -- What the declaration of a class leaves over records.
 use Rattle.std.proofs.Common.{◌≡◌, ℕ, List, [], ◌∷◌, ◌++◌, refl, sym, ap, ◌∙◌, subst}
 use Rattle.std.specs.List.{AllByRecursion}
-use Rattle.ode_areas.proofs.Splitting.{same_map}
 use Rattle.ode_class_laws.specs.Declaring.{bones_with, stored_with, tables_with, world_with}
 use Rattle.ode_codec.specs.Standing.{HoldsWorld}
 use Rattle.ode_codec.specs.StoredRows.{Stored}
 use Rattle.ode_heap_laws.specs.Few.{HasFewParts, HoldsCounted}
 use Rattle.ode_keep.proofs.Applying.{applied_rising}
+use Rattle.ode_keep.proofs.SameMaps.{same_map}
 use Rattle.ode_known_laws.specs.Knowing.{IsHeld}
 use Rattle.ode_keep.specs.Entries.{Changes, Entries, HasRisingKeys, applied, value_under}
 use Rattle.ode_declared_laws.specs.Declared.{DeclaredOver}
