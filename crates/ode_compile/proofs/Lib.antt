@@ -1,4 +1,5 @@
 pub mod AnswerLaws
+pub mod LeastLaws
 pub mod LimitLaws
 pub mod NumberLaws
 pub mod TriggerLaws

@@ -10,14 +10,12 @@ use Rattle.ode_value.specs.Lengths.{class_records, piece_count, table_length, ta
 use Rattle.ode_value.specs.Limits.{value_limit}
 use Rattle.ode_value.specs.PrintedClasses.{decl_text}
 use Rattle.ode_value.specs.Symbols.{MaskedKind}
-use Rattle.ode_value.specs.Tables.{IsWord, Means, Table}
+use Rattle.ode_value.specs.Tables.{Means, Table}
 use Rattle.ode_value.specs.TreeCount.{tree_count}
 use Rattle.ode_value.specs.Weights.{record_count, table_size}
 use Rattle.ode_value.specs.declared.class.Class.{Class}
-use Rattle.ode_value.specs.declared.event.EventExpr.{EventExpr}
 use Rattle.ode_value.specs.declared.member.TriggerDecl.{TriggerDecl}
 use Rattle.ode_value.specs.declared.statement.ClassDecl.{ClassDecl}
-use Rattle.ode_minimal.specs.Minimal.{AnswersAs}
 use Rattle.ode_symbols.specs.Alphabets.{alphabet}
 use Rattle.ode_table.specs.Whole.{IsWhole}
 use Rattle.ode_compile.specs.Compiling.{AreCompiled, IsCompiled, counted_sizes, size_of_table, tree_counts}
@@ -41,23 +39,9 @@ compiled_more (s ∷ ss) (x ∷ xs) (a ∷ more) t table rows all one = (all.0, 
 pub limits_next : (t : TriggerDecl) (ts : List TriggerDecl) → limits_trigger t ≡ Ok tt → limits_triggers (t ∷ ts) ≡ limits_triggers ts
 limits_next t ts h = ap (λ m. m >> limits_triggers ts) h
 
--- the table with the same answers is compiled as well
-means_as : (large small : Table) (e : EventExpr) → AnswersAs large small → Means large e → Means small e
-means_as large small e same means = record {
-  symbols = same.symbols ∙ means.symbols;
-  answers = λ word is.
-      let own : IsWord large.symbols word = subst (λ n. IsWord n word) same.symbols is in
-      same.answers word own.each ∙ means.answers word own;
-}
-
-pub compiled_as : (t : TriggerDecl) (large small : Table) (rows : List MaskedKind) → Means large t.event → large.states ≡ tree_count t.event
-    → AnswersAs large small → small.states ≤ large.states → IsWhole small → rows ≡ alphabet t.event → IsCompiled t small rows
-compiled_as t large small rows means count same few whole own = record {
-  whole = whole;
-  means = means_as large small t.event same means;
-  states = subst (λ n. small.states ≤ n) count few;
-  rows_are = own;
-}
+-- a table with as many states as the event has trees is compiled
+pub built_as : (t : TriggerDecl) (table : Table) (rows : List MaskedKind) → IsWhole table → Means table t.event → table.states ≡ tree_count t.event → rows ≡ alphabet t.event → IsCompiled t table rows
+built_as t table rows whole means count own = record { whole = whole; means = means; states = omega (arith, count); rows_are = own }
 
 pub as_many : (ts : List TriggerDecl) (tables : List Table) (alphabets : List (List MaskedKind)) → AreCompiled ts tables alphabets → length tables ≡ length ts
 as_many [] [] [] all = refl

@@ -15,7 +15,7 @@ use Rattle.ode_value.specs.declared.reason.Refusal.TheVariants as refusal
 use Rattle.ode_value.specs.declared.statement.ClassDecl.{ClassDecl}
 use Rattle.ode_value.specs.declared.statement.Member.{Member}
 use Rattle.ode_value.specs.declared.statement.Member.TheVariants as member
-use Rattle.ode_minimal.specs.Minimal.{IsMinimal, IsReached}
+use Rattle.ode_minimal.specs.Minimal.{AnswersAs, IsMinimal, IsReached}
 use Rattle.ode_symbols.specs.Alphabets.{alphabet}
 use Rattle.ode_table.specs.Whole.{IsWhole}
 use Rattle.ode_types.specs.Static.{check_class}
@@ -69,6 +69,19 @@ AreCompiled _ _ _ = ⊥
 pub record IsShrunk (table : Table) : Type 0 where
   pub reached : IsReached table
   pub minimal : IsMinimal table
+
+-- the least table with the answers of another
+pub record IsLeastOf (large small : Table) : Type 0 where
+  pub answers : AnswersAs large small
+  pub few : small.states ≤ large.states
+  pub whole : IsWhole small
+  pub shrunk : IsShrunk small
+
+-- as many, in order
+abbrev pub AreLeastOf : List Table → List Table → Type 0
+AreLeastOf [] [] = Unit {0}
+AreLeastOf (t ∷ ts) (small ∷ least) = IsLeastOf t small × AreLeastOf ts least
+AreLeastOf _ _ = ⊥
 
 -- the states and symbols of a table
 abbrev pub size_of_table : Table → ℕ × ℕ

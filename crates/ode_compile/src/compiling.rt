@@ -10,6 +10,7 @@ ghost use Rattle.ode_compile.specs.Answers.{Answers, Gives, Passes};
 ghost use Rattle.ode_compile.specs.Compiling.{AreCompiled, HaveNumbers, IsShrunk, compiled, counted_sizes, few_records, tree_counts};
 
 use crate::counting::class_records;
+use crate::shrinking::shrink_all;
 use crate::stop::CompileStop;
 use crate::triggers::compile_triggers;
 use ode_print::print_class;
@@ -56,7 +57,34 @@ fn few_records(text: &[u8], counts: &[u16], tables: &[Table]) -> Result<(), Comp
 
 /// The class of a declaration behind those that are known, compiled, or its first refusal: the static rules, then for each trigger in
 /// order its symbols before its states, then the number of records. Each number of a `choose` or an `every` is in its range, as in
-/// each tree that a text has. The tables are the least ones, and each counts with as many states as its event has trees.
+/// each tree that a text has. The states of each table are the trees of its event.
+pub fn build_class(
+    alloc: Global,
+    known: &Classes,
+    decl: &ClassDecl,
+) -> Result<Compiled, CompileStop>
+    requires numbers { HaveNumbers decl.now }
+    ensures answers { Answers decl.now (compiled known.now decl.now) result }
+    ensures checked { IfOk result (λ made. IsChecked known.now made.class) }
+    ensures text { IfOk result (λ made. made.text ≡ decl_text decl.now) }
+    ensures tables { IfOk result (λ made. AreCompiled made.class.triggers made.tables made.alphabets) }
+    ensures counts { IfOk result (λ made. made.counts ≡ tree_counts made.class.triggers) }
+{
+    let class = checked(alloc, known, decl)?;
+    let (tables, alphabets, counts) = compile_triggers(alloc, class.triggers.as_slice())?;
+    let text = print_class(alloc, decl)?;
+    few_records(text.as_slice(), counts.as_slice(), tables.as_slice())?;
+    Ok(Compiled {
+        class,
+        text,
+        tables,
+        alphabets,
+        counts,
+    })
+}
+
+/// The same with the least tables, each of which counts with as many states as its event has trees.
+#[tactic(auto, using(crate::proofs::LeastLaws::least_compiled, crate::proofs::LeastLaws::least_shrunk))]
 pub fn compile(alloc: Global, known: &Classes, decl: &ClassDecl) -> Result<Compiled, CompileStop>
     requires numbers { HaveNumbers decl.now }
     ensures answers { Answers decl.now (compiled known.now decl.now) result }
@@ -66,10 +94,14 @@ pub fn compile(alloc: Global, known: &Classes, decl: &ClassDecl) -> Result<Compi
     ensures counts { IfOk result (λ made. made.counts ≡ tree_counts made.class.triggers) }
     ensures shrunk { IfOk result (λ made. AllByRecursion IsShrunk made.tables) }
 {
-    let class = checked(alloc, known, decl)?;
-    let (tables, alphabets, counts) = compile_triggers(alloc, class.triggers.as_slice())?;
-    let text = print_class(alloc, decl)?;
-    few_records(text.as_slice(), counts.as_slice(), tables.as_slice())?;
+    let Compiled {
+        class,
+        text,
+        tables,
+        alphabets,
+        counts,
+    } = build_class(alloc, known, decl)?;
+    let tables = shrink_all(alloc, tables.as_slice())?;
     Ok(Compiled {
         class,
         text,

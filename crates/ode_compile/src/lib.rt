@@ -3,9 +3,10 @@
 
 mod compiling;
 mod counting;
+mod shrinking;
 mod stop;
 mod triggers;
 
-pub use compiling::{Compiled, compile};
+pub use compiling::{Compiled, build_class, compile};
 pub use counting::{piece_count, table_length};
 pub use stop::CompileStop;

@@ -3,14 +3,12 @@ ghost use Rattle.std.specs.Prelude.{◌≡◌, IfOk, true};
 ghost use Rattle.std.specs.List.{AllByRecursion};
 ghost use Rattle.ode_value.specs.ClassLimits.{limits_trigger, limits_triggers};
 ghost use Rattle.ode_value.specs.Numbers.{has_numbers};
-ghost use Rattle.ode_value.specs.Tables.{Means};
 ghost use Rattle.ode_value.specs.TreeCount.{tree_count};
 ghost use Rattle.ode_symbols.specs.Alphabets.{alphabet};
 ghost use Rattle.ode_compile.specs.Answers.{Passes};
-ghost use Rattle.ode_compile.specs.Compiling.{AreCompiled, IsCompiled, IsShrunk, few_states, few_symbols, tree_counts};
+ghost use Rattle.ode_compile.specs.Compiling.{AreCompiled, IsCompiled, few_states, few_symbols, tree_counts};
 
 use crate::stop::CompileStop;
-use ode_minimal::shrink;
 use ode_symbols::{Alphabet, AlphabetError};
 use ode_table::{BuildError, Table, build};
 use ode_value::{List, Refusal, TriggerDecl};
@@ -32,42 +30,26 @@ fn alphabet_of(alloc: Global, trigger: &TriggerDecl) -> Result<Alphabet, Compile
 }
 
 // The table over the trigger's own alphabet whose states are the trees of its event.
+#[tactic(auto, using(crate::proofs::TriggerLaws::built_as))]
 fn built(alloc: Global, trigger: &TriggerDecl, symbols: &Alphabet) -> Result<Table, CompileStop>
     requires numbers { has_numbers trigger.now.event ≡ true }
     requires own { symbols.now ≡ alphabet trigger.now.event }
     ensures few { Passes (few_states trigger.now) result }
-    ensures means { IfOk result (λ table. Means table trigger.now.event) }
+    ensures table { IfOk result (λ table. IsCompiled trigger.now table symbols.now) }
     ensures count { IfOk result (λ table. table.states ≡ tree_count trigger.now.event) }
 {
     match build(alloc, &trigger.event, symbols) {
-        Ok(table) => Ok(table),
+        Ok(table) => {
+            // Read, so that its parts are known to fit each other.
+            let _rows = table.rows();
+            Ok(table)
+        }
         Err(BuildError::Memory) => Err(CompileStop::Memory),
         Err(BuildError::TooManyStates) => {
             let trigger = trigger.name.copy(alloc)?;
             Err(CompileStop::Refused(Refusal::TooManyStates { trigger }))
         }
     }
-}
-
-// The least table over the trigger's own alphabet, and how many trees its event has.
-#[tactic(auto, using(crate::proofs::TriggerLaws::compiled_as))]
-fn table_of(
-    alloc: Global,
-    trigger: &TriggerDecl,
-    symbols: &Alphabet,
-) -> Result<(Table, u16), CompileStop>
-    requires numbers { has_numbers trigger.now.event ≡ true }
-    requires own { symbols.now ≡ alphabet trigger.now.event }
-    ensures few { Passes (few_states trigger.now) result }
-    ensures table { IfOk result (λ made. IsCompiled trigger.now made.0 symbols.now) }
-    ensures shrunk { IfOk result (λ made. IsShrunk made.0) }
-    ensures count { IfOk result (λ made. made.1 ≡ tree_count trigger.now.event) }
-{
-    let large = built(alloc, trigger, symbols)?;
-    let table = shrink(alloc, &large)?;
-    // Read, so that its parts are known to fit each other.
-    let _rows = table.rows();
-    Ok((table, large.states()))
 }
 
 #[tactic(auto, using(crate::proofs::AnswerLaws::stops_through))]
@@ -78,15 +60,16 @@ fn compile_trigger(
     requires { has_numbers trigger.now.event ≡ true }
     ensures limits { Passes (limits_trigger trigger.now) result }
     ensures compiled { IfOk result (λ made. IsCompiled trigger.now made.0 made.1) }
-    ensures shrunk { IfOk result (λ made. IsShrunk made.0) }
     ensures count { IfOk result (λ made. made.2 ≡ tree_count trigger.now.event) }
 {
     let alphabet = alphabet_of(alloc, trigger)?;
-    let (table, count) = table_of(alloc, trigger, &alphabet)?;
+    let table = built(alloc, trigger, &alphabet)?;
+    let count = table.states();
     Ok((table, alphabet, count))
 }
 
-/// For each of these triggers, in order, a table, an alphabet and how many trees its event has, or the first refusal.
+/// For each of these triggers, in order, a table whose states are the trees of its event, its alphabet and how many trees there are, or
+/// the first refusal.
 pub(crate) fn compile_triggers(
     alloc: Global,
     triggers: &[TriggerDecl],
@@ -94,7 +77,6 @@ pub(crate) fn compile_triggers(
     requires { AllByRecursion (λ t. has_numbers t.event ≡ true) triggers.now }
     ensures limits { Passes (limits_triggers triggers.now) result }
     ensures compiled { IfOk result (λ made. AreCompiled triggers.now made.0 made.1) }
-    ensures shrunk { IfOk result (λ made. AllByRecursion IsShrunk made.0) }
     ensures counts { IfOk result (λ made. made.2 ≡ tree_counts triggers.now) }
 {
     let mut tables = List::new(alloc);

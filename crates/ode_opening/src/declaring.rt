@@ -16,7 +16,7 @@ ghost use Rattle.ode_opening.specs.Cutting.{Cuts, Declares};
 use crate::accepted::Accepted;
 use ode_again_laws::numbers_of_classes_are_in_range;
 use ode_codec::Record;
-use ode_compile::{CompileStop, Compiled, compile};
+use ode_compile::{CompileStop, Compiled, build_class};
 use ode_language::{ReadStop, read_statement};
 use ode_passes::{Cause, OpenError, class_count, of_head};
 use ode_symbols::Alphabet;
@@ -141,7 +141,7 @@ fn accepted(
     ensures text { IfOk result (λ found. IfSome found (λ made. made.text ≡ decl_text decl.now)) }
     ensures built { IfOk result (λ found. IfSome found IsBuilt) }
 {
-    match compile(alloc, known, decl) {
+    match build_class(alloc, known, decl) {
         Ok(made) => Ok(Some(made)),
         Err(CompileStop::Memory) => Err(AllocError),
         Err(CompileStop::Refused(_)) => Ok(None),

@@ -1,5 +1,4 @@
 use Rattle.std.proofs.Common.{◌≡◌, ℕ, ◌+◌, List, [], ◌∷◌, ◌++◌, drop, take, ap, sym, ◌∙◌, subst}
-use Rattle.std.specs.List.{AllByRecursion}
 use Rattle.std.proofs.lemmas.List.{drop_more, map-append, take_more}
 use Rattle.std.proofs.lemmas.Result.{err_from_is_err_and}
 use Rattle.ode_value.specs.ClassLimits.{limits_trigger, limits_triggers}
@@ -7,9 +6,8 @@ use Rattle.ode_value.specs.Symbols.{MaskedKind}
 use Rattle.ode_value.specs.Tables.{Table}
 use Rattle.ode_value.specs.TreeCount.{tree_count}
 use Rattle.ode_value.specs.declared.member.TriggerDecl.{TriggerDecl}
-use Rattle.ode_types.proofs.KeptEvents.{all_more}
 use Rattle.ode_compile.specs.Answers.{Stops}
-use Rattle.ode_compile.specs.Compiling.{AreCompiled, IsShrunk, tree_counts}
+use Rattle.ode_compile.specs.Compiling.{AreCompiled, tree_counts}
 use Rattle.ode_compile.proofs.AnswerLaws.{stops_through}
 use Rattle.ode_compile.proofs.TriggerLaws.{compiled_more, limits_next}
 use Rattle.ode_compile.proofs.triggers.compile_triggers.Goals as goal
@@ -40,9 +38,6 @@ loop-trigger-preserved c =
           (subst (λ (xs : List Table). AreCompiled (take i ts ++ t ∷ []) xs c.push-in-loop-trigger.new.self) (sym c.in_ok-push.ensures.ok)
           (subst (λ (rows : List (List MaskedKind)). AreCompiled (take i ts ++ t ∷ []) tables rows) (sym c.in_ok-push-2.ensures.ok)
           (compiled_more (take i ts) c.loop-trigger.tables c.loop-trigger.alphabets t c.in_ok-table.table c.in_ok-table.alphabet c.loop-trigger.invariant.compiled c.in_ok-table.ensures.compiled)));
-      shrunk =
-          subst (λ (xs : List Table). AllByRecursion IsShrunk xs) (sym c.in_ok-push.ensures.ok)
-          (all_more IsShrunk c.loop-trigger.tables (c.in_ok-table.table ∷ []) c.loop-trigger.invariant.shrunk (c.in_ok-table.ensures.shrunk, tt));
       counts =
           c.in_ok-push-3.ensures.ok
           ∙ ap (λ (ns : List ℕ). ns ++ c.in_ok-table.count ∷ []) c.loop-trigger.invariant.counts

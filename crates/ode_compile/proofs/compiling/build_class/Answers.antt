@@ -12,7 +12,7 @@ use Rattle.ode_compile.specs.Compiling.{AreCompiled, counted_sizes, tree_counts}
 use Rattle.ode_compile.proofs.AnswerLaws.{checked-ok, class_compiled, records_stop}
 use Rattle.ode_compile.proofs.NumberLaws.{numbers_kept}
 use Rattle.ode_compile.proofs.TriggerLaws.{counts_level, records_are}
-use Rattle.ode_compile.proofs.compiling.compile.Goals as goal
+use Rattle.ode_compile.proofs.compiling.build_class.Goals as goal
 
 pub compile_triggers-requires : goal.compile_triggers-requires
 compile_triggers-requires c =
