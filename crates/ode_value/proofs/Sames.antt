@@ -23,6 +23,8 @@ use Rattle.ode_value.specs.Same.{same_kind, same_bool, same_version, same_value,
 pub kind-same : (k l : Kind) → same_kind k l ≡ true → k ≡ l
 kind-same kind.Create kind.Create h = refl
 kind-same kind.Delete kind.Delete h = refl
+kind-same kind.NewVersion kind.NewVersion h = refl
+kind-same kind.DropVersion kind.DropVersion h = refl
 kind-same (kind.Before m) (kind.Before n) h = ap kind.Before ((bytes_eq-Decides m n).0 h)
 kind-same (kind.After m) (kind.After n) h = ap kind.After ((bytes_eq-Decides m n).0 h)
 kind-same kind.TBegin kind.TBegin h = refl
@@ -143,6 +145,8 @@ number-itself n = (Decides-eqb n n).1 refl
 pub kind-itself : (k : Kind) → same_kind k k ≡ true
 kind-itself kind.Create = refl
 kind-itself kind.Delete = refl
+kind-itself kind.NewVersion = refl
+kind-itself kind.DropVersion = refl
 kind-itself (kind.Before m) = bytes-itself m
 kind-itself (kind.After m) = bytes-itself m
 kind-itself kind.TBegin = refl

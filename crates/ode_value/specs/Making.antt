@@ -44,6 +44,10 @@ derived_from v o = record o {
 abbrev pub next_version : Object → Ref
 next_version o = record { object = o.id; version = Some (o.last + 1) }
 
+-- the reference to the version of a number, of the object behind a reference
+abbrev pub pinned : Ref → ℕ → Ref
+pinned r number = record { object = r.object; version = Some number }
+
 -- a new object with its first version
 abbrev pub object_with : ℕ → ℕ → List Value → Object
 object_with id class fields = record {
@@ -79,6 +83,14 @@ module _ {O A : Type 0} where
     alters_object o.id (derived_from v)
     prints (version_line (next_version o))
     gives (next_version o)
+
+  -- the reference to the version that a reference denotes, where it isn't the only one
+  abbrev pub spares : Ref → Act O A Ref
+  spares r = do
+    v ← version r
+    o ← object r.object
+    needs (LastVersion r.object) (λ x. nat_lt 1 (length o.versions))
+    gives (pinned r v.number)
 
   -- the version that a reference denotes is removed, where it isn't the only one
   abbrev pub drops : Ref → Deed O A

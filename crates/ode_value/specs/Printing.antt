@@ -83,6 +83,8 @@ operand_text e = operand (printed e)
 abbrev pub kind_text : Kind → List ℕ
 kind_text kind.Create = codes "after create"
 kind_text kind.Delete = codes "before delete"
+kind_text kind.NewVersion = codes "after newversion"
+kind_text kind.DropVersion = codes "before delversion"
 kind_text (kind.Before method) = codes "before " ++ method
 kind_text (kind.After method) = codes "after " ++ method
 kind_text kind.TBegin = codes "after tbegin"

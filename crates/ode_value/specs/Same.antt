@@ -19,6 +19,8 @@ use Rattle.ode_value.specs.declared.value.Value.TheVariants as value
 abbrev pub same_kind : Kind → Kind → Bool
 same_kind kind.Create kind.Create = true
 same_kind kind.Delete kind.Delete = true
+same_kind kind.NewVersion kind.NewVersion = true
+same_kind kind.DropVersion kind.DropVersion = true
 same_kind (kind.Before m) (kind.Before n) = bytes_eq m n
 same_kind (kind.After m) (kind.After n) = bytes_eq m n
 same_kind kind.TBegin kind.TBegin = true

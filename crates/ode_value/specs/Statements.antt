@@ -4,7 +4,7 @@ use Rattle.std.specs.List.{find}
 use Rattle.std.specs.Option.{option_map_or, unwrap_or}
 use Rattle.std.specs.Str.{bytes_eq}
 use Rattle.ode_value.specs.declared.class.Field.{Field}
-use Rattle.ode_value.specs.declared.event.Kind.TheVariants.{Create, Delete, Before, After}
+use Rattle.ode_value.specs.declared.event.Kind.TheVariants.{Create, Delete, NewVersion, DropVersion, Before, After}
 use Rattle.ode_value.specs.declared.reason.Reason.TheVariants.{Depth}
 use Rattle.ode_value.specs.declared.statement.Call.{Call}
 use Rattle.ode_value.specs.declared.statement.Expr.{Expr}
@@ -21,7 +21,7 @@ use Rattle.ode_value.specs.Classes.{Trigger, method_named, trigger_named, initia
 use Rattle.ode_value.specs.Constraints.{tests_hard}
 use Rattle.ode_value.specs.Evaluation.{Frame}
 use Rattle.ode_value.specs.Expressions.{evaluates, evaluates_all, evaluates_sets, stands, reference, receiver}
-use Rattle.ode_value.specs.Making.{makes, derives, drops, removes, switches_on, switches_off}
+use Rattle.ode_value.specs.Making.{makes, derives, spares, drops, removes, switches_on, switches_off}
 use Rattle.ode_value.specs.Posting.{Body, posts, touches}
 use Rattle.ode_value.specs.Denoting.{denotes}
 
@@ -103,11 +103,12 @@ module _ {O A : Type 0} (past : Past O A) where
     gives (value.Reference (generic id))
 
   -- `newversion`
-  abbrev pub copies : Option (Body O A) → Expr → Frame → Act O A Value
+  unfoldable pub copies : Option (Body O A) → Expr → Frame → Act O A Value
   copies d e frame = do
     r ← reference e frame
     touches past d r.object
     new ← derives r
+    posts past d r.object NewVersion []
     gives (value.Reference new)
 
   -- `pdelete`
@@ -120,12 +121,14 @@ module _ {O A : Type 0} (past : Past O A) where
     lives r.object
     removes r.object
 
-  -- `delversion`
-  abbrev pub drops_version : Option (Body O A) → Expr → Frame → Deed O A
+  -- `delversion`: the version that is removed is the one that the reference denotes before the point
+  unfoldable pub drops_version : Option (Body O A) → Expr → Frame → Deed O A
   drops_version d e frame = do
     r ← reference e frame
     touches past d r.object
-    drops r
+    v ← spares r
+    posts past d r.object DropVersion []
+    drops v
 
   -- a new activation of the trigger of a name
   unfoldable pub switches_on_named : Ref → List ℕ → List Value → Act O A Value

@@ -14,6 +14,10 @@ use std::alloc::{AllocError, Global};
 pub enum Kind {
     Create,
     Delete,
+    /// After a new version.
+    NewVersion,
+    /// Before a version is removed.
+    DropVersion,
     /// Before the method of this name.
     Before(Name),
     /// After the method of this name.
@@ -81,6 +85,8 @@ impl Kind {
         match self {
             Kind::Create => matches!(other, Kind::Create),
             Kind::Delete => matches!(other, Kind::Delete),
+            Kind::NewVersion => matches!(other, Kind::NewVersion),
+            Kind::DropVersion => matches!(other, Kind::DropVersion),
             Kind::Before(name) => match other {
                 Kind::Before(other) => name.same(other),
                 _ => false,
@@ -111,6 +117,8 @@ impl Kind {
         match self {
             Kind::Create => Ok(Kind::Create),
             Kind::Delete => Ok(Kind::Delete),
+            Kind::NewVersion => Ok(Kind::NewVersion),
+            Kind::DropVersion => Ok(Kind::DropVersion),
             Kind::Before(name) => Ok(Kind::Before(name.copy(alloc)?)),
             Kind::After(name) => Ok(Kind::After(name.copy(alloc)?)),
             Kind::TBegin => Ok(Kind::TBegin),
