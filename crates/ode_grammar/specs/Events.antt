@@ -68,7 +68,7 @@ mask_after terminal.AndAnd = Some (A part.Expr ∷ Build action.Masked ∷ [])
 mask_after other = None
 
 -- kind := "after" "create" | "before" "delete" | "after" NAME | "before" NAME | "after" "tbegin" | "before" "tcomplete" | "after" "tcommit"
---       | "after" "tabort" | "time" "every" NUMBER | "time" "at" TEXT
+--       | "after" "tabort" | "time" "every" NUMBER | "time" "at" TEXT | "after" "newversion" | "before" "delversion"
 abbrev pub kind_after : Terminal → Option (List Item)
 kind_after terminal.After = Some (A part.AfterWhat ∷ [])
 kind_after terminal.Before = Some (A part.BeforeWhat ∷ [])
@@ -81,12 +81,14 @@ after_what_after terminal.Name = Some (Build action.AfterMethod ∷ [])
 after_what_after terminal.TBegin = Some (Build action.AfterTBegin ∷ [])
 after_what_after terminal.TCommit = Some (Build action.AfterTCommit ∷ [])
 after_what_after terminal.TAbort = Some (Build action.AfterTAbort ∷ [])
+after_what_after terminal.NewVersion = Some (Build action.AfterNewVersion ∷ [])
 after_what_after other = None
 
 abbrev pub before_what_after : Terminal → Option (List Item)
 before_what_after terminal.Delete = Some (Build action.BeforeDelete ∷ [])
 before_what_after terminal.Name = Some (Build action.BeforeMethod ∷ [])
 before_what_after terminal.TComplete = Some (Build action.BeforeTComplete ∷ [])
+before_what_after terminal.DropVersion = Some (Build action.BeforeDropVersion ∷ [])
 before_what_after other = None
 
 abbrev pub time_what_after : Terminal → Option (List Item)

@@ -6,8 +6,8 @@ use crate::item::Item::{self, Build, Part as A, Token};
 use crate::item::{Action, Part};
 use crate::terminal::Terminal::{
     self, After, And, AndAnd, Any, At, Before, Choose, CloseParen, Comma, Count, Create, Delete,
-    Every, Fa, First, Instant, Name, Not, OpenParen, Or, Prior, Relative, Seconds, Sequence,
-    TAbort, TBegin, TCommit, TComplete, Time,
+    DropVersion, Every, Fa, First, Instant, Name, NewVersion, Not, OpenParen, Or, Prior, Relative,
+    Seconds, Sequence, TAbort, TBegin, TCommit, TComplete, Time,
 };
 
 /// An event expression without `and` and `or`.
@@ -223,6 +223,7 @@ pub fn after_what_after(terminal: Terminal) -> Option<&'static [Item]>
         TBegin => Some(&[Build(Action::AfterTBegin)]),
         TCommit => Some(&[Build(Action::AfterTCommit)]),
         TAbort => Some(&[Build(Action::AfterTAbort)]),
+        NewVersion => Some(&[Build(Action::AfterNewVersion)]),
         _ => None,
     }
 }
@@ -236,6 +237,7 @@ pub fn before_what_after(terminal: Terminal) -> Option<&'static [Item]>
         Delete => Some(&[Build(Action::BeforeDelete)]),
         Name => Some(&[Build(Action::BeforeMethod)]),
         TComplete => Some(&[Build(Action::BeforeTComplete)]),
+        DropVersion => Some(&[Build(Action::BeforeDropVersion)]),
         _ => None,
     }
 }

@@ -26,6 +26,8 @@ pub fn put_kind(alloc: Global, out: &mut Vec<u8>, kind: &Kind) -> Result<(), All
     match kind {
         Kind::Create => put(out, b"after create"),
         Kind::Delete => put(out, b"before delete"),
+        Kind::NewVersion => put(out, b"after newversion"),
+        Kind::DropVersion => put(out, b"before delversion"),
         Kind::Before(method) => put_two_texts(out, b"before ", method.as_bytes()),
         Kind::After(method) => put_two_texts(out, b"after ", method.as_bytes()),
         Kind::TBegin => put(out, b"after tbegin"),

@@ -51,6 +51,8 @@ kind_part is.AfterTBegin = Rule part.Kind (item.Part part.AfterWhat ∷ []) refl
 kind_part is.BeforeTComplete = Rule part.Kind (item.Part part.BeforeWhat ∷ []) refl (Rule part.BeforeWhat (item.Build action.BeforeTComplete ∷ []) refl (Make action.BeforeTComplete Done))
 kind_part is.AfterTCommit = Rule part.Kind (item.Part part.AfterWhat ∷ []) refl (Rule part.AfterWhat (item.Build action.AfterTCommit ∷ []) refl (Make action.AfterTCommit Done))
 kind_part is.AfterTAbort = Rule part.Kind (item.Part part.AfterWhat ∷ []) refl (Rule part.AfterWhat (item.Build action.AfterTAbort ∷ []) refl (Make action.AfterTAbort Done))
+kind_part is.AfterNewVersion = Rule part.Kind (item.Part part.AfterWhat ∷ []) refl (Rule part.AfterWhat (item.Build action.AfterNewVersion ∷ []) refl (Make action.AfterNewVersion Done))
+kind_part is.BeforeDropVersion = Rule part.Kind (item.Part part.BeforeWhat ∷ []) refl (Rule part.BeforeWhat (item.Build action.BeforeDropVersion ∷ []) refl (Make action.BeforeDropVersion Done))
 kind_part is.EveryCount =
     Rule part.Kind (item.Part part.TimeWhat ∷ []) refl
     (Rule part.TimeWhat (item.Part part.Period ∷ []) refl (Rule part.Period (item.Build action.TimeEvery ∷ []) refl (Make action.TimeEvery Done)))
@@ -272,6 +274,8 @@ right r i is.AfterTBegin = tt
 right r i is.BeforeTComplete = tt
 right r i is.AfterTCommit = tt
 right r i is.AfterTAbort = tt
+right r i is.AfterNewVersion = tt
+right r i is.BeforeDropVersion = tt
 right r i is.EveryCount = tt
 right r i is.EverySeconds = tt
 right r i is.AtInstant = tt

@@ -469,6 +469,7 @@ after_what_rows terminal.Name = λ us l. subst (λ x. Is is.Kind (terminal.After
 after_what_rows terminal.TBegin = λ us l. subst (λ x. Is is.Kind (terminal.After ∷ terminal.TBegin ∷ x)) (sym l) is.AfterTBegin
 after_what_rows terminal.TCommit = λ us l. subst (λ x. Is is.Kind (terminal.After ∷ terminal.TCommit ∷ x)) (sym l) is.AfterTCommit
 after_what_rows terminal.TAbort = λ us l. subst (λ x. Is is.Kind (terminal.After ∷ terminal.TAbort ∷ x)) (sym l) is.AfterTAbort
+after_what_rows terminal.NewVersion = λ us l. subst (λ x. Is is.Kind (terminal.After ∷ terminal.NewVersion ∷ x)) (sym l) is.AfterNewVersion
 after_what_rows other = tt
 
 pub before_what_rows : (k : Terminal) → IfRow (RowYields part.BeforeWhat k) (after part.BeforeWhat k)
@@ -476,6 +477,7 @@ unfolding after
 before_what_rows terminal.Delete = λ us l. subst (λ x. Is is.Kind (terminal.Before ∷ terminal.Delete ∷ x)) (sym l) is.BeforeDelete
 before_what_rows terminal.Name = λ us l. subst (λ x. Is is.Kind (terminal.Before ∷ terminal.Name ∷ x)) (sym l) is.BeforeMethod
 before_what_rows terminal.TComplete = λ us l. subst (λ x. Is is.Kind (terminal.Before ∷ terminal.TComplete ∷ x)) (sym l) is.BeforeTComplete
+before_what_rows terminal.DropVersion = λ us l. subst (λ x. Is is.Kind (terminal.Before ∷ terminal.DropVersion ∷ x)) (sym l) is.BeforeDropVersion
 before_what_rows other = tt
 
 pub time_what_rows : (k : Terminal) → IfRow (RowYields part.TimeWhat k) (after part.TimeWhat k)

@@ -352,6 +352,8 @@ derived is.AfterTBegin = kind_of terminal.After terminal.TBegin part.AfterWhat a
 derived is.BeforeTComplete = kind_of terminal.Before terminal.TComplete part.BeforeWhat action.BeforeTComplete refl refl
 derived is.AfterTCommit = kind_of terminal.After terminal.TCommit part.AfterWhat action.AfterTCommit refl refl
 derived is.AfterTAbort = kind_of terminal.After terminal.TAbort part.AfterWhat action.AfterTAbort refl refl
+derived is.AfterNewVersion = kind_of terminal.After terminal.NewVersion part.AfterWhat action.AfterNewVersion refl refl
+derived is.BeforeDropVersion = kind_of terminal.Before terminal.DropVersion part.BeforeWhat action.BeforeDropVersion refl refl
 derived is.EveryCount = λ items ts d.
     Rule part.EventUnary (item.Part part.TimeWhat ∷ item.Part part.Mask ∷ []) refl
     (Rule part.TimeWhat (item.Part part.Period ∷ []) refl (Rule part.Period (item.Build action.TimeEvery ∷ []) refl (Make action.TimeEvery d)))

@@ -55,7 +55,7 @@ pub data Is : Symbol → List Terminal → Type 0 where
   OneConjunction : {ts : List Terminal} → Is Conjunction ts → Is Expression ts
   Or : {ts us : List Terminal} → Is Expression ts → Is Conjunction us → Is Expression (ts ++ terminal.OrOr ∷ us)
   -- kind := "after" "create" | "before" "delete" | "after" NAME | "before" NAME | "after" "tbegin" | "before" "tcomplete" | "after" "tcommit"
-  --       | "after" "tabort" | "time" "every" NUMBER | "time" "at" TEXT
+  --       | "after" "tabort" | "time" "every" NUMBER | "time" "at" TEXT | "after" "newversion" | "before" "delversion"
   AfterCreate : Is Kind (terminal.After ∷ terminal.Create ∷ [])
   BeforeDelete : Is Kind (terminal.Before ∷ terminal.Delete ∷ [])
   AfterMethod : Is Kind (terminal.After ∷ terminal.Name ∷ [])
@@ -67,6 +67,8 @@ pub data Is : Symbol → List Terminal → Type 0 where
   EveryCount : Is Kind (terminal.Time ∷ terminal.Every ∷ terminal.Count ∷ [])
   EverySeconds : Is Kind (terminal.Time ∷ terminal.Every ∷ terminal.Seconds ∷ [])
   AtInstant : Is Kind (terminal.Time ∷ terminal.At ∷ terminal.Instant ∷ [])
+  AfterNewVersion : Is Kind (terminal.After ∷ terminal.NewVersion ∷ [])
+  BeforeDropVersion : Is Kind (terminal.Before ∷ terminal.DropVersion ∷ [])
   -- evatom := "(" event ")" | "any" | "first" | kind [ "&&" expr ] | ( "relative" | "prior" | "sequence" ) "(" event "," event { "," event } ")"
   --         | ( "choose" | "every" ) NUMBER "(" event ")" | "fa" "(" event "," event "," event ")"
   EventBrackets : {ts : List Terminal} → Is Event ts → Is EventAtom (terminal.OpenParen ∷ ts ++ terminal.CloseParen ∷ [])

@@ -34,7 +34,7 @@ use Rattle.ode_syntax.specs.Built.{count_of, second_of}
 use Rattle.ode_syntax.specs.Kept.{kept_as, Spelled}
 use Rattle.ode_reread.proofs.Cuts.{spell}
 use Rattle.ode_reread.proofs.EventNumbers.{and_numbered, any_numbered, choose_numbered, every_numbered, fa_numbered, first_numbered, leaf_numbered, not_numbered, or_numbered, prior_numbered, relative_numbered, sequence_numbered, IsNumbered}
-use Rattle.ode_reread.proofs.EventPrints.{after_begins, after_method, and_prints, any_prints, before_begins, before_method, choose_counts, counted_prints, create_what, delete_what, every_counts, every_tail, fa_prints, first_prints, folded_prints, kind_prints, leaf_prints, masked_prints, named_tail, not_prints, or_prints, prior_folds, relative_folds, sequence_folds, tabort_what, tbegin_what, tcommit_what, tcomplete_what, time_begins, word_tail, EventPrints, IsCount, IsPeriod, IsWord, KindPrints}
+use Rattle.ode_reread.proofs.EventPrints.{after_begins, after_method, and_prints, any_prints, before_begins, before_method, choose_counts, counted_prints, create_what, delete_what, delversion_what, every_counts, every_tail, fa_prints, first_prints, folded_prints, kind_prints, leaf_prints, masked_prints, named_tail, newversion_what, not_prints, or_prints, prior_folds, relative_folds, sequence_folds, tabort_what, tbegin_what, tcommit_what, tcomplete_what, time_begins, word_tail, EventPrints, IsCount, IsPeriod, IsWord, KindPrints}
 use Rattle.ode_reread.proofs.EventSpells.{between_spells, call_spells, comma_spells, counted_spells, mask_spells, not_spells, number_spells, words_spell}
 use Rattle.ode_reread.proofs.Goods.{free_word, named, shown_as, Good}
 use Rattle.ode_reread.proofs.Marked.{as_operand, bracketed, marked}
@@ -89,6 +89,14 @@ is_tcommit place = record { seen = refl; adds_nothing = λ b. refl }
 is_tabort : (place : Place) → IsWord (spell place kind.Word (codes "tabort")) terminal.TAbort
 unfolding word_terminal kept_as
 is_tabort place = record { seen = refl; adds_nothing = λ b. refl }
+
+is_newversion : (place : Place) → IsWord (spell place kind.Word (codes "newversion")) terminal.NewVersion
+unfolding word_terminal kept_as
+is_newversion place = record { seen = refl; adds_nothing = λ b. refl }
+
+is_delversion : (place : Place) → IsWord (spell place kind.Word (codes "delversion")) terminal.DropVersion
+unfolding word_terminal kept_as
+is_delversion place = record { seen = refl; adds_nothing = λ b. refl }
 
 pub is_time : (place : Place) → IsWord (spell place kind.Word (codes "time")) terminal.Time
 unfolding word_terminal kept_as
@@ -191,6 +199,15 @@ tabort_good place = record {
   recurs = tt;
 }
 
+pub newversion_good : (place : Place) → GoodKind place point.NewVersion
+newversion_good place = record {
+  tokens = spell place kind.Word (codes "after") ∷ spell place kind.Word (codes "newversion") ∷ [];
+  spells = words_spell place (codes "after") (codes "newversion") _ refl (word_spells place (codes "newversion") refl);
+  prints = kind_prints terminal.After (item.Part part.AfterWhat) after_begins point.NewVersion _ _ (is_after place)
+      (word_tail part.AfterWhat terminal.NewVersion action.AfterNewVersion point.NewVersion newversion_what _ (is_newversion place));
+  recurs = tt;
+}
+
 pub delete_good : (place : Place) → GoodKind place point.Delete
 delete_good place = record {
   tokens = spell place kind.Word (codes "before") ∷ spell place kind.Word (codes "delete") ∷ [];
@@ -206,6 +223,15 @@ tcomplete_good place = record {
   spells = words_spell place (codes "before") (codes "tcomplete") _ refl (word_spells place (codes "tcomplete") refl);
   prints = kind_prints terminal.Before (item.Part part.BeforeWhat) before_begins point.TComplete _ _ (is_before place)
       (word_tail part.BeforeWhat terminal.TComplete action.BeforeTComplete point.TComplete tcomplete_what _ (is_tcomplete place));
+  recurs = tt;
+}
+
+pub delversion_good : (place : Place) → GoodKind place point.DropVersion
+delversion_good place = record {
+  tokens = spell place kind.Word (codes "before") ∷ spell place kind.Word (codes "delversion") ∷ [];
+  spells = words_spell place (codes "before") (codes "delversion") _ refl (word_spells place (codes "delversion") refl);
+  prints = kind_prints terminal.Before (item.Part part.BeforeWhat) before_begins point.DropVersion _ _ (is_before place)
+      (word_tail part.BeforeWhat terminal.DropVersion action.BeforeDropVersion point.DropVersion delversion_what _ (is_delversion place));
   recurs = tt;
 }
 

@@ -444,6 +444,10 @@ pub tabort_what : IsWhat part.AfterWhat terminal.TAbort action.AfterTAbort point
 unfolding after built built_right_side built_statement built_event built_kind raised
 tabort_what = record { row = refl; made = λ b. refl }
 
+pub newversion_what : IsWhat part.AfterWhat terminal.NewVersion action.AfterNewVersion point.NewVersion
+unfolding after built built_right_side built_statement built_event built_kind raised
+newversion_what = record { row = refl; made = λ b. refl }
+
 pub delete_what : IsWhat part.BeforeWhat terminal.Delete action.BeforeDelete point.Delete
 unfolding after built built_right_side built_statement built_event built_kind raised
 delete_what = record { row = refl; made = λ b. refl }
@@ -451,6 +455,10 @@ delete_what = record { row = refl; made = λ b. refl }
 pub tcomplete_what : IsWhat part.BeforeWhat terminal.TComplete action.BeforeTComplete point.TComplete
 unfolding after built built_right_side built_statement built_event built_kind raised
 tcomplete_what = record { row = refl; made = λ b. refl }
+
+pub delversion_what : IsWhat part.BeforeWhat terminal.DropVersion action.BeforeDropVersion point.DropVersion
+unfolding after built built_right_side built_statement built_event built_kind raised
+delversion_what = record { row = refl; made = λ b. refl }
 
 -- a part at which a name makes a kind
 pub record IsNamedWhat (p : Part) (a : Action) (k : List ℕ → Kind) : Type 0 where

@@ -33,8 +33,8 @@ use Rattle.ode_syntax.specs.Built.{built, built_right_side, built_statement, bui
 use Rattle.ode_syntax.specs.Kept.{kept_as, leaf_of, name_of}
 use Rattle.ode_reread.proofs.Both.{Both, keep, make}
 use Rattle.ode_reread.proofs.Effects.{name_free, spelt, AddsEvent, AddsKind, Masks, ReplacesEvent, RowIs}
-use Rattle.ode_reread.proofs.EventGoods.{after_method_good, and_good, any_good, before_method_good, choose_good, create_good, delete_good, event_up, every_good, fa_good, first_good, masked_good, not_good, number_leaf, or_good, plain_good, prior_good, relative_good, sequence_good, small_count, tabort_good, tbegin_good, tcommit_good, tcomplete_good, time_every_good, GoodEvent, GoodInstants}
-use Rattle.ode_reread.proofs.EventPrints.{after_method, before_method, choose_counts, create_what, delete_what, every_counts, made_and, made_any, made_at, made_every, made_fa, made_first, made_or, made_unmasked, prior_folds, relative_folds, sequence_folds, tabort_what, tbegin_what, tcommit_what, tcomplete_what, with_event, with_kind, with_leaf_on}
+use Rattle.ode_reread.proofs.EventGoods.{after_method_good, and_good, any_good, before_method_good, choose_good, create_good, delete_good, delversion_good, event_up, every_good, fa_good, first_good, masked_good, newversion_good, not_good, number_leaf, or_good, plain_good, prior_good, relative_good, sequence_good, small_count, tabort_good, tbegin_good, tcommit_good, tcomplete_good, time_every_good, GoodEvent, GoodInstants}
+use Rattle.ode_reread.proofs.EventPrints.{after_method, before_method, choose_counts, create_what, delete_what, delversion_what, every_counts, made_and, made_any, made_at, made_every, made_fa, made_first, made_or, made_unmasked, newversion_what, prior_folds, relative_folds, sequence_folds, tabort_what, tbegin_what, tcommit_what, tcomplete_what, with_event, with_kind, with_leaf_on}
 use Rattle.ode_reread.proofs.Marked.{with_expr, with_mark_on}
 use Rattle.ode_reread.proofs.Prints.{nothing}
 use Rattle.ode_reread.proofs.Sounds.{either, never, operator_is_mark, Sound}
@@ -367,6 +367,10 @@ tabort_after : (place : Place) → RowIs place part.AfterWhat terminal.TAbort (i
 unfolding kept_as
 tabort_after place kd bytes s b w l = record { k = point.TAbort; good = λ i. tabort_good place; is = sym l ∙ tabort_what.made b }
 
+newversion_after : (place : Place) → RowIs place part.AfterWhat terminal.NewVersion (item.Build action.AfterNewVersion ∷ [])
+unfolding kept_as
+newversion_after place kd bytes s b w l = record { k = point.NewVersion; good = λ i. newversion_good place; is = sym l ∙ newversion_what.made b }
+
 delete_after : (place : Place) → RowIs place part.BeforeWhat terminal.Delete (item.Build action.BeforeDelete ∷ [])
 unfolding kept_as
 delete_after place kd bytes s b w l = record { k = point.Delete; good = λ i. delete_good place; is = sym l ∙ delete_what.made b }
@@ -374,6 +378,10 @@ delete_after place kd bytes s b w l = record { k = point.Delete; good = λ i. de
 tcomplete_after : (place : Place) → RowIs place part.BeforeWhat terminal.TComplete (item.Build action.BeforeTComplete ∷ [])
 unfolding kept_as
 tcomplete_after place kd bytes s b w l = record { k = point.TComplete; good = λ i. tcomplete_good place; is = sym l ∙ tcomplete_what.made b }
+
+delversion_after : (place : Place) → RowIs place part.BeforeWhat terminal.DropVersion (item.Build action.BeforeDropVersion ∷ [])
+unfolding kept_as
+delversion_after place kd bytes s b w l = record { k = point.DropVersion; good = λ i. delversion_good place; is = sym l ∙ delversion_what.made b }
 
 after_method_after : (place : Place) → RowIs place part.AfterWhat terminal.Name (item.Build action.AfterMethod ∷ [])
 unfolding kept_as
@@ -479,6 +487,7 @@ after_what_rows place terminal.Name = after_method_after place
 after_what_rows place terminal.TBegin = tbegin_after place
 after_what_rows place terminal.TCommit = tcommit_after place
 after_what_rows place terminal.TAbort = tabort_after place
+after_what_rows place terminal.NewVersion = newversion_after place
 after_what_rows place other = tt
 
 pub before_what_rows : (place : Place) (k : Terminal) → IfRow (RowIs place part.BeforeWhat k) (after part.BeforeWhat k)
@@ -486,6 +495,7 @@ unfolding after
 before_what_rows place terminal.Delete = delete_after place
 before_what_rows place terminal.Name = before_method_after place
 before_what_rows place terminal.TComplete = tcomplete_after place
+before_what_rows place terminal.DropVersion = delversion_after place
 before_what_rows place other = tt
 
 pub time_what_rows : (place : Place) → (k : Terminal) → IfRow (RowIs place part.TimeWhat k) (after part.TimeWhat k)

@@ -193,6 +193,8 @@ built_kind action.AfterTBegin v = with_kind kind.TBegin v
 built_kind action.BeforeTComplete v = with_kind kind.TComplete v
 built_kind action.AfterTCommit v = with_kind kind.TCommit v
 built_kind action.AfterTAbort v = with_kind kind.TAbort v
+built_kind action.AfterNewVersion v = with_kind kind.NewVersion v
+built_kind action.BeforeDropVersion v = with_kind kind.DropVersion v
 built_kind action.TimeAt v = record v { leaves = rest v.leaves; kinds = kind.TimeAt (second_of (tree v.leaves)) ∷ v.kinds }
 built_kind action.TimeEvery v = record v { leaves = rest v.leaves; kinds = kind.TimeEvery (count_of (tree v.leaves)) ∷ v.kinds }
 built_kind other v = built_class other v

@@ -155,6 +155,8 @@ impl Trees {
             Action::BeforeTComplete => self.kinds.push(Kind::TComplete),
             Action::AfterTCommit => self.kinds.push(Kind::TCommit),
             Action::AfterTAbort => self.kinds.push(Kind::TAbort),
+            Action::AfterNewVersion => self.kinds.push(Kind::NewVersion),
+            Action::BeforeDropVersion => self.kinds.push(Kind::DropVersion),
             Action::TimeAt => {
                 let second = take_second(&mut self.leaves);
                 self.kinds.push(Kind::TimeAt(second))

@@ -7,7 +7,7 @@ use Rattle.std.proofs.lemmas.Int.{ints, int_rem_euclid_is}
 use Rattle.std.proofs.lemmas.Nat.{div-add-mod', div-mul-add, mod-mul-add, mod_below}
 use Rattle.std.proofs.lemmas.Bool.Decides.{nat_tests}
 use Rattle.ode_value.specs.declared.event.Kind.{Kind}
-use Rattle.ode_value.specs.declared.event.Kind.TheVariants.{Create, Delete, Before, After, TBegin, TComplete, TCommit, TAbort, TimeEvery, TimeAt}
+use Rattle.ode_value.specs.declared.event.Kind.TheVariants.{Create, Delete, NewVersion, DropVersion, Before, After, TBegin, TComplete, TCommit, TAbort, TimeEvery, TimeAt}
 use Rattle.ode_timer.specs.Counts.{IsIdleKind, times_behind}
 use Rattle.ode_timer.specs.Due.{is_due}
 
@@ -96,6 +96,8 @@ times_never kind from never (suc k) = let so_far = times_never kind from never k
 pub never_other : (kind : Kind) → ((n : ℕ) → kind ≡ TimeEvery n → ⊥) → ((s : ℤ) → kind ≡ TimeAt s → ⊥) → (t : ℤ) → is_due t kind ≡ false
 never_other Create no_every no_at t = refl
 never_other Delete no_every no_at t = refl
+never_other NewVersion no_every no_at t = refl
+never_other DropVersion no_every no_at t = refl
 never_other (Before name) no_every no_at t = refl
 never_other (After name) no_every no_at t = refl
 never_other TBegin no_every no_at t = refl

@@ -68,6 +68,8 @@ begins known d = do
 abbrev pub kind_word : Kind → List ℕ
 kind_word kind.Create = codes "create"
 kind_word kind.Delete = codes "delete"
+kind_word kind.NewVersion = codes "newversion"
+kind_word kind.DropVersion = codes "delversion"
 kind_word (kind.Before name) = name
 kind_word (kind.After name) = name
 kind_word kind.TBegin = codes "tbegin"

@@ -114,6 +114,8 @@ fn kind_word(alloc: Global, kind: &Kind) -> Result<Name, AllocError>
     match kind {
         Kind::Create => word(alloc, b"create"),
         Kind::Delete => word(alloc, b"delete"),
+        Kind::NewVersion => word(alloc, b"newversion"),
+        Kind::DropVersion => word(alloc, b"delversion"),
         Kind::Before(name) => name.copy(alloc),
         Kind::After(name) => name.copy(alloc),
         Kind::TBegin => word(alloc, b"tbegin"),
