@@ -12,7 +12,7 @@ use Rattle.ode_value.specs.declared.statement.Stmt.{Stmt}
 use Rattle.ode_value.specs.declared.value.Ref.{Ref}
 use Rattle.ode_value.specs.declared.value.Value.{Value}
 use Rattle.ode_value.specs.Acts.{Outcome, Done, Aborted, Act, Deed, ◌>>=◌, ◌>>◌, gives, nothing, needs, does, when, each, reads, sees, turns, prints}
-use Rattle.ode_value.specs.Changes.{holding, activation_keys, has_number, draws_none, changes, object, lives, alters_object, version_keys}
+use Rattle.ode_value.specs.Changes.{holding, activation_keys, has_number, draws_none, changes, object, version, lives, alters_object, version_keys}
 use Rattle.ode_value.specs.Classes.{Trigger, lists_kind}
 use Rattle.ode_value.specs.Denoting.{object_at, denoted}
 use Rattle.ode_value.specs.Evaluation.{Frame}
@@ -20,7 +20,7 @@ use Rattle.ode_value.specs.Firings.{arises, both_lists}
 use Rattle.ode_value.specs.Keys.{object_key, version_key, activation_key}
 use Rattle.ode_value.specs.Lengths.{values_length, version_size}
 use Rattle.ode_value.specs.Limits.{cascade_limit, change_limit, generation_limit, queue_limit, number_limit, args_limit, version_limit}
-use Rattle.ode_value.specs.Making.{with_new, with_active, derived_from, next_version, sets_field, derives, drops, removes, switches_off, makes, switches_on}
+use Rattle.ode_value.specs.Making.{with_new, with_active, derived_from, next_version, pinned, sets_field, derives, spares, drops, removes, switches_off, makes, switches_on}
 use Rattle.ode_value.specs.Objects.{Activation}
 use Rattle.ode_value.specs.Pasts.{Past}
 use Rattle.ode_value.specs.Posting.{Body, frame_of, fired_text, dropped_text, waiting, enters, runs, with_deferred, defers, has_room, with_entry, collects, by_mode, treats, is_listed, is_touched, joins, posts_listed, posts, touches_first, touches}
@@ -29,7 +29,7 @@ use Rattle.ode_value.specs.Transactions.{Tx, Firing, Origin, generation_of, touc
 use Rattle.ode_value.specs.Versions.{Version}
 use Rattle.ode_value.specs.Worlds.{Declared, Object, Bones}
 use Rattle.ode_laws.proofs.Sides.{EndsBy, Same, Sides, altered, turned, set_in, dropped_from, removed, off_in}
-use Rattle.ode_laws.proofs.SideActs.{Ends, Alike, lower, then_alike, next_alike, less_alike, done_alike, aborts_alike, reads_alike, sees_alike, finds_ends, computes_ends, needs_ends, cond_alike, when_alike, every_alike, prints_alike, changes_ends, changes_alike, object_alike, lives_alike}
+use Rattle.ode_laws.proofs.SideActs.{Ends, Alike, lower, then_alike, next_alike, less_alike, done_alike, aborts_alike, reads_alike, sees_alike, finds_ends, computes_ends, needs_ends, needs_alike, cond_alike, when_alike, every_alike, prints_alike, changes_ends, changes_alike, object_alike, version_alike, lives_alike}
 
 abbrev room_in : Origin → ℕ → ℕ → Bones → ℕ → Bool
 room_in origin keys gathered first collected =
@@ -86,6 +86,16 @@ module _ {O A P B : Type 0} (s : Sides O A P B) where
 
       derived : {O A : Type 0} → Version → Act O A Ref
       derived v = object r.object >>= copied v
+
+  pub spares_alike : (n : ℕ) (r : Ref) → Alike s n n (spares r) (spares r)
+  spares_alike n r =
+      then_alike s n n n (version r) (version r) (version_alike s n r) _ _ (λ v.
+      then_alike s n n n (object r.object) (object r.object) (object_alike s n r.object) _ _ (λ o.
+      next_alike s n n n (more o) (more o) (needs_alike s n (reason.LastVersion r.object) (λ z. nat_lt 1 (length o.versions)) (λ z. nat_lt 1 (length o.versions)) (λ y x h. refl)) _ _
+      (done_alike s n (pinned r v.number))))
+    where
+      more : {O A : Type 0} → Object → Deed O A
+      more o = needs (reason.LastVersion r.object) (λ z. nat_lt 1 (length o.versions))
 
   pub drops_alike : (n : ℕ) (r : Ref) → Alike s n n (drops r) (drops r)
   drops_alike n r y x h =

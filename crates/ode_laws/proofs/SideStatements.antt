@@ -7,7 +7,7 @@ use Rattle.std.specs.Str.{bytes_eq}
 use Rattle.ode_value.specs.declared.binding.Var.{Var}
 use Rattle.ode_value.specs.declared.binding.Var.TheVariants as var
 use Rattle.ode_value.specs.declared.class.Class.{Class}
-use Rattle.ode_value.specs.declared.event.Kind.TheVariants.{Create, Delete, Before, After}
+use Rattle.ode_value.specs.declared.event.Kind.TheVariants.{Create, Delete, NewVersion, DropVersion, Before, After}
 use Rattle.ode_value.specs.declared.reason.Reason.TheVariants.{Depth, Asked}
 use Rattle.ode_value.specs.declared.statement.Call.{Call}
 use Rattle.ode_value.specs.declared.statement.Expr.{Expr}
@@ -27,7 +27,7 @@ use Rattle.ode_value.specs.Evaluation.{Frame, no_frame, with_local}
 use Rattle.ode_value.specs.Executing.{Flow, Goes, Gives, returned, Doing, actions_of, goes, follows, in_turn, sets, right, counted_doing, execute, executes, deeper, outermost, first_actions, commands}
 use Rattle.ode_value.specs.Expressions.{evaluates, evaluates_all, evaluates_sets, holds, stands, reference, receiver, text_in}
 use Rattle.ode_value.specs.Limits.{depth_limit}
-use Rattle.ode_value.specs.Making.{makes, derives, switches_on, sets_field}
+use Rattle.ode_value.specs.Making.{makes, derives, spares, switches_on, sets_field}
 use Rattle.ode_value.specs.Objects.{Activation}
 use Rattle.ode_value.specs.Posting.{Body, posts, touches}
 use Rattle.ode_value.specs.Statements.{Inner, first_value, is_on, generic, calls_after, calls_behind, calls_inside, calls_deeper, calls, activates_initial, makes_named, creates, copies, deletes, drops_version, switches_on_named, activates, switches_off_found, switches_off_numbered, deactivates}
@@ -36,7 +36,7 @@ use Rattle.ode_value.specs.Worlds.{Declared, Object, class_named}
 use Rattle.ode_laws.proofs.Each.{all-filter, all-find}
 use Rattle.ode_laws.proofs.Sides.{Sides}
 use Rattle.ode_laws.proofs.SideActs.{Ends, Alike, then_alike, next_alike, less_alike, done_alike, aborts_alike, sees_alike, finds_alike, finds_ends, cond_alike, when_alike, each_alike, prints_alike, counts_alike, object_alike, class_alike, lives_alike, evaluates_alike, holds_alike, all_alike, sets_alike, stands_alike, reference_alike, receiver_alike, hard_alike}
-use Rattle.ode_laws.proofs.SidePosting.{field_alike, derives_alike, drops_alike, removes_alike, switches_off_alike, makes_alike, switches_on_alike, Levels, posts_alike, touches_alike}
+use Rattle.ode_laws.proofs.SidePosting.{field_alike, derives_alike, spares_alike, drops_alike, removes_alike, switches_off_alike, makes_alike, switches_on_alike, Levels, posts_alike, touches_alike}
 
 module _ {O A P B : Type 0} (s : Sides O A P B) where
   -- two levels of bodies
@@ -128,10 +128,13 @@ module _ {O A P B : Type 0} (s : Sides O A P B) where
       (done_alike s n (value.Reference (generic id)))))
 
   copies_alike : (n : ℕ) (d : Option (Body O A)) (e : Option (Body P B)) → Levels s d e → (of : Expr) (frame : Frame) → Alike s (suc n) n (copies s.past d of frame) (copies s.other e of frame)
+  unfolding copies
   copies_alike n d e levels of frame =
       then_alike s (suc n) (suc n) n (reference of frame) (reference of frame) (reference_alike s (suc n) of frame) _ _ (λ r.
       next_alike s (suc n) n n (touches s.past d r.object) (touches s.other e r.object) (touches_alike s n d e levels r.object) _ _
-      (then_alike s n n n (derives r) (derives r) (derives_alike s n r) _ _ (λ new. done_alike s n (value.Reference new))))
+      (then_alike s n n n (derives r) (derives r) (derives_alike s n r) _ _ (λ new.
+      next_alike s n n n (posts s.past d r.object NewVersion []) (posts s.other e r.object NewVersion []) (posts_alike s n d e levels r.object NewVersion []) _ _
+      (done_alike s n (value.Reference new)))))
 
   deletes_alike : (n : ℕ) (d : Option (Body O A)) (e : Option (Body P B)) → Levels s d e → (of : Expr) (frame : Frame) → Alike s (suc n) n (deletes s.past d of frame) (deletes s.other e of frame)
   unfolding deletes
@@ -143,9 +146,12 @@ module _ {O A P B : Type 0} (s : Sides O A P B) where
       (next_alike s n n n (lives r.object) (lives r.object) (lives_alike s n r.object) _ _ (removes_alike s n r.object)))))
 
   drops_version_alike : (n : ℕ) (d : Option (Body O A)) (e : Option (Body P B)) → Levels s d e → (of : Expr) (frame : Frame) → Alike s (suc n) n (drops_version s.past d of frame) (drops_version s.other e of frame)
+  unfolding drops_version
   drops_version_alike n d e levels of frame =
       then_alike s (suc n) (suc n) n (reference of frame) (reference of frame) (reference_alike s (suc n) of frame) _ _ (λ r.
-      next_alike s (suc n) n n (touches s.past d r.object) (touches s.other e r.object) (touches_alike s n d e levels r.object) _ _ (drops_alike s n r))
+      next_alike s (suc n) n n (touches s.past d r.object) (touches s.other e r.object) (touches_alike s n d e levels r.object) _ _
+      (then_alike s n n n (spares r) (spares r) (spares_alike s n r) _ _ (λ v.
+      next_alike s n n n (posts s.past d r.object DropVersion []) (posts s.other e r.object DropVersion []) (posts_alike s n d e levels r.object DropVersion []) _ _ (drops_alike s n v))))
 
   named_alike : (n : ℕ) (r : Ref) (name : List ℕ) (args : List Value) → Alike s n n (switches_on_named s.past r name args) (switches_on_named s.other r name args)
   unfolding switches_on_named

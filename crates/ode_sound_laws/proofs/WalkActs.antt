@@ -17,7 +17,7 @@ use Rattle.ode_value.specs.Fitting.{FitsRef, FitsSort}
 use Rattle.ode_value.specs.Keys.{object_key, version_key, activation_key}
 use Rattle.ode_value.specs.Lengths.{version_size}
 use Rattle.ode_value.specs.Limits.{budget_limit, output_limit, change_limit, value_limit}
-use Rattle.ode_value.specs.Making.{sets_field, drops, removes, switches_off}
+use Rattle.ode_value.specs.Making.{pinned, sets_field, spares, drops, removes, switches_off}
 use Rattle.ode_value.specs.Objects.{Activation}
 use Rattle.ode_value.specs.Transactions.{Tx, Collected}
 use Rattle.ode_value.specs.Worlds.{Object, Bones, class_numbered}
@@ -191,6 +191,13 @@ module _ {O A : Type 0} where
   switches_off_ends id a x h =
       changes_ends x.now.bones (Any (Unit {0})) (activation_key id a.number ∷ []) 0 draws_none x h (alters_object id (off_in a.number)) (λ drawn held.
       alters_ends id (off_in a.number) (off_mild a.number) (off_fits a.number) (holding (activation_key id a.number ∷ []) x) held)
+
+  pub spares_ends : (r : Ref) (x : Tx O A) → IsTyped x → Ends x.now.bones (Any Ref) (spares r x)
+  spares_ends r x h =
+      valued_ends x.now.bones (Any Ref) (denoted x.now.bones r) x h _ (λ v e.
+      found_ends x.now.bones (Any Ref) (object_at x.now.bones r.object) x h _ (λ o there.
+      needs_ends x.now.bones (Any Ref) (nat_lt 1 (length o.versions)) (reason.LastVersion r.object) x h _ (λ more.
+      ends_done (Any Ref) (pinned r v.number) x h tt)))
 
   pub drops_ends : (r : Ref) (x : Tx O A) → IsTyped x → Ends x.now.bones (Any (Unit {0})) (drops r x)
   drops_ends r x h =

@@ -6,7 +6,7 @@ use Rattle.std.specs.Option.{option_and_then}
 use Rattle.std.specs.Str.{bytes_eq}
 use Rattle.ode_value.specs.declared.binding.Param.{Param}
 use Rattle.ode_value.specs.declared.class.Class.{Class}
-use Rattle.ode_value.specs.declared.event.Kind.TheVariants.{Create, Delete}
+use Rattle.ode_value.specs.declared.event.Kind.TheVariants.{Create, Delete, NewVersion, DropVersion}
 use Rattle.ode_value.specs.declared.member.Method.{Method}
 use Rattle.ode_value.specs.declared.member.TriggerDecl.{TriggerDecl}
 use Rattle.ode_value.specs.declared.statement.Call.{Call}
@@ -27,7 +27,7 @@ use Rattle.ode_value.specs.Evaluation.{Frame}
 use Rattle.ode_value.specs.Executing.{actions_of, right}
 use Rattle.ode_value.specs.Expressions.{evaluates, evaluates_all, evaluates_sets, stands, reference, receiver}
 use Rattle.ode_value.specs.Fitting.{FitsRef, FitsSort}
-use Rattle.ode_value.specs.Making.{makes, derives, drops, removes, switches_on}
+use Rattle.ode_value.specs.Making.{makes, derives, spares, drops, removes, switches_on}
 use Rattle.ode_value.specs.Objects.{Activation}
 use Rattle.ode_value.specs.Pasts.{Past}
 use Rattle.ode_value.specs.Posting.{Body, posts, touches}
@@ -47,9 +47,9 @@ use Rattle.ode_types.specs.Kept.{Setting, sort_in, is_fit, is_ref, are_fit, is_s
 use Rattle.ode_types.specs.Typing.{where_so}
 use Rattle.ode_sound_laws.specs.Sound.{IsKnown, IsSoundTrigger, Inherits, checked_classes}
 use Rattle.ode_sound_laws.proofs.Basics.{then_some, so_some, same_some, found_same}
-use Rattle.ode_sound_laws.proofs.FitLaws.{frame_follows}
+use Rattle.ode_sound_laws.proofs.FitLaws.{frame_follows, ref_follows}
 use Rattle.ode_sound_laws.proofs.GrowLaws.{grows_itself, grows_on}
-use Rattle.ode_sound_laws.proofs.WalkActs.{Any, Ends, ends_then, ends_as, ends_done, found_ends, each_ends, drops_ends, removes_ends, switches_off_ends}
+use Rattle.ode_sound_laws.proofs.WalkActs.{Any, Ends, ends_then, ends_as, ends_done, found_ends, each_ends, spares_ends, drops_ends, removes_ends, switches_off_ends}
 use Rattle.ode_sound_laws.proofs.WalkCalls.{named_class, above, DeeperFits, hard_ends, lives_ends, inside_ends}
 use Rattle.ode_sound_laws.proofs.WalkMaking.{FitsIn, IsBelow, IsNew, new_later, new_fits, derives_ends, makes_ends, switches_on_ends}
 use Rattle.ode_sound_laws.proofs.WalkPosting.{LevelFits, posts_ends, touches_ends}
@@ -144,11 +144,25 @@ module _ {O A : Type 0} (past : Past O A) where
 
   copies_ends : (d : Option (Body O A)) → LevelFits d → (at : Setting) (frame : Frame) (e : Expr) (s : Option Sort) → sort_in e at ≡ Some s → is_reference s ≡ true → (x : Tx O A) → IsTyped x → FitsFrame x.now.bones at frame
       → Ends x.now.bones (λ b v. Fits b s v) (copies past d e frame x)
+  unfolding copies
   copies_ends d level at frame e s typed is x h fits =
-      ends_then x.now.bones (IsOf s) (λ b v. Fits b s v) (reference e frame x) (reference_ends at frame e s typed is x h fits) (λ r. touches past d r.object >> (derives r >>= λ new. gives (value.Reference new))) (λ r y h1 g1 of.
-      ends_then y.now.bones (Any (Unit {0})) (λ b v. Fits b s v) (touches past d r.object y) (touches_ends past d level r.object y h1) (λ u. derives r >>= λ new. gives (value.Reference new)) (λ u z h2 g2 is2.
-      ends_then z.now.bones (FitsIn of.class) (λ b v. Fits b s v) (derives r z) (derives_ends of.class r z h2 (at_later of.class y.now.bones z.now.bones r g2 of.is).fits) (λ new. gives (value.Reference new)) (λ new w h3 g3 fit.
-      ends_done (λ b v. Fits b s v) (value.Reference new) w h3 (subst (λ t. Fits w.now.bones t (value.Reference new)) (sym of.of) fit))))
+      ends_then x.now.bones (IsOf s) Fine (reference e frame x) (reference_ends at frame e s typed is x h fits) touched (λ r y h1 g1 of.
+      ends_then y.now.bones (Any (Unit {0})) Fine (touches past d r.object y) (touches_ends past d level r.object y h1) (λ u. copied r) (λ u z h2 g2 is2.
+      ends_then z.now.bones (FitsIn of.class) Fine (derives r z) (derives_ends of.class r z h2 (at_later of.class y.now.bones z.now.bones r g2 of.is).fits) (posted r) (λ new w h3 g3 fit.
+      ends_then w.now.bones (Any (Unit {0})) Fine (posts past d r.object NewVersion [] w) (posts_ends past d level r.object NewVersion [] w h3) (λ u. gives (value.Reference new)) (λ u v h4 g4 is4.
+      ends_done Fine (value.Reference new) v h4 (subst (λ t. Fits v.now.bones t (value.Reference new)) (sym of.of) (ref_follows w.now.bones v.now.bones g4.follows of.class new fit))))))
+    where
+      Fine : Bones → Value → Type 0
+      Fine b v = Fits b s v
+
+      posted : Ref → Ref → Act O A Value
+      posted r new = posts past d r.object NewVersion [] >> gives (value.Reference new)
+
+      copied : Ref → Act O A Value
+      copied r = derives r >>= posted r
+
+      touched : Ref → Act O A Value
+      touched r = touches past d r.object >> copied r
 
   pub deletes_ends : (d : Option (Body O A)) → LevelFits d → (at : Setting) (frame : Frame) (e : Expr) → is_ref at e ≡ true → (x : Tx O A) → IsTyped x → FitsFrame x.now.bones at frame → Ends x.now.bones (Any (Unit {0})) (deletes past d e frame x)
   unfolding deletes
@@ -167,10 +181,22 @@ module _ {O A : Type 0} (past : Past O A) where
       touched r = touches past d r.object >> (stands r >> posted r)
 
   pub drops_version_ends : (d : Option (Body O A)) → LevelFits d → (at : Setting) (frame : Frame) (e : Expr) → is_ref at e ≡ true → (x : Tx O A) → IsTyped x → FitsFrame x.now.bones at frame → Ends x.now.bones (Any (Unit {0})) (drops_version past d e frame x)
+  unfolding drops_version
   drops_version_ends d level at frame e is x h fits =
       let of = ref_sort at e is in
-      ends_then x.now.bones (IsOf of.0) (Any (Unit {0})) (reference e frame x) (reference_ends at frame e of.0 of.1 of.2 x h fits) (λ r. touches past d r.object >> drops r) (λ r y h1 g1 is1.
-      ends_then y.now.bones (Any (Unit {0})) (Any (Unit {0})) (touches past d r.object y) (touches_ends past d level r.object y h1) (λ u. drops r) (λ u z h2 g2 is2. drops_ends r z h2))
+      ends_then x.now.bones (IsOf of.0) (Any (Unit {0})) (reference e frame x) (reference_ends at frame e of.0 of.1 of.2 x h fits) touched (λ r y h1 g1 is1.
+      ends_then y.now.bones (Any (Unit {0})) (Any (Unit {0})) (touches past d r.object y) (touches_ends past d level r.object y h1) (λ u. spared r) (λ u z h2 g2 is2.
+      ends_then z.now.bones (Any Ref) (Any (Unit {0})) (spares r z) (spares_ends r z h2) (posted r) (λ v w h3 g3 is3.
+      ends_then w.now.bones (Any (Unit {0})) (Any (Unit {0})) (posts past d r.object DropVersion [] w) (posts_ends past d level r.object DropVersion [] w h3) (λ u. drops v) (λ u t h4 g4 is4. drops_ends v t h4))))
+    where
+      posted : Ref → Ref → Deed O A
+      posted r v = posts past d r.object DropVersion [] >> drops v
+
+      spared : Ref → Deed O A
+      spared r = spares r >>= posted r
+
+      touched : Ref → Deed O A
+      touched r = touches past d r.object >> spared r
 
   off_found_ends : (id : ℕ) (a : Option Activation) (x : Tx O A) → IsTyped x → Ends x.now.bones (Any (Unit {0})) (switches_off_found past id a x)
   off_found_ends id None x h = (h, grows_itself x.now.bones, tt)
