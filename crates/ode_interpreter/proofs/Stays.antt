@@ -6,7 +6,7 @@ use Rattle.std.proofs.lemmas.Bool.{eq-eqb}
 use Rattle.std.proofs.lemmas.List.Folds.{list_any-append, list_any_at}
 use Rattle.ode_laws.proofs.Alone.{Keeps, alone}
 use Rattle.ode_laws.proofs.SideActs.{Alike, Ends, class_alike, done_alike, hard_alike, lives_alike, prints_alike, stands_alike, then_alike}
-use Rattle.ode_laws.proofs.SidePosting.{listed_alike, posts_alike, switches_on_alike}
+use Rattle.ode_laws.proofs.SidePosting.{derives_alike, listed_alike, posts_alike, spares_alike, switches_on_alike}
 use Rattle.ode_laws.proofs.SideStatements.{actions_alike, executes_alike, levels_alike}
 use Rattle.ode_laws.proofs.Sides.{Sides, turned}
 use Rattle.ode_value.specs.declared.class.Class.{Class}
@@ -29,7 +29,7 @@ use Rattle.ode_value.specs.Expressions.{evaluates_sets, stands}
 use Rattle.ode_value.specs.Firings.{Place, arises, with_point, new_point, fired, object_after}
 use Rattle.ode_value.specs.Keys.{object_key, version_key}
 use Rattle.ode_value.specs.Lengths.{version_size}
-use Rattle.ode_value.specs.Making.{makes, switches_on, with_new}
+use Rattle.ode_value.specs.Making.{derives, makes, spares, switches_on, with_new}
 use Rattle.ode_value.specs.Pasts.{Past, numbers}
 use Rattle.ode_value.specs.Posting.{collects, dropped_text, has_room, is_listed, is_touched, joins, posts, touches, with_entry}
 use Rattle.ode_value.specs.Settling.{arises_last, posts_last, posts_last_listed, says}
@@ -201,6 +201,13 @@ module _ {O A : Type 0} (past : Past O A) (id : ℕ) where
   hard_stays_by : (r : Ref) (x y : Tx O A) → tests_hard r x ≡ Done tt y → IsTouched x → IsTouched y
   hard_stays_by r x y = stays 0 0 (tests_hard r) (λ cs. hard_alike (side cs) 0 r) tt x y
 
+  spare_stays_by : (r v : Ref) (x y : Tx O A) → spares r x ≡ Done v y → IsTouched x → IsTouched y
+  spare_stays_by r v x y = stays 0 0 (spares r) (λ cs. spares_alike (side cs) 0 r) v x y
+
+  -- a new version
+  derive_stays_by : (r v : Ref) (x y : Tx O A) → derives r x ≡ Done v y → IsTouched x → IsTouched y
+  derive_stays_by r v x y = stays 0 0 (derives r) (λ cs. derives_alike (side cs) 0 r) v x y
+
   -- an initial activation
   initial_still : (on : ℕ) (t : Trigger) (x : Tx O A) → IsTouched x → Still (activates_initial past on t x)
   initial_still on t =
@@ -270,6 +277,12 @@ method_stays id = method_stays_by (numbers no_tables) id
 
 pub hard_stays : (id : ℕ) (r : Ref) (x y : NumberTx) → tests_hard r x ≡ Done tt y → is_touched id x ≡ true → is_touched id y ≡ true
 hard_stays id = hard_stays_by (numbers no_tables) id
+
+pub spare_stays : (id : ℕ) (r v : Ref) (x y : NumberTx) → spares r x ≡ Done v y → is_touched id x ≡ true → is_touched id y ≡ true
+spare_stays id = spare_stays_by (numbers no_tables) id
+
+pub derive_stays : (id : ℕ) (r v : Ref) (x y : NumberTx) → derives r x ≡ Done v y → is_touched id x ≡ true → is_touched id y ≡ true
+derive_stays id = derive_stays_by (numbers no_tables) id
 
 -- ---- the acts that touch an object
 

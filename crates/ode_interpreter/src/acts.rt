@@ -9,7 +9,7 @@ ghost use Rattle.ode_value.specs.Constraints.{tests_hard};
 ghost use Rattle.ode_value.specs.Denoting.{denotes};
 ghost use Rattle.ode_value.specs.Expressions.{evaluates, stands, text_in};
 ghost use Rattle.ode_value.specs.Firings.{arises, both_lists, whole_list};
-ghost use Rattle.ode_value.specs.Making.{derives, drops, removes, sets_field};
+ghost use Rattle.ode_value.specs.Making.{derives, drops, removes, sets_field, spares};
 ghost use Rattle.ode_value.specs.Pasts.{numbers};
 ghost use Rattle.ode_value.specs.Posting.{collects, defers, fired_text, is_listed, is_touched};
 ghost use Rattle.ode_value.specs.Settling.{says};
@@ -183,6 +183,12 @@ pub trait Acts<S: Schema> {
     /// A new version, derived from the one that a reference denotes.
     fn derive(&mut self, schema: &S, r: Ref) -> Result<Ref, Stop>
         ensures acts { (classes : Items Declared) (g : Known) → S.declares schema.now classes → knows self.old schema.now g → Ends result (with_classes classes (view self.new g)) (derives r (with_classes classes (view self.old g))) }
+        ensures kept { (g : Known) → knows self.old schema.now g → Leaves result (knows self.new schema.now g) (failed self.new g) }
+        ensures faults { (b : Base) → usable self.old b → Leaves result (usable self.new b) (ended self.new b) };
+
+    /// The reference to the version that a reference denotes, where it isn't the only one.
+    fn spare(&mut self, schema: &S, r: Ref) -> Result<Ref, Stop>
+        ensures acts { (classes : Items Declared) (g : Known) → S.declares schema.now classes → knows self.old schema.now g → Ends result (with_classes classes (view self.new g)) (spares r (with_classes classes (view self.old g))) }
         ensures kept { (g : Known) → knows self.old schema.now g → Leaves result (knows self.new schema.now g) (failed self.new g) }
         ensures faults { (b : Base) → usable self.old b → Leaves result (usable self.new b) (ended self.new b) };
 

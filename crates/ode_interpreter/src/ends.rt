@@ -4,7 +4,7 @@ ghost use Rattle.ode_value.specs.Acts.{gives, go_on, prints};
 ghost use Rattle.ode_value.specs.Changes.{lives};
 ghost use Rattle.ode_value.specs.Executing.{Gives, Goes, goes};
 ghost use Rattle.ode_value.specs.Expressions.{evaluates, stands};
-ghost use Rattle.ode_value.specs.Making.{derives, drops, removes};
+ghost use Rattle.ode_value.specs.Making.{drops, removes};
 ghost use Rattle.ode_value.specs.Pasts.{numbers};
 ghost use Rattle.ode_value.specs.Statements.{switches_off_numbered, switches_on_named};
 ghost use Rattle.ode_value.specs.Texts.{value_line};
@@ -108,14 +108,4 @@ pub(crate) fn switched_on<S: Schema, T: Acts<S>>(
 {
     tx.stand(schema, r)?;
     tx.activate(schema, r, trigger, args)
-}
-
-/// A new version: its reference.
-pub(crate) fn derived<S: Schema, T: Acts<S>>(schema: &S, tx: &mut T, r: Ref) -> Result<Value, Stop>
-    ensures acts { (classes : Items Declared) (g : T.Known) → S.declares schema.now classes → T.knows tx.old schema.now g → Ends result (with_classes classes (T.view tx.new g)) (go_on (derives r (with_classes classes (T.view tx.old g))) (λ new. gives (Value.Reference new))) }
-    ensures kept { (g : T.Known) → T.knows tx.old schema.now g → Leaves result (T.knows tx.new schema.now g) (T.failed tx.new g) }
-    ensures faults { (b : T.Base) → T.usable tx.old b → Leaves result (T.usable tx.new b) (T.ended tx.new b) }
-{
-    let new = tx.derive(schema, r)?;
-    Ok(Value::Reference(new))
 }

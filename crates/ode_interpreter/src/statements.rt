@@ -14,7 +14,7 @@ ghost use Rattle.ode_interpreter.specs.Seen.{Ends, EndsBy, IsShort, Leaves, firi
 use crate::acts::Acts;
 use crate::beginnings::{around, begun, called, method_of};
 use crate::creating::make_named;
-use crate::ends::{derived, dropped, removed, returned, shown, switched_off, switched_on};
+use crate::ends::{dropped, removed, returned, shown, switched_off, switched_on};
 use crate::expressions::{evaluate_all, given, holds, receiver, reference, say, set};
 use crate::firing::Firing;
 use crate::scene::{Scene, null};
@@ -272,6 +272,7 @@ pub(crate) fn delete<S: Schema, T: Acts<S>>(
 
 /// A new version of an object.
 #[cycle(go)]
+#[tactic(auto, unfolding(ode_value::specs::Statements::copies))]
 pub(crate) fn new_version<S: Schema, T: Acts<S>>(
     alloc: Global,
     schema: &S,
@@ -286,11 +287,14 @@ pub(crate) fn new_version<S: Schema, T: Acts<S>>(
 {
     let r = reference(schema, tx, on, e)?;
     touch(alloc, schema, tx, levels, r.object)?;
-    derived(schema, tx, r)
+    let made = tx.derive(schema, r)?;
+    post(alloc, schema, tx, levels, r.object, &Kind::NewVersion, &[])?;
+    Ok(Value::Reference(made))
 }
 
-/// A version is removed.
+/// A version is removed: the one that the reference denotes before the point.
 #[cycle(go)]
+#[tactic(auto, unfolding(ode_value::specs::Statements::drops_version))]
 pub(crate) fn drop_version<S: Schema, T: Acts<S>>(
     alloc: Global,
     schema: &S,
@@ -305,7 +309,9 @@ pub(crate) fn drop_version<S: Schema, T: Acts<S>>(
 {
     let r = reference(schema, tx, on, e)?;
     touch(alloc, schema, tx, levels, r.object)?;
-    dropped(schema, tx, on, r)
+    let version = tx.spare(schema, r)?;
+    post(alloc, schema, tx, levels, r.object, &Kind::DropVersion, &[])?;
+    dropped(schema, tx, on, version)
 }
 
 /// A new activation.

@@ -1,8 +1,9 @@
 -- What a reference denotes, by the head of its object.
-use Rattle.std.proofs.Common.{◌≡◌, ◌<◌, ◌==◌, ℕ, Bool, true, false, cond, List, Result, Option, Some, None, Ok, Err, refl, sym, ap, subst, ◌∙◌, arith}
-use Rattle.std.specs.Prelude.{is_some}
+use Rattle.std.proofs.Common.{◌≡◌, ◌≤◌, ◌<◌, ◌==◌, ℕ, Bool, true, false, cond, List, Result, Option, Some, None, Ok, Err, refl, sym, ap, subst, ◌∙◌, arith}
+use Rattle.std.specs.Prelude.{is_some, length, nat_lt}
 use Rattle.std.specs.Option.{option_and_then, option_map, ok_or}
 use Rattle.std.proofs.lemmas.Bool.Decides.{nat_tests}
+use Rattle.std.proofs.lemmas.List.{length-map}
 use Rattle.ode_expr.specs.Answers.{number_in, number_of}
 use Rattle.ode_heap.specs.Answering.{head_of_object}
 use Rattle.ode_heap.specs.declared.object.ObjectHead.{ObjectHead}
@@ -11,11 +12,13 @@ use Rattle.ode_interpreter.specs.declared.stop.Stop.{Stop}
 use Rattle.ode_interpreter.specs.declared.stop.Stop.TheVariants as stop
 use Rattle.ode_laws.specs.Alike.{NumberTx, NumberWorld}
 use Rattle.ode_overlay.specs.Layers.{Layer}
-use Rattle.ode_value.specs.Acts.{Outcome, Done, Aborted, computes, found, gives, go_on, nothing, reached, sees, valued}
-use Rattle.ode_value.specs.Changes.{class_of}
+use Rattle.ode_value.specs.Acts.{Outcome, Done, Aborted, ◌>>=◌, ◌>>◌, computes, found, gives, go_on, needs, nothing, reached, sees, valued}
+use Rattle.ode_value.specs.Changes.{class_of, object}
 use Rattle.ode_value.specs.Classes.{lists_kind}
 use Rattle.ode_value.specs.Denoting.{denoted, denotes, object_at, object_of, version_in}
+use Rattle.ode_value.specs.Evaluation.{reason_of}
 use Rattle.ode_value.specs.Expressions.{stands}
+use Rattle.ode_value.specs.Making.{pinned, spares}
 use Rattle.ode_value.specs.Posting.{is_listed}
 use Rattle.ode_value.specs.Versions.{Version, version_of}
 use Rattle.ode_value.specs.Worlds.{Declared, Object}
@@ -25,6 +28,7 @@ use Rattle.ode_value.specs.declared.event.Kind.{Kind}
 use Rattle.ode_value.specs.declared.reason.Reason.{Reason}
 use Rattle.ode_value.specs.declared.reason.Reason.TheVariants as reason
 use Rattle.ode_value.specs.declared.value.Ref.{Ref}
+use Rattle.ode_versions.specs.Versions.{listed}
 use Rattle.ode_view_laws.specs.Viewing.{Beside, running, world_now}
 
 -- ---- the number of a version
@@ -144,6 +148,84 @@ module _ (y : NumberTx) (r : Ref) (head : ObjectHead) (number : Option ℕ) (som
     by_number : (n : Option ℕ) → number ≡ n → sees (λ b. is_some (denotes b r)) y ≡ Done (is_some n) y
     by_number (Some n) is = sees_one y y r n (of_version y r head number n some there named is)
     by_number None is = sees_none y y r (reason.NoVersion r) (of_no_version y r head number some there named is)
+
+-- ---- a version that isn't the only one
+
+module _ (y : NumberTx) (r : Ref) where
+  -- behind the version, by its object
+  abbrev spared_of : Option Object → Version → Outcome (Unit {0}) ℕ Ref
+  spared_of o v = go_on (found o y) (λ q. needs (reason.LastVersion r.object) (λ _. nat_lt 1 (length q.versions)) >> gives (pinned r v.number))
+
+  abbrev spared_as : Option Object → Result Version Fault → Outcome (Unit {0}) ℕ Ref
+  spared_as o (Ok v) = spared_of o v
+  spared_as o (Err why) = Aborted (reason_of why) y
+
+  spares_by : (d : Result Version Fault)
+      → go_on (valued d y) (λ v. object r.object >>= λ o. needs (reason.LastVersion r.object) (λ _. nat_lt 1 (length o.versions)) >> gives (pinned r v.number)) ≡ spared_as (object_at y.now.bones r.object) d
+  spares_by (Ok v) = refl
+  spares_by (Err why) = refl
+
+  spares_test : (b : Bool) → (r.object == 0) ≡ b → spares r y ≡ spared_as (object_at y.now.bones r.object) (version_in r (cond b None (object_at y.now.bones r.object)))
+  spares_test b is = spares_by (denoted y.now.bones r) ∙ ap (λ t. spared_as (object_at y.now.bones r.object) (version_in r (cond t None (object_at y.now.bones r.object)))) is
+
+  pub spares_null : r.object ≡ 0 → spares r y ≡ Aborted (reason.NoObject 0) y
+  spares_null is =
+      let test : (r.object == 0) ≡ true = grind (arith, nat_tests) in
+      spares_test true test ∙ ap (λ n. Aborted (reason.NoObject n) y) is
+
+  spares_some : 0 < r.object → spares r y ≡ spared_as (object_at y.now.bones r.object) (version_in r (object_at y.now.bones r.object))
+  spares_some some =
+      let test : (r.object == 0) ≡ false = grind (arith, nat_tests) in
+      spares_test false test
+
+  pub spared_no_object : 0 < r.object → None ≡ option_map head_of_object (object_at y.now.bones r.object) → spares r y ≡ Aborted (reason.NoObject r.object) y
+  spared_no_object some is = spares_some some ∙ by_cases (object_at y.now.bones r.object) is where
+    by_cases : (o : Option Object) → None ≡ option_map head_of_object o → spared_as o (version_in r o) ≡ Aborted (reason.NoObject r.object) y
+    by_cases None is = refl
+    by_cases (Some o) is = absurd (cc is)
+
+  -- by the number of the version, and how many there are
+  abbrev counted_by : ℕ → Bool → Outcome (Unit {0}) ℕ Ref
+  counted_by n b = cond b (Done (pinned r n) y) (Aborted (reason.LastVersion r.object) y)
+
+  abbrev spared_count : Option ℕ → ℕ → Outcome (Unit {0}) ℕ Ref
+  spared_count (Some n) many = counted_by n (nat_lt 1 many)
+  spared_count None many = Aborted (reason.NoVersion r) y
+
+  abbrev tested : Bool → Outcome (Unit {0}) ℕ (Unit {0})
+  tested b = cond b (Done tt y) (Aborted (reason.LastVersion r.object) y)
+
+  by_more : (n : ℕ) (b : Bool) → go_on (tested b) (λ _. gives (pinned r n)) ≡ counted_by n b
+  by_more n true = refl
+  by_more n false = refl
+
+  by_spare : (o : Object) (v : Option Version) → spared_as (Some o) (ok_or v (fault.NoVersion r)) ≡ spared_count (option_map (λ (v : Version). v.number) v) (length o.versions)
+  by_spare o None = refl
+  by_spare o (Some v) = by_more v.number (nat_lt 1 (length o.versions))
+
+module _ (y : NumberTx) (r : Ref) (head : ObjectHead) (number : Option ℕ) (some : 0 < r.object) (there : Some head ≡ option_map head_of_object (object_at y.now.bones r.object))
+    (named : (o : Object) → head ≡ head_of_object o → number ≡ option_map (λ (v : Version). v.number) (version_of r.version o.versions)) where
+  spares_so : spares r y ≡ spared_count y r number (length head.versions.versions)
+  spares_so = spares_some y r some ∙ by_cases (object_at y.now.bones r.object) there where
+    by_cases : (o : Option Object) → Some head ≡ option_map head_of_object o → spared_as y r o (version_in r o) ≡ spared_count y r number (length head.versions.versions)
+    by_cases None is = absurd (cc is)
+    by_cases (Some o) is =
+        let e : head ≡ head_of_object o = cc is in
+        let many : length head.versions.versions ≡ length o.versions = ap (λ (h : ObjectHead). length h.versions.versions) e ∙ length-map o.versions listed in
+        by_spare y r o (version_of r.version o.versions) ∙ ap (λ m. spared_count y r m (length o.versions)) (sym (named o e)) ∙ ap (spared_count y r number) (sym many)
+
+  pub spared : (n : ℕ) → number ≡ Some n → 1 < length head.versions.versions → spares r y ≡ Done (pinned r n) y
+  spared n is more =
+      let test : nat_lt 1 (length head.versions.versions) ≡ true = grind (arith, nat_tests) in
+      spares_so ∙ ap (λ m. spared_count y r m (length head.versions.versions)) is ∙ ap (counted_by y r n) test
+
+  pub spared_last : (n : ℕ) → number ≡ Some n → length head.versions.versions ≤ 1 → spares r y ≡ Aborted (reason.LastVersion r.object) y
+  spared_last n is few =
+      let test : nat_lt 1 (length head.versions.versions) ≡ false = grind (arith, nat_tests) in
+      spares_so ∙ ap (λ m. spared_count y r m (length head.versions.versions)) is ∙ ap (counted_by y r n) test
+
+  pub spared_no_version : number ≡ None → spares r y ≡ Aborted (reason.NoVersion r) y
+  spared_no_version is = spares_so ∙ ap (λ m. spared_count y r m (length head.versions.versions)) is
 
 -- ---- what a class lists
 

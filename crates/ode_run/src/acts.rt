@@ -120,6 +120,10 @@ impl<'a, 'b, H: Host, K: Keep<H>> Acts<Program<'b>> for Work<'a, H, K> {
         self.derive(self.alloc, schema.classes(), r)
     }
 
+    fn spare(&mut self, schema: &Program<'b>, r: Ref) -> Result<Ref, Stop> {
+        self.spare(schema.classes(), r)
+    }
+
     fn drop_version(&mut self, schema: &Program<'b>, r: Ref) -> Result<(), Stop> {
         self.drop_version(schema.classes(), r)
     }

@@ -12,6 +12,7 @@ ghost use Rattle.ode_states.specs.Machine.{checked};
 ghost use Rattle.ode_value.specs.Acts.{Done, sees};
 ghost use Rattle.ode_value.specs.Denoting.{denotes, object_at};
 ghost use Rattle.ode_value.specs.Expressions.{stands};
+ghost use Rattle.ode_value.specs.Making.{spares};
 ghost use Rattle.ode_value.specs.Posting.{is_listed};
 ghost use Rattle.ode_value.specs.Versions.{Version, version_of};
 ghost use Rattle.ode_value.specs.Worlds.{Declared, Object};
@@ -62,6 +63,28 @@ fn denotes_in(of: Ref, found: &Option<ObjectHead>) -> bool
     }
 }
 
+// The reference to the version of its object that a reference denotes, where that isn't the only one.
+#[tactic(auto, using(crate::proofs::DenoteLaws::spared, crate::proofs::DenoteLaws::spared_last, crate::proofs::DenoteLaws::spared_no_version, crate::proofs::DenoteLaws::spared_no_object))]
+fn spared_in(of: Ref, found: &Option<ObjectHead>) -> Result<Ref, Stop>
+    requires { IfSome found.now (λ head. IsVersionList head.versions) }
+    ensures is { (y : NumberTx) → 0 < of.object → found.now ≡ option_map head_of_object (object_at y.now.bones of.object) → Ends result y (spares of y) }
+    ensures calm { IfErr result IsCalm }
+{
+    let Some(head) = found else {
+        return Err(Stop::Abort(Reason::NoObject(of.object)));
+    };
+    let Some(number) = number_in(of, head) else {
+        return Err(Stop::Abort(Reason::NoVersion(of)));
+    };
+    if head.versions.versions.len() <= 1 {
+        return Err(Stop::Abort(Reason::LastVersion(of.object)));
+    }
+    Ok(Ref {
+        object: of.object,
+        version: Some(number),
+    })
+}
+
 impl<'a, H: Host, K: Keep<H>> Work<'a, H, K> {
     /// A reference denotes a version.
     #[tactic(auto, using(crate::proofs::DenoteLaws::stands_null))]
@@ -96,6 +119,23 @@ impl<'a, H: Host, K: Keep<H>> Work<'a, H, K> {
         }
         let found = self.head(classes, of.object)?;
         Ok(denotes_in(of, &found))
+    }
+
+    /// The reference to the version that a reference denotes, where it isn't the only one.
+    #[tactic(auto, using(crate::proofs::DenoteLaws::spares_null))]
+    pub fn spare(&mut self, classes: &Classes, of: Ref) -> Result<Ref, Stop>
+        ensures acts { (all : Items Declared) (k : Known H) → classes.now ≡ declared_in k.first → IsRunning H.view K.holds K.live self.old k
+            → Ends result (tx all k self.new) (spares of (tx all k self.old)) }
+        ensures kept { (k : Known H) → classes.now ≡ declared_in k.first → IsRunning H.view K.holds K.live self.old k
+            → Leaves result (IsRunning H.view K.holds K.live self.new k) (Failed H.view self.new.host.now k) }
+        ensures faults { (began : H) → IsServing H.view K.live began self.old → Leaves result (IsServing H.view K.live began self.new) (Stops (H.view began) (H.view self.new.host.now)) }
+        ensures lent { (k : Known H) → Lent k self.old → Lent k self.new }
+    {
+        if of.object == 0 {
+            return Err(Stop::Abort(Reason::NoObject(0)));
+        }
+        let found = self.head(classes, of.object)?;
+        spared_in(of, &found)
     }
 
     /// Whether an object's class lists a kind.

@@ -2,11 +2,11 @@ use Rattle.std.proofs.Common.{ℕ, arith, rules}
 use Rattle.std.proofs.lemmas.Grind.{common_steps}
 use Rattle.ode_value.specs.Executing.{deeper, level}
 use Rattle.ode_value.specs.Pasts.{Past, numbers}
-use Rattle.ode_value.specs.Statements.{Inner, calls_behind, calls_inside, creates, deletes, generic}
+use Rattle.ode_value.specs.Statements.{Inner, calls_behind, calls_inside, copies, creates, deletes, drops_version, generic}
 use Rattle.ode_interpreter.specs.Seen.{with_classes}
 use Rattle.ode_interpreter.proofs.Fronts.{calls_by, calls_found}
 use Rattle.ode_interpreter.proofs.Levels.{execute_if}
-use Rattle.ode_interpreter.proofs.Stays.{body_stays, denotes_stays, hard_stays, joins_touch, makes_touch, method_stays, post_stays, stand_stays, touches_touch}
+use Rattle.ode_interpreter.proofs.Stays.{body_stays, denotes_stays, derive_stays, hard_stays, joins_touch, makes_touch, method_stays, post_stays, spare_stays, stand_stays, touches_touch}
 use Rattle.ode_interpreter.proofs.Touches.{touched_anew}
 use Rattle.ode_interpreter.proofs.statements.+go.Goals as goal
 
@@ -85,6 +85,77 @@ delete-returns-clause-acts g t c = λ classes k d known.
     let a4 = c.in_ok-post.ensures.acts classes k d k3 t3 in
     let k4 = c.in_ok-post.ensures.kept k k3 in
     let e = c.removed.ensures.acts classes k d k4 in
+    first_of (search rules, grind (arith, common_steps))
+
+pub new_version-returns-in_err-post-clause-acts : goal.new_version-returns-in_err-post-clause-acts
+unfolding copies
+new_version-returns-in_err-post-clause-acts g t c = λ classes k d known.
+    let r = c.in_ok-r.r in
+    let a1 = c.in_ok-r.ensures.acts classes k d known in
+    let k1 = c.in_ok-r.ensures.kept k known in
+    let a2 = c.in_ok-touch.ensures.acts classes k d k1 in
+    let x2 = with_classes classes (g.T.Acts.view c.touch.new.tx k) in
+    let t2 = touches_touch _ _ _ _ _ a2 in
+    let k2 = c.in_ok-touch.ensures.kept k k1 in
+    let a3 = c.in_ok-made.ensures.acts classes k d k2 in
+    let x3 = with_classes classes (g.T.Acts.view c.derive.new.self k) in
+    let t3 = derive_stays r.object r c.in_ok-made.made x2 x3 a3 t2 in
+    let k3 = c.in_ok-made.ensures.kept k k2 in
+    let e = c.in_err-post.ensures.acts classes k d k3 t3 in
+    first_of (search rules, grind (arith, common_steps))
+
+pub new_version-returns-clause-acts : goal.new_version-returns-clause-acts
+unfolding copies
+new_version-returns-clause-acts g t c = λ classes k d known.
+    let r = c.in_ok-r.r in
+    let a1 = c.in_ok-r.ensures.acts classes k d known in
+    let k1 = c.in_ok-r.ensures.kept k known in
+    let a2 = c.in_ok-touch.ensures.acts classes k d k1 in
+    let x2 = with_classes classes (g.T.Acts.view c.touch.new.tx k) in
+    let t2 = touches_touch _ _ _ _ _ a2 in
+    let k2 = c.in_ok-touch.ensures.kept k k1 in
+    let a3 = c.in_ok-made.ensures.acts classes k d k2 in
+    let x3 = with_classes classes (g.T.Acts.view c.derive.new.self k) in
+    let t3 = derive_stays r.object r c.in_ok-made.made x2 x3 a3 t2 in
+    let k3 = c.in_ok-made.ensures.kept k k2 in
+    let a4 = c.in_ok-post.ensures.acts classes k d k3 t3 in
+    let k4 = c.in_ok-post.ensures.kept k k3 in
+    first_of (search rules, grind (arith, common_steps))
+
+pub drop_version-returns-in_err-post-clause-acts : goal.drop_version-returns-in_err-post-clause-acts
+unfolding drops_version
+drop_version-returns-in_err-post-clause-acts g t c = λ classes k d known.
+    let r = c.in_ok-r.r in
+    let a1 = c.in_ok-r.ensures.acts classes k d known in
+    let k1 = c.in_ok-r.ensures.kept k known in
+    let a2 = c.in_ok-touch.ensures.acts classes k d k1 in
+    let x2 = with_classes classes (g.T.Acts.view c.touch.new.tx k) in
+    let t2 = touches_touch _ _ _ _ _ a2 in
+    let k2 = c.in_ok-touch.ensures.kept k k1 in
+    let a3 = c.in_ok-version.ensures.acts classes k d k2 in
+    let x3 = with_classes classes (g.T.Acts.view c.spare.new.self k) in
+    let t3 = spare_stays r.object r c.in_ok-version.version x2 x3 a3 t2 in
+    let k3 = c.in_ok-version.ensures.kept k k2 in
+    let e = c.in_err-post.ensures.acts classes k d k3 t3 in
+    first_of (search rules, grind (arith, common_steps))
+
+pub drop_version-returns-clause-acts : goal.drop_version-returns-clause-acts
+unfolding drops_version
+drop_version-returns-clause-acts g t c = λ classes k d known.
+    let r = c.in_ok-r.r in
+    let a1 = c.in_ok-r.ensures.acts classes k d known in
+    let k1 = c.in_ok-r.ensures.kept k known in
+    let a2 = c.in_ok-touch.ensures.acts classes k d k1 in
+    let x2 = with_classes classes (g.T.Acts.view c.touch.new.tx k) in
+    let t2 = touches_touch _ _ _ _ _ a2 in
+    let k2 = c.in_ok-touch.ensures.kept k k1 in
+    let a3 = c.in_ok-version.ensures.acts classes k d k2 in
+    let x3 = with_classes classes (g.T.Acts.view c.spare.new.self k) in
+    let t3 = spare_stays r.object r c.in_ok-version.version x2 x3 a3 t2 in
+    let k3 = c.in_ok-version.ensures.kept k k2 in
+    let a4 = c.in_ok-post.ensures.acts classes k d k3 t3 in
+    let k4 = c.in_ok-post.ensures.kept k k3 in
+    let e = c.dropped.ensures.acts classes k d k4 in
     first_of (search rules, grind (arith, common_steps))
 
 pub call_inside-returns-in_err-post_around-clause-acts : goal.call_inside-returns-in_err-post_around-clause-acts
