@@ -16,7 +16,8 @@ CLASSES = """class Item { int n; text name; ref Item next; constraint small: n <
     void both(int k) { add(k); next.add(k); } void copy() { let v = newversion this; v.add(2); show v; }
     int sum(int depth) { if (depth <= 0) { return n; } let rest = this.sum(depth - 1); return rest + n; }
     void check(int k) { if (n > k) { say "too many in " + name; tabort; } else { say "fine"; } }
-    event after add, before twice, after link, after create, before delete, after tbegin, before tcomplete, after tcommit, after tabort, time every 10;
+    event after add, before twice, after link, after create, before delete, after tbegin, before tcomplete, after tcommit, after tabort, time every 10,
+        after newversion, before delversion;
     trigger perpetual low(int k): after add && n < k ==> { say "low"; show n; }
     trigger third(): choose 3 (after add) ==> { twice(); }
     trigger perpetual whole often(): every 4 (after add or before twice) ==> { say "often"; }
@@ -25,6 +26,8 @@ CLASSES = """class Item { int n; text name; ref Item next; constraint small: n <
     trigger perpetual whole independent kept(ref Item log): prior(before twice, after tabort) ==> { log.add(2); }
     trigger perpetual gap(): fa(after tbegin, after link, after add) and !before delete ==> { say "linked first"; }
     trigger once loop(): relative(before twice, after add) ==> { add(-2); }
+    trigger perpetual grown(): after newversion && n > 2 ==> { say "grown"; add(-2); }
+    trigger whole shrunk(ref Item r): before delversion ==> { delversion r; show version(this); }
     trigger initial perpetual dependent tick(): time every 10 && n < 40 ==> { add(4); }
     trigger perpetual whole tock(): every 2 (time every 10) ==> { say "tock"; check(8); } };
 class Rare : Item { int worth; constraint dear: worth >= 0; void add(int k) { n = n + k; worth = worth + 2 * k; } void swap(ref Rare with) { worth = with.worth; }
@@ -74,7 +77,7 @@ class Writer:
             return self.new(self.items, f"{bag}.fill();")
         if self.random.random() < 0.12:
             self.drawn += 1
-            trigger = self.random.choice(["low(20)", "third()", "often()", "pair()", "later(30)", f"kept({other})", "gap()", "loop()", "tock()", "tock()", "rise()", "rise()", "low(true)", "none()"])
+            trigger = self.random.choice(["low(20)", "third()", "often()", "pair()", "later(30)", f"kept({other})", "gap()", "loop()", "tock()", "tock()", "grown()", f"shrunk({item})", f"shrunk({other})", "rise()", "rise()", "low(true)", "none()"])
             return f"activate {item}.{trigger};"
         if self.random.random() < 0.1:
             return self.clock()

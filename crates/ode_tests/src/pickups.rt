@@ -33,19 +33,22 @@ const TRANSACTIONS: &[Step] = &[
 
 const VERSIONS: &[Step] = &[
     (
-        "class V { int n; ref V old; };\n",
+        "class V { int n; ref V old; event after newversion, before delversion; trigger initial perpetual whole w(): every 3 (after newversion or before delversion) ==> { say \"w\"; } };\n",
         "class V\ntx 1 committed\n",
     ),
-    ("pnew V(n = 1);\n", "new #1\ntx 2 committed\n"),
+    ("pnew V(n = 1);\n", "new #1\nactive 2\ntx 2 committed\n"),
     ("newversion #1;\n", "version #1@2\ntx 3 committed\n"),
     ("show version(#1);\n", "value #1@2\ntx 4 committed\n"),
     ("show #1@1.n;\n", "value 1\ntx 5 committed\n"),
     ("delversion #1@2;\n", "tx 6 committed\n"),
     ("delversion #1;\n", "tx 7 aborted last version #1\n"),
-    ("newversion #1;\n", "version #1@3\ntx 8 committed\n"),
+    (
+        "newversion #1;\n",
+        "version #1@3\nfired w on #1\nsaid w\ntx 8 committed\n",
+    ),
     ("pdelete #1;\n", "tx 9 committed\n"),
-    ("pnew V();\n", "new #2\ntx 10 committed\n"),
-    ("show #2.old;\n", "value null\ntx 11 committed\n"),
+    ("pnew V();\n", "new #3\nactive 4\ntx 10 committed\n"),
+    ("show #3.old;\n", "value null\ntx 11 committed\n"),
 ];
 
 const TRIGGERS: &[Step] = &[
