@@ -8,7 +8,7 @@ use Rattle.ode_value.specs.Keys.{key_cmp}
 use Rattle.ode_keep.proofs.Keys.{key_total}
 use Rattle.ode_keep.specs.Snapshots.{FitsRow, FitsSnapshot, IsBrokenSnapshot}
 use Rattle.ode_keep.specs.Payloads.{FitsChange, change_bytes}
-use Rattle.ode_keep.proofs.Counted.{AreTaken, one_more_taken, spelled_push}
+use Rattle.ode_keep.proofs.Counted.{AreTakenInTurn, one_more_taken, spelled_push}
 use Rattle.ode_keep.proofs.Lists.{all_behind, all_push}
 use Rattle.ode_keep.specs.Rising.{MayFollow, above_all, follows, inserted_last, last_of, last_of-push, rising_push}
 
@@ -52,7 +52,7 @@ module _ (bytes : List ℕ) (map : Entries) (rest : List ℕ) (last : Option Key
 
 -- of a payload these changes were read and made
 abbrev pub IsMade : List ℕ → ℕ → ℕ → Entries → Entries → List ℕ → Option Key → Type 0
-IsMade = AreTaken change_bytes FitsChange key_cmp applied
+IsMade = AreTakenInTurn change_bytes FitsChange key_cmp applied
 
 pub applied-push : (cs : Changes) (c : Key × Option (List ℕ)) (entries : Entries) → applied (cs ++ c ∷ []) entries ≡ changed (applied cs entries) c.0 c.1
 applied-push [] c entries = refl

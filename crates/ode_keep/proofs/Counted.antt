@@ -10,7 +10,7 @@ use Rattle.std.specs.List.Sorted.{IsStrictlySortedBy}
 use Rattle.std.specs.Map.{keys_of}
 use Rattle.std.specs.declared.cmp.Ordering.{Ordering}
 use Rattle.ode_host.proofs.Determinacy.{AreFirstOnce, IsAhead, NextSpelled, Reads, forked, one_list, spelled_once, spelled_reads}
-use Rattle.ode_keep.specs.Counted.{IsCounted}
+use Rattle.ode_keep.specs.Counted.{IsCountedList}
 use Rattle.ode_keep.specs.Rising.{MayFollow, follows, last_of, last_of-push, rising_push}
 use Rattle.ode_keep.specs.declared.spelling.TheConstants.{COUNT_LEN}
 use Rattle.ode_keep.proofs.Lists.{all_push}
@@ -24,7 +24,7 @@ none_read Next (x ∷ others) s t none reads = absurd (omega (arith, none))
 
 module _ {K V : Type 0} (spell : K × V → List ℕ) (Fits : K × V → Type 0) (cmp : K → K → Ordering) where
   -- Of bytes these items were taken, the last of them under this key, and this is left. All of them make the new state of the old.
-  pub record AreTaken {S : Type 0} (all : List (K × V) → S → S) (bytes : List ℕ) (count made : ℕ) (old new : S) (rest : List ℕ) (last : Option K) : Type 0 where
+  pub record AreTakenInTurn {S : Type 0} (all : List (K × V) → S → S) (bytes : List ℕ) (count made : ℕ) (old new : S) (rest : List ℕ) (last : Option K) : Type 0 where
     pub done : List (K × V)
     pub split : bytes ≡ to_be_bytes w32 count ++ (flat_map spell done ++ rest)
     pub each : AllByRecursion Fits done
@@ -36,7 +36,7 @@ module _ {K V : Type 0} (spell : K × V → List ℕ) (Fits : K × V → Type 0)
 
   -- bytes spell one list of items, where each has some
   pub one_counted : AreFirstOnce spell Fits → ((x : K × V) (rest : List ℕ) → [] ≡ spell x ++ rest → ⊥) → (xs ys : List (K × V)) (bytes : List ℕ)
-      → IsCounted spell Fits cmp xs bytes → IsCounted spell Fits cmp ys bytes → xs ≡ ys
+      → IsCountedList spell Fits cmp xs bytes → IsCountedList spell Fits cmp ys bytes → xs ≡ ys
   one_counted once some xs ys bytes first second =
       one_list spell Fits once some xs ys first.each second.each (ap (λ (l : List ℕ). drop COUNT_LEN l) (sym first.spelled ∙ second.spelled))
 
@@ -44,13 +44,13 @@ module _ {K V : Type 0} (spell : K × V → List ℕ) (Fits : K × V → Type 0)
   Next = NextSpelled spell Fits
 
   module _ {S : Type 0} (all : List (K × V) → S → S) where
-    pub none_taken : (bytes : List ℕ) (count : ℕ) (old : S) (rest : List ℕ) → old ≡ all [] old → bytes ≡ to_be_bytes w32 count ++ rest → AreTaken all bytes count 0 old old rest None
+    pub none_taken : (bytes : List ℕ) (count : ℕ) (old : S) (rest : List ℕ) → old ≡ all [] old → bytes ≡ to_be_bytes w32 count ++ rest → AreTakenInTurn all bytes count 0 old old rest None
     unfolding IsStrictlySortedBy
     none_taken bytes count old rest same split = record { done = []; split = split; each = tt; rising = tt; last_is = refl; many = refl; within = omega arith; state = same }
 
-    module _ (bytes : List ℕ) (count made : ℕ) (old new : S) (rest : List ℕ) (last : Option K) (is : AreTaken all bytes count made old new rest last) where
+    module _ (bytes : List ℕ) (count made : ℕ) (old new : S) (rest : List ℕ) (last : Option K) (is : AreTakenInTurn all bytes count made old new rest last) where
       pub one_more_taken : IsTotalOrder cmp → (x : K × V) (more : List ℕ) (next : S) → Fits x → MayFollow cmp last x.0 → rest ≡ spell x ++ more → next ≡ all (is.done ++ x ∷ []) old
-          → made < count → AreTaken all bytes count (made + 1) old next more (Some x.0)
+          → made < count → AreTakenInTurn all bytes count (made + 1) old next more (Some x.0)
       one_more_taken total x more next fits after begins state room = record {
         done = is.done ++ x ∷ [];
         split = is.split ∙ ap (λ (l : List ℕ). to_be_bytes w32 count ++ l) (ap (λ (l : List ℕ). flat_map spell is.done ++ l) begins ∙ sym (spelled_push spell is.done x more));
@@ -62,7 +62,7 @@ module _ {K V : Type 0} (spell : K × V → List ℕ) (Fits : K × V → Type 0)
         state = state;
       }
 
-      module _ (once : AreFirstOnce spell Fits) (fit : count < 2 ^ 32) (items : List (K × V)) (form : IsCounted spell Fits cmp items bytes) where
+      module _ (once : AreFirstOnce spell Fits) (fit : count < 2 ^ 32) (items : List (K × V)) (form : IsCountedList spell Fits cmp items bytes) where
         count_is : length items ≡ count
         count_is =
             sym (from_be_bytes-to_be_bytes_4 (length items) form.few)
@@ -102,7 +102,7 @@ module _ {K V : Type 0} (spell : K × V → List ℕ) (Fits : K × V → Type 0)
             split_either
 
       -- all items are taken, and nothing is left
-      pub all_taken : count < 2 ^ 32 → made ≡ count → rest ≡ [] → IsCounted spell Fits cmp is.done bytes
+      pub all_taken : count < 2 ^ 32 → made ≡ count → rest ≡ [] → IsCountedList spell Fits cmp is.done bytes
       all_taken fit whole empty = record {
         spelled =
             is.split ∙ ap (λ (l : List ℕ). to_be_bytes w32 count ++ (flat_map spell is.done ++ l)) empty

@@ -11,7 +11,7 @@ abbrev pub counted : {X : Type 0} → (X → List ℕ) → List X → List ℕ
 counted spell items = to_be_bytes w32 (length items) ++ flat_map spell items
 
 -- the bytes spell these items, of which each fits its fields
-pub record IsCounted {K V : Type 0} (spell : K × V → List ℕ) (Fits : K × V → Type 0) (cmp : K → K → Ordering) (items : List (K × V)) (bytes : List ℕ) : Type 0 where
+pub record IsCountedList {K V : Type 0} (spell : K × V → List ℕ) (Fits : K × V → Type 0) (cmp : K → K → Ordering) (items : List (K × V)) (bytes : List ℕ) : Type 0 where
   pub spelled : bytes ≡ counted spell items
   pub few : length items < 2 ^ 32
   pub each : AllByRecursion Fits items

@@ -4,7 +4,7 @@ use Rattle.std.specs.Option.{IfSome}
 use Rattle.ode_value.specs.declared.key.Key.{Key}
 use Rattle.ode_value.specs.Records.{byte, key_bytes, row_bytes}
 use Rattle.ode_value.specs.Keys.{key_cmp}
-use Rattle.ode_keep.specs.Counted.{IsCounted, counted}
+use Rattle.ode_keep.specs.Counted.{IsCountedList, counted}
 use Rattle.ode_keep.specs.Entries.{Changes}
 use Rattle.ode_keep.specs.Snapshots.{FitsKey}
 use Rattle.ode_keep.specs.declared.spelling.TheConstants.{PUT, REMOVAL}
@@ -27,4 +27,4 @@ pub record FitsChange (c : Key × Option (List ℕ)) : Type 0 where
 
 -- the bytes are the payload of these changes
 abbrev pub IsPayload : Changes → List ℕ → Type 0
-IsPayload = IsCounted change_bytes FitsChange key_cmp
+IsPayload = IsCountedList change_bytes FitsChange key_cmp

@@ -53,7 +53,7 @@ use Rattle.ode_opened_laws.proofs.Parts.{activations_of_kind, all_counted, class
 use Rattle.ode_opened_laws.proofs.Placed.{all_placed}
 use Rattle.ode_opened_laws.proofs.Queued.{entry_references_kept, queue_kept}
 use Rattle.ode_opened_laws.proofs.Reached.{AreTold, are_reached}
-use Rattle.ode_opened_laws.proofs.Tallying.{IsCounted, IsPart, counted_is, entries_tallied, one_more, parts_tallied}
+use Rattle.ode_opened_laws.proofs.Tallying.{IsPart, IsTallied, counted_is, entries_tallied, one_more, parts_tallied}
 use Rattle.ode_opened_laws.proofs.Weighing.{classes_weigh, counters_weigh, objects_weigh, weight_append}
 
 ok_same : {X : Type 0} (x y : X) → (let m : Ruled X = Ok x in m) ≡ Ok y → x ≡ y
@@ -136,11 +136,11 @@ module _ (again : Again) (told : AreTold) (acts_weigh : (id state : ℕ) (a : Ac
       subst_all : AllByRecursion IsPart (of_classes ++ things) → AllByRecursion IsPart counted_rows
       subst_all it = subst (AllByRecursion IsPart) grouped it
 
-  counts : AllByRecursion IsCounted counted_rows
+  counts : AllByRecursion IsTallied counted_rows
   counts =
-      all_append IsCounted (of_classes ++ of_objects ++ of_versions) of_activations
-      (all_append IsCounted (of_classes ++ of_objects) of_versions
-      (all_append IsCounted of_classes of_objects (all_counted 2 5 of_classes (omega arith) (classes_of_kind s.tables b.classes storable))
+      all_append IsTallied (of_classes ++ of_objects ++ of_versions) of_activations
+      (all_append IsTallied (of_classes ++ of_objects) of_versions
+      (all_append IsTallied of_classes of_objects (all_counted 2 5 of_classes (omega arith) (classes_of_kind s.tables b.classes storable))
       (all_counted 6 6 of_objects (omega arith) (objects_of_kind s.world b.objects reads.objects)))
       (all_counted 7 7 of_versions (omega arith) (versions_of_kind s.world b.objects reads.objects)))
       (all_counted 8 8 of_activations (omega arith) (activations_of_kind s.world b.objects reads.objects))

@@ -29,7 +29,7 @@ use Rattle.ode_value.specs.Versions.{Version}
 use Rattle.ode_value.specs.Worlds.{Bones, Declared, Entry, Object, Position, World}
 use Rattle.ode_value.specs.declared.key.Key.{Key}
 use Rattle.ode_opened_laws.proofs.ByKinds.{AreOf, IsOf}
-use Rattle.ode_opened_laws.proofs.Tallying.{IsCounted, IsPart, IsUncounted}
+use Rattle.ode_opened_laws.proofs.Tallying.{IsPart, IsTallied, IsUncounted}
 use Rattle.ode_opened_laws.proofs.Telling.{activation_reads, activation_record, entry_reads, entry_record, object_reads, object_record, version_reads, version_record}
 
 -- ---- their kinds
@@ -91,8 +91,8 @@ is_no_entry n low = grind (arith, nat_tests)
 is_entry : (n : ℕ) → 9 ≤ n → n ≤ 9 → (n == entry_kind) ≡ true
 is_entry n low high = grind (arith, nat_tests)
 
-pub all_counted : (low high : ℕ) (es : Entries) → high ≤ 8 → AreOf low high es → AllByRecursion IsCounted es
-all_counted low high es most all = all_then (IsOf low high) IsCounted (λ (e : Row) is. let upto = is.most in is_no_entry e.0.kind (omega (arith, most, upto))) es all
+pub all_counted : (low high : ℕ) (es : Entries) → high ≤ 8 → AreOf low high es → AllByRecursion IsTallied es
+all_counted low high es most all = all_then (IsOf low high) IsTallied (λ (e : Row) is. let upto = is.most in is_no_entry e.0.kind (omega (arith, most, upto))) es all
 
 pub none_counted : (es : Entries) → AreOf 9 9 es → AllByRecursion IsUncounted es
 none_counted es all = all_then (IsOf 9 9) IsUncounted (λ (e : Row) is. is_entry e.0.kind is.least is.most) es all

@@ -20,8 +20,8 @@ pub record IsPart (e : Row) : Type 0 where
   pub other : (before : Option Counters) → counters_or before r ≡ before
 
 -- one that the limit on all records counts, and one that it doesn't
-abbrev pub IsCounted : Row → Type 0
-IsCounted e = (e.0.kind == entry_kind) ≡ false
+abbrev pub IsTallied : Row → Type 0
+IsTallied e = (e.0.kind == entry_kind) ≡ false
 
 abbrev pub IsUncounted : Row → Type 0
 IsUncounted e = (e.0.kind == entry_kind) ≡ true
@@ -32,10 +32,10 @@ one_more t e r reads = ap (λ (o : Option Record). found (cause.Record e.0) o >>
 small_sum : (total w : ℕ) → total + w ≤ 2 ^ 64 - 1 → min (total + w) (2 ^ 64 - 1) ≡ total + w
 small_sum total w small = omega (arith, small)
 
-pub counted_is : (total : ℕ) (e : Row) → IsCounted e → total + row_weight e ≤ 2 ^ 64 - 1 → counted total e ≡ total + row_weight e
+pub counted_is : (total : ℕ) (e : Row) → IsTallied e → total + row_weight e ≤ 2 ^ 64 - 1 → counted total e ≡ total + row_weight e
 counted_is total e is small = ap (λ b. cond b total (min (total + row_weight e) (2 ^ 64 - 1))) is ∙ small_sum total (row_weight e) small
 
-pub parts_tallied : (es : Entries) (t : Tally) → AllByRecursion IsPart es → AllByRecursion IsCounted es → t.total + total_weight es ≤ 2 ^ 64 - 1
+pub parts_tallied : (es : Entries) (t : Tally) → AllByRecursion IsPart es → AllByRecursion IsTallied es → t.total + total_weight es ≤ 2 ^ 64 - 1
     → through tallied t es ≡ Ok (record { total = t.total + total_weight es; counters = t.counters })
 parts_tallied [] t all counts small =
     let same : t.total ≡ t.total + 0 = omega arith in

@@ -3,14 +3,14 @@ use Rattle.std.proofs.Common.{◌≡◌, ◌<◌, ℕ, ◌+◌, List, [], ◌∷
 use Rattle.std.proofs.lemmas.Cmp.{nat_cmp_total}
 use Rattle.std.specs.BTreeMap.{insert_entry}
 use Rattle.std.specs.Ordering.{nat_cmp}
-use Rattle.ode_keep.proofs.Counted.{AreTaken, one_more_taken}
+use Rattle.ode_keep.proofs.Counted.{AreTakenInTurn, one_more_taken}
 use Rattle.ode_keep.specs.Rising.{MayFollow}
 use Rattle.ode_paging.specs.Images.{FitsImage, Image, image_bytes}
 use Rattle.ode_paging.specs.Overlays.{laid}
 
 -- of a payload these images were read and laid
 abbrev pub IsLaid : List ℕ → ℕ → ℕ → List Image → List Image → List ℕ → Option ℕ → Type 0
-IsLaid = AreTaken image_bytes FitsImage nat_cmp laid
+IsLaid = AreTakenInTurn image_bytes FitsImage nat_cmp laid
 
 laid-push : (over : List Image) (i : Image) (images : List Image) → laid (over ++ i ∷ []) images ≡ insert_entry nat_cmp (laid over images) i.0 i.1
 laid-push [] i images = refl

@@ -5,7 +5,7 @@ use Rattle.std.specs.List.Sorted.{IsStrictlySortedBy}
 use Rattle.std.specs.Map.{keys_of}
 use Rattle.std.specs.Ordering.{nat_cmp}
 use Rattle.ode_gate.specs.declared.places.TheConstants.{PAGE_LEN}
-use Rattle.ode_keep.specs.Counted.{IsCounted, counted}
+use Rattle.ode_keep.specs.Counted.{IsCountedList, counted}
 
 -- the number of a page, and the bytes that it begins with; behind them it has zeros
 abbrev pub Image : Type 0
@@ -30,7 +30,7 @@ pub record FitsImage (i : Image) : Type 0 where
 
 -- the bytes are the payload of these images, in rising order of their pages
 abbrev pub IsPayload : List Image → List ℕ → Type 0
-IsPayload = IsCounted image_bytes FitsImage nat_cmp
+IsPayload = IsCountedList image_bytes FitsImage nat_cmp
 
 -- an image that isn't longer than a page
 abbrev pub IsShortImage : Image → Type 0
