@@ -7,16 +7,16 @@ use Rattle.ode_value.specs.declared.event.EventExpr.TheVariants as event
 use Rattle.ode_value.specs.declared.event.Kind.{Kind}
 use Rattle.ode_value.specs.declared.event.Kind.TheVariants as kind
 use Rattle.ode_value.specs.declared.event.Point.{Point}
-use Rattle.ode_value.specs.declared.operator.BinOp.TheVariants.{Div, Eq}
+use Rattle.ode_value.specs.declared.operator.BinOp.TheVariants.{Div, Eq, Lt}
 use Rattle.ode_value.specs.declared.statement.Expr.{Expr}
 use Rattle.ode_value.specs.declared.statement.Expr.TheVariants as expr
 use Rattle.ode_value.specs.declared.value.Value.{Value}
 use Rattle.ode_value.specs.declared.value.Value.TheVariants as value
 use Rattle.ode_value.specs.Views.{History}
-use Rattle.ode_value.specs.Marks.{Leaf, leaves, mark_of}
+use Rattle.ode_value.specs.Marks.{Conditions, conditions, mark_of, spelled_by}
 use Rattle.ode_value.specs.Masks.{plain}
 use Rattle.ode_value.specs.Points.{Points, points}
-use Rattle.ode_value.specs.Symbols.{symbol_count_of, symbol_mark_of}
+use Rattle.ode_value.specs.Symbols.{alphabet_of, size_of, symbol_mark_of}
 
 -- after a call, and the kinds of these letters
 abbrev pub kind_of : ℕ → Kind
@@ -43,22 +43,33 @@ abbrev pub calls : List ℕ → History
 calls letters = map point_of letters
 
 -- for each position of a history whether it is a point of the expression
-abbrev pub found_by : Points → List Leaf → History → List Bool
-found_by set ls history = map (set (map (mark_of ls []) history)) (range_with_len 0 (length history))
+abbrev pub found_by : Points → Conditions → History → List Bool
+found_by set cs history = map (set (map (mark_of cs []) history)) (range_with_len 0 (length history))
 
 abbrev pub found : EventExpr → History → List Bool
-found e = found_by (points e) (leaves e)
+found e = found_by (points e) (conditions e)
 
--- for each symbol which leaves hold, in the order of the text
-abbrev pub symbol_table_of : List Leaf → List (List Bool)
-symbol_table_of ls = map (λ s. map (λ (l : Leaf). symbol_mark_of ls s l.0 l.1) ls) (range_with_len 0 (symbol_count_of ls))
+-- for each symbol which conditions hold: leaves in the order of the text, then masks on composite events
+abbrev pub symbol_table_of : Conditions → List (List Bool)
+symbol_table_of cs = map (λ s. spelled_by cs (symbol_mark_of cs s)) (range_with_len 0 (size_of (alphabet_of cs)))
 
 abbrev pub symbol_table : EventExpr → List (List Bool)
-symbol_table e = symbol_table_of (leaves e)
+symbol_table e = symbol_table_of (conditions e)
 
 -- `after a && false or after b`
 abbrev pub masked : EventExpr
 masked = event.Or (event.Leaf (kind_of 97) (Some (expr.Lit (value.Bool false)))) b
+
+-- a point after a call, where the object's only field has this value
+abbrev pub call_with : ℕ → ℕ → Point
+call_with letter n = record { kind = kind_of letter; args = []; fields = value.Int (pos n) ∷ [] }
+
+-- `n < 2`, and `(after a or after b) && n < 2`, n being the only field
+abbrev pub below_two : Expr
+below_two = expr.Binary Lt (expr.Own 0) (expr.Lit (value.Int (pos 2)))
+
+abbrev pub masked_whole : EventExpr
+masked_whole = event.Masked (event.Or a b) below_two
 
 -- `1 / 0 == 1`
 abbrev pub faulty : Expr

@@ -71,7 +71,7 @@ choose_limit = 65535
 
 -- the symbols of a trigger
 abbrev pub symbol_limit : ℕ
-symbol_limit = 32
+symbol_limit = 64
 
 -- the symbols that a refusal counts up to
 abbrev pub counted_symbols : ℕ

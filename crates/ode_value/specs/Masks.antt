@@ -55,3 +55,7 @@ is_true _ = false
 abbrev pub mask_holds : Option Expr → List Value → Point → Bool
 mask_holds None params p = true
 mask_holds (Some x) params p = is_true (plain x (record { locals = params ++ p.args; own = p.fields }))
+
+-- a mask on a composite event: it sees the arguments of the trigger and the fields, and no arguments of a point
+abbrev pub composite_holds : Expr → List Value → List Value → Bool
+composite_holds x params fields = is_true (plain x (record { locals = params; own = fields }))

@@ -17,11 +17,15 @@ numbers_of (event.Not e) = e
 numbers_of (event.And e f) = e && f
 numbers_of (event.Or e f) = e && f
 numbers_of (event.Relative e f) = e && f
+numbers_of (event.RelPlus e) = e
 numbers_of (event.Prior e f) = e && f
 numbers_of (event.Sequence e f) = e && f
+numbers_of (event.Pipe e f) = e && f
 numbers_of (event.Choose n e) = in_range n && e
 numbers_of (event.Every n e) = in_range n && e
 numbers_of (event.Fa e f g) = e && (f && g)
+numbers_of (event.FaAbs e f g) = e && (f && g)
+numbers_of (event.Masked e mask) = e
 
 -- each number of a `choose` or an `every` is in its range
 unfoldable pub has_numbers : EventExpr → Bool

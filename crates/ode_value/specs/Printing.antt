@@ -108,11 +108,15 @@ printed_event_of (event.Not e) = an_operator (codes "!" ++ operand e)
 printed_event_of (event.And e f) = an_operator (operand e ++ codes " and " ++ operand f)
 printed_event_of (event.Or e f) = an_operator (operand e ++ codes " or " ++ operand f)
 printed_event_of (event.Relative e f) = no_operator (codes "relative" ++ in_brackets (e.text ++ codes ", " ++ f.text))
+printed_event_of (event.RelPlus e) = no_operator (codes "relplus" ++ in_brackets e.text)
 printed_event_of (event.Prior e f) = no_operator (codes "prior" ++ in_brackets (e.text ++ codes ", " ++ f.text))
 printed_event_of (event.Sequence e f) = no_operator (codes "sequence" ++ in_brackets (e.text ++ codes ", " ++ f.text))
+printed_event_of (event.Pipe e f) = no_operator (codes "pipe" ++ in_brackets (e.text ++ codes ", " ++ f.text))
 printed_event_of (event.Choose n e) = no_operator (codes "choose " ++ digits_of n ++ codes " " ++ in_brackets e.text)
 printed_event_of (event.Every n e) = no_operator (codes "every " ++ digits_of n ++ codes " " ++ in_brackets e.text)
 printed_event_of (event.Fa e f g) = no_operator (codes "fa" ++ in_brackets (e.text ++ codes ", " ++ f.text ++ codes ", " ++ g.text))
+printed_event_of (event.FaAbs e f g) = no_operator (codes "faabs" ++ in_brackets (e.text ++ codes ", " ++ f.text ++ codes ", " ++ g.text))
+printed_event_of (event.Masked e mask) = no_operator (in_brackets e.text ++ codes " && " ++ operand_text mask)
 
 unfoldable pub printed_event : EventExpr → Printed
 printed_event = fold-EventExpr Printed printed_event_of

@@ -23,6 +23,9 @@ tree_cmp_of (tree.Flag e f b) (tree.Flag g h c) = ordering_then (e g) (ordering_
 tree_cmp_of (tree.Count e m) (tree.Count f n) = ordering_then (e f) (nat_cmp m n)
 tree_cmp_of (tree.Started e s) (tree.Started f t) = ordering_then (e f) (list_cmp (λ x y. x y) s t)
 tree_cmp_of (tree.Pairs e s) (tree.Pairs f t) = ordering_then (e f) (list_cmp (λ x y. ordering_then (x.0 y.0) (x.1 y.1)) s t)
+tree_cmp_of (tree.Chained s) (tree.Chained t) = list_cmp (λ x y. x y) s t
+tree_cmp_of (tree.Waiting e f s) (tree.Waiting g h t) = ordering_then (e g) (ordering_then (f h) (list_cmp (λ x y. x y) s t))
+tree_cmp_of (tree.Masked e b) (tree.Masked f c) = ordering_then (e f) (bool_cmp b c)
 tree_cmp_of _ _ = Less
 
 unfoldable pub tree_cmp : StateTree → StateTree → Ordering

@@ -1,12 +1,12 @@
 -- The trees of states of an event expression: the first one, a step and the answer.
-use Rattle.std.specs.Prelude.{ℕ, ◌+◌, ◌%◌, ◌==◌, min, ◌&&◌, ◌||◌, not, Bool, true, false, cond, List, [], map, filter, fold}
+use Rattle.std.specs.Prelude.{ℕ, ◌+◌, ◌%◌, ◌==◌, min, ◌&&◌, ◌||◌, not, Bool, true, false, cond, List, [], ◌∷◌, map, filter, fold}
 use Rattle.std.specs.List.{list_any}
 use Rattle.ode_value.specs.declared.event.EventExpr.{EventExpr, fold-EventExpr}
 use Rattle.ode_value.specs.declared.event.EventExpr.TheOpen as event
 use Rattle.ode_value.specs.declared.tree.StateTree.{StateTree, out-StateTree}
 use Rattle.ode_value.specs.declared.tree.StateTree.TheOpen as level
-use Rattle.ode_value.specs.declared.tree.StateTree.TheVariants.{Bit, Place, Seen, Both, Flag, Count, Started, Pairs}
-use Rattle.ode_value.specs.Marks.{Mark}
+use Rattle.ode_value.specs.declared.tree.StateTree.TheVariants.{Bit, Place, Seen, Both, Flag, Count, Started, Pairs, Chained, Waiting, Masked}
+use Rattle.ode_value.specs.Marks.{OfLeaf, OfEvent, Mark}
 use Rattle.ode_value.specs.TreeOrder.{tree_cmp, pair_cmp, joined, all_joined}
 
 -- ---- the parts of a tree; a tree of another form has itself, false, 0 or nothing in their place
@@ -21,17 +21,21 @@ left_of s (level.Flag e f b) = e
 left_of s (level.Count e c) = e
 left_of s (level.Started e set) = e
 left_of s (level.Pairs e set) = e
+left_of s (level.Waiting e g set) = e
+left_of s (level.Masked e b) = e
 left_of s _ = s
 
 abbrev pub right_of : StateTree → Level → StateTree
 right_of s (level.Both e f) = f
 right_of s (level.Flag e f b) = f
+right_of s (level.Waiting e g set) = g
 right_of s _ = s
 
 abbrev pub bit_of : Level → Bool
 bit_of (level.Bit b) = b
 bit_of (level.Seen b e) = b
 bit_of (level.Flag e f b) = b
+bit_of (level.Masked e b) = b
 bit_of _ = false
 
 abbrev pub count_of : Level → ℕ
@@ -41,6 +45,8 @@ count_of _ = 0
 
 abbrev pub started_of : Level → List StateTree
 started_of (level.Started e set) = set
+started_of (level.Chained set) = set
+started_of (level.Waiting e g set) = set
 started_of _ = []
 
 abbrev pub pairs_of : Level → List (StateTree × StateTree)
@@ -102,12 +108,17 @@ next_started f m set = all_joined tree_cmp [] (map (f.next m) set)
 abbrev pub next_pairs : TreeMachine → TreeMachine → Mark → List (StateTree × StateTree) → List (StateTree × StateTree)
 next_pairs f g m set = all_joined pair_cmp [] (map (next_pair f g m) (filter (λ x. not (is_spent f g x)) set))
 
+-- of the set those that answer go and the others step; where G answers, those that don't answer now go too
+abbrev pub next_waiting : TreeMachine → Mark → Bool → List StateTree → List StateTree
+next_waiting f m spoilt set =
+    let after = next_started f m (filter (λ x. not (f.answer x)) set) in cond spoilt (filter f.answer after) after
+
 abbrev pub made : StateTree → (Mark → StateTree → StateTree) → (StateTree → Bool) → TreeMachine
 made first next answer = record { first = first; next = next; answer = answer }
 
 -- by one level of the expression: first, next, answer
 abbrev pub machine_of : event.EventExpr-F TreeMachine → TreeMachine
-machine_of (event.Leaf kind mask) = made (Bit false) (λ m s. Bit (m kind mask)) bit
+machine_of (event.Leaf kind mask) = made (Bit false) (λ m s. Bit (m (OfLeaf kind mask))) bit
 machine_of event.Any = made (Bit false) (λ m s. Bit true) bit
 machine_of event.First = made (Place 0) (λ m s. Place (min (count s + 1) 2)) (λ s. count s == 1)
 machine_of (event.Not e) = made (Seen false e.first) (λ m s. Seen true (e.next m (left s))) (λ s. bit s && not (e.answer (left s)))
@@ -129,6 +140,20 @@ machine_of (event.Fa e f g) =
     made (Pairs e.first [])
     (λ m s. let x = e.next m (left s) in Pairs x (with_first (e.answer x) (joined pair_cmp (f.first, g.first)) (next_pairs f g m (pairs s))))
     (λ s. list_any (λ x. f.answer x.0) (pairs s))
+machine_of (event.RelPlus e) =
+    made (Chained (e.first ∷ []))
+    (λ m s. let set = next_started e m (started s) in Chained (with_first (list_any e.answer set) (joined tree_cmp e.first) set))
+    (λ s. list_any e.answer (started s))
+machine_of (event.Pipe e f) =
+    made (Flag e.first f.first false)
+    (λ m s. let x = e.next m (left s) in let y = f.next m (right s) in cond (e.answer x) (Flag x y (f.answer y)) (Flag x (right s) false))
+    bit
+machine_of (event.FaAbs e f g) =
+    made (Waiting e.first g.first [])
+    (λ m s. next_both e g m s (λ x y. Waiting x y (with_first (e.answer x) (joined tree_cmp f.first) (next_waiting f m (g.answer y) (started s)))))
+    (λ s. list_any f.answer (started s))
+machine_of (event.Masked e mask) =
+    made (Masked e.first false) (λ m s. Masked (e.next m (left s)) (m (OfEvent mask))) (λ s. e.answer (left s) && bit s)
 
 unfoldable pub machine : EventExpr → TreeMachine
 machine = fold-EventExpr TreeMachine machine_of

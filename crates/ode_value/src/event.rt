@@ -51,11 +51,16 @@ pub enum EventExpr {
     And(Boxed<EventExpr>, Boxed<EventExpr>),
     Or(Boxed<EventExpr>, Boxed<EventExpr>),
     Relative(Boxed<EventExpr>, Boxed<EventExpr>),
+    RelPlus(Boxed<EventExpr>),
     Prior(Boxed<EventExpr>, Boxed<EventExpr>),
     Sequence(Boxed<EventExpr>, Boxed<EventExpr>),
+    Pipe(Boxed<EventExpr>, Boxed<EventExpr>),
     Choose(u32, Boxed<EventExpr>),
     Every(u32, Boxed<EventExpr>),
     Fa(Boxed<EventExpr>, Boxed<EventExpr>, Boxed<EventExpr>),
+    FaAbs(Boxed<EventExpr>, Boxed<EventExpr>, Boxed<EventExpr>),
+    /// With a mask on the whole of it.
+    Masked(Boxed<EventExpr>, Expr),
 }
 
 /// A point of an object's history.
@@ -166,6 +171,7 @@ impl EventExpr {
                 let f = copy_boxed(alloc, f.get())?;
                 Ok(EventExpr::Relative(e, f))
             }
+            EventExpr::RelPlus(e) => Ok(EventExpr::RelPlus(copy_boxed(alloc, e.get())?)),
             EventExpr::Prior(e, f) => {
                 let e = copy_boxed(alloc, e.get())?;
                 let f = copy_boxed(alloc, f.get())?;
@@ -176,6 +182,11 @@ impl EventExpr {
                 let f = copy_boxed(alloc, f.get())?;
                 Ok(EventExpr::Sequence(e, f))
             }
+            EventExpr::Pipe(e, f) => {
+                let e = copy_boxed(alloc, e.get())?;
+                let f = copy_boxed(alloc, f.get())?;
+                Ok(EventExpr::Pipe(e, f))
+            }
             EventExpr::Choose(n, e) => Ok(EventExpr::Choose(*n, copy_boxed(alloc, e.get())?)),
             EventExpr::Every(n, e) => Ok(EventExpr::Every(*n, copy_boxed(alloc, e.get())?)),
             EventExpr::Fa(e, f, g) => {
@@ -183,6 +194,16 @@ impl EventExpr {
                 let f = copy_boxed(alloc, f.get())?;
                 let g = copy_boxed(alloc, g.get())?;
                 Ok(EventExpr::Fa(e, f, g))
+            }
+            EventExpr::FaAbs(e, f, g) => {
+                let e = copy_boxed(alloc, e.get())?;
+                let f = copy_boxed(alloc, f.get())?;
+                let g = copy_boxed(alloc, g.get())?;
+                Ok(EventExpr::FaAbs(e, f, g))
+            }
+            EventExpr::Masked(e, mask) => {
+                let e = copy_boxed(alloc, e.get())?;
+                Ok(EventExpr::Masked(e, mask.copy(alloc)?))
             }
         }
     }

@@ -31,8 +31,8 @@ pub use class::{Class, Field};
 pub use digits::{decimal, int_text, parse_decimal};
 pub use event::{EventExpr, Kind, Mode, Point};
 pub use examples::{
-    fa_examples, instant_examples, plain_examples, printing_examples, relative_examples,
-    sequence_examples, symbol_examples,
+    composite_mask_examples, fa_examples, instant_examples, pipe_examples, plain_examples,
+    printing_examples, relative_examples, sequence_examples, symbol_examples,
 };
 pub use key::{Key, kinds_agree};
 pub use laws::{

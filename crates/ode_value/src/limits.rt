@@ -37,7 +37,7 @@ pub const DRAIN_LIMIT: u32 = 65_536;
 /// The number of a `choose` or an `every`.
 pub const CHOOSE_LIMIT: u16 = 65_535;
 /// Symbols of a trigger.
-pub const SYMBOL_LIMIT: u8 = 32;
+pub const SYMBOL_LIMIT: u8 = 64;
 /// Symbols that a refusal counts up to.
 pub const COUNTED_SYMBOLS: u32 = 65_536;
 /// States of a trigger.
