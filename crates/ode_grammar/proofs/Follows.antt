@@ -1,6 +1,7 @@
 -- Which terminals may follow a part: one token is enough to choose how the grammar goes on.
 use Rattle.std.proofs.Common.{◌≡◌, ℕ, Bool, true, false, ◌&&◌, ◌||◌, not, List, [], ◌∷◌, ◌++◌, Option, Some, None, zero, suc, ◌<◌, length, get_or, arith, refl, sym, ◌∙◌, ap, subst}
 use Rattle.std.proofs.lemmas.Bool.{false≢true}
+use Rattle.std.proofs.lemmas.Option.{none-some}
 use Rattle.ode_grammar.specs.declared.terminal.Terminal.{Terminal}
 use Rattle.ode_grammar.specs.declared.terminal.Terminal.TheVariants as terminal
 use Rattle.ode_grammar.specs.declared.item.Part.{Part}
@@ -10,10 +11,10 @@ use Rattle.ode_grammar.specs.declared.item.Item.{Item}
 use Rattle.ode_grammar.specs.declared.item.Item.TheVariants as item
 use Rattle.ode_grammar.specs.declared.reader.Start.{Start}
 use Rattle.ode_grammar.specs.declared.reader.Start.TheVariants as start
-use Rattle.ode_grammar.specs.Terminals.{number, same_terminal}
-use Rattle.ode_grammar.specs.Grammar.{after, skipped, items_of}
+use Rattle.ode_grammar.specs.Terminals.{named, number, stands_for}
+use Rattle.ode_grammar.specs.Grammar.{after, row_of, skipped, items_of}
 use Rattle.ode_grammar.specs.Texts.{Meaning, Derives, Next, Make, Rule, Skip}
-use Rattle.ode_grammar.proofs.TerminalLaws.{terminals, back, below, same_terminal-itself}
+use Rattle.ode_grammar.proofs.TerminalLaws.{terminals, back, below}
 
 abbrev pub has : {A : Type 0} → Option A → Bool
 has None = false
@@ -22,7 +23,7 @@ has (Some x) = true
 -- whether items may begin with a terminal, where `then` says what may begin behind them
 abbrev pub starts : (Terminal → Bool) → List Item → Terminal → Bool
 starts then [] k = then k
-starts then (item.Token j ∷ items) k = same_terminal k j
+starts then (item.Token j ∷ items) k = stands_for k j
 starts then (item.Build a ∷ items) k = starts then items k
 starts then (item.Part p ∷ items) k = has (after p k) || (has (skipped p) && starts then items k)
 
@@ -31,8 +32,7 @@ nothing_then k = false
 
 -- which terminals may follow a part
 abbrev ends_mode : Terminal → Bool
-ends_mode terminal.Name = true
-ends_mode other = false
+ends_mode k = stands_for k terminal.Name
 
 abbrev ends_parent : Terminal → Bool
 ends_parent terminal.OpenBrace = true
@@ -47,9 +47,8 @@ ends_clock_text terminal.Semi = true
 ends_clock_text other = false
 
 abbrev ends_scope : Terminal → Bool
-ends_scope terminal.Name = true
 ends_scope terminal.Mode = true
-ends_scope other = false
+ends_scope other = ends_mode other
 
 abbrev ends_params : Terminal → Bool
 ends_params terminal.OpenBrace = true
@@ -62,10 +61,8 @@ ends_kind terminal.Comma = true
 ends_kind other = false
 
 abbrev ends_lasting : Terminal → Bool
-ends_lasting terminal.Name = true
-ends_lasting terminal.Mode = true
 ends_lasting terminal.Scope = true
-ends_lasting other = false
+ends_lasting other = ends_scope other
 
 abbrev ends_event_ors : Terminal → Bool
 ends_event_ors terminal.CloseParen = true
@@ -132,7 +129,6 @@ ends_inner_name terminal.Seconds = true
 ends_inner_name terminal.Count = true
 ends_inner_name terminal.Text = true
 ends_inner_name terminal.Instant = true
-ends_inner_name terminal.Name = true
 ends_inner_name terminal.CloseBrace = true
 ends_inner_name terminal.OpenParen = true
 ends_inner_name terminal.Activate = true
@@ -148,7 +144,7 @@ ends_inner_name terminal.Say = true
 ends_inner_name terminal.Show = true
 ends_inner_name terminal.TAbort = true
 ends_inner_name terminal.Version = true
-ends_inner_name other = false
+ends_inner_name other = ends_mode other
 
 abbrev pub follow : Part → Terminal → Bool
 follow part.Statement k = false
@@ -199,6 +195,7 @@ follow part.MoreRelative k = ends_event_unary k
 follow part.MorePrior k = ends_event_unary k
 follow part.MoreSequence k = ends_event_unary k
 follow part.Mask k = ends_event_unary k
+follow part.EventMask k = ends_event_unary k
 follow part.Kind k = ends_kind k
 follow part.AfterWhat k = ends_after_what k
 follow part.BeforeWhat k = ends_after_what k
@@ -270,17 +267,17 @@ row_well p None = true
 row_well p (Some row) = well (follow p) row
 
 apart_checked : (p : Part) → every (λ k. implies (has (skipped p)) (implies (has (after p k)) (not (follow p k)))) ≡ true
-unfolding after skipped
+unfolding row_of skipped
 apart_checked part.Statement = refl
 apart_checked other = refl
 
 rows_checked : (p : Part) → every (λ k. row_well p (after p k)) ≡ true
-unfolding after skipped
+unfolding row_of skipped
 rows_checked part.Statement = refl
 rows_checked other = refl
 
 start_checked : (s : Start) → well nothing_then (items_of s) ≡ true
-unfolding items_of after skipped
+unfolding items_of row_of skipped
 start_checked start.Expr = refl
 start_checked other = refl
 
@@ -350,7 +347,7 @@ starts-skip items p k a e h = or_right (has (after p k)) (has (skipped p)) (star
 -- what items derive begins with a token that they may begin with
 pub starts-derived : {T M : Type 0} {g : Meaning T M} {items : List Item} {m : M} {t : T} {ts : List T} {out : M}
     → Derives g items m (t ∷ ts) out → starts nothing_then items (g.seen t) ≡ true
-starts-derived (Next k e d) = subst (λ j. same_terminal j k ≡ true) (sym e) (same_terminal-itself k)
+starts-derived (Next k e d) = e
 starts-derived (Make a d) = starts-derived d
 starts-derived {g = g} {t = t} (Rule {items = items} p row e d) = starts-row items p (g.seen t) row e
 starts-derived {g = g} {t = t} (Skip {items = items} p a e d) = starts-skip items p (g.seen t) a e (starts-derived d)
@@ -358,3 +355,15 @@ starts-derived {g = g} {t = t} (Skip {items = items} p a e d) = starts-skip item
 abbrev pub IfRow : (List Item → Type 0) → Option (List Item) → Type 0
 IfRow P None = Unit {0}
 IfRow P (Some row) = P row
+
+-- a token has at a part the row that it has as a name, since no event expression begins with one
+event_after : (t : Terminal) (row : List Item) → row_of part.EventUnary (named t) ≡ Some row → after part.EventUnary t ≡ Some row
+unfolding row_of
+event_after terminal.FaAbs row h = absurd (none-some row h)
+event_after terminal.Pipe row h = absurd (none-some row h)
+event_after terminal.RelPlus row h = absurd (none-some row h)
+event_after other row h = h
+
+pub named_after : (p : Part) (t : Terminal) (row : List Item) → row_of p (named t) ≡ Some row → after p t ≡ Some row
+named_after part.EventUnary t row h = event_after t row h
+named_after other t row h = h

@@ -8,11 +8,10 @@ use Rattle.ode_grammar.specs.declared.item.Part.{Part}
 use Rattle.ode_grammar.specs.declared.item.Action.{Action}
 use Rattle.ode_grammar.specs.declared.item.Item.{Item}
 use Rattle.ode_grammar.specs.declared.item.Item.TheVariants as item
-use Rattle.ode_grammar.specs.Terminals.{same_terminal}
+use Rattle.ode_grammar.specs.Terminals.{stands_for}
 use Rattle.ode_grammar.specs.Grammar.{after, skipped}
 use Rattle.ode_grammar.specs.Texts.{Meaning, Derives, Done, Next, Make, Rule, Skip}
 use Rattle.ode_grammar.specs.Reading.{by_row, next, made_of_skipped, made_after, reached, run, may_stop, made_at_end}
-use Rattle.ode_grammar.proofs.TerminalLaws.{same_terminal-true, same_terminal-itself}
 use Rattle.ode_grammar.proofs.Follows.{Well, nothing_then, no_row, row_kept, starts-derived}
 
 chosen : (b : Bool) (x y : List Item) → cond b (Some x) None ≡ Some y → (b ≡ true) × (x ≡ y)
@@ -35,8 +34,8 @@ pub next_derives : {T M : Type 0} (g : Meaning T M) (items : List Item) (m : M) 
     → next items (g.seen t) ≡ Some more → Derives g more (made_after g items m t) ts out → Derives g items m (t ∷ ts) out
 next_derives g [] m t more ts out h d = cc
 next_derives g (item.Token k ∷ items) m t more ts out h d =
-    let e = chosen (same_terminal (g.seen t) k) items more h in
-    Next k (same_terminal-true (g.seen t) k e.0) (subst (λ is. Derives g is (g.keep t m) ts out) (sym e.1) d)
+    let e = chosen (stands_for (g.seen t) k) items more h in
+    Next k e.0 (subst (λ is. Derives g is (g.keep t m) ts out) (sym e.1) d)
 next_derives g (item.Build a ∷ items) m t more ts out h d = Make a (next_derives g items (g.make a m) t more ts out h d)
 next_derives g (item.Part p ∷ items) m t more ts out h d =
     part_derives g items m t more ts out p (after p (g.seen t)) (skipped p) refl refl (λ a n x. next_derives g items (g.make a m) t more ts out n x) h d
@@ -70,10 +69,10 @@ skip_goes g items m t ts out p a e f x = record {
 }
 
 next_goes : {T M : Type 0} (g : Meaning T M) (items : List Item) (m : M) (t : T) (ts : List T) (out : M) (k : Terminal)
-    → g.seen t ≡ k → Derives g items (g.keep t m) ts out → Well nothing_then items → Goes g (item.Token k ∷ items) m t ts out
+    → stands_for (g.seen t) k ≡ true → Derives g items (g.keep t m) ts out → Well nothing_then items → Goes g (item.Token k ∷ items) m t ts out
 next_goes g items m t ts out k e d w = record {
   more = items;
-  goes = ap (λ b. cond b (Some items) None) (subst (λ j. same_terminal j k ≡ true) (sym e) (same_terminal-itself k));
+  goes = ap (λ b. cond b (Some items) None) e;
   rest = d;
   well = w;
 }

@@ -22,12 +22,24 @@ folded build more = Token terminal.OpenParen ∷ event ++ Token terminal.Comma �
 abbrev pub counted : Item → List Item
 counted build = Token terminal.Count ∷ Token terminal.OpenParen ∷ event ++ Token terminal.CloseParen ∷ build ∷ []
 
+-- "(" event ")", "(" event "," event ")" and "(" event "," event "," event ")"
+abbrev pub of_one : Item → List Item
+of_one build = Token terminal.OpenParen ∷ event ++ Token terminal.CloseParen ∷ build ∷ []
+
+abbrev pub of_two : Item → List Item
+of_two build = Token terminal.OpenParen ∷ event ++ Token terminal.Comma ∷ event ++ Token terminal.CloseParen ∷ build ∷ []
+
+abbrev pub of_three : Item → List Item
+of_three build =
+    Token terminal.OpenParen ∷ event ++ Token terminal.Comma ∷ event ++ Token terminal.Comma ∷ event ++ Token terminal.CloseParen ∷ build ∷ []
+
 -- evnot := "!" evnot | evatom
--- evatom := "(" event ")" | "any" | "first" | kind [ "&&" expr ] | ("relative"|"prior"|"sequence") "(" event "," event { "," event } ")"
---         | ("choose"|"every") NUMBER "(" event ")" | "fa" "(" event "," event "," event ")"
+-- evatom := "(" event ")" [ "&&" expr ] | "any" | "first" | kind [ "&&" expr ]
+--         | ("relative"|"prior"|"sequence") "(" event "," event { "," event } ")" | ("choose"|"every") NUMBER "(" event ")"
+--         | ("fa"|"faabs") "(" event "," event "," event ")" | "relplus" "(" event ")" | "pipe" "(" event "," event ")"
 abbrev pub event_unary_after : Terminal → Option (List Item)
 event_unary_after terminal.Not = Some (A part.EventUnary ∷ Build action.NotEvent ∷ [])
-event_unary_after terminal.OpenParen = Some (event ++ Token terminal.CloseParen ∷ Build action.EventPair ∷ [])
+event_unary_after terminal.OpenParen = Some (event ++ Token terminal.CloseParen ∷ Build action.EventPair ∷ A part.EventMask ∷ [])
 event_unary_after terminal.Any = Some (Build action.Any ∷ [])
 event_unary_after terminal.First = Some (Build action.First ∷ [])
 event_unary_after terminal.After = Some (A part.AfterWhat ∷ A part.Mask ∷ [])
@@ -38,7 +50,10 @@ event_unary_after terminal.Prior = Some (folded (Build action.Prior) (A part.Mor
 event_unary_after terminal.Sequence = Some (folded (Build action.Sequence) (A part.MoreSequence))
 event_unary_after terminal.Choose = Some (counted (Build action.Choose))
 event_unary_after terminal.Every = Some (counted (Build action.Every))
-event_unary_after terminal.Fa = Some (Token terminal.OpenParen ∷ event ++ Token terminal.Comma ∷ event ++ Token terminal.Comma ∷ event ++ Token terminal.CloseParen ∷ Build action.Fa ∷ [])
+event_unary_after terminal.Fa = Some (of_three (Build action.Fa))
+event_unary_after terminal.FaAbs = Some (of_three (Build action.FaAbs))
+event_unary_after terminal.RelPlus = Some (of_one (Build action.RelPlus))
+event_unary_after terminal.Pipe = Some (of_two (Build action.Pipe))
 event_unary_after other = None
 
 abbrev pub event_ands_after : Terminal → Option (List Item)
@@ -66,6 +81,10 @@ more_sequence_after k = more_folded (Build action.Sequence) (A part.MoreSequence
 abbrev pub mask_after : Terminal → Option (List Item)
 mask_after terminal.AndAnd = Some (A part.Expr ∷ Build action.Masked ∷ [])
 mask_after other = None
+
+abbrev pub event_mask_after : Terminal → Option (List Item)
+event_mask_after terminal.AndAnd = Some (A part.Expr ∷ Build action.MaskedEvent ∷ [])
+event_mask_after other = None
 
 -- kind := "after" "create" | "before" "delete" | "after" NAME | "before" NAME | "after" "tbegin" | "before" "tcomplete" | "after" "tcommit"
 --       | "after" "tabort" | "time" "every" NUMBER | "time" "at" TEXT | "after" "newversion" | "before" "delversion"

@@ -5,7 +5,7 @@ use Rattle.ode_grammar.specs.declared.terminal.Terminal.{Terminal}
 use Rattle.ode_grammar.specs.declared.item.Action.{Action}
 use Rattle.ode_grammar.specs.declared.item.Item.{Item}
 use Rattle.ode_grammar.specs.declared.item.Item.TheVariants as item
-use Rattle.ode_grammar.specs.Terminals.{same_terminal}
+use Rattle.ode_grammar.specs.Terminals.{stands_for}
 use Rattle.ode_grammar.specs.Grammar.{after, skipped}
 use Rattle.ode_grammar.specs.Texts.{Meaning}
 
@@ -18,7 +18,7 @@ by_row row behind wrong None None = wrong
 -- what is still to come behind a token
 abbrev pub next : List Item → Terminal → Option (List Item)
 next [] t = None
-next (item.Token k ∷ items) t = cond (same_terminal t k) (Some items) None
+next (item.Token k ∷ items) t = cond (stands_for t k) (Some items) None
 next (item.Build a ∷ items) t = next items t
 next (item.Part p ∷ items) t = by_row (λ row. Some (row ++ items)) (next items t) None (after p t) (skipped p)
 

@@ -1,5 +1,5 @@
 -- Terminals by their numbers.
-use Rattle.std.specs.Prelude.{ℕ, Bool, nat_eq}
+use Rattle.std.specs.Prelude.{ℕ, Bool, ◌||◌, nat_eq}
 use Rattle.ode_grammar.specs.declared.terminal.Terminal.{Terminal}
 use Rattle.ode_grammar.specs.declared.terminal.Terminal.TheVariants as terminal
 
@@ -50,35 +50,49 @@ number terminal.Else = 42
 number terminal.Event = 43
 number terminal.Every = 44
 number terminal.Fa = 45
-number terminal.First = 46
-number terminal.If = 47
-number terminal.Initial = 48
-number terminal.Lasting = 49
-number terminal.Let = 50
-number terminal.Mode = 51
-number terminal.NewVersion = 52
-number terminal.Or = 53
-number terminal.PDelete = 54
-number terminal.PNew = 55
-number terminal.Prior = 56
-number terminal.Ref = 57
-number terminal.Relative = 58
-number terminal.Return = 59
-number terminal.Say = 60
-number terminal.Scope = 61
-number terminal.Sequence = 62
-number terminal.Show = 63
-number terminal.Soft = 64
-number terminal.SortWord = 65
-number terminal.TAbort = 66
-number terminal.TBegin = 67
-number terminal.TCommit = 68
-number terminal.TComplete = 69
-number terminal.Time = 70
-number terminal.Trigger = 71
-number terminal.Version = 72
-number terminal.Void = 73
+number terminal.FaAbs = 46
+number terminal.First = 47
+number terminal.If = 48
+number terminal.Initial = 49
+number terminal.Lasting = 50
+number terminal.Let = 51
+number terminal.Mode = 52
+number terminal.NewVersion = 53
+number terminal.Or = 54
+number terminal.PDelete = 55
+number terminal.Pipe = 56
+number terminal.PNew = 57
+number terminal.Prior = 58
+number terminal.Ref = 59
+number terminal.Relative = 60
+number terminal.RelPlus = 61
+number terminal.Return = 62
+number terminal.Say = 63
+number terminal.Scope = 64
+number terminal.Sequence = 65
+number terminal.Show = 66
+number terminal.Soft = 67
+number terminal.SortWord = 68
+number terminal.TAbort = 69
+number terminal.TBegin = 70
+number terminal.TCommit = 71
+number terminal.TComplete = 72
+number terminal.Time = 73
+number terminal.Trigger = 74
+number terminal.Version = 75
+number terminal.Void = 76
 
 -- the two terminals are one
 abbrev pub same_terminal : Terminal → Terminal → Bool
 same_terminal a b = nat_eq (number a) (number b)
+
+-- a word that isn't reserved, as a name
+abbrev pub named : Terminal → Terminal
+named terminal.FaAbs = terminal.Name
+named terminal.Pipe = terminal.Name
+named terminal.RelPlus = terminal.Name
+named other = other
+
+-- the first stands where the second is asked for: as itself or as a name
+abbrev pub stands_for : Terminal → Terminal → Bool
+stands_for a b = same_terminal a b || same_terminal (named a) b

@@ -7,6 +7,7 @@ use Rattle.ode_grammar.specs.declared.item.Item.{Item}
 use Rattle.ode_grammar.specs.declared.item.Item.TheVariants as item
 use Rattle.ode_grammar.specs.declared.reader.Extent.{Extent}
 use Rattle.ode_grammar.specs.declared.reader.Start.{Start}
+use Rattle.ode_grammar.specs.Terminals.{stands_for}
 use Rattle.ode_grammar.specs.Grammar.{after, skipped, items_of}
 
 -- What is made of a text of tokens T: the class that the grammar sees of a token, and what a token and an action add.
@@ -19,9 +20,9 @@ pub record Meaning (T M : Type 0) : Type 0 where
 pub data Derives {T M : Type 0} (g : Meaning T M) : List Item → M → List T → M → Type 0 where
   -- nothing derives nothing
   Done : {m : M} → Derives g [] m [] m
-  -- a token of the class that is asked for
+  -- a token of the class that is asked for; a word that isn't reserved is also a name
   Next : {items : List Item} {t : T} {m : M} {ts : List T} {out : M}
-      → (k : Terminal) → g.seen t ≡ k → Derives g items (g.keep t m) ts out → Derives g (item.Token k ∷ items) m (t ∷ ts) out
+      → (k : Terminal) → stands_for (g.seen t) k ≡ true → Derives g items (g.keep t m) ts out → Derives g (item.Token k ∷ items) m (t ∷ ts) out
   -- an action
   Make : {items : List Item} {m : M} {ts : List T} {out : M}
       → (a : Action) → Derives g items (g.make a m) ts out → Derives g (item.Build a ∷ items) m ts out

@@ -1,13 +1,13 @@
 //! The rows of event expressions.
 ghost use Rattle.std.specs.Prelude.{◌≡◌, Some, None, IfSome, IfNone};
-ghost use Rattle.ode_grammar.specs.Events.{event_unary_after, event_ands_after, event_ors_after, more_relative_after, more_prior_after, more_sequence_after, mask_after, kind_after, after_what_after, before_what_after, time_what_after, period_after};
+ghost use Rattle.ode_grammar.specs.Events.{event_unary_after, event_ands_after, event_ors_after, more_relative_after, more_prior_after, more_sequence_after, mask_after, event_mask_after, kind_after, after_what_after, before_what_after, time_what_after, period_after};
 
 use crate::item::Item::{self, Build, Part as A, Token};
 use crate::item::{Action, Part};
 use crate::terminal::Terminal::{
     self, After, And, AndAnd, Any, At, Before, Choose, CloseParen, Comma, Count, Create, Delete,
-    DropVersion, Every, Fa, First, Instant, Name, NewVersion, Not, OpenParen, Or, Prior, Relative,
-    Seconds, Sequence, TAbort, TBegin, TCommit, TComplete, Time,
+    DropVersion, Every, Fa, FaAbs, First, Instant, Name, NewVersion, Not, OpenParen, Or, Pipe,
+    Prior, RelPlus, Relative, Seconds, Sequence, TAbort, TBegin, TCommit, TComplete, Time,
 };
 
 /// An event expression without `and` and `or`.
@@ -23,6 +23,7 @@ pub fn event_unary_after(terminal: Terminal) -> Option<&'static [Item]>
             A(Part::EventOrs),
             Token(CloseParen),
             Build(Action::EventPair),
+            A(Part::EventMask),
         ]),
         Any => Some(&[Build(Action::Any)]),
         First => Some(&[Build(Action::First)]),
@@ -98,6 +99,42 @@ pub fn event_unary_after(terminal: Terminal) -> Option<&'static [Item]>
             A(Part::EventOrs),
             Token(CloseParen),
             Build(Action::Fa),
+        ]),
+        FaAbs => Some(&[
+            Token(OpenParen),
+            A(Part::EventUnary),
+            A(Part::EventAnds),
+            A(Part::EventOrs),
+            Token(Comma),
+            A(Part::EventUnary),
+            A(Part::EventAnds),
+            A(Part::EventOrs),
+            Token(Comma),
+            A(Part::EventUnary),
+            A(Part::EventAnds),
+            A(Part::EventOrs),
+            Token(CloseParen),
+            Build(Action::FaAbs),
+        ]),
+        RelPlus => Some(&[
+            Token(OpenParen),
+            A(Part::EventUnary),
+            A(Part::EventAnds),
+            A(Part::EventOrs),
+            Token(CloseParen),
+            Build(Action::RelPlus),
+        ]),
+        Pipe => Some(&[
+            Token(OpenParen),
+            A(Part::EventUnary),
+            A(Part::EventAnds),
+            A(Part::EventOrs),
+            Token(Comma),
+            A(Part::EventUnary),
+            A(Part::EventAnds),
+            A(Part::EventOrs),
+            Token(CloseParen),
+            Build(Action::Pipe),
         ]),
         _ => None,
     }
@@ -195,6 +232,17 @@ pub fn mask_after(terminal: Terminal) -> Option<&'static [Item]>
 {
     match terminal {
         AndAnd => Some(&[A(Part::Expr), Build(Action::Masked)]),
+        _ => None,
+    }
+}
+
+/// The same behind brackets round an event expression.
+pub fn event_mask_after(terminal: Terminal) -> Option<&'static [Item]>
+    ensures some { IfSome result (λ items. event_mask_after terminal ≡ Some items.now) }
+    ensures none { IfNone result (event_mask_after terminal ≡ None) }
+{
+    match terminal {
+        AndAnd => Some(&[A(Part::Expr), Build(Action::MaskedEvent)]),
         _ => None,
     }
 }

@@ -1,6 +1,6 @@
 //! The rows of the grammar: what follows each token at each part, and the parts that may be left out.
 ghost use Rattle.std.specs.Prelude.{◌≡◌, Some, None, IfSome, IfNone};
-ghost use Rattle.ode_grammar.specs.Grammar.{after, skipped};
+ghost use Rattle.ode_grammar.specs.Grammar.{after, row_of, skipped, standing};
 
 use crate::class_rows::*;
 use crate::event_rows::*;
@@ -10,11 +10,11 @@ use crate::item::{Action, Part};
 use crate::statement_rows::*;
 use crate::terminal::Terminal;
 
-/// What follows a token of this class at the part.
-#[tactic(auto, unfolding(crate::specs::Grammar::after))]
-pub fn after(part: Part, terminal: Terminal) -> Option<&'static [Item]>
-    ensures some { IfSome result (λ items. after part terminal ≡ Some items.now) }
-    ensures none { IfNone result (after part terminal ≡ None) }
+/// The row of a token of this class at the part.
+#[tactic(auto, unfolding(crate::specs::Grammar::row_of))]
+fn row_of(part: Part, terminal: Terminal) -> Option<&'static [Item]>
+    ensures some { IfSome result (λ items. row_of part terminal ≡ Some items.now) }
+    ensures none { IfNone result (row_of part terminal ≡ None) }
 {
     match part {
         Part::Statement => statement_after(terminal),
@@ -185,6 +185,7 @@ pub fn after(part: Part, terminal: Terminal) -> Option<&'static [Item]>
         Part::MorePrior => more_prior_after(terminal),
         Part::MoreSequence => more_sequence_after(terminal),
         Part::Mask => mask_after(terminal),
+        Part::EventMask => event_mask_after(terminal),
         Part::Kind => kind_after(terminal),
         Part::AfterWhat => after_what_after(terminal),
         Part::BeforeWhat => before_what_after(terminal),
@@ -203,6 +204,24 @@ pub fn after(part: Part, terminal: Terminal) -> Option<&'static [Item]>
     }
 }
 
+/// The token as it stands at a part.
+fn standing(part: Part, terminal: Terminal) -> Terminal
+    ensures { result ≡ standing part terminal }
+{
+    match part {
+        Part::EventUnary => terminal,
+        _ => terminal.named(),
+    }
+}
+
+/// What follows a token of this class at the part.
+pub fn after(part: Part, terminal: Terminal) -> Option<&'static [Item]>
+    ensures some { IfSome result (λ items. after part terminal ≡ Some items.now) }
+    ensures none { IfNone result (after part terminal ≡ None) }
+{
+    row_of(part, standing(part, terminal))
+}
+
 /// What is made of the part where it is left out, if it may be.
 #[tactic(auto, unfolding(crate::specs::Grammar::skipped))]
 pub fn skipped(part: Part) -> Option<Action>
@@ -213,6 +232,7 @@ pub fn skipped(part: Part) -> Option<Action>
         | Part::Members
         | Part::EventAnds
         | Part::EventOrs
+        | Part::EventMask
         | Part::Dots
         | Part::Factors
         | Part::Sums

@@ -85,6 +85,8 @@ pub enum Part {
     MoreSequence,
     /// `&&` and a mask, or nothing.
     Mask,
+    /// The same behind brackets round an event expression.
+    EventMask,
     /// A kind of point.
     Kind,
     /// What follows `after`.
@@ -189,15 +191,19 @@ pub enum Action {
     Any,
     First,
     Relative,
+    RelPlus,
     Prior,
     Sequence,
+    Pipe,
     Choose,
     Every,
     Fa,
+    FaAbs,
     AndEvents,
     OrEvents,
     Masked,
     Unmasked,
+    MaskedEvent,
     AfterCreate,
     AfterMethod,
     AfterTBegin,

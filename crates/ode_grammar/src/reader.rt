@@ -62,7 +62,7 @@ fn advance(items: &mut Stack<Item>, token: Terminal) -> Result<Step, AllocError>
     while let Some(item) = items.pop() {
         match item {
             Item::Token(terminal) => {
-                return Ok(if token.is(terminal) {
+                return Ok(if token.stands_for(terminal) {
                     Step::Taken
                 } else {
                     Step::Wrong

@@ -1,6 +1,6 @@
 //! What the grammar tells apart of the tokens.
 ghost use Rattle.std.specs.Prelude.{◌≡◌};
-ghost use Rattle.ode_grammar.specs.Terminals.{same_terminal};
+ghost use Rattle.ode_grammar.specs.Terminals.{named, same_terminal, stands_for};
 
 /// What the grammar sees of a token: a class of tokens that stand at the same places. A mark or a word that has a place of its own is a class alone.
 #[derive(Clone, Copy, Debug, PartialEq, Eq)]
@@ -61,6 +61,8 @@ pub enum Terminal {
     Event,
     Every,
     Fa,
+    /// `faabs`, which isn't reserved: a name but where an event expression begins. Likewise `pipe` and `relplus`.
+    FaAbs,
     First,
     If,
     Initial,
@@ -72,10 +74,12 @@ pub enum Terminal {
     NewVersion,
     Or,
     PDelete,
+    Pipe,
     PNew,
     Prior,
     Ref,
     Relative,
+    RelPlus,
     Return,
     Say,
     /// `committed` or `whole`.
@@ -101,5 +105,21 @@ impl Terminal {
         ensures { result ≡ same_terminal self other }
     {
         self as u8 == other as u8
+    }
+    /// The same, but as a name where the word isn't reserved.
+    pub fn named(self) -> Terminal
+        ensures { result ≡ named self }
+    {
+        match self {
+            Terminal::FaAbs | Terminal::Pipe | Terminal::RelPlus => Terminal::Name,
+            other => other,
+        }
+    }
+
+    /// Whether it stands where the other is asked for: as itself or as a name.
+    pub fn stands_for(self, other: Terminal) -> bool
+        ensures { result ≡ stands_for self other }
+    {
+        self.is(other) || self.named().is(other)
     }
 }

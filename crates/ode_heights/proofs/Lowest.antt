@@ -9,7 +9,7 @@ use Rattle.ode_grammar.specs.declared.item.Part.{Part}
 use Rattle.ode_grammar.specs.declared.item.Part.TheVariants as part
 use Rattle.ode_grammar.specs.declared.item.Item.{Item}
 use Rattle.ode_grammar.specs.declared.item.Item.TheVariants as item
-use Rattle.ode_grammar.specs.Grammar.{after, skipped}
+use Rattle.ode_grammar.specs.Grammar.{after, row_of, skipped, standing}
 use Rattle.ode_grammar.specs.Texts.{Derives, Done, Next, Make, Rule, Skip}
 use Rattle.ode_grammar.proofs.Follows.{IfRow}
 use Rattle.ode_grammar.specs.Stacks.{top, rest}
@@ -54,8 +54,8 @@ raised_number n ns l = along_raised 0 ◌≤◌ le_refl n ns l
 cons_more : (m n : ℕ) (ns : List ℕ) → m ≤ n → Numbers (m ∷ ns) (n ∷ ns)
 cons_more m n ns l = along_cons 0 ◌≤◌ m n ns ns l (numbers_same ns)
 
-row_low : (p : Part) (k : Terminal) (h : Heights) → IfRow (λ row. Low (low_of p h) (lowest row h)) (after p k)
-unfolding after raised
+row_low : (p : Part) (k : Terminal) (h : Heights) → IfRow (λ row. Low (low_of p h) (lowest row h)) (row_of p k)
+unfolding row_of raised
 row_low part.Statement terminal.Class h = low_refl _
 row_low part.Statement terminal.Begin h = low_refl _
 row_low part.Statement terminal.Commit h = low_refl _
@@ -252,6 +252,9 @@ row_low part.EventUnary terminal.Sequence h = record { shaped = cons_leaf (above
 row_low part.EventUnary terminal.Choose h = record { shaped = cons_leaf (above 1) h.shaped (record { own = lit≤ tt; pair = lit≤ tt }); plain = numbers_same h.plain }
 row_low part.EventUnary terminal.Every h = record { shaped = cons_leaf (above 1) h.shaped (record { own = lit≤ tt; pair = lit≤ tt }); plain = numbers_same h.plain }
 row_low part.EventUnary terminal.Fa h = record { shaped = cons_leaf (above (max 1 (max 1 1))) h.shaped (record { own = lit≤ tt; pair = lit≤ tt }); plain = numbers_same h.plain }
+row_low part.EventUnary terminal.FaAbs h = record { shaped = cons_leaf (above (max 1 (max 1 1))) h.shaped (record { own = lit≤ tt; pair = lit≤ tt }); plain = numbers_same h.plain }
+row_low part.EventUnary terminal.RelPlus h = record { shaped = cons_leaf (above 1) h.shaped (record { own = lit≤ tt; pair = lit≤ tt }); plain = numbers_same h.plain }
+row_low part.EventUnary terminal.Pipe h = record { shaped = cons_leaf (above (max 1 1)) h.shaped (record { own = lit≤ tt; pair = lit≤ tt }); plain = numbers_same h.plain }
 row_low part.EventAnds terminal.And h = record { shaped = raised_shape (max (high h.shaped) 1) h.shaped (omega arith); plain = numbers_same h.plain }
 row_low part.EventOrs terminal.Or h = record { shaped = raised_shape (max (high h.shaped) 1) h.shaped (omega arith); plain = numbers_same h.plain }
 row_low part.MoreRelative terminal.Comma h = record { shaped = raised_shape (max (high h.shaped) 1) h.shaped (omega arith); plain = numbers_same h.plain }
@@ -261,6 +264,7 @@ row_low part.MorePrior terminal.CloseParen h = low_refl _
 row_low part.MoreSequence terminal.Comma h = record { shaped = raised_shape (max (high h.shaped) 1) h.shaped (omega arith); plain = numbers_same h.plain }
 row_low part.MoreSequence terminal.CloseParen h = low_refl _
 row_low part.Mask terminal.AndAnd h = record { shaped = cons_leaf (above (max 1 1)) h.shaped (record { own = lit≤ tt; pair = lit≤ tt }); plain = numbers_same h.plain }
+row_low part.EventMask terminal.AndAnd h = record { shaped = raised_shape (max (high h.shaped) 1) h.shaped (omega arith); plain = numbers_same h.plain }
 row_low part.Kind terminal.After h = low_refl _
 row_low part.Kind terminal.Before h = low_refl _
 row_low part.Kind terminal.Time h = low_refl _
@@ -336,6 +340,7 @@ skip_low part.Mode a h e = let x : action.Immediate ≡ a = cc in ap (λ b. rise
 skip_low part.EventAnds a h e = let x : action.Nothing ≡ a = cc in ap (λ b. risen b h) x
 skip_low part.EventOrs a h e = let x : action.Nothing ≡ a = cc in ap (λ b. risen b h) x
 skip_low part.Mask a h e = let x : action.Unmasked ≡ a = cc in ap (λ b. risen b h) x
+skip_low part.EventMask a h e = let x : action.Nothing ≡ a = cc in ap (λ b. risen b h) x
 skip_low part.Dots a h e = let x : action.Nothing ≡ a = cc in ap (λ b. risen b h) x
 skip_low part.Factors a h e = let x : action.Nothing ≡ a = cc in ap (λ b. risen b h) x
 skip_low part.Sums a h e = let x : action.Nothing ≡ a = cc in ap (λ b. risen b h) x
@@ -345,7 +350,7 @@ skip_low part.Ors a h e = let x : action.Nothing ≡ a = cc in ap (λ b. risen b
 skip_low other a h e = cc
 
 row_low-at : (p : Part) (k : Terminal) (row : List Item) (h : Heights) → after p k ≡ Some row → Low (low_of p h) (lowest row h)
-row_low-at p k row h e = subst (λ r. IfRow (λ row. Low (low_of p h) (lowest row h)) r) e (row_low p k h)
+row_low-at p k row h e = subst (λ r. IfRow (λ row. Low (low_of p h) (lowest row h)) r) e (row_low p (standing p k) h)
 
 -- ---- no text that goes on is lower
 

@@ -34,7 +34,7 @@ fn advance(items: &mut Stack<Item>, made: &mut Heights, token: Terminal) -> Resu
     while let Some(item) = items.pop() {
         match item {
             Item::Token(terminal) => {
-                return Ok(if token.is(terminal) {
+                return Ok(if token.stands_for(terminal) {
                     Step::Level
                 } else {
                     Step::Refused

@@ -53,15 +53,18 @@ pub fn effect_of(action: Action) -> Effect
         | Action::Sign
         | Action::Field
         | Action::NotEvent
+        | Action::RelPlus
         | Action::Choose
         | Action::Every => Effect::Over,
         Action::Binary
         | Action::Relative
         | Action::Prior
         | Action::Sequence
+        | Action::Pipe
         | Action::AndEvents
-        | Action::OrEvents => Effect::OverTwo,
-        Action::Fa => Effect::OverThree,
+        | Action::OrEvents
+        | Action::MaskedEvent => Effect::OverTwo,
+        Action::Fa | Action::FaAbs => Effect::OverThree,
         Action::Masked => Effect::Mask,
         Action::Say
         | Action::Delete

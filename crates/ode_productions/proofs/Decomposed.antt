@@ -1,26 +1,30 @@
 -- What items derive is what their parts say.
-use Rattle.std.proofs.Common.{◌≡◌, List, [], ◌∷◌, ◌++◌, Some, refl, sym, ap, subst}
+use Rattle.std.proofs.Common.{◌≡◌, ◌⊎◌, inl, inr, true, List, [], ◌∷◌, ◌++◌, Some, refl, sym, ◌∙◌, ap, subst}
 use Rattle.std.proofs.lemmas.List.{append-nil}
 use Rattle.std.proofs.lemmas.Option.{none-some}
 use Rattle.ode_grammar.specs.declared.item.Part.{Part}
 use Rattle.ode_grammar.specs.declared.item.Part.TheVariants as part
 use Rattle.ode_grammar.specs.declared.item.Action.{Action}
 use Rattle.ode_grammar.specs.declared.item.Item.{Item}
+use Rattle.ode_grammar.specs.declared.reader.Start.{Start}
 use Rattle.ode_grammar.specs.declared.reader.Start.TheVariants as start
 use Rattle.ode_grammar.specs.declared.terminal.Terminal.{Terminal}
-use Rattle.ode_grammar.specs.Grammar.{after, items_of, skipped}
+use Rattle.ode_grammar.specs.Terminals.{named, stands_for}
+use Rattle.ode_grammar.specs.Grammar.{after, items_of, row_of, skipped, standing}
 use Rattle.ode_grammar.specs.Texts.{plain, Derives, Done, IsText, Make, Next, Rule, Skip}
-use Rattle.ode_grammar.proofs.Follows.{IfRow}
+use Rattle.ode_grammar.proofs.Follows.{named_after, IfRow}
+use Rattle.ode_grammar.proofs.TerminalLaws.{named-named, stands_at, stands_for-either, stands_for-trans}
 use Rattle.ode_productions.specs.Productions.{Is, Symbol}
 use Rattle.ode_productions.specs.Productions as is
 use Rattle.ode_productions.specs.Phrases.{Says, AClass, AStatement}
 use Rattle.ode_productions.specs.Phrases as says
-use Rattle.ode_productions.proofs.Rows.{after_what_rows, ands_rows, before_what_rows, compare_rows, dots_rows, ended, event_ands_rows, event_front, event_ors_rows, event_unary_rows, expr_rows, factors_rows, finish, kind_rows, mask_rows, more_prior_rows, more_relative_rows, more_sequence_rows, ors_rows, period_rows, split, sums_rows, time_what_rows, unary_rows, PartYields, RowYields, Yields}
+use Rattle.ode_productions.specs.Standing.{StandFor, StandsFor}
+use Rattle.ode_productions.proofs.Rows.{after_what_rows, ands_rows, before_what_rows, compare_rows, dots_rows, ended, event_ands_rows, event_front, event_mask_rows, event_ors_rows, event_unary_rows, expr_rows, factors_rows, finish, kind_rows, mask_rows, more_prior_rows, more_relative_rows, more_sequence_rows, ors_rows, period_rows, split, sums_rows, time_what_rows, unary_rows, PartYields, RowYields, Yields}
 use Rattle.ode_productions.proofs.PhraseRows.{args_rows, call_dot_rows, chained_rows, class_rows, clock_text_rows, eighth_param_rows, eleventh_param_rows, else_rows, field_or_method_rows, fifteenth_param_rows, fifth_param_rows, fourteenth_param_rows, fourth_param_rows, initial_rows, inner_name_rows, inners_rows, lasting_rows, members_rows, mode_rows, more_args_rows, more_kinds_rows, more_sets_rows, ninth_param_rows, params_rows, parent_rows, return_value_rows, rhs_dot_rows, rhs_dots_rows, rhs_name_rows, rhs_rows, scope_rows, script_rhs_rows, second_param_rows, sets_rows, seventh_param_rows, sixteenth_param_rows, sixth_param_rows, sort_rows, statement_rows, tenth_param_rows, third_param_rows, thirteenth_param_rows, twelfth_param_rows}
 
 -- ---- all parts
 
-all_rows : (p : Part) (k : Terminal) → IfRow (RowYields p k) (after p k)
+all_rows : (p : Part) (k : Terminal) → IfRow (RowYields p k) (row_of p k)
 all_rows part.Expr k = expr_rows k
 all_rows part.Unary k = unary_rows k
 all_rows part.Dots k = dots_rows k
@@ -36,6 +40,7 @@ all_rows part.MoreRelative k = more_relative_rows k
 all_rows part.MorePrior k = more_prior_rows k
 all_rows part.MoreSequence k = more_sequence_rows k
 all_rows part.Mask k = mask_rows k
+all_rows part.EventMask k = event_mask_rows k
 all_rows part.Kind k = kind_rows k
 all_rows part.AfterWhat k = after_what_rows k
 all_rows part.BeforeWhat k = before_what_rows k
@@ -105,6 +110,7 @@ left_out part.MoreRelative a e = absurd (none-some a e)
 left_out part.MorePrior a e = absurd (none-some a e)
 left_out part.MoreSequence a e = absurd (none-some a e)
 left_out part.Mask a e = λ xs x. with_nothing is.EventAtom xs (is.OneKind x)
+left_out part.EventMask a e = λ xs x. is.EventBrackets x
 left_out part.Kind a e = absurd (none-some a e)
 left_out part.AfterWhat a e = absurd (none-some a e)
 left_out part.BeforeWhat a e = absurd (none-some a e)
@@ -154,27 +160,68 @@ left_out part.FourteenthParam a e = absurd (none-some a e)
 left_out part.FifteenthParam a e = absurd (none-some a e)
 left_out part.SixteenthParam a e = absurd (none-some a e)
 
-yields : {items : List Item} {m : Unit {0}} {ts : List Terminal} {out : Unit {0}} → Derives plain items m ts out → Yields items ts
-yields Done = refl
-yields (Next {ts = ts} k e d) = (ts, ap (λ j. j ∷ ts) e, yields d)
-yields (Make a d) = yields d
-yields (Rule {items = items} {t = t} {ts = ts} p row e d) =
-    let x = split row items ts (yields d) in
-    (t ∷ x.a, x.b, ap (λ y. t ∷ y) x.is, subst (IfRow (RowYields p t)) e (all_rows p t) x.a x.first, x.behind)
-yields (Skip {ts = ts} p a e d) = ([], ts, refl, left_out p a e, yields d)
+-- ---- what tokens stand for
 
-pub expression_is : (tokens : List Terminal) → IsText start.Expr tokens → Is is.Expression tokens
-unfolding items_of
-expression_is tokens d = let l = yields d in subst (Is is.Expression) (sym (ended tokens l.0 l.1 l.2 l.4)) l.3
+record Read (items : List Item) (tokens : List Terminal) : Type 0 where
+  pub read : List Terminal
+  pub stand : StandFor tokens read
+  pub yields : Yields items read
 
-pub event_is : (tokens : List Terminal) → IsText start.Event tokens → Is is.Event tokens
-unfolding items_of
-event_is tokens d = finish is.Event tokens (event_front [] tokens (yields d))
+yields : {items : List Item} {m : Unit {0}} {ts : List Terminal} {out : Unit {0}} → Derives plain items m ts out → Read items ts
+yields Done = record { read = []; stand = tt; yields = refl }
+yields (Next k e d) = let y = yields d in record { read = k ∷ y.read; stand = (e, y.stand); yields = (y.read, refl, y.yields) }
+yields (Make a d) = let y = yields d in record { read = y.read; stand = y.stand; yields = y.yields }
+yields (Rule {items = items} {t = t} p row e d) =
+    let y = yields d in
+    let k = standing p t in
+    let x = split row items y.read y.yields in
+    record {
+      read = k ∷ y.read;
+      stand = (stands_at p t, y.stand);
+      yields = (k ∷ x.a, x.b, ap (λ z. k ∷ z) x.is, subst (IfRow (RowYields p k)) e (all_rows p k) x.a x.first, x.behind);
+    }
+yields (Skip p a e d) = let y = yields d in record { read = y.read; stand = y.stand; yields = ([], y.read, refl, left_out p a e, y.yields) }
 
-pub class_is : (tokens : List Terminal) → IsText start.Class tokens → Says AClass tokens
+pub expression_is : (tokens : List Terminal) → IsText start.Expr tokens → StandsFor (Is is.Expression) tokens
 unfolding items_of
-class_is tokens d = let l = yields d in subst (Says AClass) (sym (ended tokens l.0 l.1 l.2 l.4)) l.3
+expression_is tokens d = let y = yields d in let l = y.yields in (y.read, y.stand, subst (Is is.Expression) (sym (ended y.read l.0 l.1 l.2 l.4)) l.3)
 
-pub statement_is : (tokens : List Terminal) → IsText start.Statement tokens → Says AStatement tokens
+pub event_is : (tokens : List Terminal) → IsText start.Event tokens → StandsFor (Is is.Event) tokens
 unfolding items_of
-statement_is tokens d = let l = yields d in subst (Says AStatement) (sym (ended tokens l.0 l.1 l.2 l.4)) l.3
+event_is tokens d = let y = yields d in (y.read, y.stand, finish is.Event y.read (event_front [] y.read y.yields))
+
+pub class_is : (tokens : List Terminal) → IsText start.Class tokens → StandsFor (Says AClass) tokens
+unfolding items_of
+class_is tokens d = let y = yields d in let l = y.yields in (y.read, y.stand, subst (Says AClass) (sym (ended y.read l.0 l.1 l.2 l.4)) l.3)
+
+pub statement_is : (tokens : List Terminal) → IsText start.Statement tokens → StandsFor (Says AStatement) tokens
+unfolding items_of
+statement_is tokens d = let y = yields d in let l = y.yields in (y.read, y.stand, subst (Says AStatement) (sym (ended y.read l.0 l.1 l.2 l.4)) l.3)
+
+-- ---- and the other way round
+
+named_stands : (p : Part) (t : Terminal) → standing p (named t) ≡ named t
+named_stands part.EventUnary t = refl
+named_stands other t = named-named t
+
+-- a token has the row of what it stands for
+same_row : (p : Part) (t k : Terminal) (row : List Item) → stands_for t k ≡ true → after p k ≡ Some row → after p t ≡ Some row
+same_row p t k row s e = go (stands_for-either t k s)
+  where
+    go : (t ≡ k) ⊎ (named t ≡ k) → after p t ≡ Some row
+    go (inl f) = ap (after p) f ∙ e
+    go (inr f) = named_after p t row (sym (ap (row_of p) (named_stands p t)) ∙ (ap (after p) f ∙ e))
+
+derives_so : {items : List Item} {m : Unit {0}} {read : List Terminal} {out : Unit {0}} → (tokens : List Terminal) → StandFor tokens read
+    → Derives plain items m read out → Derives plain items m tokens out
+derives_so [] s Done = Done
+derives_so (t ∷ ts) s Done = absurd s
+derives_so [] s (Next k e d) = absurd s
+derives_so (t ∷ ts) s (Next {t = j} k e d) = Next k (stands_for-trans t j k s.0 e) (derives_so ts s.1 d)
+derives_so ts s (Make a d) = Make a (derives_so ts s d)
+derives_so [] s (Rule p row e d) = absurd s
+derives_so (t ∷ ts) s (Rule {t = k} p row e d) = Rule p row (same_row p t k row s.0 e) (derives_so ts s.1 d)
+derives_so ts s (Skip p a e d) = Skip p a e (derives_so ts s d)
+
+pub stands_text : (start : Start) (tokens read : List Terminal) → StandFor tokens read → IsText start read → IsText start tokens
+stands_text start tokens read s d = derives_so tokens s d

@@ -10,7 +10,7 @@ use Rattle.ode_grammar.specs.declared.terminal.Terminal.{Terminal}
 use Rattle.ode_grammar.specs.declared.terminal.Terminal.TheVariants as terminal
 use Rattle.ode_grammar.specs.Expressions.{atom, behind_unary, comp, conj, sum}
 use Rattle.ode_grammar.specs.Events.{event as whole_event}
-use Rattle.ode_grammar.specs.Grammar.{after}
+use Rattle.ode_grammar.specs.Grammar.{row_of}
 use Rattle.ode_grammar.specs.Statements.{body, done, dotted_call, new}
 use Rattle.ode_grammar.proofs.Follows.{IfRow}
 use Rattle.ode_productions.specs.Productions.{Is, Symbol}
@@ -456,42 +456,42 @@ trigger_members us l =
 
 -- ---- the rows
 
-pub args_rows : (k : Terminal) → IfRow (RowYields part.Args k) (after part.Args k)
-unfolding after
+pub args_rows : (k : Terminal) → IfRow (RowYields part.Args k) (row_of part.Args k)
+unfolding row_of
 args_rows terminal.CloseParen = λ us l. subst (Says AArguments) (sym (ap (λ x. terminal.CloseParen ∷ x) (l))) (says.NoArguments)
-args_rows other = then_row part.Args other (item.Build action.Argument ∷ item.Part part.MoreArgs ∷ []) args_done (after part.Unary other) (unary_rows other)
+args_rows other = then_row part.Args other (item.Build action.Argument ∷ item.Part part.MoreArgs ∷ []) args_done (row_of part.Unary other) (unary_rows other)
 
-pub more_args_rows : (k : Terminal) → IfRow (RowYields part.MoreArgs k) (after part.MoreArgs k)
-unfolding after
+pub more_args_rows : (k : Terminal) → IfRow (RowYields part.MoreArgs k) (row_of part.MoreArgs k)
+unfolding row_of
 more_args_rows terminal.Comma = λ us l. subst (Says AMoreArguments) (sym (ap (λ x. terminal.Comma ∷ x) (l.2 ∙ ap (λ x. l.0 ++ x) (ended (l.1) l.4.0 l.4.1 l.4.2 l.4.4)))) (says.NextArgument l.3 l.4.3)
 more_args_rows terminal.CloseParen = λ us l. subst (Says AMoreArguments) (sym (ap (λ x. terminal.CloseParen ∷ x) (l))) (says.LastArgument)
 more_args_rows other = tt
 
-pub call_dot_rows : (k : Terminal) → IfRow (RowYields part.CallDot k) (after part.CallDot k)
-unfolding after
+pub call_dot_rows : (k : Terminal) → IfRow (RowYields part.CallDot k) (row_of part.CallDot k)
+unfolding row_of
 call_dot_rows terminal.Dot = λ us l xs c. subst (Says ADotted) (sym (ap (λ x. xs ++ (terminal.Dot ∷ terminal.Name ∷ terminal.Dot ∷ x)) (l.1 ∙ ap (λ x. terminal.Name ∷ x) (ended l.0 l.2.0 l.2.1 l.2.2 l.2.4)) ∙ sym (append_assoc xs (terminal.Dot ∷ terminal.Name ∷ []) (terminal.Dot ∷ terminal.Name ∷ l.2.0)))) (l.2.3 (xs ++ terminal.Dot ∷ terminal.Name ∷ []) (is.Field c))
 call_dot_rows terminal.OpenParen = λ us l xs c. subst (Says ADotted) (sym (ap (λ x. xs ++ (terminal.Dot ∷ (terminal.Name ∷ (terminal.OpenParen ∷ x)))) (ended (us) l.0 l.1 l.2 l.4))) (says.DottedCall c l.3)
 call_dot_rows other = tt
 
-pub chained_rows : (k : Terminal) → IfRow (RowYields part.Chained k) (after part.Chained k)
-unfolding after
+pub chained_rows : (k : Terminal) → IfRow (RowYields part.Chained k) (row_of part.Chained k)
+unfolding row_of
 chained_rows terminal.Name = λ us l. dotted_from (terminal.Name ∷ []) (is.OneAtom is.NameAtom) us l
 chained_rows other = atom_then part.Chained other dotted_call (λ us f. dotted_front us f)
 
-pub sets_rows : (k : Terminal) → IfRow (RowYields part.Sets k) (after part.Sets k)
-unfolding after
+pub sets_rows : (k : Terminal) → IfRow (RowYields part.Sets k) (row_of part.Sets k)
+unfolding row_of
 sets_rows terminal.Name = λ us l. subst (Says ASets) (sym (ap (λ x. terminal.Name ∷ x) (l.1 ∙ ap (λ x. terminal.Assign ∷ x) (l.2.2 ∙ ap (λ x. l.2.0 ++ x) (ended (l.2.1) l.2.4.0 l.2.4.1 l.2.4.2 l.2.4.4))))) (says.SomeSets l.2.3 l.2.4.3)
 sets_rows terminal.CloseParen = λ us l. subst (Says ASets) (sym (ap (λ x. terminal.CloseParen ∷ x) (l))) (says.NoSets)
 sets_rows other = tt
 
-pub more_sets_rows : (k : Terminal) → IfRow (RowYields part.MoreSets k) (after part.MoreSets k)
-unfolding after
+pub more_sets_rows : (k : Terminal) → IfRow (RowYields part.MoreSets k) (row_of part.MoreSets k)
+unfolding row_of
 more_sets_rows terminal.Comma = λ us l. subst (Says AMoreSets) (sym (ap (λ x. terminal.Comma ∷ x) (l.1 ∙ ap (λ x. terminal.Name ∷ x) (l.2.1 ∙ ap (λ x. terminal.Assign ∷ x) (l.2.2.2 ∙ ap (λ x. l.2.2.0 ++ x) (ended (l.2.2.1) l.2.2.4.0 l.2.2.4.1 l.2.2.4.2 l.2.2.4.4)))))) (says.NextSet l.2.2.3 l.2.2.4.3)
 more_sets_rows terminal.CloseParen = λ us l. subst (Says AMoreSets) (sym (ap (λ x. terminal.CloseParen ∷ x) (l))) (says.LastSet)
 more_sets_rows other = tt
 
-pub rhs_rows : (k : Terminal) → IfRow (RowYields part.Rhs k) (after part.Rhs k)
-unfolding after
+pub rhs_rows : (k : Terminal) → IfRow (RowYields part.Rhs k) (row_of part.Rhs k)
+unfolding row_of
 rhs_rows terminal.Minus = λ us l. given_right (terminal.Minus ∷ us) (plain_end (terminal.Minus ∷ us) (signed_front terminal.Minus plain_items (λ ts x. is.Minus x) us l))
 rhs_rows terminal.Not = λ us l. given_right (terminal.Not ∷ us) (plain_end (terminal.Not ∷ us) (signed_front terminal.Not plain_items (λ ts x. is.Not x) us l))
 rhs_rows terminal.Name = λ us l. subst (λ x. Says ARight (terminal.Name ∷ x)) (sym (ended us l.0 l.1 l.2 l.4)) l.3
@@ -500,8 +500,8 @@ rhs_rows terminal.NewVersion = λ us l. change_right (terminal.NewVersion ∷ us
 rhs_rows terminal.Activate = λ us l. change_right (terminal.Activate ∷ us) (activate_front (item.Token terminal.Semi ∷ []) us l)
 rhs_rows other = atom_then part.Rhs other (item.Part part.RhsDots ∷ []) (λ us f. given_right us (dots_end us f))
 
-pub script_rhs_rows : (k : Terminal) → IfRow (RowYields part.ScriptRhs k) (after part.ScriptRhs k)
-unfolding after
+pub script_rhs_rows : (k : Terminal) → IfRow (RowYields part.ScriptRhs k) (row_of part.ScriptRhs k)
+unfolding row_of
 script_rhs_rows terminal.Minus = λ us l. same_given (terminal.Minus ∷ us) (plain_end (terminal.Minus ∷ us) (signed_front terminal.Minus plain_items (λ ts x. is.Minus x) us l))
 script_rhs_rows terminal.Not = λ us l. same_given (terminal.Not ∷ us) (plain_end (terminal.Not ∷ us) (signed_front terminal.Not plain_items (λ ts x. is.Not x) us l))
 script_rhs_rows terminal.Name = λ us l. subst (λ x. Says AGiven (terminal.Name ∷ x)) (sym (ended us l.0 l.1 l.2 l.4)) (l.3 (terminal.Name ∷ []) (is.OneAtom is.NameAtom))
@@ -510,8 +510,8 @@ script_rhs_rows terminal.NewVersion = λ us l. change_given (terminal.NewVersion
 script_rhs_rows terminal.Activate = λ us l. change_given (terminal.Activate ∷ us) (activate_front (item.Token terminal.Semi ∷ []) us l)
 script_rhs_rows other = atom_then part.ScriptRhs other (item.Part part.RhsDots ∷ []) (λ us f. dots_end us f)
 
-pub rhs_dots_rows : (k : Terminal) → IfRow (RowYields part.RhsDots k) (after part.RhsDots k)
-unfolding after
+pub rhs_dots_rows : (k : Terminal) → IfRow (RowYields part.RhsDots k) (row_of part.RhsDots k)
+unfolding row_of
 rhs_dots_rows terminal.Dot = λ us l xs c. subst (λ x. Says AGiven (xs ++ terminal.Dot ∷ x)) (sym (l.1 ∙ ap (λ x. terminal.Name ∷ x) (ended l.0 l.2.0 l.2.1 l.2.2 l.2.4))) (l.2.3 xs c)
 rhs_dots_rows terminal.Semi = λ us l xs c. subst (λ x. Says AGiven (xs ++ terminal.Semi ∷ x)) (sym l) (says.GivenExpression (chain_expression xs c))
 rhs_dots_rows terminal.Times = λ us l xs c. plain_end (xs ++ terminal.Times ∷ us) (times_front plain_items us xs c l)
@@ -522,8 +522,8 @@ rhs_dots_rows terminal.AndAnd = λ us l xs c. plain_end (xs ++ terminal.AndAnd �
 rhs_dots_rows terminal.OrOr = λ us l xs c. plain_end (xs ++ terminal.OrOr ∷ us) (or_front plain_items us xs c l)
 rhs_dots_rows other = tt
 
-pub rhs_dot_rows : (k : Terminal) → IfRow (RowYields part.RhsDot k) (after part.RhsDot k)
-unfolding after
+pub rhs_dot_rows : (k : Terminal) → IfRow (RowYields part.RhsDot k) (row_of part.RhsDot k)
+unfolding row_of
 rhs_dot_rows terminal.Dot = λ us l xs c. subst (Says AGiven) (sym (ap (λ x. xs ++ (terminal.Dot ∷ terminal.Name ∷ terminal.Dot ∷ x)) (l.1 ∙ ap (λ x. terminal.Name ∷ x) (ended l.0 l.2.0 l.2.1 l.2.2 l.2.4)) ∙ sym (append_assoc xs (terminal.Dot ∷ terminal.Name ∷ []) (terminal.Dot ∷ terminal.Name ∷ l.2.0)))) (l.2.3 (xs ++ terminal.Dot ∷ terminal.Name ∷ []) (is.Field c))
 rhs_dot_rows terminal.Semi = λ us l xs c. subst (Says AGiven) (sym (ap (λ x. xs ++ (terminal.Dot ∷ terminal.Name ∷ terminal.Semi ∷ x)) l ∙ sym (append_assoc xs (terminal.Dot ∷ terminal.Name ∷ []) (terminal.Semi ∷ [])))) (says.GivenExpression (chain_expression (xs ++ terminal.Dot ∷ terminal.Name ∷ []) (is.Field c)))
 rhs_dot_rows terminal.OpenParen = λ us l xs c. call_given xs us c l
@@ -535,8 +535,8 @@ rhs_dot_rows terminal.AndAnd = λ us l xs c. subst (Says AGiven) (append_assoc x
 rhs_dot_rows terminal.OrOr = λ us l xs c. subst (Says AGiven) (append_assoc xs (terminal.Dot ∷ terminal.Name ∷ []) (terminal.OrOr ∷ us)) (plain_end ((xs ++ terminal.Dot ∷ terminal.Name ∷ []) ++ terminal.OrOr ∷ us) (or_front plain_items us (xs ++ terminal.Dot ∷ terminal.Name ∷ []) (is.Field c) l))
 rhs_dot_rows other = tt
 
-pub rhs_name_rows : (k : Terminal) → IfRow (RowYields part.RhsName k) (after part.RhsName k)
-unfolding after
+pub rhs_name_rows : (k : Terminal) → IfRow (RowYields part.RhsName k) (row_of part.RhsName k)
+unfolding row_of
 rhs_name_rows terminal.Dot = λ us l. subst (λ x. Says ARight (terminal.Name ∷ terminal.Dot ∷ x)) (sym (l.1 ∙ ap (λ x. terminal.Name ∷ x) (ended l.0 l.2.0 l.2.1 l.2.2 l.2.4))) (says.OneGiven (l.2.3 (terminal.Name ∷ []) (is.OneAtom is.NameAtom)))
 rhs_name_rows terminal.Semi = λ us l. subst (λ x. Says ARight (terminal.Name ∷ terminal.Semi ∷ x)) (sym l) (says.OneGiven (says.GivenExpression (chain_expression (terminal.Name ∷ []) (is.OneAtom is.NameAtom))))
 rhs_name_rows terminal.OpenParen = λ us l. subst (Says ARight) (sym (ap (λ x. terminal.Name ∷ (terminal.OpenParen ∷ x)) (l.2 ∙ ap (λ x. l.0 ++ x) (l.4.1 ∙ ap (λ x. terminal.Semi ∷ x) (l.4.2))))) (says.OwnCall l.3)
@@ -548,8 +548,8 @@ rhs_name_rows terminal.AndAnd = λ us l. says.OneGiven (plain_end (terminal.Name
 rhs_name_rows terminal.OrOr = λ us l. says.OneGiven (plain_end (terminal.Name ∷ terminal.OrOr ∷ us) (or_front plain_items us (terminal.Name ∷ []) (is.OneAtom is.NameAtom) l))
 rhs_name_rows other = tt
 
-pub inners_rows : (k : Terminal) → IfRow (RowYields part.Inners k) (after part.Inners k)
-unfolding after
+pub inners_rows : (k : Terminal) → IfRow (RowYields part.Inners k) (row_of part.Inners k)
+unfolding row_of
 inners_rows terminal.Let = λ us l. inner_end (terminal.Let ∷ us) (let_front us l)
 inners_rows terminal.Name = λ us l. inner_end (terminal.Name ∷ us) (record { a = terminal.Name ∷ l.0; rest = l.1; is = ap (λ x. terminal.Name ∷ x) l.2; front = l.3; behind = l.4 })
 inners_rows terminal.If = λ us l. inner_end (terminal.If ∷ us) (if_front us l)
@@ -565,8 +565,8 @@ inners_rows terminal.NewVersion = λ us l. simple_inner (terminal.NewVersion ∷
 inners_rows terminal.Activate = λ us l. simple_inner (terminal.Activate ∷ us) (done_front AChange (terminal.Activate ∷ us) next_items (λ ts x. says.DoChange x) (activate_front (done next_items) us l))
 inners_rows other = atom_then part.Inners other (dotted_call ++ item.Build action.Call ∷ done next_items) (λ us f. simple_inner us (done_front ADotted us next_items (λ ts x. says.DoCall x) (dotted_done (done next_items) us f)))
 
-pub statement_rows : (k : Terminal) → IfRow (RowYields part.Statement k) (after part.Statement k)
-unfolding after
+pub statement_rows : (k : Terminal) → IfRow (RowYields part.Statement k) (row_of part.Statement k)
+unfolding row_of
 statement_rows terminal.Class = λ us l. let q : terminal.Class ∷ (terminal.Name ∷ (l.2.0 ++ (terminal.OpenBrace ∷ (l.2.4.2.0 ++ (terminal.CloseBrace ∷ (terminal.Semi ∷ [])))))) ≡ ((terminal.Class ∷ terminal.Name ∷ l.2.0 ++ terminal.OpenBrace ∷ l.2.4.2.0) ++ terminal.CloseBrace ∷ []) ++ terminal.Semi ∷ [] = simp append_assoc in subst (Says AStatement) (sym (ap (λ x. terminal.Class ∷ x) (l.1 ∙ ap (λ x. terminal.Name ∷ x) (l.2.2 ∙ ap (λ x. l.2.0 ++ x) (l.2.4.1 ∙ ap (λ x. terminal.OpenBrace ∷ x) (l.2.4.2.2 ∙ ap (λ x. l.2.4.2.0 ++ x) (l.2.4.2.4.1 ∙ ap (λ x. terminal.CloseBrace ∷ x) (l.2.4.2.4.2.1 ∙ ap (λ x. terminal.Semi ∷ x) (l.2.4.2.4.2.2))))))) ∙ q)) (says.Declare (says.Class l.2.3 l.2.4.2.3))
 statement_rows terminal.Begin = λ us l. subst (λ x. Says AStatement (terminal.Begin ∷ x)) (sym (l.1 ∙ ap (λ x. terminal.Semi ∷ x) l.2)) says.Begin
 statement_rows terminal.Commit = λ us l. subst (λ x. Says AStatement (terminal.Commit ∷ x)) (sym (l.1 ∙ ap (λ x. terminal.Semi ∷ x) l.2)) says.Commit
@@ -584,41 +584,41 @@ statement_rows terminal.NewVersion = λ us l. simple_alone (terminal.NewVersion 
 statement_rows terminal.Activate = λ us l. simple_alone (terminal.Activate ∷ us) (done_front AChange (terminal.Activate ∷ us) (item.Build action.Simple ∷ []) (λ ts x. says.DoChange x) (activate_front (done (item.Build action.Simple ∷ [])) us l))
 statement_rows other = atom_then part.Statement other (dotted_call ++ item.Build action.Call ∷ done (item.Build action.Simple ∷ [])) (λ us f. simple_alone us (done_front ADotted us (item.Build action.Simple ∷ []) (λ ts x. says.DoCall x) (dotted_done (done (item.Build action.Simple ∷ [])) us f)))
 
-pub clock_text_rows : (k : Terminal) → IfRow (RowYields part.ClockText k) (after part.ClockText k)
-unfolding after
+pub clock_text_rows : (k : Terminal) → IfRow (RowYields part.ClockText k) (row_of part.ClockText k)
+unfolding row_of
 clock_text_rows terminal.Text = λ us l. inl (ap (λ x. terminal.Text ∷ x) l)
 clock_text_rows terminal.Instant = λ us l. inr (ap (λ x. terminal.Instant ∷ x) l)
 clock_text_rows other = tt
 
-pub inner_name_rows : (k : Terminal) → IfRow (RowYields part.InnerName k) (after part.InnerName k)
-unfolding after
+pub inner_name_rows : (k : Terminal) → IfRow (RowYields part.InnerName k) (row_of part.InnerName k)
+unfolding row_of
 inner_name_rows terminal.Assign = λ us l. subst (λ x. Says AInner (terminal.Name ∷ terminal.Assign ∷ x)) (sym (ended us l.0 l.1 l.2 l.4)) (says.Set l.3)
 inner_name_rows terminal.OpenParen = λ us l. subst (Says AInner) (sym (ap (λ x. terminal.Name ∷ (terminal.OpenParen ∷ x)) (l.2 ∙ ap (λ x. l.0 ++ x) (l.4.1 ∙ ap (λ x. terminal.Semi ∷ x) (l.4.2))))) (says.DoOwnCall l.3)
 inner_name_rows terminal.Dot = λ us l. name_call us l
 inner_name_rows other = tt
 
-pub return_value_rows : (k : Terminal) → IfRow (RowYields part.ReturnValue k) (after part.ReturnValue k)
-unfolding after
+pub return_value_rows : (k : Terminal) → IfRow (RowYields part.ReturnValue k) (row_of part.ReturnValue k)
+unfolding row_of
 return_value_rows terminal.Semi = λ us l. subst (λ x. Says AInner (terminal.Return ∷ terminal.Semi ∷ x)) (sym l) says.ReturnNothing
-return_value_rows other = then_row part.ReturnValue other (item.Token terminal.Semi ∷ item.Build action.Return ∷ []) return_done (after part.Unary other) (unary_rows other)
+return_value_rows other = then_row part.ReturnValue other (item.Token terminal.Semi ∷ item.Build action.Return ∷ []) return_done (row_of part.Unary other) (unary_rows other)
 
-pub else_rows : (k : Terminal) → IfRow (RowYields part.Else k) (after part.Else k)
-unfolding after
+pub else_rows : (k : Terminal) → IfRow (RowYields part.Else k) (row_of part.Else k)
+unfolding row_of
 else_rows terminal.Else = λ us l. subst (Says AOtherwise) (sym (ap (λ x. terminal.Else ∷ x) (l.1 ∙ ap (λ x. terminal.OpenBrace ∷ x) (l.2.2 ∙ ap (λ x. l.2.0 ++ x) (l.2.4.1 ∙ ap (λ x. terminal.CloseBrace ∷ x) (l.2.4.2)))))) (says.Else (says.Body l.2.3))
 else_rows other = tt
 
-pub class_rows : (k : Terminal) → IfRow (RowYields part.Class k) (after part.Class k)
-unfolding after
+pub class_rows : (k : Terminal) → IfRow (RowYields part.Class k) (row_of part.Class k)
+unfolding row_of
 class_rows terminal.Class = λ us l. subst (Says AClass) (sym (ap (λ x. terminal.Class ∷ x) (l.1 ∙ ap (λ x. terminal.Name ∷ x) (l.2.2 ∙ ap (λ x. l.2.0 ++ x) (l.2.4.1 ∙ ap (λ x. terminal.OpenBrace ∷ x) (l.2.4.2.2 ∙ ap (λ x. l.2.4.2.0 ++ x) (l.2.4.2.4.1 ∙ ap (λ x. terminal.CloseBrace ∷ x) (l.2.4.2.4.2)))))) ∙ sym (append_assoc ((terminal.Class ∷ terminal.Name ∷ l.2.0)) (terminal.OpenBrace ∷ l.2.4.2.0) (terminal.CloseBrace ∷ [])))) (says.Class l.2.3 l.2.4.2.3)
 class_rows other = tt
 
-pub parent_rows : (k : Terminal) → IfRow (RowYields part.Parent k) (after part.Parent k)
-unfolding after
+pub parent_rows : (k : Terminal) → IfRow (RowYields part.Parent k) (row_of part.Parent k)
+unfolding row_of
 parent_rows terminal.Colon = λ us l. subst (Says AParented) (sym (ap (λ x. terminal.Colon ∷ x) (l.1 ∙ ap (λ x. terminal.Name ∷ x) (l.2)))) (says.Parent)
 parent_rows other = tt
 
-pub members_rows : (k : Terminal) → IfRow (RowYields part.Members k) (after part.Members k)
-unfolding after
+pub members_rows : (k : Terminal) → IfRow (RowYields part.Members k) (row_of part.Members k)
+unfolding row_of
 members_rows terminal.SortWord = λ us l. field_members (terminal.SortWord ∷ []) says.SortWord us l
 members_rows terminal.Ref = λ us l. ref_members us l
 members_rows terminal.Void = λ us l. let q : terminal.Void ∷ (terminal.Name ∷ (terminal.OpenParen ∷ (l.2.2.0 ++ (terminal.OpenBrace ∷ (l.2.2.4.2.0 ++ (terminal.CloseBrace ∷ l.2.2.4.2.4.2.0)))))) ≡ ((terminal.Void ∷ terminal.Name ∷ terminal.OpenParen ∷ l.2.2.0) ++ (terminal.OpenBrace ∷ l.2.2.4.2.0 ++ terminal.CloseBrace ∷ [])) ++ l.2.2.4.2.4.2.0 = simp append_assoc in subst (Says AMembers) (sym (ap (λ x. terminal.Void ∷ x) (l.1 ∙ ap (λ x. terminal.Name ∷ x) (l.2.1 ∙ ap (λ x. terminal.OpenParen ∷ x) (l.2.2.2 ∙ ap (λ x. l.2.2.0 ++ x) (l.2.2.4.1 ∙ ap (λ x. terminal.OpenBrace ∷ x) (l.2.2.4.2.2 ∙ ap (λ x. l.2.2.4.2.0 ++ x) (l.2.2.4.2.4.1 ∙ ap (λ x. terminal.CloseBrace ∷ x) (ended (l.2.2.4.2.4.0) l.2.2.4.2.4.2.0 l.2.2.4.2.4.2.1 l.2.2.4.2.4.2.2 l.2.2.4.2.4.2.4))))))) ∙ q)) (says.MoreMembers (says.VoidMethod l.2.2.3 (says.Body l.2.2.4.2.3)) l.2.2.4.2.4.2.3)
@@ -628,137 +628,137 @@ members_rows terminal.Event = λ us l. subst (Says AMembers) (sym (ap (λ x. ter
 members_rows terminal.Trigger = λ us l. trigger_members us l
 members_rows other = tt
 
-pub field_or_method_rows : (k : Terminal) → IfRow (RowYields part.FieldOrMethod k) (after part.FieldOrMethod k)
-unfolding after
+pub field_or_method_rows : (k : Terminal) → IfRow (RowYields part.FieldOrMethod k) (row_of part.FieldOrMethod k)
+unfolding row_of
 field_or_method_rows terminal.Semi = λ us l xs s. subst (λ x. Says AMember (xs ++ terminal.Name ∷ terminal.Semi ∷ x)) (sym l) (says.FieldMember s)
 field_or_method_rows terminal.OpenParen = λ us l xs s. let q : xs ++ (terminal.Name ∷ (terminal.OpenParen ∷ (l.0 ++ (terminal.OpenBrace ∷ (l.4.2.0 ++ (terminal.CloseBrace ∷ [])))))) ≡ (xs ++ terminal.Name ∷ terminal.OpenParen ∷ l.0) ++ (terminal.OpenBrace ∷ l.4.2.0 ++ terminal.CloseBrace ∷ []) = simp append_assoc in subst (Says AMember) (sym (ap (λ x. xs ++ (terminal.Name ∷ (terminal.OpenParen ∷ x))) (l.2 ∙ ap (λ x. l.0 ++ x) (l.4.1 ∙ ap (λ x. terminal.OpenBrace ∷ x) (l.4.2.2 ∙ ap (λ x. l.4.2.0 ++ x) (l.4.2.4.1 ∙ ap (λ x. terminal.CloseBrace ∷ x) (l.4.2.4.2))))) ∙ q)) (says.Method s l.3 (says.Body l.4.2.3))
 field_or_method_rows other = tt
 
-pub more_kinds_rows : (k : Terminal) → IfRow (RowYields part.MoreKinds k) (after part.MoreKinds k)
-unfolding after
+pub more_kinds_rows : (k : Terminal) → IfRow (RowYields part.MoreKinds k) (row_of part.MoreKinds k)
+unfolding row_of
 more_kinds_rows terminal.Comma = λ us l. subst (Says AMoreKinds) (sym (ap (λ x. terminal.Comma ∷ x) (l.2 ∙ ap (λ x. l.0 ++ x) (ended (l.1) l.4.0 l.4.1 l.4.2 l.4.4)))) (says.NextKind l.3 l.4.3)
 more_kinds_rows terminal.Semi = λ us l. subst (Says AMoreKinds) (sym (ap (λ x. terminal.Semi ∷ x) (l))) (says.LastKind)
 more_kinds_rows other = tt
 
-pub initial_rows : (k : Terminal) → IfRow (RowYields part.Initial k) (after part.Initial k)
-unfolding after
+pub initial_rows : (k : Terminal) → IfRow (RowYields part.Initial k) (row_of part.Initial k)
+unfolding row_of
 initial_rows terminal.Initial = λ us l. subst (Says AInitially) (sym (ap (λ x. terminal.Initial ∷ x) (l))) (says.Initial)
 initial_rows other = tt
 
-pub lasting_rows : (k : Terminal) → IfRow (RowYields part.Lasting k) (after part.Lasting k)
-unfolding after
+pub lasting_rows : (k : Terminal) → IfRow (RowYields part.Lasting k) (row_of part.Lasting k)
+unfolding row_of
 lasting_rows terminal.Lasting = λ us l. subst (Says ALasts) (sym (ap (λ x. terminal.Lasting ∷ x) (l))) (says.Lasting)
 lasting_rows other = tt
 
-pub scope_rows : (k : Terminal) → IfRow (RowYields part.Scope k) (after part.Scope k)
-unfolding after
+pub scope_rows : (k : Terminal) → IfRow (RowYields part.Scope k) (row_of part.Scope k)
+unfolding row_of
 scope_rows terminal.Scope = λ us l. subst (Says AScoped) (sym (ap (λ x. terminal.Scope ∷ x) (l))) (says.Scope)
 scope_rows other = tt
 
-pub mode_rows : (k : Terminal) → IfRow (RowYields part.Mode k) (after part.Mode k)
-unfolding after
+pub mode_rows : (k : Terminal) → IfRow (RowYields part.Mode k) (row_of part.Mode k)
+unfolding row_of
 mode_rows terminal.Mode = λ us l. subst (Says AModed) (sym (ap (λ x. terminal.Mode ∷ x) (l))) (says.Mode)
 mode_rows other = tt
 
-pub sort_rows : (k : Terminal) → IfRow (RowYields part.Sort k) (after part.Sort k)
-unfolding after
+pub sort_rows : (k : Terminal) → IfRow (RowYields part.Sort k) (row_of part.Sort k)
+unfolding row_of
 sort_rows terminal.SortWord = λ us l. subst (Says ASort) (sym (ap (λ x. terminal.SortWord ∷ x) (l))) (says.SortWord)
 sort_rows terminal.Ref = λ us l. subst (Says ASort) (sym (ap (λ x. terminal.Ref ∷ x) (l.1 ∙ ap (λ x. terminal.Name ∷ x) (l.2)))) (says.RefSort)
 sort_rows other = tt
 
-pub params_rows : (k : Terminal) → IfRow (RowYields part.Params k) (after part.Params k)
-unfolding after
+pub params_rows : (k : Terminal) → IfRow (RowYields part.Params k) (row_of part.Params k)
+unfolding row_of
 params_rows terminal.CloseParen = λ us l. subst (Says AParams) (sym (ap (λ x. terminal.CloseParen ∷ x) (l))) (says.NoParams)
 params_rows terminal.SortWord = λ us l. first_param (terminal.SortWord ∷ []) says.SortWord us l
 params_rows terminal.Ref = λ us l. subst (λ x. Says AParams (terminal.Ref ∷ x)) (sym l.1) (first_param (terminal.Ref ∷ terminal.Name ∷ []) says.RefSort l.0 l.2)
 params_rows other = tt
 
-pub second_param_rows : (k : Terminal) → IfRow (RowYields part.SecondParam k) (after part.SecondParam k)
-unfolding after
+pub second_param_rows : (k : Terminal) → IfRow (RowYields part.SecondParam k) (row_of part.SecondParam k)
+unfolding row_of
 second_param_rows terminal.Comma = λ us l. subst (Says (AMoreParams 15)) (sym (ap (λ x. terminal.Comma ∷ x) (l.2 ∙ ap (λ x. l.0 ++ x) (l.4.1 ∙ ap (λ x. terminal.Name ∷ x) (ended (l.4.0) l.4.2.0 l.4.2.1 l.4.2.2 l.4.2.4))))) (says.NextParam {n = 14} l.3 l.4.2.3)
 second_param_rows terminal.CloseParen = λ us l. subst (λ x. Says (AMoreParams 15) (terminal.CloseParen ∷ x)) (sym l) says.LastParam
 second_param_rows other = tt
 
-pub third_param_rows : (k : Terminal) → IfRow (RowYields part.ThirdParam k) (after part.ThirdParam k)
-unfolding after
+pub third_param_rows : (k : Terminal) → IfRow (RowYields part.ThirdParam k) (row_of part.ThirdParam k)
+unfolding row_of
 third_param_rows terminal.Comma = λ us l. subst (Says (AMoreParams 14)) (sym (ap (λ x. terminal.Comma ∷ x) (l.2 ∙ ap (λ x. l.0 ++ x) (l.4.1 ∙ ap (λ x. terminal.Name ∷ x) (ended (l.4.0) l.4.2.0 l.4.2.1 l.4.2.2 l.4.2.4))))) (says.NextParam {n = 13} l.3 l.4.2.3)
 third_param_rows terminal.CloseParen = λ us l. subst (λ x. Says (AMoreParams 14) (terminal.CloseParen ∷ x)) (sym l) says.LastParam
 third_param_rows other = tt
 
-pub fourth_param_rows : (k : Terminal) → IfRow (RowYields part.FourthParam k) (after part.FourthParam k)
-unfolding after
+pub fourth_param_rows : (k : Terminal) → IfRow (RowYields part.FourthParam k) (row_of part.FourthParam k)
+unfolding row_of
 fourth_param_rows terminal.Comma = λ us l. subst (Says (AMoreParams 13)) (sym (ap (λ x. terminal.Comma ∷ x) (l.2 ∙ ap (λ x. l.0 ++ x) (l.4.1 ∙ ap (λ x. terminal.Name ∷ x) (ended (l.4.0) l.4.2.0 l.4.2.1 l.4.2.2 l.4.2.4))))) (says.NextParam {n = 12} l.3 l.4.2.3)
 fourth_param_rows terminal.CloseParen = λ us l. subst (λ x. Says (AMoreParams 13) (terminal.CloseParen ∷ x)) (sym l) says.LastParam
 fourth_param_rows other = tt
 
-pub fifth_param_rows : (k : Terminal) → IfRow (RowYields part.FifthParam k) (after part.FifthParam k)
-unfolding after
+pub fifth_param_rows : (k : Terminal) → IfRow (RowYields part.FifthParam k) (row_of part.FifthParam k)
+unfolding row_of
 fifth_param_rows terminal.Comma = λ us l. subst (Says (AMoreParams 12)) (sym (ap (λ x. terminal.Comma ∷ x) (l.2 ∙ ap (λ x. l.0 ++ x) (l.4.1 ∙ ap (λ x. terminal.Name ∷ x) (ended (l.4.0) l.4.2.0 l.4.2.1 l.4.2.2 l.4.2.4))))) (says.NextParam {n = 11} l.3 l.4.2.3)
 fifth_param_rows terminal.CloseParen = λ us l. subst (λ x. Says (AMoreParams 12) (terminal.CloseParen ∷ x)) (sym l) says.LastParam
 fifth_param_rows other = tt
 
-pub sixth_param_rows : (k : Terminal) → IfRow (RowYields part.SixthParam k) (after part.SixthParam k)
-unfolding after
+pub sixth_param_rows : (k : Terminal) → IfRow (RowYields part.SixthParam k) (row_of part.SixthParam k)
+unfolding row_of
 sixth_param_rows terminal.Comma = λ us l. subst (Says (AMoreParams 11)) (sym (ap (λ x. terminal.Comma ∷ x) (l.2 ∙ ap (λ x. l.0 ++ x) (l.4.1 ∙ ap (λ x. terminal.Name ∷ x) (ended (l.4.0) l.4.2.0 l.4.2.1 l.4.2.2 l.4.2.4))))) (says.NextParam {n = 10} l.3 l.4.2.3)
 sixth_param_rows terminal.CloseParen = λ us l. subst (λ x. Says (AMoreParams 11) (terminal.CloseParen ∷ x)) (sym l) says.LastParam
 sixth_param_rows other = tt
 
-pub seventh_param_rows : (k : Terminal) → IfRow (RowYields part.SeventhParam k) (after part.SeventhParam k)
-unfolding after
+pub seventh_param_rows : (k : Terminal) → IfRow (RowYields part.SeventhParam k) (row_of part.SeventhParam k)
+unfolding row_of
 seventh_param_rows terminal.Comma = λ us l. subst (Says (AMoreParams 10)) (sym (ap (λ x. terminal.Comma ∷ x) (l.2 ∙ ap (λ x. l.0 ++ x) (l.4.1 ∙ ap (λ x. terminal.Name ∷ x) (ended (l.4.0) l.4.2.0 l.4.2.1 l.4.2.2 l.4.2.4))))) (says.NextParam {n = 9} l.3 l.4.2.3)
 seventh_param_rows terminal.CloseParen = λ us l. subst (λ x. Says (AMoreParams 10) (terminal.CloseParen ∷ x)) (sym l) says.LastParam
 seventh_param_rows other = tt
 
-pub eighth_param_rows : (k : Terminal) → IfRow (RowYields part.EighthParam k) (after part.EighthParam k)
-unfolding after
+pub eighth_param_rows : (k : Terminal) → IfRow (RowYields part.EighthParam k) (row_of part.EighthParam k)
+unfolding row_of
 eighth_param_rows terminal.Comma = λ us l. subst (Says (AMoreParams 9)) (sym (ap (λ x. terminal.Comma ∷ x) (l.2 ∙ ap (λ x. l.0 ++ x) (l.4.1 ∙ ap (λ x. terminal.Name ∷ x) (ended (l.4.0) l.4.2.0 l.4.2.1 l.4.2.2 l.4.2.4))))) (says.NextParam {n = 8} l.3 l.4.2.3)
 eighth_param_rows terminal.CloseParen = λ us l. subst (λ x. Says (AMoreParams 9) (terminal.CloseParen ∷ x)) (sym l) says.LastParam
 eighth_param_rows other = tt
 
-pub ninth_param_rows : (k : Terminal) → IfRow (RowYields part.NinthParam k) (after part.NinthParam k)
-unfolding after
+pub ninth_param_rows : (k : Terminal) → IfRow (RowYields part.NinthParam k) (row_of part.NinthParam k)
+unfolding row_of
 ninth_param_rows terminal.Comma = λ us l. subst (Says (AMoreParams 8)) (sym (ap (λ x. terminal.Comma ∷ x) (l.2 ∙ ap (λ x. l.0 ++ x) (l.4.1 ∙ ap (λ x. terminal.Name ∷ x) (ended (l.4.0) l.4.2.0 l.4.2.1 l.4.2.2 l.4.2.4))))) (says.NextParam {n = 7} l.3 l.4.2.3)
 ninth_param_rows terminal.CloseParen = λ us l. subst (λ x. Says (AMoreParams 8) (terminal.CloseParen ∷ x)) (sym l) says.LastParam
 ninth_param_rows other = tt
 
-pub tenth_param_rows : (k : Terminal) → IfRow (RowYields part.TenthParam k) (after part.TenthParam k)
-unfolding after
+pub tenth_param_rows : (k : Terminal) → IfRow (RowYields part.TenthParam k) (row_of part.TenthParam k)
+unfolding row_of
 tenth_param_rows terminal.Comma = λ us l. subst (Says (AMoreParams 7)) (sym (ap (λ x. terminal.Comma ∷ x) (l.2 ∙ ap (λ x. l.0 ++ x) (l.4.1 ∙ ap (λ x. terminal.Name ∷ x) (ended (l.4.0) l.4.2.0 l.4.2.1 l.4.2.2 l.4.2.4))))) (says.NextParam {n = 6} l.3 l.4.2.3)
 tenth_param_rows terminal.CloseParen = λ us l. subst (λ x. Says (AMoreParams 7) (terminal.CloseParen ∷ x)) (sym l) says.LastParam
 tenth_param_rows other = tt
 
-pub eleventh_param_rows : (k : Terminal) → IfRow (RowYields part.EleventhParam k) (after part.EleventhParam k)
-unfolding after
+pub eleventh_param_rows : (k : Terminal) → IfRow (RowYields part.EleventhParam k) (row_of part.EleventhParam k)
+unfolding row_of
 eleventh_param_rows terminal.Comma = λ us l. subst (Says (AMoreParams 6)) (sym (ap (λ x. terminal.Comma ∷ x) (l.2 ∙ ap (λ x. l.0 ++ x) (l.4.1 ∙ ap (λ x. terminal.Name ∷ x) (ended (l.4.0) l.4.2.0 l.4.2.1 l.4.2.2 l.4.2.4))))) (says.NextParam {n = 5} l.3 l.4.2.3)
 eleventh_param_rows terminal.CloseParen = λ us l. subst (λ x. Says (AMoreParams 6) (terminal.CloseParen ∷ x)) (sym l) says.LastParam
 eleventh_param_rows other = tt
 
-pub twelfth_param_rows : (k : Terminal) → IfRow (RowYields part.TwelfthParam k) (after part.TwelfthParam k)
-unfolding after
+pub twelfth_param_rows : (k : Terminal) → IfRow (RowYields part.TwelfthParam k) (row_of part.TwelfthParam k)
+unfolding row_of
 twelfth_param_rows terminal.Comma = λ us l. subst (Says (AMoreParams 5)) (sym (ap (λ x. terminal.Comma ∷ x) (l.2 ∙ ap (λ x. l.0 ++ x) (l.4.1 ∙ ap (λ x. terminal.Name ∷ x) (ended (l.4.0) l.4.2.0 l.4.2.1 l.4.2.2 l.4.2.4))))) (says.NextParam {n = 4} l.3 l.4.2.3)
 twelfth_param_rows terminal.CloseParen = λ us l. subst (λ x. Says (AMoreParams 5) (terminal.CloseParen ∷ x)) (sym l) says.LastParam
 twelfth_param_rows other = tt
 
-pub thirteenth_param_rows : (k : Terminal) → IfRow (RowYields part.ThirteenthParam k) (after part.ThirteenthParam k)
-unfolding after
+pub thirteenth_param_rows : (k : Terminal) → IfRow (RowYields part.ThirteenthParam k) (row_of part.ThirteenthParam k)
+unfolding row_of
 thirteenth_param_rows terminal.Comma = λ us l. subst (Says (AMoreParams 4)) (sym (ap (λ x. terminal.Comma ∷ x) (l.2 ∙ ap (λ x. l.0 ++ x) (l.4.1 ∙ ap (λ x. terminal.Name ∷ x) (ended (l.4.0) l.4.2.0 l.4.2.1 l.4.2.2 l.4.2.4))))) (says.NextParam {n = 3} l.3 l.4.2.3)
 thirteenth_param_rows terminal.CloseParen = λ us l. subst (λ x. Says (AMoreParams 4) (terminal.CloseParen ∷ x)) (sym l) says.LastParam
 thirteenth_param_rows other = tt
 
-pub fourteenth_param_rows : (k : Terminal) → IfRow (RowYields part.FourteenthParam k) (after part.FourteenthParam k)
-unfolding after
+pub fourteenth_param_rows : (k : Terminal) → IfRow (RowYields part.FourteenthParam k) (row_of part.FourteenthParam k)
+unfolding row_of
 fourteenth_param_rows terminal.Comma = λ us l. subst (Says (AMoreParams 3)) (sym (ap (λ x. terminal.Comma ∷ x) (l.2 ∙ ap (λ x. l.0 ++ x) (l.4.1 ∙ ap (λ x. terminal.Name ∷ x) (ended (l.4.0) l.4.2.0 l.4.2.1 l.4.2.2 l.4.2.4))))) (says.NextParam {n = 2} l.3 l.4.2.3)
 fourteenth_param_rows terminal.CloseParen = λ us l. subst (λ x. Says (AMoreParams 3) (terminal.CloseParen ∷ x)) (sym l) says.LastParam
 fourteenth_param_rows other = tt
 
-pub fifteenth_param_rows : (k : Terminal) → IfRow (RowYields part.FifteenthParam k) (after part.FifteenthParam k)
-unfolding after
+pub fifteenth_param_rows : (k : Terminal) → IfRow (RowYields part.FifteenthParam k) (row_of part.FifteenthParam k)
+unfolding row_of
 fifteenth_param_rows terminal.Comma = λ us l. subst (Says (AMoreParams 2)) (sym (ap (λ x. terminal.Comma ∷ x) (l.2 ∙ ap (λ x. l.0 ++ x) (l.4.1 ∙ ap (λ x. terminal.Name ∷ x) (ended (l.4.0) l.4.2.0 l.4.2.1 l.4.2.2 l.4.2.4))))) (says.NextParam {n = 1} l.3 l.4.2.3)
 fifteenth_param_rows terminal.CloseParen = λ us l. subst (λ x. Says (AMoreParams 2) (terminal.CloseParen ∷ x)) (sym l) says.LastParam
 fifteenth_param_rows other = tt
 
-pub sixteenth_param_rows : (k : Terminal) → IfRow (RowYields part.SixteenthParam k) (after part.SixteenthParam k)
-unfolding after
+pub sixteenth_param_rows : (k : Terminal) → IfRow (RowYields part.SixteenthParam k) (row_of part.SixteenthParam k)
+unfolding row_of
 sixteenth_param_rows terminal.Comma = λ us l. subst (Says (AMoreParams 1)) (sym (ap (λ x. terminal.Comma ∷ x) (l.2 ∙ ap (λ x. l.0 ++ x) (l.4.1 ∙ ap (λ x. terminal.Name ∷ x) (l.4.2.1 ∙ ap (λ x. terminal.CloseParen ∷ x) (l.4.2.2)))))) (says.NextParam {n = 0} l.3 says.LastParam)
 sixteenth_param_rows terminal.CloseParen = λ us l. subst (λ x. Says (AMoreParams 1) (terminal.CloseParen ∷ x)) (sym l) says.LastParam
 sixteenth_param_rows other = tt

@@ -13,7 +13,7 @@ use Rattle.ode_grammar.specs.Expressions.{arguments, behind_unary, comp, conj, s
 use Rattle.ode_grammar.specs.Events.{event as whole_event}
 use Rattle.ode_grammar.specs.Statements.{alone, body, class_rest, done, dotted_call, ending, field_set, new, next}
 use Rattle.ode_grammar.specs.Classes.{method, one_param, test, trigger}
-use Rattle.ode_grammar.specs.Grammar.{after, items_of, skipped}
+use Rattle.ode_grammar.specs.Grammar.{after, items_of, row_of, skipped}
 use Rattle.ode_grammar.specs.Texts.{Done, IsText, Make, Next, Rule, Skip}
 use Rattle.ode_grammar.proofs.Follows.{IfRow}
 use Rattle.ode_productions.specs.Productions.{Is, Symbol}
@@ -42,7 +42,7 @@ row_alone : (p : Part) (k : Terminal) (row : List Item) (ts : List Terminal) →
 row_alone p k row ts e d = Rule p row e (subst (λ is. D is ts) (sym (append-nil row)) d)
 
 kind_part : {us : List Terminal} → Is is.Kind us → D (item.Part part.Kind ∷ []) us
-unfolding after
+unfolding row_of
 kind_part is.AfterCreate = Rule part.Kind (item.Part part.AfterWhat ∷ []) refl (Rule part.AfterWhat (item.Build action.AfterCreate ∷ []) refl (Make action.AfterCreate Done))
 kind_part is.BeforeDelete = Rule part.Kind (item.Part part.BeforeWhat ∷ []) refl (Rule part.BeforeWhat (item.Build action.BeforeDelete ∷ []) refl (Make action.BeforeDelete Done))
 kind_part is.AfterMethod = Rule part.Kind (item.Part part.AfterWhat ∷ []) refl (Rule part.AfterWhat (item.Build action.AfterMethod ∷ []) refl (Make action.AfterMethod Done))
@@ -96,15 +96,15 @@ record IsState (p : Part) (first : List Item) : Type 0 where
   pub ors : after p terminal.OrOr ≡ Some (first ++ (U ∷ F ∷ S ∷ C ∷ item.Part part.Ands ∷ item.Build action.Binary ∷ ors_items))
 
 dots_state : IsState part.RhsDots []
-unfolding after
+unfolding row_of
 dots_state = record { made = λ items ts d. d; dot = refl; semi = refl; times = refl; plus = refl; minus = refl; compares = refl; ands = refl; ors = refl }
 
 dot_state : IsState part.RhsDot (item.Build action.Field ∷ [])
-unfolding after
+unfolding row_of
 dot_state = record { made = λ items ts d. Make action.Field d; dot = refl; semi = refl; times = refl; plus = refl; minus = refl; compares = refl; ands = refl; ors = refl }
 
 name_state : IsState part.RhsName (item.Build action.Variable ∷ [])
-unfolding after
+unfolding row_of
 name_state = record { made = λ items ts d. Make action.Variable d; dot = refl; semi = refl; times = refl; plus = refl; minus = refl; compares = refl; ands = refl; ors = refl }
 
 -- the tokens may stand behind a chain
@@ -172,7 +172,7 @@ record IsRight (r : Part) : Type 0 where
   pub name : (ts : List Terminal) → Stands ts → D (item.Part r ∷ []) (terminal.Name ∷ ts)
 
 inner_right : IsRight part.Rhs
-unfolding after
+unfolding row_of
 inner_right = record {
   atoms = record { leaf = refl; number = refl; seconds = refl; count = refl; text = refl; instant = refl; pair = refl; version = refl };
   change = record { pnew = refl; newversion = refl; activate = refl };
@@ -182,7 +182,7 @@ inner_right = record {
 }
 
 script_right : IsRight part.ScriptRhs
-unfolding after
+unfolding row_of
 script_right = record {
   atoms = record { leaf = refl; number = refl; seconds = refl; count = refl; text = refl; instant = refl; pair = refl; version = refl };
   change = record { pnew = refl; newversion = refl; activate = refl };
@@ -211,7 +211,7 @@ right_atom : {us : List Terminal} → (r : Part) → IsRight r → Is is.Atom us
 right_atom r i x = λ ts k. atom_first r (item.Part part.RhsDots ∷ []) i.atoms ts x (i.name ts k) (k part.RhsDots [] dots_state)
 
 right : (r : Part) → IsRight r → {s : Symbol} {ts : List Terminal} → Is s ts → AsRight r s ts
-unfolding after
+unfolding row_of
 right r i is.LeafAtom = right_atom r i is.LeafAtom
 right r i is.NumberAtom = right_atom r i is.NumberAtom
 right r i is.SecondsAtom = right_atom r i is.SecondsAtom
@@ -280,6 +280,7 @@ right r i is.EveryCount = tt
 right r i is.EverySeconds = tt
 right r i is.AtInstant = tt
 right r i (is.EventBrackets x) = tt
+right r i (is.MaskedBrackets x y) = tt
 right r i is.AnyPoint = tt
 right r i is.FirstPoint = tt
 right r i (is.OneKind x) = tt
@@ -290,6 +291,9 @@ right r i (is.Sequence x y) = tt
 right r i (is.Choose x) = tt
 right r i (is.Every x) = tt
 right r i (is.Fa x y z) = tt
+right r i (is.FaAbs x y z) = tt
+right r i (is.RelPlus x) = tt
+right r i (is.Pipe x y) = tt
 right r i (is.LastEvent x) = tt
 right r i (is.NextEvent x y) = tt
 right r i (is.NotEvent x) = tt
@@ -311,7 +315,7 @@ Called us = (p : Part) (items : List Item) → IsPlace p items → (ts : List Te
     → D (item.Part p ∷ []) (us ++ terminal.Dot ∷ terminal.Name ∷ ts)
 
 chained : {us : List Terminal} → Is is.Chain us → Called us
-unfolding after
+unfolding row_of
 chained (is.OneAtom x) = λ p items i ts d.
     atom_first p (item.Token terminal.Dot ∷ item.Token terminal.Name ∷ item.Part part.CallDot ∷ items) i.atoms (terminal.Dot ∷ terminal.Name ∷ ts) x (i.name ts d)
     (token terminal.Dot (token terminal.Name d))
@@ -321,7 +325,7 @@ chained (is.Field {ts = vs} x) = λ p items i ts d.
     (Rule part.CallDot (item.Build action.Field ∷ item.Token terminal.Name ∷ item.Part part.CallDot ∷ []) refl (Make action.Field (token terminal.Name d))))
 
 chained_place : IsPlace part.Chained []
-unfolding after
+unfolding row_of
 chained_place = record {
   atoms = record { leaf = refl; number = refl; seconds = refl; count = refl; text = refl; instant = refl; pair = refl; version = refl };
   name = λ ts d. Rule part.Chained (item.Build action.Variable ∷ dotted_call) refl (Make action.Variable (token terminal.Dot (token terminal.Name d)));
@@ -332,7 +336,7 @@ record Dotted (us : List Terminal) : Type 0 where
   pub side : (r : Part) → IsRight r → D (item.Part r ∷ []) (us ++ terminal.Semi ∷ [])
 
 dotted : (cs vs : List Terminal) → Is is.Chain cs → D (item.Part part.Args ∷ []) vs → Dotted (cs ++ terminal.Dot ∷ terminal.Name ∷ terminal.OpenParen ∷ vs)
-unfolding after
+unfolding row_of
 dotted cs vs c a = record {
   place = λ p items i ts d.
       regroup cs (terminal.Dot ∷ terminal.Name ∷ terminal.OpenParen ∷ vs) ts
@@ -355,7 +359,7 @@ abbrev return_items : List Item
 return_items = item.Token terminal.Semi ∷ item.Build action.Return ∷ []
 
 args_like : (k : Terminal) → IfRow (λ row. after part.Args k ≡ Some (row ++ (behind_unary ++ args_items))) (after part.Unary k)
-unfolding after
+unfolding row_of
 args_like terminal.Leaf = refl
 args_like terminal.Number = refl
 args_like terminal.Seconds = refl
@@ -363,6 +367,9 @@ args_like terminal.Count = refl
 args_like terminal.Text = refl
 args_like terminal.Instant = refl
 args_like terminal.Name = refl
+args_like terminal.FaAbs = refl
+args_like terminal.Pipe = refl
+args_like terminal.RelPlus = refl
 args_like terminal.OpenParen = refl
 args_like terminal.Version = refl
 args_like terminal.Minus = refl
@@ -370,7 +377,7 @@ args_like terminal.Not = refl
 args_like other = tt
 
 return_like : (k : Terminal) → IfRow (λ row. after part.ReturnValue k ≡ Some (row ++ (behind_unary ++ return_items))) (after part.Unary k)
-unfolding after
+unfolding row_of
 return_like terminal.Leaf = refl
 return_like terminal.Number = refl
 return_like terminal.Seconds = refl
@@ -378,6 +385,9 @@ return_like terminal.Count = refl
 return_like terminal.Text = refl
 return_like terminal.Instant = refl
 return_like terminal.Name = refl
+return_like terminal.FaAbs = refl
+return_like terminal.Pipe = refl
+return_like terminal.RelPlus = refl
 return_like terminal.OpenParen = refl
 return_like terminal.Version = refl
 return_like terminal.Minus = refl
@@ -417,7 +427,7 @@ IfPart None us = Unit {0}
 IfPart (Some i) us = D (i ∷ []) us
 
 last_param : (n : ℕ) → IfPart (param_part n) (terminal.CloseParen ∷ [])
-unfolding after
+unfolding row_of
 last_param zero = token terminal.CloseParen Done
 last_param (suc zero) = Rule part.SixteenthParam [] refl Done
 last_param (suc (suc zero)) = Rule part.FifteenthParam [] refl Done
@@ -441,7 +451,7 @@ one_more : (p : Part) (i : Item) → after p terminal.Comma ≡ Some (one_param 
 one_more p i e us vs x y = Rule p (one_param i) e (together x (token terminal.Name (Make action.Param y)))
 
 next_param : (n : ℕ) (us vs : List Terminal) → D (item.Part part.Sort ∷ []) us → IfPart (param_part n) vs → IfPart (param_part (suc n)) (terminal.Comma ∷ us ++ terminal.Name ∷ vs)
-unfolding after
+unfolding row_of
 next_param zero us vs x y = one_more part.SixteenthParam (item.Token terminal.CloseParen) refl us vs x y
 next_param (suc zero) us vs x y = one_more part.FifteenthParam (item.Part part.SixteenthParam) refl us vs x y
 next_param (suc (suc zero)) us vs x y = one_more part.FourteenthParam (item.Part part.FifteenthParam) refl us vs x y
@@ -472,7 +482,7 @@ record IsSimple (p : Part) (more : List Item) : Type 0 where
   pub place : IsPlace p (item.Build action.Call ∷ done more)
 
 inner_simple : IsSimple part.Inners next
-unfolding after
+unfolding row_of
 inner_simple = record {
   say = refl;
   pdelete = refl;
@@ -489,7 +499,7 @@ inner_simple = record {
 }
 
 script_simple : IsSimple part.Statement alone
-unfolding after
+unfolding row_of
 script_simple = record {
   say = refl;
   pdelete = refl;
@@ -550,7 +560,7 @@ AsPhrase says.AStatement us = D (item.Part part.Statement ∷ []) us
 AsPhrase (says.AMoreParams n) us = IfPart (param_part n) us
 
 said : {s : Phrase} {ts : List Terminal} → Says s ts → AsPhrase s ts
-unfolding after skipped
+unfolding row_of skipped
 said says.NoArguments = Rule part.Args [] refl Done
 said (says.SomeArguments {us = vs} x y) =
     begins_like part.Args args_items args_like (derived x args_items vs (no_ors (Make action.Argument (said y))))
@@ -716,7 +726,7 @@ said (says.ShowGiven {ts = us} x) =
     (together (said x part.ScriptRhs script_right) (Make action.Show (Make action.Simple Done))))
 
 pub class_text : (tokens : List Terminal) → Says AClass tokens → IsText start.Class tokens
-unfolding items_of after
+unfolding items_of row_of
 class_text tokens x = let l = said x in subst (λ z. D (item.Part part.Class ∷ []) z) (sym l.1) (Rule part.Class class_rest refl l.2)
 
 pub statement_text : (tokens : List Terminal) → Says AStatement tokens → IsText start.Statement tokens

@@ -3,19 +3,20 @@ use Rattle.std.proofs.Common.{◌≡◌, ◌⊎◌, List, [], ◌∷◌, ◌++�
 use Rattle.std.proofs.lemmas.List.{append-nil}
 use Rattle.ode_grammar.specs.declared.item.Part.{Part}
 use Rattle.ode_grammar.specs.declared.item.Part.TheVariants as part
+use Rattle.ode_grammar.specs.declared.item.Action.{Action}
 use Rattle.ode_grammar.specs.declared.item.Action.TheVariants as action
 use Rattle.ode_grammar.specs.declared.item.Item.{Item}
 use Rattle.ode_grammar.specs.declared.item.Item.TheVariants as item
 use Rattle.ode_grammar.specs.declared.terminal.Terminal.{Terminal}
 use Rattle.ode_grammar.specs.declared.terminal.Terminal.TheVariants as terminal
 use Rattle.ode_grammar.specs.Expressions.{behind_unary, term}
-use Rattle.ode_grammar.specs.Events.{counted, evand, event as whole_event, folded}
-use Rattle.ode_grammar.specs.Grammar.{after}
+use Rattle.ode_grammar.specs.Events.{counted, evand, event as whole_event, folded, of_one, of_three, of_two}
+use Rattle.ode_grammar.specs.Grammar.{row_of}
 use Rattle.ode_grammar.proofs.Follows.{IfRow}
 use Rattle.ode_productions.specs.Productions.{Is, Symbol}
 use Rattle.ode_productions.specs.Productions as is
 use Rattle.ode_productions.specs.Phrases.{Says, AArguments, AMoreArguments, ADotted, ASets, AMoreSets, AGiven, ARight, AInner, AInners, AOtherwise, ASort, AParams, AMoreKinds, AInitially, ALasts, AScoped, AModed, AMember, AMembers, AParented, AClass, AStatement, AMoreParams}
-use Rattle.ode_productions.proofs.Texts.{longer, rows}
+use Rattle.ode_productions.proofs.Texts.{longer, pair_items, rows}
 
 -- the tokens of a part: a symbol's, or those that make one of the symbol before them
 abbrev pub PartYields : Part → List Terminal → Type 0
@@ -34,6 +35,7 @@ PartYields part.MoreRelative ts = (xs : List Terminal) → Is is.Event xs → Is
 PartYields part.MorePrior ts = (xs : List Terminal) → Is is.Event xs → Is is.More (terminal.Comma ∷ xs ++ ts)
 PartYields part.MoreSequence ts = (xs : List Terminal) → Is is.Event xs → Is is.More (terminal.Comma ∷ xs ++ ts)
 PartYields part.Mask ts = (xs : List Terminal) → Is is.Kind xs → Is is.EventAtom (xs ++ ts)
+PartYields part.EventMask ts = (xs : List Terminal) → Is is.Event xs → Is is.EventAtom (terminal.OpenParen ∷ xs ++ terminal.CloseParen ∷ ts)
 PartYields part.Kind ts = Is is.Kind ts
 PartYields part.AfterWhat ts = Is is.Kind (terminal.After ∷ ts)
 PartYields part.BeforeWhat ts = Is is.Kind (terminal.Before ∷ ts)
@@ -168,8 +170,8 @@ version_row us l =
     subst (λ x. Is is.Unary (terminal.Version ∷ x)) (sym all)
     (is.OneChain (d.3 (terminal.Version ∷ terminal.OpenParen ∷ e.0 ++ terminal.CloseParen ∷ []) (is.OneAtom (is.VersionOf e.3))))
 
-pub unary_rows : (k : Terminal) → IfRow (RowYields part.Unary k) (after part.Unary k)
-unfolding after
+pub unary_rows : (k : Terminal) → IfRow (RowYields part.Unary k) (row_of part.Unary k)
+unfolding row_of
 unary_rows terminal.Leaf = leaf_row terminal.Leaf is.LeafAtom
 unary_rows terminal.Number = leaf_row terminal.Number is.NumberAtom
 unary_rows terminal.Seconds = leaf_row terminal.Seconds is.SecondsAtom
@@ -189,15 +191,15 @@ dot_row us l = λ xs c.
     let all : us ≡ (terminal.Name ∷ []) ++ d.0 = l.1 ∙ ap (λ x. terminal.Name ∷ x) (ended l.0 d.0 d.1 d.2 d.4) in
     subst (Is is.Chain) (sym (looped xs us (terminal.Name ∷ []) d.0 terminal.Dot all)) (d.3 (xs ++ terminal.Dot ∷ terminal.Name ∷ []) (is.Field c))
 
-pub dots_rows : (k : Terminal) → IfRow (RowYields part.Dots k) (after part.Dots k)
-unfolding after
+pub dots_rows : (k : Terminal) → IfRow (RowYields part.Dots k) (row_of part.Dots k)
+unfolding row_of
 dots_rows terminal.Dot = dot_row
 dots_rows other = tt
 
 -- ---- operators
 
-pub factors_rows : (k : Terminal) → IfRow (RowYields part.Factors k) (after part.Factors k)
-unfolding after
+pub factors_rows : (k : Terminal) → IfRow (RowYields part.Factors k) (row_of part.Factors k)
+unfolding row_of
 factors_rows terminal.Times = λ us l xs t.
     let f = one (item.Build action.Binary ∷ item.Part part.Factors ∷ []) us l in
     let d = f.behind in
@@ -214,22 +216,22 @@ sum_row k make us l = λ xs t.
     let all : us ≡ f.a ++ d.0 = f.is ∙ ap (λ x. f.a ++ x) (ended f.rest d.0 d.1 d.2 d.4) in
     subst (Is is.Sum) (sym (looped xs us f.a d.0 k all)) (d.3 (xs ++ k ∷ f.a) (make xs f.a t f.front))
 
-pub sums_rows : (k : Terminal) → IfRow (RowYields part.Sums k) (after part.Sums k)
-unfolding after
+pub sums_rows : (k : Terminal) → IfRow (RowYields part.Sums k) (row_of part.Sums k)
+unfolding row_of
 sums_rows terminal.Plus = sum_row terminal.Plus (λ xs us x y. is.Plus x y)
 sums_rows terminal.Minus = sum_row terminal.Minus (λ xs us x y. is.Less x y)
 sums_rows other = tt
 
-pub compare_rows : (k : Terminal) → IfRow (RowYields part.Compare k) (after part.Compare k)
-unfolding after
+pub compare_rows : (k : Terminal) → IfRow (RowYields part.Compare k) (row_of part.Compare k)
+unfolding row_of
 compare_rows terminal.Compares = λ us l xs t.
     let items = item.Build action.Binary ∷ [] in
     let f = to_sum items us (to_term (item.Part part.Sums ∷ items) us (one (item.Part part.Factors ∷ item.Part part.Sums ∷ items) us l)) in
     subst (λ x. Is is.Comparison (xs ++ terminal.Compares ∷ x)) (sym (ended us f.a f.rest f.is f.behind)) (is.Compared t f.front)
 compare_rows other = tt
 
-pub ands_rows : (k : Terminal) → IfRow (RowYields part.Ands k) (after part.Ands k)
-unfolding after
+pub ands_rows : (k : Terminal) → IfRow (RowYields part.Ands k) (row_of part.Ands k)
+unfolding row_of
 ands_rows terminal.AndAnd = λ us l xs t.
     let items = item.Build action.Binary ∷ item.Part part.Ands ∷ [] in
     let f = to_comparison items us (to_sum (item.Part part.Compare ∷ items) us (to_term (item.Part part.Sums ∷ item.Part part.Compare ∷ items) us
@@ -239,8 +241,8 @@ ands_rows terminal.AndAnd = λ us l xs t.
     subst (Is is.Conjunction) (sym (looped xs us f.a d.0 terminal.AndAnd all)) (d.3 (xs ++ terminal.AndAnd ∷ f.a) (is.And t f.front))
 ands_rows other = tt
 
-pub ors_rows : (k : Terminal) → IfRow (RowYields part.Ors k) (after part.Ors k)
-unfolding after
+pub ors_rows : (k : Terminal) → IfRow (RowYields part.Ors k) (row_of part.Ors k)
+unfolding row_of
 ors_rows terminal.OrOr = λ us l xs t.
     let items = item.Build action.Binary ∷ item.Part part.Ors ∷ [] in
     let more = item.Part part.Ands ∷ items in
@@ -282,17 +284,18 @@ whole_row k (Some row) p = λ us l.
     finish is.Expression (k ∷ us)
     (to_expression [] (k ∷ us) (to_conjunction ors (k ∷ us) (to_comparison ands (k ∷ us) (to_sum compares (k ∷ us) (to_term sums (k ∷ us) f)))))
 
-pub expr_rows : (k : Terminal) → IfRow (RowYields part.Expr k) (after part.Expr k)
-expr_rows k = subst (IfRow (RowYields part.Expr k)) (sym (rows k)) (whole_row k (after part.Unary k) (unary_rows k))
+pub expr_rows : (k : Terminal) → IfRow (RowYields part.Expr k) (row_of part.Expr k)
+expr_rows k = subst (IfRow (RowYields part.Expr k)) (sym (rows k)) (whole_row k (row_of part.Unary k) (unary_rows k))
 
 -- ---- event expressions
 
-pub event_paren_row : RowYields part.EventUnary terminal.OpenParen (whole_event ++ item.Token terminal.CloseParen ∷ item.Build action.EventPair ∷ [])
+pub event_paren_row : RowYields part.EventUnary terminal.OpenParen (whole_event ++ pair_items)
 event_paren_row us l =
-    let f = event_front (item.Token terminal.CloseParen ∷ item.Build action.EventPair ∷ []) us l in
+    let f = event_front pair_items us l in
     let c = f.behind in
-    let all : us ≡ f.a ++ terminal.CloseParen ∷ [] = f.is ∙ ap (λ x. f.a ++ x) (c.1 ∙ ap (λ x. terminal.CloseParen ∷ x) c.2) in
-    subst (λ x. Is is.Negated (terminal.OpenParen ∷ x)) (sym all) (is.OneEventAtom (is.EventBrackets f.front))
+    let m = c.2 in
+    let all : us ≡ f.a ++ terminal.CloseParen ∷ m.0 = f.is ∙ ap (λ x. f.a ++ x) (c.1 ∙ ap (λ x. terminal.CloseParen ∷ x) (ended c.0 m.0 m.1 m.2 m.4)) in
+    subst (λ x. Is is.Negated (terminal.OpenParen ∷ x)) (sym all) (is.OneEventAtom (m.3 f.a f.front))
 
 pub kind_row : (k : Terminal) (p : Part) → ((us : List Terminal) → PartYields p us → Is is.Kind (k ∷ us)) → RowYields part.EventUnary k (item.Part p ∷ item.Part part.Mask ∷ [])
 kind_row k p f us l =
@@ -319,8 +322,8 @@ more_relative_row us l = λ xs x.
     let rest : us ≡ f.a ++ m.0 = f.is ∙ ap (λ y. f.a ++ y) (ended f.rest m.0 m.1 m.2 m.4) in
     subst (λ y. Is is.More (terminal.Comma ∷ xs ++ terminal.Comma ∷ y)) (sym rest) (is.NextEvent x (m.3 f.a f.front))
 
-pub more_relative_rows : (k : Terminal) → IfRow (RowYields part.MoreRelative k) (after part.MoreRelative k)
-unfolding after
+pub more_relative_rows : (k : Terminal) → IfRow (RowYields part.MoreRelative k) (row_of part.MoreRelative k)
+unfolding row_of
 more_relative_rows terminal.Comma = more_relative_row
 more_relative_rows terminal.CloseParen = λ us l xs x. subst (λ y. Is is.More (terminal.Comma ∷ xs ++ terminal.CloseParen ∷ y)) (sym l) (is.LastEvent x)
 more_relative_rows other = tt
@@ -344,8 +347,8 @@ more_prior_row us l = λ xs x.
     let rest : us ≡ f.a ++ m.0 = f.is ∙ ap (λ y. f.a ++ y) (ended f.rest m.0 m.1 m.2 m.4) in
     subst (λ y. Is is.More (terminal.Comma ∷ xs ++ terminal.Comma ∷ y)) (sym rest) (is.NextEvent x (m.3 f.a f.front))
 
-pub more_prior_rows : (k : Terminal) → IfRow (RowYields part.MorePrior k) (after part.MorePrior k)
-unfolding after
+pub more_prior_rows : (k : Terminal) → IfRow (RowYields part.MorePrior k) (row_of part.MorePrior k)
+unfolding row_of
 more_prior_rows terminal.Comma = more_prior_row
 more_prior_rows terminal.CloseParen = λ us l xs x. subst (λ y. Is is.More (terminal.Comma ∷ xs ++ terminal.CloseParen ∷ y)) (sym l) (is.LastEvent x)
 more_prior_rows other = tt
@@ -369,8 +372,8 @@ more_sequence_row us l = λ xs x.
     let rest : us ≡ f.a ++ m.0 = f.is ∙ ap (λ y. f.a ++ y) (ended f.rest m.0 m.1 m.2 m.4) in
     subst (λ y. Is is.More (terminal.Comma ∷ xs ++ terminal.Comma ∷ y)) (sym rest) (is.NextEvent x (m.3 f.a f.front))
 
-pub more_sequence_rows : (k : Terminal) → IfRow (RowYields part.MoreSequence k) (after part.MoreSequence k)
-unfolding after
+pub more_sequence_rows : (k : Terminal) → IfRow (RowYields part.MoreSequence k) (row_of part.MoreSequence k)
+unfolding row_of
 more_sequence_rows terminal.Comma = more_sequence_row
 more_sequence_rows terminal.CloseParen = λ us l xs x. subst (λ y. Is is.More (terminal.Comma ∷ xs ++ terminal.CloseParen ∷ y)) (sym l) (is.LastEvent x)
 more_sequence_rows other = tt
@@ -393,11 +396,39 @@ every_row us l =
     l.1 ∙ ap (λ x. terminal.Count ∷ x) (o.1 ∙ ap (λ x. terminal.OpenParen ∷ x) (f.is ∙ ap (λ x. f.a ++ x) (c.1 ∙ ap (λ x. terminal.CloseParen ∷ x) c.2))) in
     subst (λ x. Is is.Negated (terminal.Every ∷ x)) (sym all) (is.OneEventAtom (is.Every f.front))
 
-pub fa_row : RowYields part.EventUnary terminal.Fa
-    (item.Token terminal.OpenParen ∷ whole_event ++ item.Token terminal.Comma ∷ whole_event ++ item.Token terminal.Comma ∷ whole_event
-    ++ item.Token terminal.CloseParen ∷ item.Build action.Fa ∷ [])
-fa_row us l =
-    let last = item.Token terminal.CloseParen ∷ item.Build action.Fa ∷ [] in
+pub row_of_one : (k : Terminal) (a : Action)
+    → ((ts : List Terminal) → Is is.Event ts → Is is.EventAtom (k ∷ terminal.OpenParen ∷ ts ++ terminal.CloseParen ∷ []))
+    → RowYields part.EventUnary k (of_one (item.Build a))
+row_of_one k a make us l =
+    let f = event_front (item.Token terminal.CloseParen ∷ item.Build a ∷ []) l.0 l.2 in
+    let c = f.behind in
+    let all : us ≡ terminal.OpenParen ∷ f.a ++ terminal.CloseParen ∷ [] =
+    l.1 ∙ ap (λ x. terminal.OpenParen ∷ x) (f.is ∙ ap (λ x. f.a ++ x) (c.1 ∙ ap (λ x. terminal.CloseParen ∷ x) c.2)) in
+    subst (λ x. Is is.Negated (k ∷ x)) (sym all) (is.OneEventAtom (make f.a f.front))
+
+pub row_of_two : (k : Terminal) (a : Action)
+    → ((ts us : List Terminal) → Is is.Event ts → Is is.Event us → Is is.EventAtom (k ∷ terminal.OpenParen ∷ ts ++ terminal.Comma ∷ us ++ terminal.CloseParen ∷ []))
+    → RowYields part.EventUnary k (of_two (item.Build a))
+row_of_two k a make us l =
+    let last = item.Token terminal.CloseParen ∷ item.Build a ∷ [] in
+    let f = event_front (item.Token terminal.Comma ∷ whole_event ++ last) l.0 l.2 in
+    let c = f.behind in
+    let g = event_front last c.0 c.2 in
+    let d = g.behind in
+    let second : c.0 ≡ g.a ++ terminal.CloseParen ∷ [] = g.is ∙ ap (λ x. g.a ++ x) (d.1 ∙ ap (λ x. terminal.CloseParen ∷ x) d.2) in
+    let first : l.0 ≡ f.a ++ (terminal.Comma ∷ (g.a ++ terminal.CloseParen ∷ [])) = f.is ∙ ap (λ x. f.a ++ x) (c.1 ∙ ap (λ x. terminal.Comma ∷ x) second) in
+    let all = l.1 ∙ ap (λ x. terminal.OpenParen ∷ x) (first ∙ sym (regrouped f.a g.a)) in
+    subst (λ x. Is is.Negated (k ∷ x)) (sym all) (is.OneEventAtom (make f.a g.a f.front g.front))
+  where
+    regrouped : (ts us : List Terminal) → (ts ++ terminal.Comma ∷ us) ++ terminal.CloseParen ∷ [] ≡ ts ++ (terminal.Comma ∷ (us ++ terminal.CloseParen ∷ []))
+    regrouped ts us = simp append_assoc
+
+pub row_of_three : (k : Terminal) (a : Action)
+    → ((ts us vs : List Terminal) → Is is.Event ts → Is is.Event us → Is is.Event vs
+    → Is is.EventAtom (k ∷ terminal.OpenParen ∷ ts ++ terminal.Comma ∷ us ++ terminal.Comma ∷ vs ++ terminal.CloseParen ∷ []))
+    → RowYields part.EventUnary k (of_three (item.Build a))
+row_of_three k a make us l =
+    let last = item.Token terminal.CloseParen ∷ item.Build a ∷ [] in
     let f = event_front (item.Token terminal.Comma ∷ whole_event ++ item.Token terminal.Comma ∷ whole_event ++ last) l.0 l.2 in
     let c = f.behind in
     let g = event_front (item.Token terminal.Comma ∷ whole_event ++ last) c.0 c.2 in
@@ -408,15 +439,15 @@ fa_row us l =
     let second : c.0 ≡ g.a ++ (terminal.Comma ∷ (h.a ++ terminal.CloseParen ∷ [])) = g.is ∙ ap (λ x. g.a ++ x) (d.1 ∙ ap (λ x. terminal.Comma ∷ x) third) in
     let first : l.0 ≡ f.a ++ (terminal.Comma ∷ (g.a ++ (terminal.Comma ∷ (h.a ++ terminal.CloseParen ∷ [])))) = f.is ∙ ap (λ x. f.a ++ x) (c.1 ∙ ap (λ x. terminal.Comma ∷ x) second) in
     let all = l.1 ∙ ap (λ x. terminal.OpenParen ∷ x) (first ∙ sym (regrouped f.a g.a h.a)) in
-    subst (λ x. Is is.Negated (terminal.Fa ∷ x)) (sym all) (is.OneEventAtom (is.Fa f.front g.front h.front))
+    subst (λ x. Is is.Negated (k ∷ x)) (sym all) (is.OneEventAtom (make f.a g.a h.a f.front g.front h.front))
   where
     regrouped : (ts us vs : List Terminal)
         → ((ts ++ terminal.Comma ∷ us) ++ terminal.Comma ∷ vs) ++ terminal.CloseParen ∷ []
         ≡ ts ++ (terminal.Comma ∷ (us ++ (terminal.Comma ∷ (vs ++ terminal.CloseParen ∷ []))))
     regrouped ts us vs = simp append_assoc
 
-pub event_unary_rows : (k : Terminal) → IfRow (RowYields part.EventUnary k) (after part.EventUnary k)
-unfolding after
+pub event_unary_rows : (k : Terminal) → IfRow (RowYields part.EventUnary k) (row_of part.EventUnary k)
+unfolding row_of
 event_unary_rows terminal.Not = λ us l. subst (λ x. Is is.Negated (terminal.Not ∷ x)) (sym (ended us l.0 l.1 l.2 l.4)) (is.NotEvent l.3)
 event_unary_rows terminal.OpenParen = event_paren_row
 event_unary_rows terminal.Any = λ us l. subst (λ x. Is is.Negated (terminal.Any ∷ x)) (sym l) (is.OneEventAtom is.AnyPoint)
@@ -429,19 +460,22 @@ event_unary_rows terminal.Prior = prior_row
 event_unary_rows terminal.Sequence = sequence_row
 event_unary_rows terminal.Choose = choose_row
 event_unary_rows terminal.Every = every_row
-event_unary_rows terminal.Fa = fa_row
+event_unary_rows terminal.Fa = row_of_three terminal.Fa action.Fa (λ ts us vs x y z. is.Fa x y z)
+event_unary_rows terminal.FaAbs = row_of_three terminal.FaAbs action.FaAbs (λ ts us vs x y z. is.FaAbs x y z)
+event_unary_rows terminal.RelPlus = row_of_one terminal.RelPlus action.RelPlus (λ ts x. is.RelPlus x)
+event_unary_rows terminal.Pipe = row_of_two terminal.Pipe action.Pipe (λ ts us x y. is.Pipe x y)
 event_unary_rows other = tt
 
-pub event_ands_rows : (k : Terminal) → IfRow (RowYields part.EventAnds k) (after part.EventAnds k)
-unfolding after
+pub event_ands_rows : (k : Terminal) → IfRow (RowYields part.EventAnds k) (row_of part.EventAnds k)
+unfolding row_of
 event_ands_rows terminal.And = λ us l xs t.
     let d = l.4 in
     let all : us ≡ l.0 ++ d.0 = l.2 ∙ ap (λ x. l.0 ++ x) (ended l.1 d.0 d.1 d.2 d.4) in
     subst (Is is.Conjoined) (sym (looped xs us l.0 d.0 terminal.And all)) (d.3 (xs ++ terminal.And ∷ l.0) (is.AndEvents t l.3))
 event_ands_rows other = tt
 
-pub event_ors_rows : (k : Terminal) → IfRow (RowYields part.EventOrs k) (after part.EventOrs k)
-unfolding after
+pub event_ors_rows : (k : Terminal) → IfRow (RowYields part.EventOrs k) (row_of part.EventOrs k)
+unfolding row_of
 event_ors_rows terminal.Or = λ us l xs t.
     let f = conjoined_front (item.Build action.OrEvents ∷ item.Part part.EventOrs ∷ []) us l in
     let d = f.behind in
@@ -449,21 +483,27 @@ event_ors_rows terminal.Or = λ us l xs t.
     subst (Is is.Event) (sym (looped xs us f.a d.0 terminal.Or all)) (d.3 (xs ++ terminal.Or ∷ f.a) (is.OrEvents t f.front))
 event_ors_rows other = tt
 
-pub mask_rows : (k : Terminal) → IfRow (RowYields part.Mask k) (after part.Mask k)
-unfolding after
+pub mask_rows : (k : Terminal) → IfRow (RowYields part.Mask k) (row_of part.Mask k)
+unfolding row_of
 mask_rows terminal.AndAnd = λ us l xs t.
     subst (λ x. Is is.EventAtom (xs ++ terminal.AndAnd ∷ x)) (sym (ended us l.0 l.1 l.2 l.4)) (is.Masked t l.3)
 mask_rows other = tt
 
-pub kind_rows : (k : Terminal) → IfRow (RowYields part.Kind k) (after part.Kind k)
-unfolding after
+pub event_mask_rows : (k : Terminal) → IfRow (RowYields part.EventMask k) (row_of part.EventMask k)
+unfolding row_of
+event_mask_rows terminal.AndAnd = λ us l xs t.
+    subst (λ x. Is is.EventAtom (terminal.OpenParen ∷ xs ++ terminal.CloseParen ∷ terminal.AndAnd ∷ x)) (sym (ended us l.0 l.1 l.2 l.4)) (is.MaskedBrackets t l.3)
+event_mask_rows other = tt
+
+pub kind_rows : (k : Terminal) → IfRow (RowYields part.Kind k) (row_of part.Kind k)
+unfolding row_of
 kind_rows terminal.After = λ us l. subst (λ x. Is is.Kind (terminal.After ∷ x)) (sym (ended us l.0 l.1 l.2 l.4)) l.3
 kind_rows terminal.Before = λ us l. subst (λ x. Is is.Kind (terminal.Before ∷ x)) (sym (ended us l.0 l.1 l.2 l.4)) l.3
 kind_rows terminal.Time = λ us l. subst (λ x. Is is.Kind (terminal.Time ∷ x)) (sym (ended us l.0 l.1 l.2 l.4)) l.3
 kind_rows other = tt
 
-pub after_what_rows : (k : Terminal) → IfRow (RowYields part.AfterWhat k) (after part.AfterWhat k)
-unfolding after
+pub after_what_rows : (k : Terminal) → IfRow (RowYields part.AfterWhat k) (row_of part.AfterWhat k)
+unfolding row_of
 after_what_rows terminal.Create = λ us l. subst (λ x. Is is.Kind (terminal.After ∷ terminal.Create ∷ x)) (sym l) is.AfterCreate
 after_what_rows terminal.Name = λ us l. subst (λ x. Is is.Kind (terminal.After ∷ terminal.Name ∷ x)) (sym l) is.AfterMethod
 after_what_rows terminal.TBegin = λ us l. subst (λ x. Is is.Kind (terminal.After ∷ terminal.TBegin ∷ x)) (sym l) is.AfterTBegin
@@ -472,22 +512,22 @@ after_what_rows terminal.TAbort = λ us l. subst (λ x. Is is.Kind (terminal.Aft
 after_what_rows terminal.NewVersion = λ us l. subst (λ x. Is is.Kind (terminal.After ∷ terminal.NewVersion ∷ x)) (sym l) is.AfterNewVersion
 after_what_rows other = tt
 
-pub before_what_rows : (k : Terminal) → IfRow (RowYields part.BeforeWhat k) (after part.BeforeWhat k)
-unfolding after
+pub before_what_rows : (k : Terminal) → IfRow (RowYields part.BeforeWhat k) (row_of part.BeforeWhat k)
+unfolding row_of
 before_what_rows terminal.Delete = λ us l. subst (λ x. Is is.Kind (terminal.Before ∷ terminal.Delete ∷ x)) (sym l) is.BeforeDelete
 before_what_rows terminal.Name = λ us l. subst (λ x. Is is.Kind (terminal.Before ∷ terminal.Name ∷ x)) (sym l) is.BeforeMethod
 before_what_rows terminal.TComplete = λ us l. subst (λ x. Is is.Kind (terminal.Before ∷ terminal.TComplete ∷ x)) (sym l) is.BeforeTComplete
 before_what_rows terminal.DropVersion = λ us l. subst (λ x. Is is.Kind (terminal.Before ∷ terminal.DropVersion ∷ x)) (sym l) is.BeforeDropVersion
 before_what_rows other = tt
 
-pub time_what_rows : (k : Terminal) → IfRow (RowYields part.TimeWhat k) (after part.TimeWhat k)
-unfolding after
+pub time_what_rows : (k : Terminal) → IfRow (RowYields part.TimeWhat k) (row_of part.TimeWhat k)
+unfolding row_of
 time_what_rows terminal.Every = λ us l. subst (λ x. Is is.Kind (terminal.Time ∷ terminal.Every ∷ x)) (sym (ended us l.0 l.1 l.2 l.4)) l.3
 time_what_rows terminal.At = λ us l. subst (λ x. Is is.Kind (terminal.Time ∷ terminal.At ∷ x)) (sym (l.1 ∙ ap (λ x. terminal.Instant ∷ x) l.2)) is.AtInstant
 time_what_rows other = tt
 
-pub period_rows : (k : Terminal) → IfRow (RowYields part.Period k) (after part.Period k)
-unfolding after
+pub period_rows : (k : Terminal) → IfRow (RowYields part.Period k) (row_of part.Period k)
+unfolding row_of
 period_rows terminal.Seconds = λ us l. subst (λ x. Is is.Kind (terminal.Time ∷ terminal.Every ∷ terminal.Seconds ∷ x)) (sym l) is.EverySeconds
 period_rows terminal.Count = λ us l. subst (λ x. Is is.Kind (terminal.Time ∷ terminal.Every ∷ terminal.Count ∷ x)) (sym l) is.EveryCount
 period_rows other = tt

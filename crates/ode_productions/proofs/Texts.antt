@@ -12,9 +12,11 @@ use Rattle.ode_grammar.specs.declared.reader.Start.TheVariants as start
 use Rattle.ode_grammar.specs.declared.terminal.Terminal.{Terminal}
 use Rattle.ode_grammar.specs.declared.terminal.Terminal.TheVariants as terminal
 use Rattle.ode_grammar.specs.Expressions.{behind_unary, comp, conj, sum, term}
-use Rattle.ode_grammar.specs.Events.{counted, evand, event as whole_event, folded}
-use Rattle.ode_grammar.specs.Grammar.{after, items_of, skipped}
+use Rattle.ode_grammar.specs.Events.{counted, evand, event as whole_event, folded, of_one, of_three, of_two}
+use Rattle.ode_grammar.specs.Terminals.{named}
+use Rattle.ode_grammar.specs.Grammar.{after, items_of, row_of, skipped}
 use Rattle.ode_grammar.specs.Texts.{plain, Derives, Done, IsText, Make, Next, Rule, Skip}
+use Rattle.ode_grammar.proofs.TerminalLaws.{stands_for-itself}
 use Rattle.ode_productions.specs.Productions.{Is, Symbol}
 use Rattle.ode_productions.specs.Productions as is
 
@@ -28,8 +30,8 @@ longer more None = None
 longer more (Some row) = Some (row ++ more)
 
 -- the rows of an expression are those of an operand, and what follows it
-pub rows : (k : Terminal) → after part.Expr k ≡ longer behind_unary (after part.Unary k)
-unfolding after
+pub rows : (k : Terminal) → row_of part.Expr k ≡ longer behind_unary (row_of part.Unary k)
+unfolding row_of
 rows terminal.Leaf = refl
 rows terminal.Number = refl
 rows terminal.Seconds = refl
@@ -76,6 +78,7 @@ rows terminal.Else = refl
 rows terminal.Event = refl
 rows terminal.Every = refl
 rows terminal.Fa = refl
+rows terminal.FaAbs = refl
 rows terminal.First = refl
 rows terminal.If = refl
 rows terminal.Initial = refl
@@ -85,10 +88,12 @@ rows terminal.Mode = refl
 rows terminal.NewVersion = refl
 rows terminal.Or = refl
 rows terminal.PDelete = refl
+rows terminal.Pipe = refl
 rows terminal.PNew = refl
 rows terminal.Prior = refl
 rows terminal.Ref = refl
 rows terminal.Relative = refl
+rows terminal.RelPlus = refl
 rows terminal.Return = refl
 rows terminal.Say = refl
 rows terminal.Scope = refl
@@ -111,7 +116,7 @@ no_unary_skip a e = none-some a e
 
 pub begins : {items : List Item} {ts : List Terminal} → D (item.Part part.Unary ∷ behind_unary ++ items) ts → D (item.Part part.Expr ∷ items) ts
 begins {items = items} (Rule {t = t} {ts = ts} p row e d) =
-    Rule part.Expr (row ++ behind_unary) (rows t ∙ ap (longer behind_unary) e) (subst (λ is. D is ts) (sym (append_assoc row behind_unary items)) d)
+    Rule part.Expr (row ++ behind_unary) (rows (named t) ∙ ap (longer behind_unary) e) (subst (λ is. D is ts) (sym (append_assoc row behind_unary items)) d)
 begins (Skip p a e d) = absurd (no_unary_skip a e)
 
 -- ---- what each symbol does
@@ -138,15 +143,15 @@ pub record IsFolding (k : Terminal) (a : Action) (p : Part) : Type 0 where
   pub closed : after p terminal.CloseParen ≡ Some []
 
 pub relative_folds : IsFolding terminal.Relative action.Relative part.MoreRelative
-unfolding after
+unfolding row_of
 relative_folds = record { first = refl; comma = refl; closed = refl }
 
 pub prior_folds : IsFolding terminal.Prior action.Prior part.MorePrior
-unfolding after
+unfolding row_of
 prior_folds = record { first = refl; comma = refl; closed = refl }
 
 pub sequence_folds : IsFolding terminal.Sequence action.Sequence part.MoreSequence
-unfolding after
+unfolding row_of
 sequence_folds = record { first = refl; comma = refl; closed = refl }
 
 -- behind the first event, and behind a later one
@@ -222,7 +227,7 @@ pub event_whole : (us : List Terminal) → AsSymbol is.Event us → (items : Lis
 event_whole us x items ts d = x items ts (no_event_ors d)
 
 pub token : (k : Terminal) {items : List Item} {ts : List Terminal} → D items ts → D (item.Token k ∷ items) (k ∷ ts)
-token k d = Next k refl d
+token k d = Next k (stands_for-itself k) d
 
 pub atom : (k : Terminal) (row : List Item) → after part.Unary k ≡ Some (row ++ item.Part part.Dots ∷ []) → ((items : List Item) (ts : List Terminal) → D items ts → D (row ++ items) ts)
     → AsSymbol is.Atom (k ∷ [])
@@ -268,18 +273,34 @@ next_event ts us x m = record {
       (event_whole ts x (item.Build a ∷ item.Part p ∷ items) (us ++ rest) (Make a (m.later k a p i items rest d))));
 }
 
-pub fa_event : (ts us vs : List Terminal) → AsSymbol is.Event ts → AsSymbol is.Event us → AsSymbol is.Event vs
-    → AsSymbol is.EventAtom (terminal.Fa ∷ terminal.OpenParen ∷ ts ++ terminal.Comma ∷ us ++ terminal.Comma ∷ vs ++ terminal.CloseParen ∷ [])
-unfolding after
-fa_event ts us vs x y z = λ items rest d.
-    let last = item.Token terminal.CloseParen ∷ item.Build action.Fa ∷ items in
-    let third = token terminal.Comma (event_whole vs z last (terminal.CloseParen ∷ rest) (token terminal.CloseParen (Make action.Fa d))) in
+pub event_of_one : (k : Terminal) (a : Action) → after part.EventUnary k ≡ Some (of_one (item.Build a)) → (ts : List Terminal) → AsSymbol is.Event ts
+    → AsSymbol is.EventAtom (k ∷ terminal.OpenParen ∷ ts ++ terminal.CloseParen ∷ [])
+event_of_one k a e ts x = λ items rest d.
+    Rule part.EventUnary (of_one (item.Build a)) e
+    (token terminal.OpenParen (regroup ts (terminal.CloseParen ∷ []) rest
+    (event_whole ts x (item.Token terminal.CloseParen ∷ item.Build a ∷ items) (terminal.CloseParen ∷ rest) (token terminal.CloseParen (Make a d)))))
+
+pub event_of_two : (k : Terminal) (a : Action) → after part.EventUnary k ≡ Some (of_two (item.Build a)) → (ts us : List Terminal)
+    → AsSymbol is.Event ts → AsSymbol is.Event us → AsSymbol is.EventAtom (k ∷ terminal.OpenParen ∷ ts ++ terminal.Comma ∷ us ++ terminal.CloseParen ∷ [])
+event_of_two k a e ts us x y = λ items rest d.
+    let last = item.Token terminal.CloseParen ∷ item.Build a ∷ items in
+    let second = token terminal.Comma (event_whole us y last (terminal.CloseParen ∷ rest) (token terminal.CloseParen (Make a d))) in
+    let first = event_whole ts x (item.Token terminal.Comma ∷ whole_event ++ last) _ second in
+    Rule part.EventUnary (of_two (item.Build a)) e
+    (token terminal.OpenParen (subst (λ zs. D (whole_event ++ item.Token terminal.Comma ∷ whole_event ++ last) zs) (sym (regrouped ts us rest)) first))
+  where
+    regrouped : (ts us rest : List Terminal) → (((ts ++ terminal.Comma ∷ us) ++ terminal.CloseParen ∷ []) ++ rest) ≡ ts ++ (terminal.Comma ∷ (us ++ terminal.CloseParen ∷ rest))
+    regrouped ts us rest = simp append_assoc
+
+pub event_of_three : (k : Terminal) (a : Action) → after part.EventUnary k ≡ Some (of_three (item.Build a)) → (ts us vs : List Terminal)
+    → AsSymbol is.Event ts → AsSymbol is.Event us → AsSymbol is.Event vs
+    → AsSymbol is.EventAtom (k ∷ terminal.OpenParen ∷ ts ++ terminal.Comma ∷ us ++ terminal.Comma ∷ vs ++ terminal.CloseParen ∷ [])
+event_of_three k a e ts us vs x y z = λ items rest d.
+    let last = item.Token terminal.CloseParen ∷ item.Build a ∷ items in
+    let third = token terminal.Comma (event_whole vs z last (terminal.CloseParen ∷ rest) (token terminal.CloseParen (Make a d))) in
     let second = token terminal.Comma (event_whole us y (item.Token terminal.Comma ∷ whole_event ++ last) _ third) in
     let first = event_whole ts x (item.Token terminal.Comma ∷ whole_event ++ item.Token terminal.Comma ∷ whole_event ++ last) _ second in
-    Rule part.EventUnary
-    (item.Token terminal.OpenParen ∷ whole_event ++ item.Token terminal.Comma ∷ whole_event ++ item.Token terminal.Comma ∷ whole_event
-    ++ item.Token terminal.CloseParen ∷ item.Build action.Fa ∷ [])
-    refl
+    Rule part.EventUnary (of_three (item.Build a)) e
     (token terminal.OpenParen
     (subst (λ zs. D (whole_event ++ item.Token terminal.Comma ∷ whole_event ++ item.Token terminal.Comma ∷ whole_event ++ last) zs) (sym (regrouped ts us vs rest)) first))
   where
@@ -288,10 +309,18 @@ fa_event ts us vs x y z = λ items rest d.
         ≡ ts ++ (terminal.Comma ∷ (us ++ (terminal.Comma ∷ (vs ++ terminal.CloseParen ∷ rest))))
     regrouped ts us vs rest = simp append_assoc
 
+-- the items behind an event in brackets
+abbrev pub pair_items : List Item
+pair_items = item.Token terminal.CloseParen ∷ item.Build action.EventPair ∷ item.Part part.EventMask ∷ []
+
+pub no_event_mask : {items : List Item} {ts : List Terminal} → D items ts → D (item.Part part.EventMask ∷ items) ts
+unfolding skipped
+no_event_mask d = no part.EventMask refl d
+
 -- ---- all
 
 pub derived : {s : Symbol} {ts : List Terminal} → Is s ts → AsSymbol s ts
-unfolding after
+unfolding row_of
 derived is.LeafAtom = leaf_atom terminal.Leaf refl
 derived is.NumberAtom = leaf_atom terminal.Number refl
 derived is.SecondsAtom = leaf_atom terminal.Seconds refl
@@ -364,9 +393,16 @@ derived is.AtInstant = λ items ts d.
     Rule part.EventUnary (item.Part part.TimeWhat ∷ item.Part part.Mask ∷ []) refl
     (Rule part.TimeWhat (item.Token terminal.Instant ∷ item.Build action.TimeAt ∷ []) refl (token terminal.Instant (Make action.TimeAt d)))
 derived (is.EventBrackets {ts = us} x) = λ items ts d.
-    Rule part.EventUnary (whole_event ++ item.Token terminal.CloseParen ∷ item.Build action.EventPair ∷ []) refl
+    Rule part.EventUnary (whole_event ++ pair_items) refl
     (regroup us (terminal.CloseParen ∷ []) ts
-    (event_whole us (derived x) (item.Token terminal.CloseParen ∷ item.Build action.EventPair ∷ items) (terminal.CloseParen ∷ ts) (token terminal.CloseParen (Make action.EventPair d))))
+    (event_whole us (derived x) (pair_items ++ items) (terminal.CloseParen ∷ ts) (token terminal.CloseParen (Make action.EventPair (no_event_mask d)))))
+derived (is.MaskedBrackets {ts = us} {us = vs} x y) = λ items ts d.
+    Rule part.EventUnary (whole_event ++ pair_items) refl
+    (regroup us (terminal.CloseParen ∷ terminal.AndAnd ∷ vs) ts
+    (event_whole us (derived x) (pair_items ++ items) (terminal.CloseParen ∷ terminal.AndAnd ∷ vs ++ ts)
+    (token terminal.CloseParen (Make action.EventPair
+    (Rule part.EventMask (item.Part part.Expr ∷ item.Build action.MaskedEvent ∷ []) refl
+    (whole vs (derived y) (item.Build action.MaskedEvent ∷ items) ts (Make action.MaskedEvent d)))))))
 derived is.AnyPoint = λ items ts d. Rule part.EventUnary (item.Build action.Any ∷ []) refl (Make action.Any d)
 derived is.FirstPoint = λ items ts d. Rule part.EventUnary (item.Build action.First ∷ []) refl (Make action.First d)
 derived (is.OneKind x) = λ items ts d. derived x items ts (no_mask d)
@@ -379,7 +415,10 @@ derived (is.Prior {ts = us} {us = vs} x y) = folded_event terminal.Prior action.
 derived (is.Sequence {ts = us} {us = vs} x y) = folded_event terminal.Sequence action.Sequence part.MoreSequence sequence_folds us vs (derived x) (derived y)
 derived (is.Choose {ts = us} x) = counted_event terminal.Choose action.Choose refl us (derived x)
 derived (is.Every {ts = us} x) = counted_event terminal.Every action.Every refl us (derived x)
-derived (is.Fa {ts = us} {us = vs} {vs = ws} x y z) = fa_event us vs ws (derived x) (derived y) (derived z)
+derived (is.Fa {ts = us} {us = vs} {vs = ws} x y z) = event_of_three terminal.Fa action.Fa refl us vs ws (derived x) (derived y) (derived z)
+derived (is.FaAbs {ts = us} {us = vs} {vs = ws} x y z) = event_of_three terminal.FaAbs action.FaAbs refl us vs ws (derived x) (derived y) (derived z)
+derived (is.RelPlus {ts = us} x) = event_of_one terminal.RelPlus action.RelPlus refl us (derived x)
+derived (is.Pipe {ts = us} {us = vs} x y) = event_of_two terminal.Pipe action.Pipe refl us vs (derived x) (derived y)
 derived (is.LastEvent {ts = us} x) = last_event us (derived x)
 derived (is.NextEvent {ts = us} {us = vs} x y) = next_event us vs (derived x) (derived y)
 derived (is.NotEvent x) = λ items ts d.

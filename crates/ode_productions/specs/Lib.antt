@@ -1,2 +1,3 @@
+pub mod Standing
 pub mod Productions
 pub mod Phrases

@@ -69,9 +69,12 @@ pub data Is : Symbol → List Terminal → Type 0 where
   AtInstant : Is Kind (terminal.Time ∷ terminal.At ∷ terminal.Instant ∷ [])
   AfterNewVersion : Is Kind (terminal.After ∷ terminal.NewVersion ∷ [])
   BeforeDropVersion : Is Kind (terminal.Before ∷ terminal.DropVersion ∷ [])
-  -- evatom := "(" event ")" | "any" | "first" | kind [ "&&" expr ] | ( "relative" | "prior" | "sequence" ) "(" event "," event { "," event } ")"
-  --         | ( "choose" | "every" ) NUMBER "(" event ")" | "fa" "(" event "," event "," event ")"
+  -- evatom := "(" event ")" [ "&&" expr ] | "any" | "first" | kind [ "&&" expr ]
+  --         | ( "relative" | "prior" | "sequence" ) "(" event "," event { "," event } ")" | ( "choose" | "every" ) NUMBER "(" event ")"
+  --         | ( "fa" | "faabs" ) "(" event "," event "," event ")" | "relplus" "(" event ")" | "pipe" "(" event "," event ")"
   EventBrackets : {ts : List Terminal} → Is Event ts → Is EventAtom (terminal.OpenParen ∷ ts ++ terminal.CloseParen ∷ [])
+  MaskedBrackets : {ts us : List Terminal} → Is Event ts → Is Expression us
+      → Is EventAtom (terminal.OpenParen ∷ ts ++ terminal.CloseParen ∷ terminal.AndAnd ∷ us)
   AnyPoint : Is EventAtom (terminal.Any ∷ [])
   FirstPoint : Is EventAtom (terminal.First ∷ [])
   OneKind : {ts : List Terminal} → Is Kind ts → Is EventAtom ts
@@ -83,6 +86,11 @@ pub data Is : Symbol → List Terminal → Type 0 where
   Every : {ts : List Terminal} → Is Event ts → Is EventAtom (terminal.Every ∷ terminal.Count ∷ terminal.OpenParen ∷ ts ++ terminal.CloseParen ∷ [])
   Fa : {ts us vs : List Terminal} → Is Event ts → Is Event us → Is Event vs
       → Is EventAtom (terminal.Fa ∷ terminal.OpenParen ∷ ts ++ terminal.Comma ∷ us ++ terminal.Comma ∷ vs ++ terminal.CloseParen ∷ [])
+  FaAbs : {ts us vs : List Terminal} → Is Event ts → Is Event us → Is Event vs
+      → Is EventAtom (terminal.FaAbs ∷ terminal.OpenParen ∷ ts ++ terminal.Comma ∷ us ++ terminal.Comma ∷ vs ++ terminal.CloseParen ∷ [])
+  RelPlus : {ts : List Terminal} → Is Event ts → Is EventAtom (terminal.RelPlus ∷ terminal.OpenParen ∷ ts ++ terminal.CloseParen ∷ [])
+  Pipe : {ts us : List Terminal} → Is Event ts → Is Event us
+      → Is EventAtom (terminal.Pipe ∷ terminal.OpenParen ∷ ts ++ terminal.Comma ∷ us ++ terminal.CloseParen ∷ [])
   -- behind the first event of `relative`, `prior` or `sequence`: "," event { "," event } ")"
   LastEvent : {ts : List Terminal} → Is Event ts → Is More (terminal.Comma ∷ ts ++ terminal.CloseParen ∷ [])
   NextEvent : {ts us : List Terminal} → Is Event ts → Is More us → Is More (terminal.Comma ∷ ts ++ us)

@@ -1,31 +1,32 @@
-//! What the rows of the grammar derive.
+//! What the rows of the grammar derive. Tokens are a text where what they stand for is one of the productions.
 ghost use Rattle.std.specs.Prelude.{List};
 ghost use Rattle.ode_grammar.specs.declared.reader.Start.TheVariants as start;
 ghost use Rattle.ode_grammar.specs.declared.terminal.Terminal.{Terminal};
 ghost use Rattle.ode_grammar.specs.Texts.{IsText};
 ghost use Rattle.ode_productions.specs.Phrases.{AClass, AStatement, Says};
 ghost use Rattle.ode_productions.specs.Productions.{Event, Expression, Is};
+ghost use Rattle.ode_productions.specs.Standing.{StandsFor};
 
 /// An expression of the rows is one of the productions, and the other way round.
 pub fn expressions_are_productions()
-    ensures rows { (tokens : List Terminal) → IsText start.Expr tokens → Is Expression tokens }
-    ensures productions { (tokens : List Terminal) → Is Expression tokens → IsText start.Expr tokens }
+    ensures rows { (tokens : List Terminal) → IsText start.Expr tokens → StandsFor (Is Expression) tokens }
+    ensures productions { (tokens : List Terminal) → StandsFor (Is Expression) tokens → IsText start.Expr tokens }
 {}
 
 /// An event expression of the rows is one of the productions, and the other way round.
 pub fn events_are_productions()
-    ensures rows { (tokens : List Terminal) → IsText start.Event tokens → Is Event tokens }
-    ensures productions { (tokens : List Terminal) → Is Event tokens → IsText start.Event tokens }
+    ensures rows { (tokens : List Terminal) → IsText start.Event tokens → StandsFor (Is Event) tokens }
+    ensures productions { (tokens : List Terminal) → StandsFor (Is Event) tokens → IsText start.Event tokens }
 {}
 
 /// A class of the rows is one of the productions, and the other way round.
 pub fn classes_are_productions()
-    ensures rows { (tokens : List Terminal) → IsText start.Class tokens → Says AClass tokens }
-    ensures productions { (tokens : List Terminal) → Says AClass tokens → IsText start.Class tokens }
+    ensures rows { (tokens : List Terminal) → IsText start.Class tokens → StandsFor (Says AClass) tokens }
+    ensures productions { (tokens : List Terminal) → StandsFor (Says AClass) tokens → IsText start.Class tokens }
 {}
 
 /// A statement of a script, of the rows, is one of the productions, and the other way round.
 pub fn statements_are_productions()
-    ensures rows { (tokens : List Terminal) → IsText start.Statement tokens → Says AStatement tokens }
-    ensures productions { (tokens : List Terminal) → Says AStatement tokens → IsText start.Statement tokens }
+    ensures rows { (tokens : List Terminal) → IsText start.Statement tokens → StandsFor (Says AStatement) tokens }
+    ensures productions { (tokens : List Terminal) → StandsFor (Says AStatement) tokens → IsText start.Statement tokens }
 {}

@@ -202,6 +202,14 @@ built_kind other v = built_class other v
 abbrev pub over_two : (EventExpr → EventExpr → EventExpr) → Trees → Trees
 over_two f v = record v { events = f (event_tree (rest v.events)) (event_tree v.events) ∷ rest (rest v.events) }
 
+abbrev pub over_three : (EventExpr → EventExpr → EventExpr → EventExpr) → Trees → Trees
+over_three f v =
+    record v { events = f (event_tree (rest (rest v.events))) (event_tree (rest v.events)) (event_tree v.events) ∷ rest (rest (rest v.events)) }
+
+-- a word that isn't reserved was kept as a name
+abbrev pub without_word : Trees → Trees
+without_word v = record v { names = rest v.names }
+
 abbrev pub counted : (ℕ → EventExpr → EventExpr) → Trees → Trees
 counted f v = record v { leaves = rest v.leaves; events = f (count_of (tree v.leaves)) (event_tree v.events) ∷ rest v.events }
 
@@ -211,16 +219,20 @@ built_event action.First v = record v { events = event.First ∷ v.events }
 built_event action.Unmasked v = record v { kinds = rest v.kinds; events = event.Leaf (kind_on v.kinds) None ∷ v.events }
 built_event action.Masked v =
     record v { marks = rest v.marks; exprs = rest v.exprs; kinds = rest v.kinds; events = event.Leaf (kind_on v.kinds) (Some (tree v.exprs)) ∷ v.events }
+built_event action.MaskedEvent v =
+    record v { marks = rest v.marks; exprs = rest v.exprs; events = event.Masked (event_tree v.events) (tree v.exprs) ∷ rest v.events }
 built_event action.NotEvent v = record v { marks = rest v.marks; events = event.Not (event_tree v.events) ∷ rest v.events }
 built_event action.AndEvents v = over_two event.And v
 built_event action.OrEvents v = over_two event.Or v
 built_event action.Relative v = over_two event.Relative v
 built_event action.Prior v = over_two event.Prior v
 built_event action.Sequence v = over_two event.Sequence v
+built_event action.RelPlus v = record v { names = rest v.names; events = event.RelPlus (event_tree v.events) ∷ rest v.events }
+built_event action.Pipe v = over_two event.Pipe (without_word v)
 built_event action.Choose v = counted event.Choose v
 built_event action.Every v = counted event.Every v
-built_event action.Fa v =
-    record v { events = event.Fa (event_tree (rest (rest v.events))) (event_tree (rest v.events)) (event_tree v.events) ∷ rest (rest (rest v.events)) }
+built_event action.Fa v = over_three event.Fa v
+built_event action.FaAbs v = over_three event.FaAbs (without_word v)
 built_event other v = built_kind other v
 
 -- ---- statements and right sides

@@ -19,6 +19,7 @@ use Rattle.ode_lex.specs.declared.token.TokenKind.{TokenKind}
 use Rattle.ode_lex.specs.declared.token.TokenKind.TheVariants as kind
 use Rattle.ode_grammar.specs.declared.terminal.Terminal.{Terminal}
 use Rattle.ode_grammar.specs.declared.terminal.Terminal.TheVariants as terminal
+use Rattle.ode_grammar.specs.Terminals.{named}
 use Rattle.ode_terminals.specs.declared.seen.Place.{Place}
 use Rattle.ode_terminals.specs.Seen.{slice_of, terminal_of}
 use Rattle.ode_syntax.specs.declared.trees.Trees.{Trees}
@@ -86,7 +87,7 @@ with_leaf k bytes v = record v { leaves = leaf_of k bytes ∷ v.leaves }
 abbrev pub with_mark : TokenKind → Trees → Trees
 with_mark k v = record v { marks = marks_with k v.marks }
 
--- by what the grammar sees: names, leaves, operators and the words that say something of a trigger or a sort are kept
+-- by what the grammar sees, a word that isn't reserved as a name: names, leaves, operators and the words that say something of a trigger or a sort are kept
 unfoldable pub kept_as : Terminal → TokenKind → List ℕ → Trees → Trees
 kept_as terminal.Name k bytes v = record v { names = name_of bytes ∷ v.names }
 kept_as terminal.Leaf k bytes v = with_leaf k bytes v
@@ -109,4 +110,4 @@ kept_as terminal.Mode k bytes v = record v { modes = mode_of bytes ∷ v.modes }
 kept_as other k bytes v = v
 
 abbrev pub kept : Spelled → Trees → Trees
-kept s v = kept_as s.terminal s.kind s.bytes v
+kept s v = kept_as (named s.terminal) s.kind s.bytes v

@@ -63,14 +63,19 @@ fn take_two(
     Ok((left, right))
 }
 
-// Takes the three event expressions on top away, into one.
-fn take_fa(alloc: Global, events: &mut Stack<EventExpr>) -> Result<EventExpr, AllocError>
-    ensures top { IfOk result (λ fa. fa ≡ EventExpr.Fa (event_tree (rest (rest events.old))) (event_tree (rest events.old)) (event_tree events.old)) }
+// Takes the three event expressions on top away, the lowest one first.
+fn take_three(
+    alloc: Global,
+    events: &mut Stack<EventExpr>,
+) -> Result<(Boxed<EventExpr>, Boxed<EventExpr>, Boxed<EventExpr>), AllocError>
+    ensures top { IfOk result (λ three. three.2 ≡ event_tree events.old) }
+    ensures second { IfOk result (λ three. three.1 ≡ event_tree (rest events.old)) }
+    ensures third { IfOk result (λ three. three.0 ≡ event_tree (rest (rest events.old))) }
     ensures rest { OnOk result (events.new ≡ rest (rest (rest events.old))) }
 {
     let third = take_boxed_event(alloc, events)?;
     let (first, second) = take_two(alloc, events)?;
-    Ok(EventExpr::Fa(first, second, third))
+    Ok((first, second, third))
 }
 
 impl Trees {
@@ -91,6 +96,12 @@ impl Trees {
                 let test = take_expr(&mut self.exprs);
                 let kind = take(&mut self.kinds, Kind::Create);
                 self.events.push(EventExpr::Leaf(kind, Some(test)))
+            }
+            Action::MaskedEvent => {
+                take(&mut self.marks, Mark::Plus);
+                let test = take_expr(&mut self.exprs);
+                let of = take_boxed_event(alloc, &mut self.events)?;
+                self.events.push(EventExpr::Masked(of, test))
             }
             Action::NotEvent => {
                 take(&mut self.marks, Mark::Plus);
@@ -117,6 +128,16 @@ impl Trees {
                 let (left, right) = take_two(alloc, &mut self.events)?;
                 self.events.push(EventExpr::Sequence(left, right))
             }
+            Action::RelPlus => {
+                take_name(alloc, &mut self.names)?;
+                let of = take_boxed_event(alloc, &mut self.events)?;
+                self.events.push(EventExpr::RelPlus(of))
+            }
+            Action::Pipe => {
+                take_name(alloc, &mut self.names)?;
+                let (left, right) = take_two(alloc, &mut self.events)?;
+                self.events.push(EventExpr::Pipe(left, right))
+            }
             Action::Choose => {
                 let count = take_count(&mut self.leaves);
                 let of = take_boxed_event(alloc, &mut self.events)?;
@@ -128,8 +149,13 @@ impl Trees {
                 self.events.push(EventExpr::Every(count, of))
             }
             Action::Fa => {
-                let fa = take_fa(alloc, &mut self.events)?;
-                self.events.push(fa)
+                let (first, second, third) = take_three(alloc, &mut self.events)?;
+                self.events.push(EventExpr::Fa(first, second, third))
+            }
+            Action::FaAbs => {
+                take_name(alloc, &mut self.names)?;
+                let (first, second, third) = take_three(alloc, &mut self.events)?;
+                self.events.push(EventExpr::FaAbs(first, second, third))
             }
             _ => self.build_kind(alloc, action),
         }

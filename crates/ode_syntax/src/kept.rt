@@ -1,5 +1,6 @@
 //! What tokens add.
 ghost use Rattle.std.specs.Prelude.{◌≡◌, OnOk};
+ghost use Rattle.ode_grammar.specs.Terminals.{named};
 ghost use Rattle.ode_syntax.specs.Kept.{kept_as};
 
 use crate::trees::Trees;
@@ -18,9 +19,9 @@ impl Trees {
         kind: TokenKind,
         bytes: &[u8],
     ) -> Result<(), AllocError>
-        ensures { OnOk result (self.new ≡ kept_as terminal kind bytes.now self.old) }
+        ensures { OnOk result (self.new ≡ kept_as (named terminal) kind bytes.now self.old) }
     {
-        match terminal {
+        match terminal.named() {
             Terminal::Name => {
                 let name = name_of(alloc, bytes)?;
                 self.names.push(name)

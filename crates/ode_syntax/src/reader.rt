@@ -26,7 +26,7 @@ fn advance(
     while let Some(item) = items.pop() {
         match item {
             Item::Token(expected) => {
-                if !terminal.is(expected) {
+                if !terminal.stands_for(expected) {
                     return Ok(false);
                 }
                 made.keep(alloc, terminal, kind, bytes)?;

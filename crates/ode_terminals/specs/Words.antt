@@ -1,5 +1,5 @@
--- Reserved words, and what the grammar sees of them.
-use Rattle.std.specs.Prelude.{ℕ, List, [], ◌∷◌, cond, codes}
+-- Words that have a place of their own, and what the grammar sees of them.
+use Rattle.std.specs.Prelude.{ℕ, List, [], ◌∷◌, ◌++◌, cond, codes}
 use Rattle.std.specs.Str.{bytes_eq}
 use Rattle.ode_grammar.specs.declared.terminal.Terminal.{Terminal}
 use Rattle.ode_grammar.specs.declared.terminal.Terminal.TheVariants as terminal
@@ -69,10 +69,14 @@ rows =
     ∷ (codes "whole", terminal.Scope)
     ∷ []
 
+-- the words that begin an event expression and aren't reserved
+abbrev pub event_words : List (List ℕ × Terminal)
+event_words = (codes "faabs", terminal.FaAbs) ∷ (codes "pipe", terminal.Pipe) ∷ (codes "relplus", terminal.RelPlus) ∷ []
+
 -- what a word has in a table, and a name where it isn't there
 abbrev pub looked_up : List (List ℕ × Terminal) → List ℕ → Terminal
 looked_up [] word = terminal.Name
 looked_up (row ∷ rows) word = cond (bytes_eq row.0 word) row.1 (looked_up rows word)
 
 unfoldable pub word_terminal : List ℕ → Terminal
-word_terminal word = looked_up rows word
+word_terminal word = looked_up (rows ++ event_words) word

@@ -1,12 +1,12 @@
-//! Reserved words.
+//! Words that have a place of their own.
 ghost use Rattle.std.specs.Prelude.{◌≡◌, map};
 ghost use Rattle.ode_value.specs.Words.{reserved};
 ghost use Rattle.ode_terminals.specs.Words.{looked_up, rows, word_terminal};
 
 use ode_grammar::Terminal;
 
-/// The reserved words, each with what the grammar sees of it.
-const ROWS: [(&[u8], Terminal); 60] = [
+/// The reserved words, each with what the grammar sees of it, and those that begin an event expression and aren't reserved.
+const ROWS: [(&[u8], Terminal); 63] = [
     (b"abort", Terminal::Abort),
     (b"activate", Terminal::Activate),
     (b"after", Terminal::After),
@@ -67,6 +67,9 @@ const ROWS: [(&[u8], Terminal); 60] = [
     (b"version", Terminal::Version),
     (b"void", Terminal::Void),
     (b"whole", Terminal::Scope),
+    (b"faabs", Terminal::FaAbs),
+    (b"pipe", Terminal::Pipe),
+    (b"relplus", Terminal::RelPlus),
 ];
 
 fn look_up(rows: &[(&[u8], Terminal)], word: &[u8]) -> Terminal
@@ -88,7 +91,7 @@ pub fn word_terminal(word: &[u8]) -> Terminal
     look_up(&ROWS, word)
 }
 
-/// The words of the table are the reserved ones, in their order.
+/// The words of the table but the last three are the reserved ones, in their order.
 #[tactic(auto, unfolding(ode_value::specs::Words::reserved))]
 pub fn words_are_reserved()
     ensures { map (λ row. row.0) rows ≡ reserved }

@@ -1,4 +1,5 @@
-use Rattle.ode_productions.proofs.Decomposed.{class_is}
+use Rattle.ode_grammar.specs.declared.reader.Start.TheVariants as start
+use Rattle.ode_productions.proofs.Decomposed.{class_is, stands_text}
 use Rattle.ode_productions.proofs.PhraseTexts.{class_text}
 use Rattle.ode_productions.proofs.laws.classes_are_productions.Goals as goal
 
@@ -6,4 +7,4 @@ pub returns-clause-rows : goal.returns-clause-rows
 returns-clause-rows c = class_is
 
 pub returns-clause-productions : goal.returns-clause-productions
-returns-clause-productions c = class_text
+returns-clause-productions c = λ tokens x. stands_text start.Class tokens x.0 x.1 (class_text x.0 x.2)

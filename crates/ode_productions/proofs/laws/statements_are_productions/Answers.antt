@@ -1,4 +1,5 @@
-use Rattle.ode_productions.proofs.Decomposed.{statement_is}
+use Rattle.ode_grammar.specs.declared.reader.Start.TheVariants as start
+use Rattle.ode_productions.proofs.Decomposed.{statement_is, stands_text}
 use Rattle.ode_productions.proofs.PhraseTexts.{statement_text}
 use Rattle.ode_productions.proofs.laws.statements_are_productions.Goals as goal
 
@@ -6,4 +7,4 @@ pub returns-clause-rows : goal.returns-clause-rows
 returns-clause-rows c = statement_is
 
 pub returns-clause-productions : goal.returns-clause-productions
-returns-clause-productions c = statement_text
+returns-clause-productions c = λ tokens x. stands_text start.Statement tokens x.0 x.1 (statement_text x.0 x.2)
