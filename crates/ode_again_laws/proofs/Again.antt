@@ -10,7 +10,7 @@ use Rattle.ode_grammar.specs.declared.item.Item.TheVariants as item
 use Rattle.ode_grammar.specs.declared.item.Part.TheVariants as part
 use Rattle.ode_grammar.specs.declared.reader.Start.TheVariants as start
 use Rattle.ode_grammar.specs.declared.terminal.Terminal.TheVariants as terminal
-use Rattle.ode_grammar.specs.Grammar.{after, items_of}
+use Rattle.ode_grammar.specs.Grammar.{items_of, row_of}
 use Rattle.ode_grammar.specs.Statements.{class_rest}
 use Rattle.ode_grammar.specs.Texts.{Derives, Done, Make, Rule}
 use Rattle.ode_grammar.proofs.Follows.{start_well}
@@ -183,7 +183,7 @@ module _ (d : ClassDecl) (g : IsGoodRead d) where
   spells = to_spells refl (join (of_spells p.spells) (closing_mark Class mark.Semi) (λ rest x. refl))
 
   derives : Ds (item.Part part.Statement ∷ []) at_start ts out
-  unfolding after word_terminal kept_as
+  unfolding row_of word_terminal kept_as
   derives =
       Rule part.Statement (class_rest ++ item.Token terminal.Semi ∷ item.Build action.Declare ∷ []) refl
       (p.does (item.Token terminal.Semi ∷ item.Build action.Declare ∷ []) at_start (marked mark.Semi ∷ []) out (next_mark mark.Semi refl (Make action.Declare Done)))

@@ -9,7 +9,8 @@ use Rattle.ode_grammar.specs.declared.item.Item.TheVariants as item
 use Rattle.ode_grammar.specs.declared.item.Part.TheVariants as part
 use Rattle.ode_grammar.specs.declared.terminal.Terminal.{Terminal}
 use Rattle.ode_grammar.specs.declared.terminal.Terminal.TheVariants as terminal
-use Rattle.ode_grammar.specs.Grammar.{after, skipped}
+use Rattle.ode_grammar.specs.Grammar.{after, row_of, skipped}
+use Rattle.ode_grammar.specs.Terminals.{named}
 use Rattle.ode_grammar.specs.Statements.{class_rest}
 use Rattle.ode_grammar.specs.Texts.{Derives, Done, Next, Make, Rule, Skip}
 use Rattle.ode_value.specs.declared.statement.ClassDecl.{ClassDecl}
@@ -85,7 +86,7 @@ ends_other None = true
 ends_other (Some row) = other_end (last_after None row)
 
 others : (k : Terminal) → (is_class k || ends_other (after part.Statement k)) ≡ true
-unfolding after
+unfolding row_of
 others terminal.Class = refl
 others other = refl
 
@@ -121,12 +122,12 @@ class_true terminal.Class e = refl
 class_true other e = absurd (false≢true e)
 
 class_row : after part.Statement terminal.Class ≡ Some (class_rest ++ item.Token terminal.Semi ∷ item.Build action.Declare ∷ [])
-unfolding after
+unfolding row_of
 class_row = refl
 
 class_kept : (t : Spelled) → t.terminal ≡ terminal.Class → keep t at_start ≡ at_start
 unfolding kept_as
-class_kept t e = ap (λ k. record { trees = kept_as k t.kind t.bytes no_trees; heights = none }) e
+class_kept t e = ap (λ k. record { trees = kept_as (named k) t.kind t.bytes no_trees; heights = none }) e
 
 no_skip : (a : Action) → skipped part.Statement ≡ Some a → ⊥
 unfolding skipped

@@ -1,5 +1,5 @@
 -- Words, and what the grammar sees of them.
-use Rattle.std.proofs.Common.{◌≡◌, ℕ, ℤ, pos, negsuc, ◌^◌, Bool, true, false, not, ◌||◌, ◌==◌, cond, nat_le, codes, List, [], ◌∷◌, Option, Some, None, refl, sym, ◌∙◌, ap, subst}
+use Rattle.std.proofs.Common.{◌≡◌, ℕ, ℤ, pos, negsuc, ◌^◌, Bool, true, false, not, ◌||◌, ◌==◌, cond, nat_le, codes, List, [], ◌∷◌, ◌++◌, Option, Some, None, refl, sym, ◌∙◌, ap, subst}
 use Rattle.std.specs.List.{list_all}
 use Rattle.std.specs.Str.{bytes_eq}
 use Rattle.std.proofs.lemmas.Bool.{and_parts, false≢true}
@@ -13,7 +13,7 @@ use Rattle.ode_grammar.specs.declared.terminal.Terminal.TheVariants as terminal
 use Rattle.ode_terminals.specs.declared.seen.Place.{Place}
 use Rattle.ode_terminals.specs.declared.seen.Place.TheVariants as place_of
 use Rattle.ode_terminals.specs.Seen.{between_quotes, instant_terminal, mark_terminal, number_terminal, reference_terminal, seen, this_terminal}
-use Rattle.ode_terminals.specs.Words.{looked_up, rows, word_terminal}
+use Rattle.ode_terminals.specs.Words.{event_words, looked_up, rows, word_terminal}
 use Rattle.ode_timer.specs.Dates.{instant_of}
 use Rattle.ode_value.specs.Limits.{choose_limit}
 use Rattle.ode_reread.proofs.Sounds.{either}
@@ -98,7 +98,7 @@ no_class_mark other = refl
 
 class_shown : (bytes : List ℕ) {k : TokenKind} → Shown is_class bytes k → bytes_eq bytes (codes "class") ≡ true
 unfolding word_terminal
-class_shown bytes (AWord e) = looked_test is_class (λ w. bytes_eq w (codes "class")) rows bytes refl refl e
+class_shown bytes (AWord e) = looked_test is_class (λ w. bytes_eq w (codes "class")) (rows ++ event_words) bytes refl refl e
 class_shown bytes (AMark n e) = absurd (false≢true (sym (no_class_mark n) ∙ e))
 
 pub class_bytes : (place : Place) (bytes : List ℕ) (k : TokenKind) → seen place bytes k ≡ terminal.Class → bytes_eq bytes (codes "class") ≡ true

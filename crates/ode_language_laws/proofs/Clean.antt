@@ -316,15 +316,19 @@ event_clean action.Any v h = h
 event_clean action.First v h = h
 event_clean action.Unmasked v h = h
 event_clean action.Masked v h = without_expr v h
+event_clean action.MaskedEvent v h = without_expr v h
 event_clean action.NotEvent v h = h
 event_clean action.AndEvents v h = h
 event_clean action.OrEvents v h = h
 event_clean action.Relative v h = h
+event_clean action.RelPlus v h = h
 event_clean action.Prior v h = h
 event_clean action.Sequence v h = h
+event_clean action.Pipe v h = h
 event_clean action.Choose v h = without_leaf v h
 event_clean action.Every v h = without_leaf v h
 event_clean action.Fa v h = h
+event_clean action.FaAbs v h = h
 event_clean a v h = kind_clean a v h
 
 statement_clean : (a : Action) (v : Trees) → IsClean v → IsClean (built_statement a v)

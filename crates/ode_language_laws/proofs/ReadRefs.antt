@@ -15,6 +15,7 @@ use Rattle.ode_grammar.specs.declared.item.Item.TheVariants as item
 use Rattle.ode_grammar.specs.declared.reader.Start.{Start}
 use Rattle.ode_grammar.specs.declared.reader.Start.TheVariants as start
 use Rattle.ode_grammar.specs.Grammar.{after, items_of, skipped}
+use Rattle.ode_grammar.specs.Terminals.{named}
 use Rattle.ode_grammar.specs.Reading.{by_row, made_after, made_at_end, made_of_skipped, next, run}
 use Rattle.ode_heights.specs.Heights.{none}
 use Rattle.ode_terminals.specs.declared.seen.Place.{Place}
@@ -43,12 +44,12 @@ skipped_clean (Some a) v h = make_clean a v h
 module _ (place : Place) where
   after_clean : (items : List Item) (v : Trees) (t : Spelled) → Sound place t → IsClean v → IsClean (made_after trees items v t)
   after_clean [] v t sound h = h
-  after_clean (item.Token k ∷ items) v t sound h = keep_clean t.terminal t.kind sound.says t.bytes v h
+  after_clean (item.Token k ∷ items) v t sound h = keep_clean (named t.terminal) t.kind sound.says t.bytes v h
   after_clean (item.Build a ∷ items) v t sound h = after_clean items (trees.make a v) t sound (make_clean a v h)
   after_clean (item.Part p ∷ items) v t sound h = by_rows (after p t.terminal) (skipped p) (after_clean items (made_of_skipped trees (skipped p) v) t sound (skipped_clean (skipped p) v h)) where
     by_rows : (row : Option (List Item)) (skip : Option Action) → IsClean (made_after trees items (made_of_skipped trees (skipped p) v) t)
         → IsClean (by_row (λ (items : List Item). trees.keep t v) (made_after trees items (made_of_skipped trees (skipped p) v) t) v row skip)
-    by_rows (Some row) skip past = keep_clean t.terminal t.kind sound.says t.bytes v h
+    by_rows (Some row) skip past = keep_clean (named t.terminal) t.kind sound.says t.bytes v h
     by_rows None (Some a) past = past
     by_rows None None past = h
 

@@ -1,6 +1,6 @@
 //! Event expressions.
 ghost use Rattle.std.specs.Prelude.{◌≡◌, ◌++◌, codes, OnOk, IfOk};
-ghost use Rattle.ode_value.specs.Printing.{event_text, in_brackets, kind_text, mask_text, operand, printed_event};
+ghost use Rattle.ode_value.specs.Printing.{event_text, in_brackets, kind_text, mask_text, operand, operand_text, printed_event};
 ghost use Rattle.ode_value.specs.Decimal.{digits_of};
 ghost use Rattle.ode_value.specs.Instants.{instant_text};
 
@@ -39,15 +39,20 @@ pub fn put_kind(alloc: Global, out: &mut Vec<u8>, kind: &Kind) -> Result<(), All
     }
 }
 
+// Puts a mask's operator and the mask, an operand, at the end.
+fn put_test(alloc: Global, out: &mut Vec<u8>, test: &Expr) -> Result<(), AllocError>
+    ensures { OnOk result (out.new.items ≡ out.old.items ++ (codes " && " ++ operand_text test.now)) }
+{
+    put(out, b" && ")?;
+    put_operand(alloc, out, test)
+}
+
 fn put_mask(alloc: Global, out: &mut Vec<u8>, mask: &Option<Expr>) -> Result<(), AllocError>
     ensures { OnOk result (out.new.items ≡ out.old.items ++ mask_text mask.now) }
 {
     match mask {
         None => Ok(()),
-        Some(test) => {
-            put(out, b" && ")?;
-            put_operand(alloc, out, test)
-        }
+        Some(test) => put_test(alloc, out, test),
     }
 }
 
@@ -86,6 +91,10 @@ pub fn put_event(alloc: Global, out: &mut Vec<u8>, e: &EventExpr) -> Result<(), 
             put_first(alloc, out, b"relative", first.get())?;
             put_between(alloc, out, b", ", second.get(), b")")
         }
+        EventExpr::RelPlus(of) => {
+            put_first(alloc, out, b"relplus", of.get())?;
+            put(out, b")")
+        }
         EventExpr::Prior(first, second) => {
             put_first(alloc, out, b"prior", first.get())?;
             put_between(alloc, out, b", ", second.get(), b")")
@@ -94,12 +103,25 @@ pub fn put_event(alloc: Global, out: &mut Vec<u8>, e: &EventExpr) -> Result<(), 
             put_first(alloc, out, b"sequence", first.get())?;
             put_between(alloc, out, b", ", second.get(), b")")
         }
+        EventExpr::Pipe(first, second) => {
+            put_first(alloc, out, b"pipe", first.get())?;
+            put_between(alloc, out, b", ", second.get(), b")")
+        }
         EventExpr::Choose(count, of) => put_counted(alloc, out, b"choose ", *count, of.get()),
         EventExpr::Every(count, of) => put_counted(alloc, out, b"every ", *count, of.get()),
         EventExpr::Fa(first, second, third) => {
             put_first(alloc, out, b"fa", first.get())?;
             put_next(alloc, out, second.get())?;
             put_between(alloc, out, b", ", third.get(), b")")
+        }
+        EventExpr::FaAbs(first, second, third) => {
+            put_first(alloc, out, b"faabs", first.get())?;
+            put_next(alloc, out, second.get())?;
+            put_between(alloc, out, b", ", third.get(), b")")
+        }
+        EventExpr::Masked(of, test) => {
+            put_between(alloc, out, b"(", of.get(), b")")?;
+            put_test(alloc, out, test)
         }
     }
 }

@@ -11,7 +11,7 @@ use Rattle.ode_grammar.specs.declared.item.Item.TheVariants as item
 use Rattle.ode_grammar.specs.declared.terminal.Terminal.{Terminal}
 use Rattle.ode_grammar.specs.declared.terminal.Terminal.TheVariants as terminal
 use Rattle.ode_grammar.specs.Expressions.{behind_unary, term, sum, comp, conj}
-use Rattle.ode_grammar.specs.Grammar.{after}
+use Rattle.ode_grammar.specs.Grammar.{row_of}
 use Rattle.ode_grammar.proofs.Follows.{IfRow}
 use Rattle.ode_heights.specs.declared.height.Height.{Height}
 use Rattle.ode_heights.specs.Heights.{above, in_pair, leaf, raised}
@@ -25,13 +25,13 @@ use Rattle.ode_syntax.specs.Built.{binary_of, built, built_right_side, built_sta
 use Rattle.ode_syntax.specs.Kept.{kept_as, leaf_of, name_of, Spelled}
 use Rattle.ode_reread.proofs.Both.{Both, keep, make}
 use Rattle.ode_reread.proofs.EventGoods.{GoodEvent, GoodInstants, GoodKind}
-use Rattle.ode_reread.proofs.EventPrints.{with_event, with_kind}
+use Rattle.ode_reread.proofs.EventPrints.{paired, with_event, with_kind}
 use Rattle.ode_reread.proofs.ExprRows.{longer, rows}
 use Rattle.ode_reread.proofs.Leaves.{leaf_read}
 use Rattle.ode_reread.proofs.Marked.{is_leaf, with_expr, with_mark_on, with_name}
 use Rattle.ode_reread.proofs.Prints.{made_field, made_version}
 use Rattle.ode_reread.proofs.Goods.{binary_good, field_good, good_up, name_good, unary_good, version_good, Good}
-use Rattle.ode_reread.proofs.Sounds.{is_operator, operator_is_mark, Sound}
+use Rattle.ode_reread.proofs.Sounds.{is_operator, operator_is_mark, seen_as, Sound}
 
 abbrev pub spelt : Terminal → TokenKind → List ℕ → Spelled
 spelt k kd bytes = record { terminal = k; kind = kd; bytes = bytes }
@@ -66,6 +66,10 @@ pub record AddsKind (place : Place) (b w : Both) : Type 0 where
 abbrev pub Masks : Place → Both → Both → Type 0
 Masks place b w = (k : Kind) (c : Both) → b ≡ with_kind k c → (GoodInstants place → GoodKind place k) → AddsEvent place c w
 
+-- an event expression, or a masked one, in place of one in brackets, whose height without them is this
+abbrev pub MasksPair : Place → Both → Both → Type 0
+MasksPair place b w = (e : EventExpr) (h : Height) (c : Both) → b ≡ with_event e (paired h) c → (GoodInstants place → GoodEvent place e h) → AddsEvent place c w
+
 abbrev pub Effect : Place → Part → Both → Both → Type 0
 Effect place part.EventUnary b w = AddsEvent place b w
 Effect place part.EventAnds b w = ReplacesEvent place b w
@@ -74,6 +78,7 @@ Effect place part.MoreRelative b w = ReplacesEvent place b w
 Effect place part.MorePrior b w = ReplacesEvent place b w
 Effect place part.MoreSequence b w = ReplacesEvent place b w
 Effect place part.Mask b w = Masks place b w
+Effect place part.EventMask b w = MasksPair place b w
 Effect place part.Kind b w = AddsKind place b w
 Effect place part.AfterWhat b w = AddsKind place b w
 Effect place part.BeforeWhat b w = AddsKind place b w
@@ -168,7 +173,7 @@ made_sign m e h b = refl
 sign_after : (place : Place) (k : Terminal) → is_operator k ≡ true → ((m : Mark) (bytes : List ℕ) (b : Both) → keep (spelt k (kind.Mark m) bytes) b ≡ with_mark_on m b)
     → RowIs place part.Unary k (item.Part part.Unary ∷ item.Build action.Sign ∷ [])
 sign_after place k o kept kd bytes s b w l =
-    let m = operator_is_mark place k kd bytes s.seen_as o in
+    let m = operator_is_mark place k kd bytes (seen_as is_operator refl s o) o in
     let a = l.1 in
     let same : keep (spelt k kd bytes) b ≡ with_mark_on m.0 b = ap (λ j. keep (spelt k j bytes) b) m.1 ∙ kept m.0 bytes b in
     let is = ap (make action.Sign) (a.is ∙ ap (with_expr a.e a.h) same) ∙ made_sign m.0 a.e a.h b in
@@ -185,8 +190,8 @@ name_after place kd bytes s b w l =
     let x = added place b (make action.Variable (with_name name b)) (expr.Name name) leaf (name_good place name (name_free bytes)) (made_variable name b) in
     finished place b l.0 w (replaced place b _ l.0 x l.1) l.2
 
-pub unary_rows : (place : Place) (k : Terminal) → IfRow (RowIs place part.Unary k) (after part.Unary k)
-unfolding after kept_as built raised
+pub unary_rows : (place : Place) (k : Terminal) → IfRow (RowIs place part.Unary k) (row_of part.Unary k)
+unfolding row_of kept_as built raised
 unary_rows place terminal.Leaf = leaf_after place terminal.Leaf refl (λ kd bs b. refl)
 unary_rows place terminal.Number = leaf_after place terminal.Number refl (λ kd bs b. refl)
 unary_rows place terminal.Seconds = leaf_after place terminal.Seconds refl (λ kd bs b. refl)
@@ -210,8 +215,8 @@ dot_after place kd bytes s b w l = λ e h c is good.
     let x = added place c m (expr.Field e name) (above h.own) (field_good place e h name (name_free l.1) good) (ap (λ y. make action.Field (with_name name y)) is ∙ made_field e h name c) in
     finished place c l.3.0 w (replaced place c m l.3.0 x l.3.1) l.3.2
 
-pub dots_rows : (place : Place) (k : Terminal) → IfRow (RowIs place part.Dots k) (after part.Dots k)
-unfolding after
+pub dots_rows : (place : Place) (k : Terminal) → IfRow (RowIs place part.Dots k) (row_of part.Dots k)
+unfolding row_of
 dots_rows place terminal.Dot = dot_after place
 dots_rows place other = tt
 
@@ -228,7 +233,7 @@ binary_added : (place : Place) (k : Terminal) (kd : TokenKind) (bytes : List ℕ
     → (b d : Both) → Adds place (keep (spelt k kd bytes) b) d
     → (e : Expr) (h : Height) (c : Both) → b ≡ with_expr e h c → Good place e h → Adds place c (make action.Binary d)
 binary_added place k kd bytes o kept s b d a e h c is good =
-    let m = operator_is_mark place k kd bytes s.seen_as o in
+    let m = operator_is_mark place k kd bytes (seen_as is_operator refl s o) o in
     let same : keep (spelt k kd bytes) b ≡ with_mark_on m.0 (with_expr e h c) =
     ap (λ j. keep (spelt k j bytes) b) m.1 ∙ (kept m.0 bytes b ∙ ap (with_mark_on m.0) is) in
     added place c (make action.Binary d) (expr.Binary (binary_of m.0) e a.e) (above (max h.own a.h.own)) (binary_good place (binary_of m.0) e a.e h a.h good a.good)
@@ -282,29 +287,29 @@ or_after place kd bytes s b w l = λ e h c is good.
     let o = p.2 in
     finished place c o.0 w (replaced place c _ o.0 x o.1) o.2
 
-pub factors_rows : (place : Place) (k : Terminal) → IfRow (RowIs place part.Factors k) (after part.Factors k)
-unfolding after
+pub factors_rows : (place : Place) (k : Terminal) → IfRow (RowIs place part.Factors k) (row_of part.Factors k)
+unfolding row_of
 factors_rows place terminal.Times = factor_after place
 factors_rows place other = tt
 
-pub sums_rows : (place : Place) (k : Terminal) → IfRow (RowIs place part.Sums k) (after part.Sums k)
-unfolding after kept_as
+pub sums_rows : (place : Place) (k : Terminal) → IfRow (RowIs place part.Sums k) (row_of part.Sums k)
+unfolding row_of kept_as
 sums_rows place terminal.Plus = sum_after place terminal.Plus refl (λ m bytes b. refl)
 sums_rows place terminal.Minus = sum_after place terminal.Minus refl (λ m bytes b. refl)
 sums_rows place other = tt
 
-pub compare_rows : (place : Place) (k : Terminal) → IfRow (RowIs place part.Compare k) (after part.Compare k)
-unfolding after
+pub compare_rows : (place : Place) (k : Terminal) → IfRow (RowIs place part.Compare k) (row_of part.Compare k)
+unfolding row_of
 compare_rows place terminal.Compares = compare_after place
 compare_rows place other = tt
 
-pub ands_rows : (place : Place) (k : Terminal) → IfRow (RowIs place part.Ands k) (after part.Ands k)
-unfolding after
+pub ands_rows : (place : Place) (k : Terminal) → IfRow (RowIs place part.Ands k) (row_of part.Ands k)
+unfolding row_of
 ands_rows place terminal.AndAnd = and_after place
 ands_rows place other = tt
 
-pub ors_rows : (place : Place) (k : Terminal) → IfRow (RowIs place part.Ors k) (after part.Ors k)
-unfolding after
+pub ors_rows : (place : Place) (k : Terminal) → IfRow (RowIs place part.Ors k) (row_of part.Ors k)
+unfolding row_of
 ors_rows place terminal.OrOr = or_after place
 ors_rows place other = tt
 
@@ -343,5 +348,5 @@ whole_row place k (Some row) p = λ kd bytes s b w l.
     let a5 = replaced place b j.0 n.0 a4 n.1 in
     finished place b n.0 w a5 n.2
 
-pub expr_rows : (place : Place) (k : Terminal) → IfRow (RowIs place part.Expr k) (after part.Expr k)
-expr_rows place k = subst (IfRow (RowIs place part.Expr k)) (sym (rows k)) (whole_row place k (after part.Unary k) (unary_rows place k))
+pub expr_rows : (place : Place) (k : Terminal) → IfRow (RowIs place part.Expr k) (row_of part.Expr k)
+expr_rows place k = subst (IfRow (RowIs place part.Expr k)) (sym (rows k)) (whole_row place k (row_of part.Unary k) (unary_rows place k))

@@ -1,5 +1,5 @@
 -- Event expressions whose printed text is read as they are, no higher than they were read.
-use Rattle.std.proofs.Common.{◌≡◌, ◌≤◌, ◌<◌, ◌^◌, ℕ, max, Bool, true, false, cond, codes, nat_le, pos, List, [], ◌∷◌, ◌++◌, ◌⊎◌, inl, inr, Some, None, arith, refl, sym, ◌∙◌, ap}
+use Rattle.std.proofs.Common.{◌≡◌, ◌≤◌, ◌<◌, ◌^◌, ℕ, max, Bool, true, false, cond, codes, nat_le, pos, List, [], ◌∷◌, ◌++◌, append_assoc, ◌⊎◌, inl, inr, Some, None, arith, le_trans, refl, sym, ◌∙◌, ap}
 use Rattle.std.proofs.lemmas.Bool.Decides.{nat_tests}
 use Rattle.std.proofs.lemmas.List.{append-nil}
 use Rattle.ode_lex.specs.declared.token.Mark.TheVariants as mark
@@ -9,15 +9,16 @@ use Rattle.ode_grammar.specs.declared.item.Item.TheVariants as item
 use Rattle.ode_grammar.specs.declared.item.Part.TheVariants as part
 use Rattle.ode_grammar.specs.declared.terminal.Terminal.{Terminal}
 use Rattle.ode_grammar.specs.declared.terminal.Terminal.TheVariants as terminal
-use Rattle.ode_grammar.specs.Grammar.{after}
+use Rattle.ode_grammar.specs.Grammar.{after, row_of}
+use Rattle.ode_grammar.specs.Terminals.{named as as_name}
 use Rattle.ode_heights.specs.declared.height.Height.{Height}
-use Rattle.ode_heights.specs.Heights.{above, leaf}
+use Rattle.ode_heights.specs.Heights.{above, in_pair, leaf}
 use Rattle.ode_terminals.specs.declared.seen.Place.{Place}
 use Rattle.ode_terminals.specs.Seen.{number_terminal}
 use Rattle.ode_terminals.specs.Words.{word_terminal}
 use Rattle.ode_value.specs.Limits.{choose_limit}
 use Rattle.ode_value.specs.Decimal.{digits_of}
-use Rattle.ode_value.specs.Printing.{kind_text, printed_event, printed_event_of, Printed}
+use Rattle.ode_value.specs.Printing.{in_brackets, kind_text, operand, printed, printed_event, printed_event_of, Printed}
 use Rattle.ode_value.specs.Words.{is_free}
 use Rattle.ode_value.specs.declared.event.EventExpr.{EventExpr, fold-roll-EventExpr}
 use Rattle.ode_value.specs.declared.event.EventExpr.TheOpen as shape
@@ -33,12 +34,12 @@ use Rattle.ode_syntax.specs.declared.trees.Trees.{Trees}
 use Rattle.ode_syntax.specs.Built.{count_of, second_of}
 use Rattle.ode_syntax.specs.Kept.{kept_as, Spelled}
 use Rattle.ode_reread.proofs.Cuts.{spell}
-use Rattle.ode_reread.proofs.EventNumbers.{and_numbered, any_numbered, choose_numbered, every_numbered, fa_numbered, first_numbered, leaf_numbered, not_numbered, or_numbered, prior_numbered, relative_numbered, sequence_numbered, IsNumbered}
-use Rattle.ode_reread.proofs.EventPrints.{after_begins, after_method, and_prints, any_prints, before_begins, before_method, choose_counts, counted_prints, create_what, delete_what, delversion_what, every_counts, every_tail, fa_prints, first_prints, folded_prints, kind_prints, leaf_prints, masked_prints, named_tail, newversion_what, not_prints, or_prints, prior_folds, relative_folds, sequence_folds, tabort_what, tbegin_what, tcommit_what, tcomplete_what, time_begins, word_tail, EventPrints, IsCount, IsPeriod, IsWord, KindPrints}
+use Rattle.ode_reread.proofs.EventNumbers.{and_numbered, any_numbered, choose_numbered, every_numbered, fa_numbered, faabs_numbered, first_numbered, leaf_numbered, masked_numbered, not_numbered, or_numbered, pipe_numbered, prior_numbered, relative_numbered, relplus_numbered, sequence_numbered, IsNumbered}
+use Rattle.ode_reread.proofs.EventPrints.{after_begins, after_method, and_prints, any_prints, before_begins, before_method, choose_counts, counted_prints, create_what, delete_what, delversion_what, every_counts, every_tail, fa_prints, faabs_prints, first_prints, folded_prints, kind_prints, leaf_prints, masked_event_prints, masked_prints, named_tail, newversion_what, not_prints, or_prints, pipe_prints, prior_folds, relative_folds, relplus_prints, sequence_folds, tabort_what, tbegin_what, tcommit_what, tcomplete_what, time_begins, word_tail, EventPrints, IsCount, IsEventWord, IsPeriod, IsWord, KindPrints}
 use Rattle.ode_reread.proofs.EventSpells.{between_spells, call_spells, comma_spells, counted_spells, mask_spells, not_spells, number_spells, words_spell}
 use Rattle.ode_reread.proofs.Goods.{free_word, named, shown_as, Good}
 use Rattle.ode_reread.proofs.Marked.{as_operand, bracketed, marked}
-use Rattle.ode_reread.proofs.Spells.{operand_spells, word_spells, Spells}
+use Rattle.ode_reread.proofs.Spells.{brackets_spell, operand_spells, word_spells, Spells}
 
 -- ---- words
 
@@ -130,6 +131,18 @@ is_fa : (place : Place) → IsWord (spell place kind.Word (codes "fa")) terminal
 unfolding word_terminal kept_as
 is_fa place = record { seen = refl; adds_nothing = λ b. refl }
 
+is_faabs : (place : Place) → IsEventWord (spell place kind.Word (codes "faabs")) terminal.FaAbs
+unfolding word_terminal kept_as
+is_faabs place = record { seen = refl; adds = λ b. refl }
+
+is_relplus : (place : Place) → IsEventWord (spell place kind.Word (codes "relplus")) terminal.RelPlus
+unfolding word_terminal kept_as
+is_relplus place = record { seen = refl; adds = λ b. refl }
+
+is_pipe : (place : Place) → IsEventWord (spell place kind.Word (codes "pipe")) terminal.Pipe
+unfolding word_terminal kept_as
+is_pipe place = record { seen = refl; adds = λ b. refl }
+
 -- ---- numbers
 
 count_terminal : (n : ℕ) → 0 < n → n ≤ choose_limit → number_terminal (pos n) ≡ terminal.Count
@@ -141,9 +154,9 @@ small_count n small = grind (arith, nat_tests)
 abbrev pub number_leaf : ℕ → Expr
 number_leaf n = expr.Lit (value.Int (pos n))
 
-count_kept : (n : ℕ) (k : Terminal) (t : Spelled) → t.terminal ≡ k → k ≡ terminal.Count → t.kind ≡ kind.Number (pos n) → (v : Trees) → kept_as t.terminal t.kind t.bytes v ≡ record v { leaves = number_leaf n ∷ v.leaves }
+count_kept : (n : ℕ) (k : Terminal) (t : Spelled) → t.terminal ≡ k → k ≡ terminal.Count → t.kind ≡ kind.Number (pos n) → (v : Trees) → kept_as (as_name t.terminal) t.kind t.bytes v ≡ record v { leaves = number_leaf n ∷ v.leaves }
 unfolding kept_as
-count_kept n k t e f g v = ap (λ j. kept_as j t.kind t.bytes v) (e ∙ f) ∙ ap (λ j. kept_as terminal.Count j t.bytes v) g
+count_kept n k t e f g v = ap (λ j. kept_as (as_name j) t.kind t.bytes v) (e ∙ f) ∙ ap (λ j. kept_as terminal.Count j t.bytes v) g
 
 a_count : (place : Place) (n : ℕ) → 0 < n → n ≤ choose_limit → IsCount (spell place (kind.Number (pos n)) (digits_of n)) n
 a_count place n some small =
@@ -269,15 +282,15 @@ period_terminal n some small = cases (nat_le n choose_limit) refl (not_number n 
     cases false e f = inr (f ∙ ap (λ c. cond c terminal.Count terminal.Seconds) e)
 
 period_row : (k : Terminal) → (k ≡ terminal.Count) ⊎ (k ≡ terminal.Seconds) → after part.Period k ≡ Some (item.Build action.TimeEvery ∷ [])
-unfolding after
+unfolding row_of
 period_row k (inl e) = ap (after part.Period) e
 period_row k (inr e) = ap (after part.Period) e
 
 period_kept : (k : Terminal) (n : ℕ) (bytes : List ℕ) (v : Trees) → (k ≡ terminal.Count) ⊎ (k ≡ terminal.Seconds)
-    → kept_as k (kind.Number (pos n)) bytes v ≡ record v { leaves = number_leaf n ∷ v.leaves }
+    → kept_as (as_name k) (kind.Number (pos n)) bytes v ≡ record v { leaves = number_leaf n ∷ v.leaves }
 unfolding kept_as
-period_kept k n bytes v (inl e) = ap (λ j. kept_as j (kind.Number (pos n)) bytes v) e
-period_kept k n bytes v (inr e) = ap (λ j. kept_as j (kind.Number (pos n)) bytes v) e
+period_kept k n bytes v (inl e) = ap (λ j. kept_as (as_name j) (kind.Number (pos n)) bytes v) e
+period_kept k n bytes v (inr e) = ap (λ j. kept_as (as_name j) (kind.Number (pos n)) bytes v) e
 
 a_period : (place : Place) (n : ℕ) → 0 < n → n < 2 ^ 32 → IsPeriod (spell place (kind.Number (pos n)) (digits_of n)) n
 a_period place n some small =
@@ -308,10 +321,11 @@ pub record GoodEvent (place : Place) (e : EventExpr) (h : Height) : Type 0 where
   pub spells : Spells place text tokens
   pub prints : EventPrints e is_operator low tokens
   pub no_higher : low.own ≤ h.own
+  pub in_brackets : in_pair low ≤ in_pair h
   pub numbers : IsNumbered e
 
-pub event_up : (place : Place) (e : EventExpr) (h k : Height) → h.own ≤ k.own → GoodEvent place e h → GoodEvent place e k
-event_up place e h k l g = let m = g.no_higher in record {
+pub event_up : (place : Place) (e : EventExpr) (h k : Height) → h.own ≤ k.own → in_pair h ≤ in_pair k → GoodEvent place e h → GoodEvent place e k
+event_up place e h k l l2 g = let m = g.no_higher in record {
   text = g.text;
   is_operator = g.is_operator;
   shown = g.shown;
@@ -320,6 +334,7 @@ event_up place e h k l g = let m = g.no_higher in record {
   spells = g.spells;
   prints = g.prints;
   no_higher = omega arith;
+  in_brackets = le_trans g.in_brackets l2;
   numbers = g.numbers;
 }
 
@@ -333,6 +348,7 @@ plain_good place k g = record {
   spells = g.spells;
   prints = leaf_prints k g.tokens g.prints;
   no_higher = omega arith;
+  in_brackets = omega arith;
   numbers = leaf_numbered k None;
 }
 
@@ -346,6 +362,7 @@ masked_good place k x h g r = let m = r.no_higher in record {
   spells = mask_spells place (kind_text k) _ g.tokens _ g.spells (operand_spells place r.is_operator r.text r.tokens r.spells);
   prints = masked_prints k g.tokens x r.is_operator r.low r.tokens g.prints r.prints;
   no_higher = omega arith;
+  in_brackets = omega arith;
   numbers = leaf_numbered k (Some x);
 }
 
@@ -367,6 +384,7 @@ any_good place = record {
   spells = word_spells place (codes "any") refl;
   prints = any_prints _ (is_any place);
   no_higher = omega arith;
+  in_brackets = omega arith;
   numbers = any_numbered;
 }
 
@@ -380,6 +398,7 @@ first_good place = record {
   spells = word_spells place (codes "first") refl;
   prints = first_prints _ (is_first place);
   no_higher = omega arith;
+  in_brackets = omega arith;
   numbers = first_numbered;
 }
 
@@ -397,6 +416,7 @@ not_good place e h g = let m = g.no_higher in record {
   spells = not_spells place _ _ (operand_spells place g.is_operator g.text g.tokens g.spells);
   prints = not_prints e g.is_operator g.low g.tokens g.prints;
   no_higher = omega arith;
+  in_brackets = omega arith;
   numbers = not_numbered e g.numbers;
 }
 
@@ -410,6 +430,7 @@ and_good place e f h k g r = let m = g.no_higher in let n = r.no_higher in recor
   spells = between_spells place (codes "and") _ _ _ _ refl (operand_spells place g.is_operator g.text g.tokens g.spells) (operand_spells place r.is_operator r.text r.tokens r.spells);
   prints = and_prints e f g.is_operator r.is_operator g.low r.low g.tokens r.tokens _ (is_and place) g.prints r.prints;
   no_higher = omega arith;
+  in_brackets = omega arith;
   numbers = and_numbered e f g.numbers r.numbers;
 }
 
@@ -423,6 +444,7 @@ or_good place e f h k g r = let m = g.no_higher in let n = r.no_higher in record
   spells = between_spells place (codes "or") _ _ _ _ refl (operand_spells place g.is_operator g.text g.tokens g.spells) (operand_spells place r.is_operator r.text r.tokens r.spells);
   prints = or_prints e f g.is_operator r.is_operator g.low r.low g.tokens r.tokens _ (is_or place) g.prints r.prints;
   no_higher = omega arith;
+  in_brackets = omega arith;
   numbers = or_numbered e f g.numbers r.numbers;
 }
 
@@ -442,6 +464,7 @@ relative_good place e f h k g r = let m = g.no_higher in let n = r.no_higher in 
   prints = folded_prints terminal.Relative action.Relative (item.Part part.MoreRelative) event.Relative relative_folds e f g.is_operator r.is_operator g.low r.low g.tokens r.tokens _
       (is_relative place) g.prints r.prints;
   no_higher = omega arith;
+  in_brackets = omega arith;
   numbers = relative_numbered e f g.numbers r.numbers;
 }
 
@@ -461,6 +484,7 @@ prior_good place e f h k g r = let m = g.no_higher in let n = r.no_higher in rec
   prints = folded_prints terminal.Prior action.Prior (item.Part part.MorePrior) event.Prior prior_folds e f g.is_operator r.is_operator g.low r.low g.tokens r.tokens _
       (is_prior place) g.prints r.prints;
   no_higher = omega arith;
+  in_brackets = omega arith;
   numbers = prior_numbered e f g.numbers r.numbers;
 }
 
@@ -480,6 +504,7 @@ sequence_good place e f h k g r = let m = g.no_higher in let n = r.no_higher in 
   prints = folded_prints terminal.Sequence action.Sequence (item.Part part.MoreSequence) event.Sequence sequence_folds e f g.is_operator r.is_operator g.low r.low g.tokens r.tokens _
       (is_sequence place) g.prints r.prints;
   no_higher = omega arith;
+  in_brackets = omega arith;
   numbers = sequence_numbered e f g.numbers r.numbers;
 }
 
@@ -497,6 +522,7 @@ choose_good place n e h some small g = let m = g.no_higher in record {
   spells = words_spell place (codes "choose") (digits_of n ++ codes " " ++ (codes "(" ++ g.text ++ codes ")")) _ refl (counted_spells place n g.text g.tokens (omega arith) g.spells);
   prints = counted_prints terminal.Choose action.Choose event.Choose choose_counts n e g.is_operator g.low g.tokens _ _ (is_choose place) (a_count place n some small) g.prints;
   no_higher = omega arith;
+  in_brackets = omega arith;
   numbers = choose_numbered n e some small g.numbers;
 }
 
@@ -514,6 +540,7 @@ every_good place n e h some small g = let m = g.no_higher in record {
   spells = words_spell place (codes "every") (digits_of n ++ codes " " ++ (codes "(" ++ g.text ++ codes ")")) _ refl (counted_spells place n g.text g.tokens (omega arith) g.spells);
   prints = counted_prints terminal.Every action.Every event.Every every_counts n e g.is_operator g.low g.tokens _ _ (is_every place) (a_count place n some small) g.prints;
   no_higher = omega arith;
+  in_brackets = omega arith;
   numbers = every_numbered n e some small g.numbers;
 }
 
@@ -535,5 +562,89 @@ fa_good place e f g h k l x y z = let m = x.no_higher in let n = y.no_higher in 
       (comma_spells place (x.text ++ codes ", " ++ y.text) z.text (x.tokens ++ marked mark.Comma ∷ y.tokens) z.tokens (comma_spells place x.text y.text x.tokens y.tokens x.spells y.spells) z.spells);
   prints = fa_prints e f g x.is_operator y.is_operator z.is_operator x.low y.low z.low x.tokens y.tokens z.tokens _ (is_fa place) x.prints y.prints z.prints;
   no_higher = omega arith;
+  in_brackets = omega arith;
   numbers = fa_numbered e f g x.numbers y.numbers z.numbers;
+}
+
+event-FaAbs : (x y z : EventExpr) (p q r : Printed) → printed_event x ≡ p → printed_event y ≡ q → printed_event z ≡ r
+    → printed_event (event.FaAbs x y z) ≡ printed_event_of (shape.FaAbs p q r)
+unfolding printed_event
+event-FaAbs x y z p q r is are be =
+    ap printed_event (sym (event.rolls-FaAbs x y z)) ∙ (fold-roll-EventExpr Printed printed_event_of (shape.FaAbs x y z) ∙ (λ i. printed_event_of (shape.FaAbs (is i) (are i) (be i))))
+
+pub faabs_good : (place : Place) (e f g : EventExpr) (h k l : Height) → GoodEvent place e h → GoodEvent place f k → GoodEvent place g l
+    → GoodEvent place (event.FaAbs e f g) (above (max h.own (max k.own l.own)))
+faabs_good place e f g h k l x y z = let m = x.no_higher in let n = y.no_higher in let o = z.no_higher in record {
+  text = codes "faabs" ++ (codes "(" ++ (x.text ++ codes ", " ++ y.text ++ codes ", " ++ z.text) ++ codes ")");
+  is_operator = false;
+  shown = event-FaAbs e f g (shown_as x.text x.is_operator) (shown_as y.text y.is_operator) (shown_as z.text z.is_operator) x.shown y.shown z.shown;
+  low = above (max x.low.own (max y.low.own z.low.own));
+  tokens = spell place kind.Word (codes "faabs") ∷ bracketed (x.tokens ++ marked mark.Comma ∷ y.tokens ++ marked mark.Comma ∷ z.tokens);
+  spells = call_spells place (codes "faabs") _ _ refl
+      (comma_spells place (x.text ++ codes ", " ++ y.text) z.text (x.tokens ++ marked mark.Comma ∷ y.tokens) z.tokens (comma_spells place x.text y.text x.tokens y.tokens x.spells y.spells) z.spells);
+  prints = faabs_prints e f g x.is_operator y.is_operator z.is_operator x.low y.low z.low x.tokens y.tokens z.tokens _ (is_faabs place) x.prints y.prints z.prints;
+  no_higher = omega arith;
+  in_brackets = omega arith;
+  numbers = faabs_numbered e f g x.numbers y.numbers z.numbers;
+}
+
+event-RelPlus : (x : EventExpr) (p : Printed) → printed_event x ≡ p → printed_event (event.RelPlus x) ≡ printed_event_of (shape.RelPlus p)
+unfolding printed_event
+event-RelPlus x p is = ap printed_event (sym (event.rolls-RelPlus x)) ∙ (fold-roll-EventExpr Printed printed_event_of (shape.RelPlus x) ∙ ap (λ q. printed_event_of (shape.RelPlus q)) is)
+
+pub relplus_good : (place : Place) (e : EventExpr) (h : Height) → GoodEvent place e h → GoodEvent place (event.RelPlus e) (above h.own)
+relplus_good place e h g = let m = g.no_higher in record {
+  text = codes "relplus" ++ (codes "(" ++ g.text ++ codes ")");
+  is_operator = false;
+  shown = event-RelPlus e (shown_as g.text g.is_operator) g.shown;
+  low = above g.low.own;
+  tokens = spell place kind.Word (codes "relplus") ∷ bracketed g.tokens;
+  spells = call_spells place (codes "relplus") _ _ refl g.spells;
+  prints = relplus_prints e g.is_operator g.low g.tokens _ (is_relplus place) g.prints;
+  no_higher = omega arith;
+  in_brackets = omega arith;
+  numbers = relplus_numbered e g.numbers;
+}
+
+event-Pipe : (x y : EventExpr) (p q : Printed) → printed_event x ≡ p → printed_event y ≡ q → printed_event (event.Pipe x y) ≡ printed_event_of (shape.Pipe p q)
+unfolding printed_event
+event-Pipe x y p q is are =
+    ap printed_event (sym (event.rolls-Pipe x y)) ∙ (fold-roll-EventExpr Printed printed_event_of (shape.Pipe x y) ∙ (λ i. printed_event_of (shape.Pipe (is i) (are i))))
+
+pub pipe_good : (place : Place) (e f : EventExpr) (h k : Height) → GoodEvent place e h → GoodEvent place f k → GoodEvent place (event.Pipe e f) (above (max h.own k.own))
+pipe_good place e f h k g r = let m = g.no_higher in let n = r.no_higher in record {
+  text = codes "pipe" ++ (codes "(" ++ (g.text ++ codes ", " ++ r.text) ++ codes ")");
+  is_operator = false;
+  shown = event-Pipe e f (shown_as g.text g.is_operator) (shown_as r.text r.is_operator) g.shown r.shown;
+  low = above (max g.low.own r.low.own);
+  tokens = spell place kind.Word (codes "pipe") ∷ bracketed (g.tokens ++ marked mark.Comma ∷ r.tokens);
+  spells = call_spells place (codes "pipe") _ _ refl (comma_spells place g.text r.text g.tokens r.tokens g.spells r.spells);
+  prints = pipe_prints e f g.is_operator r.is_operator g.low r.low g.tokens r.tokens _ (is_pipe place) g.prints r.prints;
+  no_higher = omega arith;
+  in_brackets = omega arith;
+  numbers = pipe_numbered e f g.numbers r.numbers;
+}
+
+event-Masked : (e : EventExpr) (x : Expr) (p q : Printed) → printed_event e ≡ p → printed x ≡ q
+    → printed_event (event.Masked e x) ≡ shown_as (in_brackets p.text ++ codes " && " ++ operand q) false
+unfolding printed_event
+event-Masked e x p q is are =
+    ap printed_event (sym (event.rolls-Masked e x))
+    ∙ (fold-roll-EventExpr Printed printed_event_of (shape.Masked e x) ∙ (λ i. shown_as (in_brackets (is i).text ++ codes " && " ++ operand (are i)) false))
+
+pub masked_event_good : (place : Place) (e : EventExpr) (h : Height) (x : Expr) (k : Height) → GoodEvent place e h → Good place x k
+    → GoodEvent place (event.Masked e x) (above (max (in_pair h) k.own))
+masked_event_good place e h x k g r = let m = g.in_brackets in let n = r.no_higher in record {
+  text = in_brackets g.text ++ (codes " && " ++ cond r.is_operator (codes "(" ++ r.text ++ codes ")") r.text);
+  is_operator = false;
+  shown = event-Masked e x (shown_as g.text g.is_operator) (shown_as r.text r.is_operator) g.shown r.shown
+      ∙ ap (λ t. shown_as t false) (append_assoc (in_brackets g.text) (codes " && ") (cond r.is_operator (codes "(" ++ r.text ++ codes ")") r.text));
+  low = above (max (in_pair g.low) r.low.own);
+  tokens = bracketed g.tokens ++ marked mark.AndAnd ∷ as_operand r.is_operator r.tokens;
+  spells = mask_spells place (in_brackets g.text) _ (bracketed g.tokens) _ (brackets_spell place g.text g.tokens g.spells)
+      (operand_spells place r.is_operator r.text r.tokens r.spells);
+  prints = masked_event_prints e g.is_operator g.low g.tokens x r.is_operator r.low r.tokens g.prints r.prints;
+  no_higher = omega arith;
+  in_brackets = omega arith;
+  numbers = masked_numbered e x g.numbers;
 }

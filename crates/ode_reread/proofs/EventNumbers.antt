@@ -56,3 +56,15 @@ every_numbered n e some small is =
 
 pub fa_numbered : (e f g : EventExpr) → IsNumbered e → IsNumbered f → IsNumbered g → IsNumbered (event.Fa e f g)
 fa_numbered e f g is are too = ap has_numbers (sym (event.rolls-Fa e f g)) ∙ (by_level (shape.Fa e f g) ∙ (λ i. is i && (are i && too i)))
+
+pub faabs_numbered : (e f g : EventExpr) → IsNumbered e → IsNumbered f → IsNumbered g → IsNumbered (event.FaAbs e f g)
+faabs_numbered e f g is are too = ap has_numbers (sym (event.rolls-FaAbs e f g)) ∙ (by_level (shape.FaAbs e f g) ∙ (λ i. is i && (are i && too i)))
+
+pub relplus_numbered : (e : EventExpr) → IsNumbered e → IsNumbered (event.RelPlus e)
+relplus_numbered e is = ap has_numbers (sym (event.rolls-RelPlus e)) ∙ (by_level (shape.RelPlus e) ∙ is)
+
+pub pipe_numbered : (e f : EventExpr) → IsNumbered e → IsNumbered f → IsNumbered (event.Pipe e f)
+pipe_numbered e f is are = ap has_numbers (sym (event.rolls-Pipe e f)) ∙ (by_level (shape.Pipe e f) ∙ (λ i. is i && are i))
+
+pub masked_numbered : (e : EventExpr) (x : Expr) → IsNumbered e → IsNumbered (event.Masked e x)
+masked_numbered e x is = ap has_numbers (sym (event.rolls-Masked e x)) ∙ (by_level (shape.Masked e x) ∙ is)

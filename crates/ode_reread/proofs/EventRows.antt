@@ -14,30 +14,30 @@ use Rattle.ode_grammar.specs.declared.item.Action.TheVariants as action
 use Rattle.ode_grammar.specs.declared.item.Item.TheVariants as item
 use Rattle.ode_grammar.specs.declared.terminal.Terminal.{Terminal}
 use Rattle.ode_grammar.specs.declared.terminal.Terminal.TheVariants as terminal
-use Rattle.ode_grammar.specs.Events.{evand, event as whole_event, folded, counted}
-use Rattle.ode_grammar.specs.Grammar.{after}
+use Rattle.ode_grammar.specs.Events.{evand, event as whole_event, folded, counted, of_one, of_three, of_two}
+use Rattle.ode_grammar.specs.Grammar.{row_of}
 use Rattle.ode_grammar.proofs.Follows.{IfRow}
 use Rattle.ode_heights.specs.declared.height.Height.{Height}
 use Rattle.ode_heights.specs.Heights.{above, in_pair, leaf, raised}
 use Rattle.ode_terminals.specs.declared.seen.Place.{Place}
 use Rattle.ode_terminals.specs.declared.seen.Place.TheVariants as place_of
 use Rattle.ode_terminals.specs.Seen.{instant_terminal, mark_terminal, number_terminal, reference_terminal, seen, this_terminal}
-use Rattle.ode_terminals.specs.Words.{rows, word_terminal}
+use Rattle.ode_terminals.specs.Words.{event_words, rows, word_terminal}
 use Rattle.ode_value.specs.Limits.{choose_limit}
 use Rattle.ode_value.specs.declared.event.EventExpr.{EventExpr}
 use Rattle.ode_value.specs.declared.event.EventExpr.TheVariants as event
 use Rattle.ode_value.specs.declared.event.Kind.{Kind}
 use Rattle.ode_value.specs.declared.event.Kind.TheVariants as point
 use Rattle.ode_value.specs.declared.statement.Expr.{Expr}
-use Rattle.ode_syntax.specs.Built.{built, built_right_side, built_statement, built_event, built_kind, built_class, built_member, built_script, second_of}
+use Rattle.ode_syntax.specs.Built.{built, built_right_side, built_statement, built_event, second_of}
 use Rattle.ode_syntax.specs.Kept.{kept_as, leaf_of, name_of}
 use Rattle.ode_reread.proofs.Both.{Both, keep, make}
-use Rattle.ode_reread.proofs.Effects.{name_free, spelt, AddsEvent, AddsKind, Masks, ReplacesEvent, RowIs}
-use Rattle.ode_reread.proofs.EventGoods.{after_method_good, and_good, any_good, before_method_good, choose_good, create_good, delete_good, delversion_good, event_up, every_good, fa_good, first_good, masked_good, newversion_good, not_good, number_leaf, or_good, plain_good, prior_good, relative_good, sequence_good, small_count, tabort_good, tbegin_good, tcommit_good, tcomplete_good, time_every_good, GoodEvent, GoodInstants}
-use Rattle.ode_reread.proofs.EventPrints.{after_method, before_method, choose_counts, create_what, delete_what, delversion_what, every_counts, made_and, made_any, made_at, made_every, made_fa, made_first, made_or, made_unmasked, newversion_what, prior_folds, relative_folds, sequence_folds, tabort_what, tbegin_what, tcommit_what, tcomplete_what, with_event, with_kind, with_leaf_on}
-use Rattle.ode_reread.proofs.Marked.{with_expr, with_mark_on}
+use Rattle.ode_reread.proofs.Effects.{name_free, spelt, AddsEvent, AddsKind, Masks, MasksPair, ReplacesEvent, RowIs}
+use Rattle.ode_reread.proofs.EventGoods.{after_method_good, and_good, any_good, before_method_good, choose_good, create_good, delete_good, delversion_good, event_up, every_good, fa_good, faabs_good, first_good, masked_event_good, masked_good, newversion_good, not_good, number_leaf, or_good, pipe_good, plain_good, prior_good, relative_good, relplus_good, sequence_good, small_count, tabort_good, tbegin_good, tcommit_good, tcomplete_good, time_every_good, GoodEvent, GoodInstants}
+use Rattle.ode_reread.proofs.EventPrints.{after_method, before_method, choose_counts, create_what, delete_what, delversion_what, every_counts, made_and, made_any, made_at, made_every, made_fa, made_faabs, made_first, made_or, made_pair, made_pipe, made_relplus, made_unmasked, newversion_what, paired, prior_folds, relative_folds, sequence_folds, tabort_what, tbegin_what, tcommit_what, tcomplete_what, with_event, with_kind, with_leaf_on}
+use Rattle.ode_reread.proofs.Marked.{with_expr, with_mark_on, with_name}
 use Rattle.ode_reread.proofs.Prints.{nothing}
-use Rattle.ode_reread.proofs.Sounds.{either, never, operator_is_mark, Sound}
+use Rattle.ode_reread.proofs.Sounds.{either, is_operator, never, operator_is_mark, seen_as, Sound}
 
 event_replaced : (place : Place) (b c w : Both) → AddsEvent place b c → ReplacesEvent place c w → AddsEvent place b w
 event_replaced place b c w a r = r a.e a.h b a.is a.good
@@ -61,7 +61,7 @@ made_not m e h b = refl
 not_after : (place : Place) → RowIs place part.EventUnary terminal.Not (item.Part part.EventUnary ∷ item.Build action.NotEvent ∷ [])
 unfolding kept_as
 not_after place kd bytes s b w l =
-    let m = operator_is_mark place terminal.Not kd bytes s.seen_as refl in
+    let m = operator_is_mark place terminal.Not kd bytes (seen_as is_operator refl s refl) refl in
     let a = l.1 in
     let same : keep (spelt terminal.Not kd bytes) b ≡ with_mark_on m.0 b = ap (λ j. keep (spelt terminal.Not j bytes) b) m.1 in
     let is = ap (make action.NotEvent) (a.is ∙ ap (with_event a.e a.h) same) ∙ made_not m.0 a.e a.h b in
@@ -74,18 +74,13 @@ in_brackets_up h = cases h.bare
     cases true = omega arith
     cases false = omega arith
 
-made_pair : (e : EventExpr) (h : Height) (b : Both) → make action.EventPair (with_event e h b) ≡ with_event e (record { own = in_pair h; bare = true }) b
-unfolding built built_right_side built_statement built_event built_kind built_class built_member built_script raised
-made_pair e h b = refl
-
-paren_after : (place : Place) → RowIs place part.EventUnary terminal.OpenParen (whole_event ++ item.Token terminal.CloseParen ∷ item.Build action.EventPair ∷ [])
+paren_after : (place : Place)
+    → RowIs place part.EventUnary terminal.OpenParen (whole_event ++ item.Token terminal.CloseParen ∷ item.Build action.EventPair ∷ item.Part part.EventMask ∷ [])
 unfolding kept_as
 paren_after place kd bytes s b w l =
     let a = three place b l.0 l.2.0 l.2.2.0 l.1 l.2.1 l.2.2.1 in
-    let d = l.2.2.0 in
-    let k : Height = record { own = in_pair a.h; bare = true } in
-    let x = event_added place b (make action.EventPair d) a.e k (λ i. event_up place a.e a.h k (in_brackets_up a.h) (a.good i)) (ap (make action.EventPair) a.is ∙ made_pair a.e a.h b) in
-    event_finished place b (make action.EventPair d) w x l.2.2.2.3
+    let m = l.2.2.2.3 in
+    event_finished place b m.0 w (m.1 a.e a.h b (ap (make action.EventPair) a.is ∙ made_pair a.e a.h b) a.good) m.2
 
 any_after : (place : Place) → RowIs place part.EventUnary terminal.Any (item.Build action.Any ∷ [])
 unfolding kept_as
@@ -189,10 +184,30 @@ more_sequence_ends : (place : Place) → RowIs place part.MoreSequence terminal.
 unfolding kept_as
 more_sequence_ends place kd bytes s b w l = λ e h c is good. event_added place c w e h good (sym l ∙ is)
 
-fa_after : (place : Place)
-    → RowIs place part.EventUnary terminal.Fa
-    (item.Token terminal.OpenParen ∷ whole_event ++ item.Token terminal.Comma ∷ whole_event ++ item.Token terminal.Comma ∷ whole_event
-    ++ item.Token terminal.CloseParen ∷ item.Build action.Fa ∷ [])
+relplus_after : (place : Place) → RowIs place part.EventUnary terminal.RelPlus (of_one (item.Build action.RelPlus))
+unfolding kept_as
+relplus_after place kd bytes s b w l =
+    let p = l.3 in
+    let name = name_of bytes in
+    let a = three place (with_name name b) p.0 p.2.0 p.2.2.0 p.1 p.2.1 p.2.2.1 in
+    let d = p.2.2.0 in
+    let made = ap (make action.RelPlus) a.is ∙ made_relplus name a.e a.h b in
+    event_finished place b (make action.RelPlus d) w (event_added place b (make action.RelPlus d) (event.RelPlus a.e) (above a.h.own) (λ i. relplus_good place a.e a.h (a.good i)) made) p.2.2.2.3
+
+pipe_after : (place : Place) → RowIs place part.EventUnary terminal.Pipe (of_two (item.Build action.Pipe))
+unfolding kept_as
+pipe_after place kd bytes s b w l =
+    let p = l.3 in
+    let name = name_of bytes in
+    let x = three place (with_name name b) p.0 p.2.0 p.2.2.0 p.1 p.2.1 p.2.2.1 in
+    let q = p.2.2.2.3 in
+    let y = three place p.2.2.0 q.0 q.2.0 q.2.2.0 q.1 q.2.1 q.2.2.1 in
+    let d = q.2.2.0 in
+    let made = ap (make action.Pipe) (y.is ∙ ap (with_event y.e y.h) x.is) ∙ made_pipe name x.e y.e x.h y.h b in
+    event_finished place b (make action.Pipe d) w
+    (event_added place b (make action.Pipe d) (event.Pipe x.e y.e) (above (max x.h.own y.h.own)) (λ i. pipe_good place x.e y.e x.h y.h (x.good i) (y.good i)) made) q.2.2.2.3
+
+fa_after : (place : Place) → RowIs place part.EventUnary terminal.Fa (of_three (item.Build action.Fa))
 unfolding kept_as
 fa_after place kd bytes s b w l =
     let p = l.3 in
@@ -205,6 +220,22 @@ fa_after place kd bytes s b w l =
     let made = ap (make action.Fa) (z.is ∙ ap (with_event z.e z.h) (y.is ∙ ap (with_event y.e y.h) x.is)) ∙ made_fa x.e y.e z.e x.h y.h z.h b in
     event_finished place b (make action.Fa d) w
     (event_added place b (make action.Fa d) (event.Fa x.e y.e z.e) (above (max x.h.own (max y.h.own z.h.own))) (λ i. fa_good place x.e y.e z.e x.h y.h z.h (x.good i) (y.good i) (z.good i)) made)
+    r.2.2.2.3
+
+faabs_after : (place : Place) → RowIs place part.EventUnary terminal.FaAbs (of_three (item.Build action.FaAbs))
+unfolding kept_as
+faabs_after place kd bytes s b w l =
+    let p = l.3 in
+    let name = name_of bytes in
+    let x = three place (with_name name b) p.0 p.2.0 p.2.2.0 p.1 p.2.1 p.2.2.1 in
+    let q = p.2.2.2.3 in
+    let y = three place p.2.2.0 q.0 q.2.0 q.2.2.0 q.1 q.2.1 q.2.2.1 in
+    let r = q.2.2.2.3 in
+    let z = three place q.2.2.0 r.0 r.2.0 r.2.2.0 r.1 r.2.1 r.2.2.1 in
+    let d = r.2.2.0 in
+    let made = ap (make action.FaAbs) (z.is ∙ ap (with_event z.e z.h) (y.is ∙ ap (with_event y.e y.h) x.is)) ∙ made_faabs name x.e y.e z.e x.h y.h z.h b in
+    event_finished place b (make action.FaAbs d) w
+    (event_added place b (make action.FaAbs d) (event.FaAbs x.e y.e z.e) (above (max x.h.own (max y.h.own z.h.own))) (λ i. faabs_good place x.e y.e z.e x.h y.h z.h (x.good i) (y.good i) (z.good i)) made)
     r.2.2.2.3
 
 -- ---- numbers
@@ -242,7 +273,7 @@ mark_no_count mark.Arrow = refl
 
 word_no_count : (w : List ℕ) → is_count (word_terminal w) ≡ false
 unfolding word_terminal
-word_no_count w = never is_count rows w refl refl
+word_no_count w = never is_count (rows ++ event_words) w refl refl
 
 this_no_count : (place : Place) → is_count (this_terminal place) ≡ false
 this_no_count place_of.Script = refl
@@ -292,7 +323,7 @@ record CountIs (kd : TokenKind) : Type 0 where
 
 count_is : (place : Place) (kd : TokenKind) (bytes : List ℕ) → Sound place (spelt terminal.Count kd bytes) → CountIs kd
 count_is place kd bytes s =
-    let m = number_is place terminal.Count kd bytes s.seen_as refl in
+    let m = number_is place terminal.Count kd bytes (seen_as is_count refl s refl) refl in
     let t = count_tests (m.0 == 0 || nat_le (2 ^ 32) m.0) (nat_le m.0 choose_limit) m.2 in
     record { n = m.0; is = m.1; some = (wide m.0 t.0).0; small = narrow m.0 t.1 }
 
@@ -326,7 +357,7 @@ record PeriodIs (kd : TokenKind) : Type 0 where
 
 seconds_is : (place : Place) (kd : TokenKind) (bytes : List ℕ) → Sound place (spelt terminal.Seconds kd bytes) → PeriodIs kd
 seconds_is place kd bytes s =
-    let m = number_is place terminal.Seconds kd bytes s.seen_as refl in
+    let m = number_is place terminal.Seconds kd bytes (seen_as is_count refl s refl) refl in
     let t = seconds_tests (m.0 == 0 || nat_le (2 ^ 32) m.0) (nat_le m.0 choose_limit) m.2 in
     let r = wide m.0 t in
     record { n = m.0; is = m.1; some = r.0; small = r.1 }
@@ -343,8 +374,8 @@ period_after place k known kept kd bytes s b w l =
       is = sym l ∙ (ap (make action.TimeEvery) same ∙ (made_every (number_leaf m.n) b ∙ ap (λ x. with_kind (point.TimeEvery x) b) (small_count m.n m.small)));
     }
 
-pub period_rows : (place : Place) (k : Terminal) → IfRow (RowIs place part.Period k) (after part.Period k)
-unfolding after kept_as
+pub period_rows : (place : Place) (k : Terminal) → IfRow (RowIs place part.Period k) (row_of part.Period k)
+unfolding row_of kept_as
 period_rows place terminal.Seconds = period_after place terminal.Seconds (seconds_is place) (λ n bytes b. refl)
 period_rows place terminal.Count = period_after place terminal.Count (λ kd bytes s. let m = count_is place kd bytes s in record { n = m.n; is = m.is; some = m.some; small = omega (arith, m.small) }) (λ n bytes b. refl)
 period_rows place other = tt
@@ -413,18 +444,32 @@ made_masked m k e h b = refl
 mask_after : (place : Place) → RowIs place part.Mask terminal.AndAnd (item.Part part.Expr ∷ item.Build action.Masked ∷ [])
 unfolding kept_as
 mask_after place kd bytes s b w l = λ k c is good.
-    let m = operator_is_mark place terminal.AndAnd kd bytes s.seen_as refl in
+    let m = operator_is_mark place terminal.AndAnd kd bytes (seen_as is_operator refl s refl) refl in
     let a = l.1 in
     let same : keep (spelt terminal.AndAnd kd bytes) b ≡ with_mark_on m.0 (with_kind k c) = ap (λ j. keep (spelt terminal.AndAnd j bytes) b) m.1 ∙ ap (with_mark_on m.0) is in
     let made = ap (make action.Masked) (a.is ∙ ap (with_expr a.e a.h) same) ∙ made_masked m.0 k a.e a.h c in
     event_added place c w (event.Leaf k (Some a.e)) (above (max 1 a.h.own)) (λ i. masked_good place k a.e a.h (good i) a.good) (sym l.2 ∙ made)
 
+made_masked_event : (m : Mark) (e : EventExpr) (h : Height) (x : Expr) (k : Height) (b : Both)
+    → make action.MaskedEvent (with_expr x k (with_mark_on m (with_event e h b))) ≡ with_event (event.Masked e x) (above (max h.own k.own)) b
+unfolding built built_right_side built_statement built_event raised
+made_masked_event m e h x k b = refl
+
+event_mask_after : (place : Place) → RowIs place part.EventMask terminal.AndAnd (item.Part part.Expr ∷ item.Build action.MaskedEvent ∷ [])
+unfolding kept_as
+event_mask_after place kd bytes s b w l = λ e h c is good.
+    let m = operator_is_mark place terminal.AndAnd kd bytes (seen_as is_operator refl s refl) refl in
+    let a = l.1 in
+    let same : keep (spelt terminal.AndAnd kd bytes) b ≡ with_mark_on m.0 (with_event e (paired h) c) = ap (λ j. keep (spelt terminal.AndAnd j bytes) b) m.1 ∙ ap (with_mark_on m.0) is in
+    let made = ap (make action.MaskedEvent) (a.is ∙ ap (with_expr a.e a.h) same) ∙ made_masked_event m.0 e (paired h) a.e a.h c in
+    event_added place c w (event.Masked e a.e) (above (max (in_pair h) a.h.own)) (λ i. masked_event_good place e h a.e a.h (good i) a.good) (sym l.2 ∙ made)
+
 -- a kind in an event expression
 kind_then_mask : (place : Place) (b c d w : Both) → AddsKind place b c → Masks place c d → d ≡ w → AddsEvent place b w
 kind_then_mask place b c d w a m e = event_finished place b d w (m a.k b a.is a.good) e
 
-pub event_unary_rows : (place : Place) (k : Terminal) → IfRow (RowIs place part.EventUnary k) (after part.EventUnary k)
-unfolding after kept_as
+pub event_unary_rows : (place : Place) (k : Terminal) → IfRow (RowIs place part.EventUnary k) (row_of part.EventUnary k)
+unfolding row_of kept_as
 event_unary_rows place terminal.Not = not_after place
 event_unary_rows place terminal.OpenParen = paren_after place
 event_unary_rows place terminal.Any = any_after place
@@ -438,50 +483,58 @@ event_unary_rows place terminal.Sequence = sequence_after place
 event_unary_rows place terminal.Choose = choose_after place
 event_unary_rows place terminal.Every = every_after place
 event_unary_rows place terminal.Fa = fa_after place
+event_unary_rows place terminal.FaAbs = faabs_after place
+event_unary_rows place terminal.RelPlus = relplus_after place
+event_unary_rows place terminal.Pipe = pipe_after place
 event_unary_rows place other = tt
 
-pub event_ands_rows : (place : Place) (k : Terminal) → IfRow (RowIs place part.EventAnds k) (after part.EventAnds k)
-unfolding after
+pub event_ands_rows : (place : Place) (k : Terminal) → IfRow (RowIs place part.EventAnds k) (row_of part.EventAnds k)
+unfolding row_of
 event_ands_rows place terminal.And = and_after place
 event_ands_rows place other = tt
 
-pub event_ors_rows : (place : Place) (k : Terminal) → IfRow (RowIs place part.EventOrs k) (after part.EventOrs k)
-unfolding after
+pub event_ors_rows : (place : Place) (k : Terminal) → IfRow (RowIs place part.EventOrs k) (row_of part.EventOrs k)
+unfolding row_of
 event_ors_rows place terminal.Or = or_after place
 event_ors_rows place other = tt
 
-pub more_relative_rows : (place : Place) (k : Terminal) → IfRow (RowIs place part.MoreRelative k) (after part.MoreRelative k)
-unfolding after
+pub more_relative_rows : (place : Place) (k : Terminal) → IfRow (RowIs place part.MoreRelative k) (row_of part.MoreRelative k)
+unfolding row_of
 more_relative_rows place terminal.Comma = more_relative_after place
 more_relative_rows place terminal.CloseParen = more_relative_ends place
 more_relative_rows place other = tt
 
-pub more_prior_rows : (place : Place) (k : Terminal) → IfRow (RowIs place part.MorePrior k) (after part.MorePrior k)
-unfolding after
+pub more_prior_rows : (place : Place) (k : Terminal) → IfRow (RowIs place part.MorePrior k) (row_of part.MorePrior k)
+unfolding row_of
 more_prior_rows place terminal.Comma = more_prior_after place
 more_prior_rows place terminal.CloseParen = more_prior_ends place
 more_prior_rows place other = tt
 
-pub more_sequence_rows : (place : Place) (k : Terminal) → IfRow (RowIs place part.MoreSequence k) (after part.MoreSequence k)
-unfolding after
+pub more_sequence_rows : (place : Place) (k : Terminal) → IfRow (RowIs place part.MoreSequence k) (row_of part.MoreSequence k)
+unfolding row_of
 more_sequence_rows place terminal.Comma = more_sequence_after place
 more_sequence_rows place terminal.CloseParen = more_sequence_ends place
 more_sequence_rows place other = tt
 
-pub mask_rows : (place : Place) (k : Terminal) → IfRow (RowIs place part.Mask k) (after part.Mask k)
-unfolding after
+pub mask_rows : (place : Place) (k : Terminal) → IfRow (RowIs place part.Mask k) (row_of part.Mask k)
+unfolding row_of
 mask_rows place terminal.AndAnd = mask_after place
 mask_rows place other = tt
 
-pub kind_rows : (place : Place) (k : Terminal) → IfRow (RowIs place part.Kind k) (after part.Kind k)
-unfolding after kept_as
+pub event_mask_rows : (place : Place) (k : Terminal) → IfRow (RowIs place part.EventMask k) (row_of part.EventMask k)
+unfolding row_of
+event_mask_rows place terminal.AndAnd = event_mask_after place
+event_mask_rows place other = tt
+
+pub kind_rows : (place : Place) (k : Terminal) → IfRow (RowIs place part.Kind k) (row_of part.Kind k)
+unfolding row_of kept_as
 kind_rows place terminal.After = λ kd bytes s b w l. subst (λ x. AddsKind place b x) l.2 l.1
 kind_rows place terminal.Before = λ kd bytes s b w l. subst (λ x. AddsKind place b x) l.2 l.1
 kind_rows place terminal.Time = λ kd bytes s b w l. subst (λ x. AddsKind place b x) l.2 l.1
 kind_rows place other = tt
 
-pub after_what_rows : (place : Place) (k : Terminal) → IfRow (RowIs place part.AfterWhat k) (after part.AfterWhat k)
-unfolding after
+pub after_what_rows : (place : Place) (k : Terminal) → IfRow (RowIs place part.AfterWhat k) (row_of part.AfterWhat k)
+unfolding row_of
 after_what_rows place terminal.Create = create_after place
 after_what_rows place terminal.Name = after_method_after place
 after_what_rows place terminal.TBegin = tbegin_after place
@@ -490,16 +543,16 @@ after_what_rows place terminal.TAbort = tabort_after place
 after_what_rows place terminal.NewVersion = newversion_after place
 after_what_rows place other = tt
 
-pub before_what_rows : (place : Place) (k : Terminal) → IfRow (RowIs place part.BeforeWhat k) (after part.BeforeWhat k)
-unfolding after
+pub before_what_rows : (place : Place) (k : Terminal) → IfRow (RowIs place part.BeforeWhat k) (row_of part.BeforeWhat k)
+unfolding row_of
 before_what_rows place terminal.Delete = delete_after place
 before_what_rows place terminal.Name = before_method_after place
 before_what_rows place terminal.TComplete = tcomplete_after place
 before_what_rows place terminal.DropVersion = delversion_after place
 before_what_rows place other = tt
 
-pub time_what_rows : (place : Place) → (k : Terminal) → IfRow (RowIs place part.TimeWhat k) (after part.TimeWhat k)
-unfolding after
+pub time_what_rows : (place : Place) → (k : Terminal) → IfRow (RowIs place part.TimeWhat k) (row_of part.TimeWhat k)
+unfolding row_of
 time_what_rows place terminal.Every = every_second_after place
 time_what_rows place terminal.At = at_after place
 time_what_rows place other = tt
@@ -514,3 +567,8 @@ pub no_mask : (place : Place) (b : Both) (a : Action) → Some action.Unmasked �
 no_mask place b a f = λ k c is good.
     event_added place c (make a b) (event.Leaf k None) leaf (λ i. plain_good place k (good i))
     (ap (λ x. make x b) (sym (same_Some action.Unmasked a f)) ∙ (ap (make action.Unmasked) is ∙ made_unmasked k c))
+
+pub no_event_mask : (place : Place) (b : Both) (a : Action) → Some action.Nothing ≡ Some a → MasksPair place b (make a b)
+no_event_mask place b a f = λ e h c is good.
+    event_added place c (make a b) e (paired h) (λ i. event_up place e h (paired h) (in_brackets_up h) (omega arith) (good i))
+    (ap (λ x. make x b) (sym (same_Some action.Nothing a f)) ∙ (nothing b ∙ is))

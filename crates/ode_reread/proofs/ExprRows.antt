@@ -8,7 +8,8 @@ use Rattle.ode_grammar.specs.declared.item.Item.TheVariants as item
 use Rattle.ode_grammar.specs.declared.terminal.Terminal.{Terminal}
 use Rattle.ode_grammar.specs.declared.terminal.Terminal.TheVariants as terminal
 use Rattle.ode_grammar.specs.Expressions.{behind_unary}
-use Rattle.ode_grammar.specs.Grammar.{after, skipped}
+use Rattle.ode_grammar.specs.Grammar.{row_of, skipped}
+use Rattle.ode_grammar.specs.Terminals.{named}
 use Rattle.ode_grammar.specs.Texts.{Derives, Rule, Skip}
 use Rattle.ode_syntax.specs.Kept.{Spelled}
 use Rattle.ode_reread.proofs.Both.{Both, both}
@@ -18,8 +19,8 @@ longer more None = None
 longer more (Some row) = Some (row ++ more)
 
 -- the rows of an expression are those of an operand, and what follows it
-pub rows : (k : Terminal) → after part.Expr k ≡ longer behind_unary (after part.Unary k)
-unfolding after
+pub rows : (k : Terminal) → row_of part.Expr k ≡ longer behind_unary (row_of part.Unary k)
+unfolding row_of
 rows terminal.Leaf = refl
 rows terminal.Number = refl
 rows terminal.Seconds = refl
@@ -66,6 +67,7 @@ rows terminal.Else = refl
 rows terminal.Event = refl
 rows terminal.Every = refl
 rows terminal.Fa = refl
+rows terminal.FaAbs = refl
 rows terminal.First = refl
 rows terminal.If = refl
 rows terminal.Initial = refl
@@ -75,10 +77,12 @@ rows terminal.Mode = refl
 rows terminal.NewVersion = refl
 rows terminal.Or = refl
 rows terminal.PDelete = refl
+rows terminal.Pipe = refl
 rows terminal.PNew = refl
 rows terminal.Prior = refl
 rows terminal.Ref = refl
 rows terminal.Relative = refl
+rows terminal.RelPlus = refl
 rows terminal.Return = refl
 rows terminal.Say = refl
 rows terminal.Scope = refl
@@ -102,6 +106,6 @@ no_skip a e = none-some a e
 pub begins : {items : List Item} {b : Both} {ts : List Spelled} {out : Both}
     → Derives both (item.Part part.Unary ∷ behind_unary ++ items) b ts out → Derives both (item.Part part.Expr ∷ items) b ts out
 begins {items = items} {b = b} {out = out} (Rule {t = t} {ts = ts} p row e d) =
-    Rule part.Expr (row ++ behind_unary) (rows t.terminal ∙ ap (longer behind_unary) e)
+    Rule part.Expr (row ++ behind_unary) (rows (named t.terminal) ∙ ap (longer behind_unary) e)
     (subst (λ is. Derives both is (both.keep t b) ts out) (sym (append_assoc row behind_unary items)) d)
 begins (Skip p a e d) = absurd (no_skip a e)

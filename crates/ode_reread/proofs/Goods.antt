@@ -10,11 +10,12 @@ use Rattle.ode_lex.specs.declared.token.TokenKind.{TokenKind}
 use Rattle.ode_lex.specs.declared.token.TokenKind.TheVariants as kind
 use Rattle.ode_grammar.specs.declared.terminal.Terminal.{Terminal}
 use Rattle.ode_grammar.specs.declared.terminal.Terminal.TheVariants as terminal
+use Rattle.ode_grammar.specs.Terminals.{named as as_name}
 use Rattle.ode_heights.specs.declared.height.Height.{Height}
 use Rattle.ode_heights.specs.Heights.{above, leaf}
 use Rattle.ode_terminals.specs.declared.seen.Place.{Place}
 use Rattle.ode_terminals.specs.Seen.{between_quotes, instant_terminal, number_terminal, reference_terminal, seen, this_terminal}
-use Rattle.ode_terminals.specs.Words.{looked_up, rows, word_terminal}
+use Rattle.ode_terminals.specs.Words.{event_words, looked_up, rows, word_terminal}
 use Rattle.ode_timer.specs.Dates.{instant_of}
 use Rattle.ode_value.specs.Limits.{choose_limit}
 use Rattle.ode_value.specs.Decimal.{digits_of}
@@ -168,21 +169,30 @@ reference_good place r some h e =
 pub free_word : (name : List ℕ) → is_free name ≡ true → is_word name ≡ true
 free_word name h = (both_true _ _ h).0
 
--- a free word is in no row of the table
-not_looked_up : (rs : List (List ℕ × Terminal)) (w : List ℕ) → list_any (λ x. bytes_eq x w) (map (λ (r : List ℕ × Terminal). r.0) rs) ≡ false
-    → looked_up rs w ≡ terminal.Name
-not_looked_up [] w e = refl
-not_looked_up (r ∷ rs) w e =
+-- a free word is in no row of the table of reserved ones
+not_looked_up : (rs more : List (List ℕ × Terminal)) (w : List ℕ) → list_any (λ x. bytes_eq x w) (map (λ (r : List ℕ × Terminal). r.0) rs) ≡ false
+    → looked_up (rs ++ more) w ≡ looked_up more w
+not_looked_up [] more w e = refl
+not_looked_up (r ∷ rs) more w e =
     let x = either_false (bytes_eq r.0 w) (list_any (λ x. bytes_eq x w) (map (λ (r : List ℕ × Terminal). r.0) rs)) e in
-    ap (λ c. cond c r.1 (looked_up rs w)) x.0 ∙ not_looked_up rs w x.1
+    ap (λ c. cond c r.1 (looked_up (rs ++ more) w)) x.0 ∙ not_looked_up rs more w x.1
 
 words_reserved : (w : List ℕ) → list_any (λ x. bytes_eq x w) reserved ≡ list_any (λ x. bytes_eq x w) (map (λ (r : List ℕ × Terminal). r.0) rows)
 unfolding reserved
 words_reserved w = refl
 
-free_is_name : (w : List ℕ) → list_any (λ x. bytes_eq x w) reserved ≡ false → word_terminal w ≡ terminal.Name
+-- behind those rows are only words that are names
+named_either : (c : Bool) (x y : Terminal) → as_name x ≡ terminal.Name → as_name y ≡ terminal.Name → as_name (cond c x y) ≡ terminal.Name
+named_either true x y e f = e
+named_either false x y e f = f
+
+event_word_named : (w : List ℕ) → as_name (looked_up event_words w) ≡ terminal.Name
+event_word_named w =
+    named_either (bytes_eq (codes "faabs") w) _ _ refl (named_either (bytes_eq (codes "pipe") w) _ _ refl (named_either (bytes_eq (codes "relplus") w) _ _ refl refl))
+
+free_is_name : (w : List ℕ) → list_any (λ x. bytes_eq x w) reserved ≡ false → as_name (word_terminal w) ≡ terminal.Name
 unfolding word_terminal
-free_is_name w e = not_looked_up rows w (sym (words_reserved w) ∙ e)
+free_is_name w e = ap as_name (not_looked_up rows event_words w (sym (words_reserved w) ∙ e)) ∙ event_word_named w
 
 pub turned : (a b : List ℕ) → bytes_eq a b ≡ false → bytes_eq b a ≡ false
 turned a b e = cases (bytes_eq b a) refl
@@ -213,7 +223,7 @@ named place name h =
     let x = both_true (is_word name) (not (list_any (λ x. bytes_eq x name) reserved)) h in
     let free = is_false (list_any (λ x. bytes_eq x name) reserved) x.1 in
     record {
-      seen = ap (λ c. cond c (this_terminal place) (word_terminal name)) (turned (codes "this") name (this_among name free)) ∙ free_is_name name free;
+      seen = ap (λ c. as_name (cond c (this_terminal place) (word_terminal name))) (turned (codes "this") name (this_among name free)) ∙ free_is_name name free;
       says = ap (λ c. cond c name (codes "x")) h;
     }
 

@@ -8,6 +8,7 @@ use Rattle.ode_lex.specs.declared.token.TokenKind.TheVariants as kind
 use Rattle.ode_grammar.specs.declared.item.Item.TheVariants as item
 use Rattle.ode_grammar.specs.declared.item.Part.TheVariants as part
 use Rattle.ode_grammar.specs.declared.terminal.Terminal.TheVariants as terminal
+use Rattle.ode_grammar.specs.Terminals.{named}
 use Rattle.ode_terminals.specs.declared.seen.Place.{Place}
 use Rattle.ode_terminals.specs.Seen.{between_quotes, instant_terminal}
 use Rattle.ode_timer.specs.Dates.{date_in, days_before, instant_of, is_real, second_of as second_of_date, spelled as spelled_date}
@@ -145,7 +146,7 @@ kept_instant : (place : Place) (t : List ℕ) (s : ℤ) → IsPlain t → instan
     → keep (spell place kind.Text (quoted t)) b ≡ with_leaf_on (expr.Lit (value.Text t)) b
 unfolding kept_as
 kept_instant place t s p e b =
-    ap (λ k. record { trees = kept_as k kind.Text (quoted t) b.trees; heights = b.heights }) e
+    ap (λ k. record { trees = kept_as (named k) kind.Text (quoted t) b.trees; heights = b.heights }) e
     ∙ ap (λ x. with_leaf_on (expr.Lit (value.Text x)) b) (ap (λ x. text_of (content_of x)) (sym p.shown) ∙ text_says t p.text)
 
 an_instant : (place : Place) (t : List ℕ) (s : ℤ) → instant_of t ≡ Some s → IsInstant (spell place kind.Text (quoted t)) s

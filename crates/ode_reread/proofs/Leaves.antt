@@ -1,5 +1,5 @@
 -- What a leaf says is good, wherever it stands.
-use Rattle.std.proofs.Common.{◌≡◌, ℕ, Bool, true, false, ◌&&◌, ◌||◌, cond, codes, List, [], ◌∷◌, refl, sym, ◌∙◌, ap, subst}
+use Rattle.std.proofs.Common.{◌≡◌, ℕ, Bool, true, false, ◌&&◌, ◌||◌, cond, codes, List, [], ◌∷◌, ◌++◌, refl, sym, ◌∙◌, ap, subst}
 use Rattle.std.specs.List.{list_any}
 use Rattle.std.specs.Str.{bytes_eq}
 use Rattle.std.proofs.lemmas.Bool.{false≢true}
@@ -13,14 +13,14 @@ use Rattle.ode_heights.specs.Heights.{leaf}
 use Rattle.ode_terminals.specs.declared.seen.Place.{Place}
 use Rattle.ode_terminals.specs.declared.seen.Place.TheVariants as place_of
 use Rattle.ode_terminals.specs.Seen.{mark_terminal, seen, this_terminal}
-use Rattle.ode_terminals.specs.Words.{looked_up, rows, word_terminal}
+use Rattle.ode_terminals.specs.Words.{event_words, looked_up, rows, word_terminal}
 use Rattle.ode_value.specs.declared.statement.Expr.{Expr}
 use Rattle.ode_value.specs.declared.statement.Expr.TheVariants as expr
 use Rattle.ode_value.specs.declared.value.Value.TheVariants as value
 use Rattle.ode_syntax.specs.Kept.{content_of, is_text, leaf_of, text_of, word_leaf}
 use Rattle.ode_reread.proofs.Goods.{false_good, int_good, null_good, reference_good, text_good, this_good, true_good, turned, Good}
 use Rattle.ode_reread.proofs.Marked.{is_leaf}
-use Rattle.ode_reread.proofs.Sounds.{Sound}
+use Rattle.ode_reread.proofs.Sounds.{seen_as, Sound}
 
 good_either : (place : Place) (c : Bool) (e f : Expr) → Good place e leaf → Good place f leaf → Good place (cond c e f) leaf
 good_either place true e f g h = g
@@ -59,7 +59,7 @@ leaf_word (r ∷ rs) w e = cases (bytes_eq r.0 w) refl e (λ f. leaf_word rs w f
 among_leaves : (w : List ℕ) → is_leaf (word_terminal w) ≡ true
     → (bytes_eq (codes "false") w || (bytes_eq (codes "null") w || (bytes_eq (codes "this") w || (bytes_eq (codes "true") w || false)))) ≡ true
 unfolding word_terminal
-among_leaves w e = leaf_word rows w e
+among_leaves w e = leaf_word (rows ++ event_words) w e
 
 -- where `this` is none
 foreign_word : (bytes : List ℕ) (c d f : Bool) → bytes_eq bytes (codes "true") ≡ c → bytes_eq bytes (codes "false") ≡ d → bytes_eq bytes (codes "null") ≡ f
@@ -127,8 +127,8 @@ mark_no_leaf mark.Arrow = refl
 
 pub leaf_read : (place : Place) (k : Terminal) (kd : TokenKind) (bytes : List ℕ) → is_leaf k ≡ true → Sound place (record { terminal = k; kind = kd; bytes = bytes })
     → Good place (leaf_of kd bytes) leaf
-leaf_read place k kind.Word bytes e s = word_good place k bytes e s.seen_as
+leaf_read place k kind.Word bytes e s = word_good place k bytes e (seen_as is_leaf refl s e)
 leaf_read place k (kind.Number n) bytes e s = let m = s.says in subst (λ z. Good place (expr.Lit (value.Int z)) leaf) (sym m.1) (int_good place m.0 m.2)
 leaf_read place k kind.Text bytes e s = text_good place (text_of (content_of bytes)) (is_a_text (content_of bytes))
-leaf_read place k (kind.Reference r) bytes e s = let m = s.says in reference_good place r m.0 m.1 (ap is_leaf (sym s.seen_as) ∙ e)
-leaf_read place k (kind.Mark m) bytes e s = absurd (false≢true (sym (mark_no_leaf m) ∙ (ap is_leaf (sym s.seen_as) ∙ e)))
+leaf_read place k (kind.Reference r) bytes e s = let m = s.says in reference_good place r m.0 m.1 (ap is_leaf (sym (seen_as is_leaf refl s e)) ∙ e)
+leaf_read place k (kind.Mark m) bytes e s = absurd (false≢true (sym (mark_no_leaf m) ∙ (ap is_leaf (sym (seen_as is_leaf refl s e)) ∙ e)))

@@ -11,7 +11,8 @@ use Rattle.ode_grammar.specs.declared.item.Action.TheVariants as action
 use Rattle.ode_grammar.specs.declared.item.Item.TheVariants as item
 use Rattle.ode_grammar.specs.declared.terminal.Terminal.{Terminal}
 use Rattle.ode_grammar.specs.declared.terminal.Terminal.TheVariants as terminal
-use Rattle.ode_grammar.specs.Grammar.{after}
+use Rattle.ode_grammar.specs.Grammar.{after, row_of}
+use Rattle.ode_grammar.specs.Terminals.{named}
 use Rattle.ode_heights.specs.declared.height.Height.{Height}
 use Rattle.ode_terminals.specs.Seen.{mark_terminal}
 use Rattle.ode_value.specs.declared.operator.BinOp.{BinOp}
@@ -83,7 +84,7 @@ is_leaf terminal.Instant = true
 is_leaf other = false
 
 pub leaf_row : (k : Terminal) → is_leaf k ≡ true → after part.Unary k ≡ Some (item.Build action.Leaf ∷ item.Part part.Dots ∷ [])
-unfolding after
+unfolding row_of
 leaf_row terminal.Leaf h = refl
 leaf_row terminal.Number h = refl
 leaf_row terminal.Seconds h = refl
@@ -92,7 +93,7 @@ leaf_row terminal.Text h = refl
 leaf_row terminal.Instant h = refl
 leaf_row other h = absurd (false≢true h)
 
-pub leaf_kept : (k : Terminal) (kd : TokenKind) (bytes : List ℕ) (v : Trees) → is_leaf k ≡ true → kept_as k kd bytes v ≡ with_leaf kd bytes v
+pub leaf_kept : (k : Terminal) (kd : TokenKind) (bytes : List ℕ) (v : Trees) → is_leaf k ≡ true → kept_as (named k) kd bytes v ≡ with_leaf kd bytes v
 unfolding kept_as
 leaf_kept terminal.Leaf kd bytes v h = refl
 leaf_kept terminal.Number kd bytes v h = refl
@@ -109,5 +110,5 @@ pub record IsLeaf (t : Spelled) (e : Expr) : Type 0 where
 
 -- the token is this name
 pub record IsNamed (t : Spelled) (name : List ℕ) : Type 0 where
-  pub seen : t.terminal ≡ terminal.Name
+  pub seen : named t.terminal ≡ terminal.Name
   pub says : name_of t.bytes ≡ name

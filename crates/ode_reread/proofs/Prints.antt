@@ -7,8 +7,10 @@ use Rattle.ode_grammar.specs.declared.item.Item.{Item}
 use Rattle.ode_grammar.specs.declared.item.Item.TheVariants as item
 use Rattle.ode_grammar.specs.declared.terminal.Terminal.TheVariants as terminal
 use Rattle.ode_grammar.specs.Expressions.{behind_unary, term, sum, comp, conj}
-use Rattle.ode_grammar.specs.Grammar.{after, skipped}
+use Rattle.ode_grammar.specs.Grammar.{after, row_of, skipped}
+use Rattle.ode_grammar.specs.Terminals.{named}
 use Rattle.ode_grammar.specs.Texts.{Derives, Next, Make, Rule, Skip}
+use Rattle.ode_grammar.proofs.TerminalLaws.{stands_for-named}
 use Rattle.ode_heights.specs.declared.height.Height.{Height}
 use Rattle.ode_heights.specs.Heights.{above, leaf, raised}
 use Rattle.ode_value.specs.declared.operator.BinOp.{BinOp}
@@ -97,7 +99,7 @@ abbrev pair_items : List Item → List Item
 pair_items items = item.Part part.Expr ∷ item.Token terminal.CloseParen ∷ item.Build action.Pair ∷ item.Part part.Dots ∷ items
 
 paren_row : after part.Unary terminal.OpenParen ≡ Some (pair_items [])
-unfolding after
+unfolding row_of
 paren_row = refl
 
 bracketed_operand : (e : Expr) (n : ℕ) (us : List Spelled) → AsWhole e (above n) us → AsOperand e (record { own = n + 1; bare = true }) (bracketed us)
@@ -143,9 +145,9 @@ made_variable : (name : List ℕ) (b : Both) → make action.Variable (with_name
 unfolding built raised
 made_variable name b = refl
 
-named_row : (t : Spelled) → t.terminal ≡ terminal.Name → after part.Unary t.terminal ≡ Some (item.Build action.Variable ∷ item.Part part.Dots ∷ [])
-unfolding after
-named_row t h = ap (after part.Unary) h
+named_row : (t : Spelled) → named t.terminal ≡ terminal.Name → after part.Unary t.terminal ≡ Some (item.Build action.Variable ∷ item.Part part.Dots ∷ [])
+unfolding row_of
+named_row t h = ap (row_of part.Unary) h
 
 pub named_prints : (name : List ℕ) (t : Spelled) → IsNamed t name → Prints (expr.Name name) false leaf (t ∷ [])
 named_prints name t h = no_operator (expr.Name name) leaf (t ∷ []) (λ items b ts out d.
@@ -160,7 +162,7 @@ unfolding kept_as
 kept_dot b = refl
 
 dot_row : after part.Dots terminal.Dot ≡ Some (item.Token terminal.Name ∷ item.Build action.Field ∷ item.Part part.Dots ∷ [])
-unfolding after
+unfolding row_of
 dot_row = refl
 
 pub made_field : (e : Expr) (h : Height) (name : List ℕ) (b : Both) → make action.Field (with_name name (with_expr e h b)) ≡ with_expr (expr.Field e name) (above h.own) b
@@ -181,20 +183,20 @@ field_prints e c h us name t p n =
     (p.operand items b (marked mark.Dot ∷ t ∷ ts) out
     (Rule part.Dots (item.Token terminal.Name ∷ item.Build action.Field ∷ item.Part part.Dots ∷ []) dot_row
     (at (item.Token terminal.Name ∷ item.Build action.Field ∷ item.Part part.Dots ∷ items) (t ∷ ts) out (kept_dot (with_expr e k b))
-    (Next terminal.Name n.seen
+    (Next terminal.Name (stands_for-named t.terminal terminal.Name n.seen)
     (at (item.Build action.Field ∷ item.Part part.Dots ∷ items) ts out (kept_named t name (with_expr e k b) n)
     (Make action.Field (at (item.Part part.Dots ∷ items) ts out made d))))))))
 
 kept_version : (t : Spelled) (b : Both) → t.terminal ≡ terminal.Version → keep t b ≡ b
 unfolding kept_as
-kept_version t b h = ap (λ k. record { trees = kept_as k t.kind t.bytes b.trees; heights = b.heights }) h
+kept_version t b h = ap (λ k. record { trees = kept_as (named k) t.kind t.bytes b.trees; heights = b.heights }) h
 
 abbrev version_items : List Item → List Item
 version_items items =
     item.Token terminal.OpenParen ∷ item.Part part.Expr ∷ item.Token terminal.CloseParen ∷ item.Build action.Version ∷ item.Part part.Dots ∷ items
 
 version_row : (t : Spelled) → t.terminal ≡ terminal.Version → after part.Unary t.terminal ≡ Some (version_items [])
-unfolding after
+unfolding row_of
 version_row t h = ap (after part.Unary) h
 
 pub made_version : (e : Expr) (h : Height) (b : Both) → make action.Version (with_expr e h b) ≡ with_expr (expr.Version e) (above h.own) b
@@ -221,7 +223,7 @@ kept_sign unary.Minus b = refl
 kept_sign unary.Not b = refl
 
 sign_row : (op : UnOp) → after part.Unary (marked (sign_mark op)).terminal ≡ Some (item.Part part.Unary ∷ item.Build action.Sign ∷ [])
-unfolding after
+unfolding row_of
 sign_row unary.Minus = refl
 sign_row unary.Not = refl
 
@@ -325,7 +327,7 @@ disjunction op e f h k us r p items b ts out d =
     (marked_on op e h _ b (us ++ ts) out (p _ _ ts out (no_dots (no_factors (no_sums (no_compare (no_ands (second op e f h k _ b ts out (no_ors d)))))))))))))
 
 operation : (op : BinOp) (e f : Expr) (h k : Height) (us : List Spelled) → AsOperand f k us → AfterFirst op e f h k us
-unfolding after
+unfolding row_of
 operation binary.Add e f h k us r = sum_of binary.Add e f h k us refl r
 operation binary.Sub e f h k us r = sum_of binary.Sub e f h k us refl r
 operation binary.Mul e f h k us r = factor binary.Mul e f h k us refl r

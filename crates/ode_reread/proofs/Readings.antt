@@ -1,5 +1,5 @@
 -- What a whole text makes.
-use Rattle.std.proofs.Common.{◌≡◌, ◌≤◌, ℕ, List, [], ◌∷◌, ◌++◌, map, refl, sym, ◌∙◌, ap, subst, arith}
+use Rattle.std.proofs.Common.{◌≡◌, ◌≤◌, ℕ, true, List, [], ◌∷◌, ◌++◌, map, refl, sym, ◌∙◌, ap, subst, arith}
 use Rattle.std.proofs.lemmas.List.{append-nil}
 use Rattle.ode_lex.specs.declared.token.Token.{Token}
 use Rattle.ode_grammar.specs.declared.item.Item.{Item}
@@ -7,10 +7,13 @@ use Rattle.ode_grammar.specs.declared.item.Item.TheVariants as item
 use Rattle.ode_grammar.specs.declared.item.Part.TheVariants as part
 use Rattle.ode_grammar.specs.declared.reader.Start.{Start}
 use Rattle.ode_grammar.specs.declared.reader.Start.TheVariants as start
-use Rattle.ode_grammar.specs.Grammar.{items_of}
+use Rattle.ode_grammar.specs.declared.terminal.Terminal.{Terminal}
+use Rattle.ode_grammar.specs.Grammar.{items_of, standing}
+use Rattle.ode_grammar.specs.Terminals.{stands_for}
 use Rattle.ode_grammar.specs.Texts.{Derives, Done, Next, Make, Rule, Skip}
 use Rattle.ode_grammar.proofs.Follows.{start_well}
 use Rattle.ode_grammar.proofs.Runs.{one_meaning}
+use Rattle.ode_grammar.proofs.TerminalLaws.{stands_at, stands_for-same}
 use Rattle.ode_heights.specs.declared.height.Height.{Height}
 use Rattle.ode_heights.specs.declared.height.Heights.{Heights}
 use Rattle.ode_heights.specs.Heights.{heights as of_heights, highest, none}
@@ -21,7 +24,7 @@ use Rattle.ode_value.specs.declared.event.EventExpr.{EventExpr}
 use Rattle.ode_value.specs.declared.statement.Expr.{Expr}
 use Rattle.ode_syntax.specs.declared.trees.Trees.{Trees}
 use Rattle.ode_syntax.specs.Built.{event_tree, tree}
-use Rattle.ode_syntax.specs.Kept.{spelled, Spelled}
+use Rattle.ode_syntax.specs.Kept.{kept_as, spelled, Spelled}
 use Rattle.ode_syntax.specs.Trees.{no_trees}
 use Rattle.ode_reread.proofs.Cuts.{Cut}
 use Rattle.ode_reread.proofs.Cuts as cuts
@@ -34,7 +37,11 @@ use Rattle.ode_reread.proofs.EventGoods.{GoodEvent, GoodInstants}
 use Rattle.ode_reread.proofs.EventPrints.{with_event}
 use Rattle.ode_reread.proofs.Goods.{Good}
 use Rattle.ode_reread.proofs.Marked.{with_expr}
-use Rattle.ode_reread.proofs.Sounds.{text_sounds, Sound, Sounds}
+use Rattle.ode_reread.proofs.Sounds.{sound_so, text_sounds, Sounds}
+
+-- what a token stands for is kept as it is
+pub kept_so : (t : Spelled) (k : Terminal) (b : Both) → stands_for t.terminal k ≡ true → keep t b ≡ keep (spelt k t.kind t.bytes) b
+kept_so t k b e = ap (λ j. record { trees = kept_as j t.kind t.bytes b.trees; heights = b.heights }) (stands_for-same t.terminal k e)
 
 -- a text does what its items do
 pub leads : {items : List Item} {b : Both} {ts : List Spelled} {out : Both} → (place : Place) → Derives both items b ts out → Sounds place ts → Leads place items b out
@@ -42,13 +49,15 @@ leads place Done s = refl
 leads {b = b} {out = out} place (Next {items = items} {t = t} k e d) s = (
   t.kind,
   t.bytes,
-  subst (λ j. Sound place (spelt j t.kind t.bytes)) e s.0,
-  subst (λ j. Leads place items (keep (spelt j t.kind t.bytes) b) out) e (leads place d s.1),
+  sound_so place t k e s.0,
+  subst (λ c. Leads place items c out) (kept_so t k b e) (leads place d s.1),
 )
 leads place (Make a d) s = leads place d s
 leads {b = b} {out = out} place (Rule {items = items} {t = t} p row e d) s =
     let x = split place row items (keep t b) out (leads place d s.1) in
-    (x.mid, row_does place p t.terminal row e t.kind t.bytes s.0 b x.mid x.first, x.behind)
+    let k = standing p t.terminal in
+    let f = stands_at p t.terminal in
+    (x.mid, row_does place p t.terminal row e t.kind t.bytes (sound_so place t k f s.0) b x.mid (subst (λ c. Leads place row c x.mid) (kept_so t k b f) x.first), x.behind)
 leads {b = b} place (Skip p a e d) s = (make a b, left_out place p a b e, leads place d s)
 
 abbrev pub at_start : Both

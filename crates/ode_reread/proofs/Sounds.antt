@@ -1,5 +1,5 @@
 -- What the tokens of a text say: numbers and references in their ranges.
-use Rattle.std.proofs.Common.{◌≡◌, ◌≤◌, ◌<◌, ◌^◌, ℕ, zero, suc, ◌+◌, ◌-◌, ℤ, pos, negsuc, Bool, true, false, not, ◌&&◌, ◌||◌, ◌==◌, cond, codes, nat_le, List, [], ◌∷◌, length, map, drop, Option, Some, None, option_map, option_and_then, arith, refl, sym, ◌∙◌, ap, subst}
+use Rattle.std.proofs.Common.{◌≡◌, ◌≤◌, ◌<◌, ◌^◌, ℕ, zero, suc, ◌+◌, ◌-◌, ℤ, pos, negsuc, Bool, true, false, not, ◌&&◌, ◌||◌, ◌==◌, cond, codes, nat_le, List, [], ◌∷◌, ◌++◌, length, map, drop, Option, Some, None, option_map, option_and_then, arith, refl, sym, ◌∙◌, ap, subst}
 use Rattle.std.specs.Char.{is_ascii_digit}
 use Rattle.std.specs.List.{list_all, prefix_len, take_while}
 use Rattle.std.specs.Str.{bytes_eq}
@@ -16,10 +16,12 @@ use Rattle.ode_lex.specs.declared.token.TokenKind.{TokenKind}
 use Rattle.ode_lex.specs.declared.token.TokenKind.TheVariants as kind
 use Rattle.ode_grammar.specs.declared.terminal.Terminal.{Terminal}
 use Rattle.ode_grammar.specs.declared.terminal.Terminal.TheVariants as terminal
+use Rattle.ode_grammar.specs.Terminals.{stands_for}
+use Rattle.ode_grammar.proofs.TerminalLaws.{stands_for-exactly, stands_for-itself, stands_for-trans}
 use Rattle.ode_terminals.specs.declared.seen.Place.{Place}
 use Rattle.ode_terminals.specs.declared.seen.Place.TheVariants as place_of
-use Rattle.ode_terminals.specs.Seen.{instant_terminal, number_terminal, reference_terminal, seen, this_terminal}
-use Rattle.ode_terminals.specs.Words.{looked_up, rows, word_terminal}
+use Rattle.ode_terminals.specs.Seen.{instant_terminal, number_terminal, reference_terminal, seen, terminal_of, this_terminal}
+use Rattle.ode_terminals.specs.Words.{event_words, looked_up, rows, word_terminal}
 use Rattle.ode_value.specs.Limits.{choose_limit}
 use Rattle.ode_value.specs.References.{IsRef}
 use Rattle.ode_value.specs.Text.{is_name_byte}
@@ -160,9 +162,9 @@ lexed_sound at (suc past) (b ∷ rest) = lexed_sound (at + 1) past rest
 lexed_sound at zero (b ∷ rest) =
     placed_sound at (gap_at (b ∷ rest)) (token_at (b ∷ rest)) (λ n. lexed_from (at + 1) n rest) (token_sound (b ∷ rest)) (λ n. lexed_sound (at + 1) n rest)
 
--- the token is seen as its kind and bytes are, and what it says is in its range
+-- the token is seen as its kind and bytes are, or as a name where they may be one, and what it says is in its range
 pub record Sound (place : Place) (t : Spelled) : Type 0 where
-  pub seen_as : t.terminal ≡ seen place t.bytes t.kind
+  pub stands : stands_for (seen place t.bytes t.kind) t.terminal ≡ true
   pub says : SoundKind t.kind
 
 abbrev pub Sounds : Place → List Spelled → Type 0
@@ -171,11 +173,21 @@ Sounds place (t ∷ ts) = Sound place t × Sounds place ts
 
 all_sound : (place : Place) (text : List ℕ) (tokens : List Token) → SoundTokens tokens → Sounds place (map (spelled place text) tokens)
 all_sound place text [] s = tt
-all_sound place text (t ∷ ts) s = (record { seen_as = refl; says = s.0 }, all_sound place text ts s.1)
+all_sound place text (t ∷ ts) s = (record { stands = stands_for-itself (terminal_of place text t); says = s.0 }, all_sound place text ts s.1)
 
 pub text_sounds : (place : Place) (text : List ℕ) (tokens : List Token) → lexed text ≡ Tokens tokens → Sounds place (map (spelled place text) tokens)
 unfolding lexed
 text_sounds place text tokens e = all_sound place text tokens (subst SoundLexed e (lexed_sound 0 0 text))
+
+-- what is no name is seen as it is
+pub seen_as : (p : Terminal → Bool) → p terminal.Name ≡ false → {place : Place} {t : Spelled} → Sound place t → p t.terminal ≡ true
+    → t.terminal ≡ seen place t.bytes t.kind
+seen_as p f {place = place} {t = t} s h = sym (stands_for-exactly p f (seen place t.bytes t.kind) t.terminal s.stands h)
+
+-- a token that stands for another is as sound
+pub sound_so : (place : Place) (t : Spelled) (k : Terminal) → stands_for t.terminal k ≡ true → Sound place t
+    → Sound place (record { terminal = k; kind = t.kind; bytes = t.bytes })
+sound_so place t k e s = record { stands = stands_for-trans (seen place t.bytes t.kind) t.terminal k s.stands e; says = s.says }
 
 -- ---- operators are marks
 
@@ -206,7 +218,7 @@ never p (r ∷ rs) w e f =
 
 word_no_operator : (w : List ℕ) → is_operator (word_terminal w) ≡ false
 unfolding word_terminal
-word_no_operator w = never is_operator rows w refl refl
+word_no_operator w = never is_operator (rows ++ event_words) w refl refl
 
 this_no_operator : (place : Place) → is_operator (this_terminal place) ≡ false
 this_no_operator place_of.Script = refl

@@ -7,16 +7,18 @@ use Rattle.ode_grammar.specs.declared.item.Item.{Item}
 use Rattle.ode_grammar.specs.declared.item.Part.{Part}
 use Rattle.ode_grammar.specs.declared.item.Part.TheVariants as part
 use Rattle.ode_grammar.specs.declared.terminal.Terminal.{Terminal}
-use Rattle.ode_grammar.specs.Grammar.{after, skipped}
+use Rattle.ode_grammar.specs.Grammar.{after, row_of, skipped, standing}
 use Rattle.ode_grammar.specs.Texts.{Derives, Done, Next, Make, Rule, Skip}
 use Rattle.ode_grammar.proofs.Follows.{IfRow}
+use Rattle.ode_grammar.proofs.TerminalLaws.{stands_at}
 use Rattle.ode_terminals.specs.declared.seen.Place.{Place}
 use Rattle.ode_syntax.specs.Kept.{Spelled}
 use Rattle.ode_reread.proofs.AllRows.{left_out, row_does}
 use Rattle.ode_reread.proofs.Both.{both, keep, make, Both}
 use Rattle.ode_reread.proofs.Effects.{spelt}
 use Rattle.ode_reread.proofs.Prints.{nothing}
-use Rattle.ode_reread.proofs.Sounds.{Sound, Sounds}
+use Rattle.ode_reread.proofs.Readings.{kept_so}
+use Rattle.ode_reread.proofs.Sounds.{sound_so, Sounds}
 use Rattle.ode_reread_classes.proofs.Does.{old, parted, Changes, Does, GoodMembers, News, RowDoes}
 use Rattle.ode_reread_classes.proofs.MemberRows.{class_rows, second_param_rows, third_param_rows, fourth_param_rows, fifth_param_rows, sixth_param_rows, seventh_param_rows, eighth_param_rows, ninth_param_rows, tenth_param_rows, eleventh_param_rows, twelfth_param_rows, thirteenth_param_rows, fourteenth_param_rows, fifteenth_param_rows, sixteenth_param_rows, field_or_method_rows, initial_rows, lasting_rows, members_rows, mode_rows, more_kinds_rows, no_initial, no_lasting, no_mode, no_parent, no_scope, params_rows, parent_rows, scope_rows, sort_rows}
 use Rattle.ode_reread_classes.proofs.Puts.{with_body, with_members}
@@ -31,7 +33,7 @@ any_row : (place : Place) (p : Part) (k : Terminal) (r : Option (List Item)) →
 any_row place p k None f = tt
 any_row place p k (Some row) f = λ kd bytes s b w l. f b w
 
-all_rows : (place : Place) → (p : Part) (k : Terminal) → IfRow (RowDoes place p k) (after p k)
+all_rows : (place : Place) → (p : Part) (k : Terminal) → IfRow (RowDoes place p k) (row_of p k)
 all_rows place part.Args k = args_rows place k
 all_rows place part.MoreArgs k = more_args_rows place k
 all_rows place part.Sets k = sets_rows place k
@@ -75,10 +77,10 @@ all_rows place part.Class k = class_rows place k
 all_rows place part.ScriptRhs k = script_rhs_rows place k
 all_rows place part.ClockText k = clock_text_rows place k
 all_rows place part.Statement k = statement_rows place k
-all_rows place other k = any_row place other k (after other k) (λ b w. tt)
+all_rows place other k = any_row place other k (row_of other k) (λ b w. tt)
 
-news_does : (place : Place) (p : Part) (k : Terminal) (row : List Item) → after p k ≡ Some row → RowDoes place p k row
-news_does place p k row e = subst (IfRow (RowDoes place p k)) e (all_rows place p k)
+news_does : (place : Place) (p : Part) (k : Terminal) (row : List Item) → after p k ≡ Some row → RowDoes place p (standing p k) row
+news_does place p k row e = subst (IfRow (RowDoes place p (standing p k))) e (all_rows place p (standing p k))
 
 -- ---- parts that are left out
 
@@ -143,12 +145,16 @@ does place Done s = refl
 does {b = b} {out = out} place (Next {items = items} {t = t} k e d) s = (
   t.kind,
   t.bytes,
-  subst (λ j. Sound place (spelt j t.kind t.bytes)) e s.0,
-  subst (λ j. Does place items (keep (spelt j t.kind t.bytes) b) out) e (does place d s.1),
+  sound_so place t k e s.0,
+  subst (λ c. Does place items c out) (kept_so t k b e) (does place d s.1),
 )
 does place (Make a d) s = does place d s
 does {b = b} {out = out} place (Rule {items = items} {t = t} p row e d) s =
     let x = parted place row items (keep t b) out (does place d s.1) in
-    let before = row_does place p t.terminal row e t.kind t.bytes s.0 b x.mid (old place row (keep t b) x.mid x.first) in
-    (x.mid, (before, news_does place p t.terminal row e t.kind t.bytes s.0 b x.mid x.first), x.behind)
+    let k = standing p t.terminal in
+    let f = stands_at p t.terminal in
+    let sound = sound_so place t k f s.0 in
+    let first = subst (λ c. Does place row c x.mid) (kept_so t k b f) x.first in
+    let before = row_does place p t.terminal row e t.kind t.bytes sound b x.mid (old place row (keep (spelt k t.kind t.bytes) b) x.mid first) in
+    (x.mid, (before, news_does place p t.terminal row e t.kind t.bytes sound b x.mid first), x.behind)
 does {b = b} place (Skip p a e d) s = (make a b, (left_out place p a b e, left place p a b e), does place d s)

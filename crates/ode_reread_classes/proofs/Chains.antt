@@ -13,11 +13,13 @@ use Rattle.ode_grammar.specs.declared.item.Part.{Part}
 use Rattle.ode_grammar.specs.declared.item.Part.TheVariants as part
 use Rattle.ode_grammar.specs.declared.terminal.Terminal.{Terminal}
 use Rattle.ode_grammar.specs.declared.terminal.Terminal.TheVariants as terminal
-use Rattle.ode_grammar.specs.Grammar.{after, skipped}
+use Rattle.ode_grammar.specs.Grammar.{after, row_of, skipped}
+use Rattle.ode_grammar.specs.Terminals.{named as as_name, stands_for}
 use Rattle.ode_grammar.specs.Statements.{dotted_call}
 use Rattle.ode_grammar.specs.Stacks.{top}
 use Rattle.ode_grammar.specs.Texts.{Done, Next, Make, Rule}
-use Rattle.ode_grammar.proofs.Follows.{IfRow}
+use Rattle.ode_grammar.proofs.Follows.{named_after, IfRow}
+use Rattle.ode_grammar.proofs.TerminalLaws.{stands_for-named}
 use Rattle.ode_heights.specs.declared.height.Height.{Height}
 use Rattle.ode_heights.specs.Heights.{none as no_heights}
 use Rattle.ode_terminals.specs.declared.seen.Place.{Place}
@@ -35,19 +37,19 @@ use Rattle.ode_reread.proofs.Cuts.{spell}
 use Rattle.ode_reread.proofs.Goods.{named, Good}
 use Rattle.ode_reread.proofs.Marked.{as_operand, marked, operand_height, with_expr, with_name}
 use Rattle.ode_reread.proofs.Prints.{kept_named, no_dots, Ds}
-use Rattle.ode_reread_classes.proofs.Derivations.{from, left_nothing, row_of, splits, together, view, with_items, with_tokens, Left, Ruled, View}
+use Rattle.ode_reread_classes.proofs.Derivations.{from, left_nothing, known_row, splits, together, view, with_items, with_tokens, Left, Ruled, View}
 
 -- ---- names
 
 pub name_next : (place : Place) (name : List ℕ) → is_free name ≡ true → {items : List Item} {b : Both} {ts : List Spelled} {out : Both}
     → Ds items (with_name name b) ts out → Ds (item.Token terminal.Name ∷ items) b (spell place kind.Word name ∷ ts) out
-name_next place name f {b = b} d = let n = named place name f in Next terminal.Name n.seen (from (kept_named (spell place kind.Word name) name b n) d)
+name_next place name f {b = b} d = let n = named place name f in Next terminal.Name (stands_for-named _ terminal.Name n.seen) (from (kept_named (spell place kind.Word name) name b n) d)
 
-pub name_rule : (place : Place) (name : List ℕ) → is_free name ≡ true → (p : Part) (row : List Item) → after p terminal.Name ≡ Some row
+pub name_rule : (place : Place) (name : List ℕ) → is_free name ≡ true → (p : Part) (row : List Item) → row_of p terminal.Name ≡ Some row
     → {items : List Item} {b : Both} {ts : List Spelled} {out : Both} → Ds (row ++ items) (with_name name b) ts out
     → Ds (item.Part p ∷ items) b (spell place kind.Word name ∷ ts) out
 name_rule place name f p row e {b = b} d =
-    let n = named place name f in Rule p row (ap (after p) n.seen ∙ e) (from (kept_named (spell place kind.Word name) name b n) d)
+    let n = named place name f in Rule p row (named_after p _ row (ap (row_of p) n.seen ∙ e)) (from (kept_named (spell place kind.Word name) name b n) d)
 
 -- ---- an action that is put off
 
@@ -74,19 +76,19 @@ undo (Some a) d = undo_one a d
 
 pub kept_dot : (s : Spelled) (c : Both) → s.terminal ≡ terminal.Dot → keep s c ≡ c
 unfolding kept_as
-kept_dot s c e = ap (λ k. record { trees = kept_as k s.kind s.bytes c.trees; heights = c.heights }) e
+kept_dot s c e = ap (λ k. record { trees = kept_as (as_name k) s.kind s.bytes c.trees; heights = c.heights }) e
 
 abbrev dots_row : List Item
 dots_row = item.Token terminal.Name ∷ item.Build action.Field ∷ item.Part part.Dots ∷ []
 
 dots_is : (k : Terminal) → IfRow (λ row. (k ≡ terminal.Dot) × (row ≡ dots_row)) (after part.Dots k)
-unfolding after
+unfolding row_of
 dots_is terminal.Dot = (refl, refl)
 dots_is other = tt
 
 pub data DotsView (items : List Item) (d : Both) (out : Both) : List Spelled → Type 0 where
   Ended : {ts : List Spelled} → Ds items d ts out → DotsView items d out ts
-  Dotted : {ts : List Spelled} (s t : Spelled) → s.terminal ≡ terminal.Dot → t.terminal ≡ terminal.Name
+  Dotted : {ts : List Spelled} (s t : Spelled) → s.terminal ≡ terminal.Dot → stands_for t.terminal terminal.Name ≡ true
       → Ds (item.Part part.Dots ∷ items) (make action.Field (keep t d)) ts out → DotsView items d out (s ∷ t ∷ ts)
 
 dotted_view : {items : List Item} {d : Both} {ts : List Spelled} {out : Both} → (s : Spelled) → s.terminal ≡ terminal.Dot
@@ -100,7 +102,7 @@ no_dots_skip = refl
 viewed : {items : List Item} {d : Both} {ts : List Spelled} {out : Both} → View part.Dots items d out ts → DotsView items d out ts
 viewed (Left a e x) = Ended (left_nothing part.Dots no_dots_skip a e x)
 viewed {items = items} {d = d} {out = out} (Ruled {ts = ts} s row e x) =
-    let r = row_of _ (dots_is s.terminal) e in
+    let r = known_row _ (dots_is s.terminal) e in
     dotted_view s r.0 (from (sym (kept_dot s d r.0)) (with_items (ap (λ zs. zs ++ items) r.1) x))
 
 pub dots_view : {items : List Item} {d : Both} {ts : List Spelled} {out : Both} → Ds (item.Part part.Dots ∷ items) d ts out → DotsView items d out ts
@@ -118,21 +120,21 @@ part_head p tail items o row e q = record {
 }
 
 pub rhs_dots_head : (items : List Item) → IsHead (item.Part part.RhsDots ∷ items) (item.Part part.RhsDot ∷ items) None
-unfolding after
+unfolding row_of
 rhs_dots_head items = part_head part.RhsDots (item.Part part.RhsDot ∷ items) items None (item.Token terminal.Name ∷ item.Part part.RhsDot ∷ []) refl refl
 
 pub rhs_dot_head : (items : List Item) → IsHead (item.Part part.RhsDot ∷ items) (item.Part part.RhsDot ∷ items) (Some action.Field)
-unfolding after
+unfolding row_of
 rhs_dot_head items =
     part_head part.RhsDot (item.Part part.RhsDot ∷ items) items (Some action.Field) (item.Build action.Field ∷ item.Token terminal.Name ∷ item.Part part.RhsDot ∷ []) refl refl
 
 pub rhs_name_head : (items : List Item) → IsHead (item.Part part.RhsName ∷ items) (item.Part part.RhsDot ∷ items) (Some action.Variable)
-unfolding after
+unfolding row_of
 rhs_name_head items =
     part_head part.RhsName (item.Part part.RhsDot ∷ items) items (Some action.Variable) (item.Build action.Variable ∷ item.Token terminal.Name ∷ item.Part part.RhsDot ∷ []) refl refl
 
 pub call_dot_head : (items : List Item) → IsHead (item.Part part.CallDot ∷ items) (item.Part part.CallDot ∷ items) (Some action.Field)
-unfolding after
+unfolding row_of
 call_dot_head items =
     part_head part.CallDot (item.Part part.CallDot ∷ items) items (Some action.Field) (item.Build action.Field ∷ item.Token terminal.Name ∷ item.Part part.CallDot ∷ []) refl refl
 
@@ -140,12 +142,12 @@ abbrev pub inner_tail : List Item → List Item
 inner_tail items = item.Part part.CallDot ∷ item.Build action.Call ∷ item.Token terminal.Semi ∷ item.Build action.Do ∷ items
 
 pub inner_name_head : (items : List Item) → IsHead (item.Part part.InnerName ∷ items) (inner_tail items) (Some action.Variable)
-unfolding after
+unfolding row_of
 inner_name_head items =
     part_head part.InnerName (inner_tail items) items (Some action.Variable) (item.Build action.Variable ∷ item.Token terminal.Name ∷ inner_tail []) refl refl
 
 pub token_head : (items : List Item) → IsHead (dotted_call ++ items) (item.Part part.CallDot ∷ items) None
-token_head items = record { dot = λ s f c ts out d. Next terminal.Dot f (from (kept_dot s c f) d) }
+token_head items = record { dot = λ s f c ts out d. Next terminal.Dot (ap (λ k. stands_for k terminal.Dot) f) (from (kept_dot s c f) d) }
 
 -- a chain, and then the dot and the name of a call
 dotted : (n : ℕ) {us : List Spelled} {d e : Both} → DotsView [] d e us → length us ≤ n → {head tail : List Item} {o : Option Action} → IsHead head tail o
@@ -167,24 +169,24 @@ is_sign other = false
 
 -- a row of a part and the row of an operand that begins with the same token: after what is the same come the operand's dots and the part's head
 pub data Begun (p : Part) (items tail : List Item) (k : Terminal) (row : List Item) : Type 0 where
-  Chain : (pre : List Item) (o : Option Action) (head : List Item) → row ≡ pre ++ (early o ++ item.Part part.Dots ∷ []) → after p k ≡ Some (pre ++ head)
+  Chain : (pre : List Item) (o : Option Action) (head : List Item) → row ≡ pre ++ (early o ++ item.Part part.Dots ∷ []) → row_of p k ≡ Some (pre ++ head)
       → IsHead (head ++ items) tail o → Begun p items tail k row
   Signed : is_sign k ≡ true → Begun p items tail k row
 
 pub record IsPlace (p : Part) (items tail : List Item) : Type 0 where
-  pub begun : (k : Terminal) → IfRow (Begun p items tail k) (after part.Unary k)
+  pub begun : (k : Terminal) → IfRow (Begun p items tail k) (row_of part.Unary k)
   pub again : IsHead tail tail (Some action.Field)
 
 -- a part that an atom may begin, and what follows the atom
 pub record IsAtoms (p : Part) (more : List Item) : Type 0 where
-  pub leaf : after p terminal.Leaf ≡ Some (item.Build action.Leaf ∷ more)
-  pub number : after p terminal.Number ≡ Some (item.Build action.Leaf ∷ more)
-  pub seconds : after p terminal.Seconds ≡ Some (item.Build action.Leaf ∷ more)
-  pub count : after p terminal.Count ≡ Some (item.Build action.Leaf ∷ more)
-  pub text : after p terminal.Text ≡ Some (item.Build action.Leaf ∷ more)
-  pub instant : after p terminal.Instant ≡ Some (item.Build action.Leaf ∷ more)
-  pub pair : after p terminal.OpenParen ≡ Some (item.Part part.Expr ∷ item.Token terminal.CloseParen ∷ item.Build action.Pair ∷ more)
-  pub version : after p terminal.Version ≡ Some (item.Token terminal.OpenParen ∷ item.Part part.Expr ∷ item.Token terminal.CloseParen ∷ item.Build action.Version ∷ more)
+  pub leaf : row_of p terminal.Leaf ≡ Some (item.Build action.Leaf ∷ more)
+  pub number : row_of p terminal.Number ≡ Some (item.Build action.Leaf ∷ more)
+  pub seconds : row_of p terminal.Seconds ≡ Some (item.Build action.Leaf ∷ more)
+  pub count : row_of p terminal.Count ≡ Some (item.Build action.Leaf ∷ more)
+  pub text : row_of p terminal.Text ≡ Some (item.Build action.Leaf ∷ more)
+  pub instant : row_of p terminal.Instant ≡ Some (item.Build action.Leaf ∷ more)
+  pub pair : row_of p terminal.OpenParen ≡ Some (item.Part part.Expr ∷ item.Token terminal.CloseParen ∷ item.Build action.Pair ∷ more)
+  pub version : row_of p terminal.Version ≡ Some (item.Token terminal.OpenParen ∷ item.Part part.Expr ∷ item.Token terminal.CloseParen ∷ item.Build action.Version ∷ more)
 
 abbrev pub leaf_front : List Item
 leaf_front = item.Build action.Leaf ∷ []
@@ -199,8 +201,8 @@ abbrev pub name_row : List Item
 name_row = item.Build action.Variable ∷ item.Part part.Dots ∷ []
 
 begun_by : (p : Part) (more items tail : List Item) → IsAtoms p more → IsHead (more ++ items) tail None → Begun p items tail terminal.Name name_row
-    → (k : Terminal) → IfRow (Begun p items tail k) (after part.Unary k)
-unfolding after
+    → (k : Terminal) → IfRow (Begun p items tail k) (row_of part.Unary k)
+unfolding row_of
 begun_by p more items tail i h n terminal.Leaf = Chain leaf_front None more refl i.leaf h
 begun_by p more items tail i h n terminal.Number = Chain leaf_front None more refl i.number h
 begun_by p more items tail i h n terminal.Seconds = Chain leaf_front None more refl i.seconds h
@@ -215,11 +217,11 @@ begun_by p more items tail i h n terminal.Not = Signed refl
 begun_by p more items tail i h n other = tt
 
 pub chained_atoms : IsAtoms part.Chained dotted_call
-unfolding after
+unfolding row_of
 chained_atoms = record { leaf = refl; number = refl; seconds = refl; count = refl; text = refl; instant = refl; pair = refl; version = refl }
 
 pub chained_place : (items : List Item) → IsPlace part.Chained items (item.Part part.CallDot ∷ items)
-unfolding after
+unfolding row_of
 chained_place items = record {
   begun = begun_by part.Chained dotted_call items (item.Part part.CallDot ∷ items) chained_atoms (token_head items)
       (Chain (item.Build action.Variable ∷ []) None dotted_call refl refl (token_head items));
@@ -233,11 +235,11 @@ abbrev pub appended : List Item
 appended = item.Build action.Append ∷ item.Part part.Inners ∷ []
 
 pub inner_atoms : IsAtoms part.Inners (called_statement appended)
-unfolding after
+unfolding row_of
 inner_atoms = record { leaf = refl; number = refl; seconds = refl; count = refl; text = refl; instant = refl; pair = refl; version = refl }
 
 pub inner_place : (items : List Item) → IsPlace part.Inners items (inner_tail (appended ++ items))
-unfolding after
+unfolding row_of
 inner_place items = record {
   begun = begun_by part.Inners (called_statement appended) items (inner_tail (appended ++ items)) inner_atoms (token_head _)
       (Chain [] (Some action.Variable) (item.Part part.InnerName ∷ appended) refl refl (inner_name_head (appended ++ items)));
@@ -245,11 +247,11 @@ inner_place items = record {
 }
 
 pub rhs_atoms : IsAtoms part.Rhs (item.Part part.RhsDots ∷ [])
-unfolding after
+unfolding row_of
 rhs_atoms = record { leaf = refl; number = refl; seconds = refl; count = refl; text = refl; instant = refl; pair = refl; version = refl }
 
 pub rhs_place : (items : List Item) → IsPlace part.Rhs items (item.Part part.RhsDot ∷ items)
-unfolding after
+unfolding row_of
 rhs_place items = record {
   begun = begun_by part.Rhs (item.Part part.RhsDots ∷ []) items (item.Part part.RhsDot ∷ items) rhs_atoms (rhs_dots_head items)
       (Chain [] (Some action.Variable) (item.Part part.RhsName ∷ []) refl refl (rhs_name_head items));
@@ -260,11 +262,11 @@ abbrev pub alone : List Item
 alone = item.Build action.Simple ∷ []
 
 pub statement_atoms : IsAtoms part.Statement (called_statement alone)
-unfolding after
+unfolding row_of
 statement_atoms = record { leaf = refl; number = refl; seconds = refl; count = refl; text = refl; instant = refl; pair = refl; version = refl }
 
 pub statement_place : (items : List Item) → IsPlace part.Statement items (inner_tail (alone ++ items))
-unfolding after
+unfolding row_of
 statement_place items = record {
   begun = begun_by part.Statement (called_statement alone) items (inner_tail (alone ++ items)) statement_atoms (token_head _)
       (Chain (item.Build action.Variable ∷ []) None (called_statement alone) refl refl (token_head _));
@@ -272,11 +274,11 @@ statement_place items = record {
 }
 
 pub script_rhs_atoms : IsAtoms part.ScriptRhs (item.Part part.RhsDots ∷ [])
-unfolding after
+unfolding row_of
 script_rhs_atoms = record { leaf = refl; number = refl; seconds = refl; count = refl; text = refl; instant = refl; pair = refl; version = refl }
 
 pub script_rhs_place : (items : List Item) → IsPlace part.ScriptRhs items (item.Part part.RhsDot ∷ items)
-unfolding after
+unfolding row_of
 script_rhs_place items = record {
   begun = begun_by part.ScriptRhs (item.Part part.RhsDots ∷ []) items (item.Part part.RhsDot ∷ items) script_rhs_atoms (rhs_dots_head items)
       (Chain (item.Build action.Variable ∷ []) None (item.Part part.RhsDots ∷ []) refl refl (rhs_dots_head items));
@@ -294,19 +296,24 @@ no_unary_skip : (a : Action) → skipped part.Unary ≡ Some a → ⊥
 unfolding skipped
 no_unary_skip a e = none-some a e
 
+-- no name is a sign
+same_sign : (k : Terminal) → is_sign (as_name k) ≡ is_sign k
+same_sign terminal.Leaf = refl
+same_sign other = refl
+
 called_by : (p : Part) (items tail : List Item) (us : List Spelled) (b e : Both) → IsPlace p items tail → View part.Unary [] b e us
     → ((t : Spelled) (vs : List Spelled) → us ≡ t ∷ vs → is_sign t.terminal ≡ true → ⊥) → (place : Place) (name : List ℕ) → is_free name ≡ true → (ts : List Spelled) (out : Both)
     → Ds tail (with_name name e) ts out → Ds (item.Part p ∷ items) b (us ++ marked mark.Dot ∷ spell place kind.Word name ∷ ts) out
 called_by p items tail us b e i (Left a f x) unsigned place name free ts out d = absurd (no_unary_skip a f)
-called_by p items tail us b e i (Ruled {ts = vs} t row f x) unsigned place name free ts out d = cases (row_of _ (i.begun t.terminal) f)
+called_by p items tail us b e i (Ruled {ts = vs} t row f x) unsigned place name free ts out d = cases (known_row _ (i.begun (as_name t.terminal)) f)
   where
-    cases : Begun p items tail t.terminal row → Ds (item.Part p ∷ items) b (t ∷ (vs ++ marked mark.Dot ∷ spell place kind.Word name ∷ ts)) out
-    cases (Signed g) = absurd (unsigned t vs refl g)
+    cases : Begun p items tail (as_name t.terminal) row → Ds (item.Part p ∷ items) b (t ∷ (vs ++ marked mark.Dot ∷ spell place kind.Word name ∷ ts)) out
+    cases (Signed g) = absurd (unsigned t vs refl (sym (same_sign t.terminal) ∙ g))
     cases (Chain pre o head q r h) =
         let s = splits (with_items (append-nil row ∙ q) x) pre (early o ++ item.Part part.Dots ∷ []) refl in
         let z = marked mark.Dot ∷ spell place kind.Word name ∷ ts in
         let y = dotted (length s.vs) (dots_view (undo o s.behind)) (omega arith) h i.again s.mid refl place name free ts out d in
-        Rule p (pre ++ head) r
+        Rule p (pre ++ head) (named_after p t.terminal (pre ++ head) r)
         (with_items (sym (append_assoc pre head items)) (with_tokens (sym (append_assoc s.us s.vs z) ∙ ap (λ ws. ws ++ z) s.same) (together s.first y)))
 
 pub called : {p : Part} {items tail : List Item} {us : List Spelled} {e : Expr} {h : Height} → IsPlace p items tail → IsOperand us e h
@@ -321,7 +328,7 @@ abbrev signed_row : List Item
 signed_row = item.Part part.Unary ∷ item.Build action.Sign ∷ []
 
 signs : (k : Terminal) → IfRow (λ row. is_sign k ≡ true → row ≡ signed_row) (after part.Unary k)
-unfolding after
+unfolding row_of
 signs terminal.Minus = λ e. refl
 signs terminal.Not = λ e. refl
 signs terminal.Leaf = λ e. absurd (false≢true e)
@@ -333,6 +340,9 @@ signs terminal.Instant = λ e. absurd (false≢true e)
 signs terminal.OpenParen = λ e. absurd (false≢true e)
 signs terminal.Version = λ e. absurd (false≢true e)
 signs terminal.Name = λ e. absurd (false≢true e)
+signs terminal.FaAbs = λ e. absurd (false≢true e)
+signs terminal.Pipe = λ e. absurd (false≢true e)
+signs terminal.RelPlus = λ e. absurd (false≢true e)
 signs other = tt
 
 -- the last item has made what there is
@@ -363,7 +373,7 @@ signed_by : (us : List Spelled) (b : Both) (e : Expr) (h : Height) → View part
 signed_by us b e h (Left a f x) t vs q g = absurd (no_unary_skip a f)
 signed_by us b e h (Ruled s row f x) t vs q g =
     let same : s ≡ t = ap (top t) q in
-    let r = row_of _ (signs s.terminal) f (ap (λ (u : Spelled). is_sign u.terminal) same ∙ g) in
+    let r = known_row _ (signs s.terminal) f (ap (λ (u : Spelled). is_sign u.terminal) same ∙ g) in
     let p = splits (with_items (append-nil row ∙ r) x) (item.Part part.Unary ∷ []) (item.Build action.Sign ∷ []) refl in
     let m = last_made p.behind in
     let is = sym (expr_first e h b) ∙ (ap first_expr (sym m.is) ∙ signed_expr m.before) in

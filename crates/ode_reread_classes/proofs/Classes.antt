@@ -7,7 +7,7 @@ use Rattle.ode_grammar.specs.declared.item.Item.{Item}
 use Rattle.ode_grammar.specs.declared.item.Item.TheVariants as item
 use Rattle.ode_grammar.specs.declared.item.Part.TheVariants as part
 use Rattle.ode_grammar.specs.declared.terminal.Terminal.TheVariants as terminal
-use Rattle.ode_grammar.specs.Grammar.{after, skipped}
+use Rattle.ode_grammar.specs.Grammar.{row_of, skipped}
 use Rattle.ode_grammar.specs.Statements.{class_rest}
 use Rattle.ode_grammar.specs.Texts.{Make, Rule, Skip}
 use Rattle.ode_heights.specs.Heights.{raised}
@@ -50,7 +50,7 @@ record PrintedParent (place : Place) (p : Option (List ℕ)) : Type 0 where
   pub does : (items : List Item) (b : Both) (ts : List Spelled) (out : Both) → Ds items (with_parent p b) ts out → Ds (item.Part part.Parent ∷ items) b (tokens ++ ts) out
 
 printed_parent : (place : Place) (p : Option (List ℕ)) → GoodParent p → PrintedParent place p
-unfolding after skipped kept_as built built_right_side built_statement built_event built_kind built_class raised
+unfolding row_of skipped kept_as built built_right_side built_statement built_event built_kind built_class raised
 printed_parent place None g = record {
   tokens = [];
   piece = record { cuts = λ rest us e c. c };

@@ -13,6 +13,7 @@ use Rattle.ode_grammar.specs.Grammar.{after, skipped}
 use Rattle.ode_grammar.specs.Stacks.{top, rest}
 use Rattle.ode_grammar.specs.Texts.{Derives, Done, Next, Make, Rule, Skip}
 use Rattle.ode_grammar.proofs.Follows.{IfRow}
+use Rattle.ode_grammar.proofs.TerminalLaws.{stands_for-itself}
 use Rattle.ode_terminals.specs.Seen.{mark_terminal}
 use Rattle.ode_syntax.specs.Kept.{kept_as, Spelled}
 use Rattle.ode_reread.proofs.Both.{Both, both, keep, make}
@@ -143,12 +144,12 @@ silent other e b = absurd (false≢true e)
 
 pub next_mark : (m : Mark) → is_silent m ≡ true → {items : List Item} {b : Both} {ts : List Spelled} {out : Both} → Ds items b ts out
     → Ds (item.Token (mark_terminal m) ∷ items) b (marked m ∷ ts) out
-next_mark m e {b = b} d = Next (mark_terminal m) refl (from (silent m e b) d)
+next_mark m e {b = b} d = Next (mark_terminal m) (stands_for-itself (mark_terminal m)) (from (silent m e b) d)
 
 pub mark_rule : (p : Part) (m : Mark) (row : List Item) → is_silent m ≡ true → after p (mark_terminal m) ≡ Some row → {items : List Item} {b : Both} {ts : List Spelled} {out : Both}
     → Ds (row ++ items) b ts out → Ds (item.Part p ∷ items) b (marked m ∷ ts) out
 mark_rule p m row e r {b = b} d = Rule p row r (from (silent m e b) d)
 
 -- a row of a part, by the terminal that begins it
-pub row_of : (P : List Item → Type 0) {row : List Item} {o : Option (List Item)} → IfRow P o → o ≡ Some row → P row
-row_of P f e = subst (IfRow P) e f
+pub known_row : (P : List Item → Type 0) {row : List Item} {o : Option (List Item)} → IfRow P o → o ≡ Some row → P row
+known_row P f e = subst (IfRow P) e f

@@ -6,7 +6,7 @@ use Rattle.ode_grammar.specs.declared.item.Item.TheVariants as item
 use Rattle.ode_grammar.specs.declared.item.Part.{Part}
 use Rattle.ode_grammar.specs.declared.item.Part.TheVariants as part
 use Rattle.ode_grammar.specs.declared.terminal.Terminal.{Terminal}
-use Rattle.ode_grammar.specs.Grammar.{after}
+use Rattle.ode_grammar.specs.Grammar.{row_of}
 use Rattle.ode_heights.specs.declared.height.Height.{Height}
 use Rattle.ode_terminals.specs.declared.seen.Place.{Place}
 use Rattle.ode_value.specs.Words.{is_free}
@@ -15,7 +15,7 @@ use Rattle.ode_value.specs.declared.binding.Param.{Param}
 use Rattle.ode_value.specs.declared.statement.Expr.{Expr}
 use Rattle.ode_value.specs.declared.statement.Member.{Member}
 use Rattle.ode_value.specs.declared.statement.Sort.{Sort}
-use Rattle.ode_reread.proofs.AllRows.{row_does}
+use Rattle.ode_reread.proofs.AllRows.{row_is}
 use Rattle.ode_reread.proofs.Both.{Both, keep, make}
 use Rattle.ode_reread.proofs.Effects.{spelt, Adds, Effect, Leads, Replaces}
 use Rattle.ode_reread.proofs.Goods.{Good}
@@ -183,9 +183,9 @@ then_leads place (item.Build a ∷ xs) ys b mid w l m = then_leads place xs ys (
 then_leads place (item.Part p ∷ xs) ys b mid w l m = (l.0, l.1, then_leads place xs ys l.0 mid w l.2 m)
 
 -- what begins an operand adds a good expression, before any dots
-pub fronted : (place : Place) → (k : Terminal) (pre : List Item) → after part.Unary k ≡ Some (pre ++ item.Part part.Dots ∷ [])
+pub fronted : (place : Place) → (k : Terminal) (pre : List Item) → row_of part.Unary k ≡ Some (pre ++ item.Part part.Dots ∷ [])
     → (kd : TokenKind) (bytes : List ℕ) → Sound place (spelt k kd bytes) → (b mid : Both) → Does place pre (keep (spelt k kd bytes) b) mid → Adds place b mid
 fronted place k pre e kd bytes s b mid l =
     let no_dots : Replaces place mid mid = λ x h c is good. record { e = x; h = h; good = good; is = is } in
-    row_does place part.Unary k (pre ++ item.Part part.Dots ∷ []) e kd bytes s b mid
+    row_is place part.Unary k (pre ++ item.Part part.Dots ∷ []) e kd bytes s b mid
     (then_leads place pre (item.Part part.Dots ∷ []) (keep (spelt k kd bytes) b) mid mid (old place pre (keep (spelt k kd bytes) b) mid l) (mid, no_dots, refl))

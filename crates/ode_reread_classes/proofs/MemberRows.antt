@@ -10,7 +10,7 @@ use Rattle.ode_grammar.specs.declared.item.Part.TheVariants as part
 use Rattle.ode_grammar.specs.declared.terminal.Terminal.{Terminal}
 use Rattle.ode_grammar.specs.declared.terminal.Terminal.TheVariants as terminal
 use Rattle.ode_grammar.specs.Classes.{method, one_param, test, trigger}
-use Rattle.ode_grammar.specs.Grammar.{after}
+use Rattle.ode_grammar.specs.Grammar.{row_of}
 use Rattle.ode_grammar.specs.Statements.{class_rest}
 use Rattle.ode_grammar.proofs.Follows.{IfRow}
 use Rattle.ode_heights.specs.Heights.{raised}
@@ -74,8 +74,8 @@ ref_after : (place : Place) → RowDoes place part.Sort terminal.Ref (item.Token
 unfolding kept_as
 ref_after place kd bytes s b w l = record { x = sort.Reference (name_of l.1); good = name_free l.1; is = sym l.3 ∙ ref_sort (name_of l.1) b }
 
-pub sort_rows : (place : Place) (k : Terminal) → IfRow (RowDoes place part.Sort k) (after part.Sort k)
-unfolding after
+pub sort_rows : (place : Place) (k : Terminal) → IfRow (RowDoes place part.Sort k) (row_of part.Sort k)
+unfolding row_of
 sort_rows place terminal.SortWord = sort_after place
 sort_rows place terminal.Ref = ref_after place
 sort_rows place other = tt
@@ -122,8 +122,8 @@ ref_param place kd bytes s b w l =
     param_named place 0 (item.Part part.SecondParam ∷ []) (λ d v m. subst (λ x. ChangesParams 1 d x) m.2 m.1.1) b (make action.RefSort (with_name (name_of l.1) b)) w
     (record { x = sort.Reference (name_of l.1); good = name_free l.1; is = ref_sort (name_of l.1) b }) l.3
 
-pub params_rows : (place : Place) (k : Terminal) → IfRow (RowDoes place part.Params k) (after part.Params k)
-unfolding after
+pub params_rows : (place : Place) (k : Terminal) → IfRow (RowDoes place part.Params k) (row_of part.Params k)
+unfolding row_of
 params_rows place terminal.CloseParen = params_end place part.Params 0 (omega arith) (λ b w f. f)
 params_rows place terminal.SortWord = sort_param place
 params_rows place terminal.Ref = ref_param place
@@ -133,92 +133,92 @@ last_bracket : (place : Place) (d w : Both) → Does place (item.Token terminal.
 unfolding kept_as
 last_bracket place d w l = λ xs c is few each. record { x = xs; good = record { few = few; each = each }; is = sym l.3 ∙ is }
 
-pub second_param_rows : (place : Place) (k : Terminal) → IfRow (RowDoes place part.SecondParam k) (after part.SecondParam k)
-unfolding after
+pub second_param_rows : (place : Place) (k : Terminal) → IfRow (RowDoes place part.SecondParam k) (row_of part.SecondParam k)
+unfolding row_of
 second_param_rows place terminal.Comma = param_comma place part.SecondParam 1 (item.Part part.ThirdParam) (λ b w f. f) (λ d v m. subst (λ x. ChangesParams 2 d x) m.2 m.1.1)
 second_param_rows place terminal.CloseParen = params_end place part.SecondParam 1 (omega arith) (λ b w f. f)
 second_param_rows place other = tt
 
-pub third_param_rows : (place : Place) (k : Terminal) → IfRow (RowDoes place part.ThirdParam k) (after part.ThirdParam k)
-unfolding after
+pub third_param_rows : (place : Place) (k : Terminal) → IfRow (RowDoes place part.ThirdParam k) (row_of part.ThirdParam k)
+unfolding row_of
 third_param_rows place terminal.Comma = param_comma place part.ThirdParam 2 (item.Part part.FourthParam) (λ b w f. f) (λ d v m. subst (λ x. ChangesParams 3 d x) m.2 m.1.1)
 third_param_rows place terminal.CloseParen = params_end place part.ThirdParam 2 (omega arith) (λ b w f. f)
 third_param_rows place other = tt
 
-pub fourth_param_rows : (place : Place) (k : Terminal) → IfRow (RowDoes place part.FourthParam k) (after part.FourthParam k)
-unfolding after
+pub fourth_param_rows : (place : Place) (k : Terminal) → IfRow (RowDoes place part.FourthParam k) (row_of part.FourthParam k)
+unfolding row_of
 fourth_param_rows place terminal.Comma = param_comma place part.FourthParam 3 (item.Part part.FifthParam) (λ b w f. f) (λ d v m. subst (λ x. ChangesParams 4 d x) m.2 m.1.1)
 fourth_param_rows place terminal.CloseParen = params_end place part.FourthParam 3 (omega arith) (λ b w f. f)
 fourth_param_rows place other = tt
 
-pub fifth_param_rows : (place : Place) (k : Terminal) → IfRow (RowDoes place part.FifthParam k) (after part.FifthParam k)
-unfolding after
+pub fifth_param_rows : (place : Place) (k : Terminal) → IfRow (RowDoes place part.FifthParam k) (row_of part.FifthParam k)
+unfolding row_of
 fifth_param_rows place terminal.Comma = param_comma place part.FifthParam 4 (item.Part part.SixthParam) (λ b w f. f) (λ d v m. subst (λ x. ChangesParams 5 d x) m.2 m.1.1)
 fifth_param_rows place terminal.CloseParen = params_end place part.FifthParam 4 (omega arith) (λ b w f. f)
 fifth_param_rows place other = tt
 
-pub sixth_param_rows : (place : Place) (k : Terminal) → IfRow (RowDoes place part.SixthParam k) (after part.SixthParam k)
-unfolding after
+pub sixth_param_rows : (place : Place) (k : Terminal) → IfRow (RowDoes place part.SixthParam k) (row_of part.SixthParam k)
+unfolding row_of
 sixth_param_rows place terminal.Comma = param_comma place part.SixthParam 5 (item.Part part.SeventhParam) (λ b w f. f) (λ d v m. subst (λ x. ChangesParams 6 d x) m.2 m.1.1)
 sixth_param_rows place terminal.CloseParen = params_end place part.SixthParam 5 (omega arith) (λ b w f. f)
 sixth_param_rows place other = tt
 
-pub seventh_param_rows : (place : Place) (k : Terminal) → IfRow (RowDoes place part.SeventhParam k) (after part.SeventhParam k)
-unfolding after
+pub seventh_param_rows : (place : Place) (k : Terminal) → IfRow (RowDoes place part.SeventhParam k) (row_of part.SeventhParam k)
+unfolding row_of
 seventh_param_rows place terminal.Comma = param_comma place part.SeventhParam 6 (item.Part part.EighthParam) (λ b w f. f) (λ d v m. subst (λ x. ChangesParams 7 d x) m.2 m.1.1)
 seventh_param_rows place terminal.CloseParen = params_end place part.SeventhParam 6 (omega arith) (λ b w f. f)
 seventh_param_rows place other = tt
 
-pub eighth_param_rows : (place : Place) (k : Terminal) → IfRow (RowDoes place part.EighthParam k) (after part.EighthParam k)
-unfolding after
+pub eighth_param_rows : (place : Place) (k : Terminal) → IfRow (RowDoes place part.EighthParam k) (row_of part.EighthParam k)
+unfolding row_of
 eighth_param_rows place terminal.Comma = param_comma place part.EighthParam 7 (item.Part part.NinthParam) (λ b w f. f) (λ d v m. subst (λ x. ChangesParams 8 d x) m.2 m.1.1)
 eighth_param_rows place terminal.CloseParen = params_end place part.EighthParam 7 (omega arith) (λ b w f. f)
 eighth_param_rows place other = tt
 
-pub ninth_param_rows : (place : Place) (k : Terminal) → IfRow (RowDoes place part.NinthParam k) (after part.NinthParam k)
-unfolding after
+pub ninth_param_rows : (place : Place) (k : Terminal) → IfRow (RowDoes place part.NinthParam k) (row_of part.NinthParam k)
+unfolding row_of
 ninth_param_rows place terminal.Comma = param_comma place part.NinthParam 8 (item.Part part.TenthParam) (λ b w f. f) (λ d v m. subst (λ x. ChangesParams 9 d x) m.2 m.1.1)
 ninth_param_rows place terminal.CloseParen = params_end place part.NinthParam 8 (omega arith) (λ b w f. f)
 ninth_param_rows place other = tt
 
-pub tenth_param_rows : (place : Place) (k : Terminal) → IfRow (RowDoes place part.TenthParam k) (after part.TenthParam k)
-unfolding after
+pub tenth_param_rows : (place : Place) (k : Terminal) → IfRow (RowDoes place part.TenthParam k) (row_of part.TenthParam k)
+unfolding row_of
 tenth_param_rows place terminal.Comma = param_comma place part.TenthParam 9 (item.Part part.EleventhParam) (λ b w f. f) (λ d v m. subst (λ x. ChangesParams 10 d x) m.2 m.1.1)
 tenth_param_rows place terminal.CloseParen = params_end place part.TenthParam 9 (omega arith) (λ b w f. f)
 tenth_param_rows place other = tt
 
-pub eleventh_param_rows : (place : Place) (k : Terminal) → IfRow (RowDoes place part.EleventhParam k) (after part.EleventhParam k)
-unfolding after
+pub eleventh_param_rows : (place : Place) (k : Terminal) → IfRow (RowDoes place part.EleventhParam k) (row_of part.EleventhParam k)
+unfolding row_of
 eleventh_param_rows place terminal.Comma = param_comma place part.EleventhParam 10 (item.Part part.TwelfthParam) (λ b w f. f) (λ d v m. subst (λ x. ChangesParams 11 d x) m.2 m.1.1)
 eleventh_param_rows place terminal.CloseParen = params_end place part.EleventhParam 10 (omega arith) (λ b w f. f)
 eleventh_param_rows place other = tt
 
-pub twelfth_param_rows : (place : Place) (k : Terminal) → IfRow (RowDoes place part.TwelfthParam k) (after part.TwelfthParam k)
-unfolding after
+pub twelfth_param_rows : (place : Place) (k : Terminal) → IfRow (RowDoes place part.TwelfthParam k) (row_of part.TwelfthParam k)
+unfolding row_of
 twelfth_param_rows place terminal.Comma = param_comma place part.TwelfthParam 11 (item.Part part.ThirteenthParam) (λ b w f. f) (λ d v m. subst (λ x. ChangesParams 12 d x) m.2 m.1.1)
 twelfth_param_rows place terminal.CloseParen = params_end place part.TwelfthParam 11 (omega arith) (λ b w f. f)
 twelfth_param_rows place other = tt
 
-pub thirteenth_param_rows : (place : Place) (k : Terminal) → IfRow (RowDoes place part.ThirteenthParam k) (after part.ThirteenthParam k)
-unfolding after
+pub thirteenth_param_rows : (place : Place) (k : Terminal) → IfRow (RowDoes place part.ThirteenthParam k) (row_of part.ThirteenthParam k)
+unfolding row_of
 thirteenth_param_rows place terminal.Comma = param_comma place part.ThirteenthParam 12 (item.Part part.FourteenthParam) (λ b w f. f) (λ d v m. subst (λ x. ChangesParams 13 d x) m.2 m.1.1)
 thirteenth_param_rows place terminal.CloseParen = params_end place part.ThirteenthParam 12 (omega arith) (λ b w f. f)
 thirteenth_param_rows place other = tt
 
-pub fourteenth_param_rows : (place : Place) (k : Terminal) → IfRow (RowDoes place part.FourteenthParam k) (after part.FourteenthParam k)
-unfolding after
+pub fourteenth_param_rows : (place : Place) (k : Terminal) → IfRow (RowDoes place part.FourteenthParam k) (row_of part.FourteenthParam k)
+unfolding row_of
 fourteenth_param_rows place terminal.Comma = param_comma place part.FourteenthParam 13 (item.Part part.FifteenthParam) (λ b w f. f) (λ d v m. subst (λ x. ChangesParams 14 d x) m.2 m.1.1)
 fourteenth_param_rows place terminal.CloseParen = params_end place part.FourteenthParam 13 (omega arith) (λ b w f. f)
 fourteenth_param_rows place other = tt
 
-pub fifteenth_param_rows : (place : Place) (k : Terminal) → IfRow (RowDoes place part.FifteenthParam k) (after part.FifteenthParam k)
-unfolding after
+pub fifteenth_param_rows : (place : Place) (k : Terminal) → IfRow (RowDoes place part.FifteenthParam k) (row_of part.FifteenthParam k)
+unfolding row_of
 fifteenth_param_rows place terminal.Comma = param_comma place part.FifteenthParam 14 (item.Part part.SixteenthParam) (λ b w f. f) (λ d v m. subst (λ x. ChangesParams 15 d x) m.2 m.1.1)
 fifteenth_param_rows place terminal.CloseParen = params_end place part.FifteenthParam 14 (omega arith) (λ b w f. f)
 fifteenth_param_rows place other = tt
 
-pub sixteenth_param_rows : (place : Place) (k : Terminal) → IfRow (RowDoes place part.SixteenthParam k) (after part.SixteenthParam k)
-unfolding after
+pub sixteenth_param_rows : (place : Place) (k : Terminal) → IfRow (RowDoes place part.SixteenthParam k) (row_of part.SixteenthParam k)
+unfolding row_of
 sixteenth_param_rows place terminal.Comma = param_comma place part.SixteenthParam 15 (item.Token terminal.CloseParen) (λ b w f. f) (last_bracket place)
 sixteenth_param_rows place terminal.CloseParen = params_end place part.SixteenthParam 15 (omega arith) (λ b w f. f)
 sixteenth_param_rows place other = tt
@@ -244,8 +244,8 @@ kinds_end : (place : Place) → RowDoes place part.MoreKinds terminal.Semi []
 unfolding kept_as
 kinds_end place kd bytes s b w l = λ xs c is good. record { x = xs; good = good; is = sym l ∙ is }
 
-pub more_kinds_rows : (place : Place) (k : Terminal) → IfRow (RowDoes place part.MoreKinds k) (after part.MoreKinds k)
-unfolding after
+pub more_kinds_rows : (place : Place) (k : Terminal) → IfRow (RowDoes place part.MoreKinds k) (row_of part.MoreKinds k)
+unfolding row_of
 more_kinds_rows place terminal.Comma = kinds_next place
 more_kinds_rows place terminal.Semi = kinds_end place
 more_kinds_rows place other = tt
@@ -268,23 +268,23 @@ mode_after : (place : Place) → RowDoes place part.Mode terminal.Mode (item.Bui
 unfolding kept_as built built_right_side built_statement built_event built_kind built_class built_member built_script raised
 mode_after place kd bytes s b w l = record { x = mode_of bytes; good = tt; is = sym l }
 
-pub initial_rows : (place : Place) (k : Terminal) → IfRow (RowDoes place part.Initial k) (after part.Initial k)
-unfolding after
+pub initial_rows : (place : Place) (k : Terminal) → IfRow (RowDoes place part.Initial k) (row_of part.Initial k)
+unfolding row_of
 initial_rows place terminal.Initial = initial_after place
 initial_rows place other = tt
 
-pub lasting_rows : (place : Place) (k : Terminal) → IfRow (RowDoes place part.Lasting k) (after part.Lasting k)
-unfolding after
+pub lasting_rows : (place : Place) (k : Terminal) → IfRow (RowDoes place part.Lasting k) (row_of part.Lasting k)
+unfolding row_of
 lasting_rows place terminal.Lasting = lasting_after place
 lasting_rows place other = tt
 
-pub scope_rows : (place : Place) (k : Terminal) → IfRow (RowDoes place part.Scope k) (after part.Scope k)
-unfolding after
+pub scope_rows : (place : Place) (k : Terminal) → IfRow (RowDoes place part.Scope k) (row_of part.Scope k)
+unfolding row_of
 scope_rows place terminal.Scope = scope_after place
 scope_rows place other = tt
 
-pub mode_rows : (place : Place) (k : Terminal) → IfRow (RowDoes place part.Mode k) (after part.Mode k)
-unfolding after
+pub mode_rows : (place : Place) (k : Terminal) → IfRow (RowDoes place part.Mode k) (row_of part.Mode k)
+unfolding row_of
 mode_rows place terminal.Mode = mode_after place
 mode_rows place other = tt
 
@@ -365,8 +365,8 @@ method_after : (place : Place) → RowDoes place part.FieldOrMethod terminal.Ope
 unfolding kept_as
 method_after place kd bytes s b w l = λ m s ms n c is f g good. method_made place b w l m s ms n c is f (as_result s g) good
 
-pub field_or_method_rows : (place : Place) (k : Terminal) → IfRow (RowDoes place part.FieldOrMethod k) (after part.FieldOrMethod k)
-unfolding after
+pub field_or_method_rows : (place : Place) (k : Terminal) → IfRow (RowDoes place part.FieldOrMethod k) (row_of part.FieldOrMethod k)
+unfolding row_of
 field_or_method_rows place terminal.Semi = field_ends place
 field_or_method_rows place terminal.OpenParen = method_after place
 field_or_method_rows place other = tt
@@ -460,8 +460,8 @@ trigger_member place kd bytes s b w l = λ xs n c is good.
     (make action.Trigger x.mid) w xs n c
     (ap (make action.Trigger) (y.is ∙ ap (with_body y.x y.n) evented) ∙ ap (λ z. with_members (xs ++ member.Trigger t ∷ []) z c) same) good x.behind
 
-pub members_rows : (place : Place) (k : Terminal) → IfRow (RowDoes place part.Members k) (after part.Members k)
-unfolding after
+pub members_rows : (place : Place) (k : Terminal) → IfRow (RowDoes place part.Members k) (row_of part.Members k)
+unfolding row_of
 members_rows place terminal.SortWord = sort_member place
 members_rows place terminal.Ref = ref_member place
 members_rows place terminal.Void = void_member place
@@ -477,8 +477,8 @@ parent_after : (place : Place) → RowDoes place part.Parent terminal.Colon (ite
 unfolding kept_as built built_right_side built_statement built_event built_kind built_class raised
 parent_after place kd bytes s b w l = record { x = Some (name_of l.1); good = name_free l.1; is = sym l.3 }
 
-pub parent_rows : (place : Place) (k : Terminal) → IfRow (RowDoes place part.Parent k) (after part.Parent k)
-unfolding after
+pub parent_rows : (place : Place) (k : Terminal) → IfRow (RowDoes place part.Parent k) (row_of part.Parent k)
+unfolding row_of
 parent_rows place terminal.Colon = parent_after place
 parent_rows place other = tt
 
@@ -515,7 +515,7 @@ class_after : (place : Place) → RowDoes place part.Class terminal.Class class_
 unfolding kept_as
 class_after place kd bytes s b w l = let r = declared place [] b w l in raised_by r.class r.behind
 
-pub class_rows : (place : Place) (k : Terminal) → IfRow (RowDoes place part.Class k) (after part.Class k)
-unfolding after
+pub class_rows : (place : Place) (k : Terminal) → IfRow (RowDoes place part.Class k) (row_of part.Class k)
+unfolding row_of
 class_rows place terminal.Class = class_after place
 class_rows place other = tt

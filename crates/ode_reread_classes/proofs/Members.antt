@@ -11,7 +11,7 @@ use Rattle.ode_grammar.specs.declared.item.Part.TheVariants as part
 use Rattle.ode_grammar.specs.declared.terminal.Terminal.TheVariants as terminal
 use Rattle.ode_grammar.specs.Classes.{method, test, trigger}
 use Rattle.ode_grammar.specs.Events.{event as whole_event}
-use Rattle.ode_grammar.specs.Grammar.{after, skipped}
+use Rattle.ode_grammar.specs.Grammar.{row_of, skipped}
 use Rattle.ode_grammar.specs.Statements.{body}
 use Rattle.ode_grammar.specs.Texts.{Next, Make, Rule, Skip}
 use Rattle.ode_heights.specs.declared.height.Height.{Height}
@@ -88,7 +88,7 @@ abbrev param_items : List Item
 param_items = item.Token terminal.Name ∷ item.Build action.Param ∷ item.Part part.SecondParam ∷ []
 
 printed_int : (place : Place) → PrintedSort place sort.Int
-unfolding after kept_as word_terminal built built_right_side built_statement built_event built_kind built_class built_member built_script raised
+unfolding row_of kept_as word_terminal built built_right_side built_statement built_event built_kind built_class built_member built_script raised
 printed_int place = record {
   tokens = spell place kind.Word (codes "int") ∷ [];
   spells = word_spells place (codes "int") refl;
@@ -98,7 +98,7 @@ printed_int place = record {
 }
 
 printed_bool : (place : Place) → PrintedSort place sort.Bool
-unfolding after kept_as word_terminal built built_right_side built_statement built_event built_kind built_class built_member built_script raised
+unfolding row_of kept_as word_terminal built built_right_side built_statement built_event built_kind built_class built_member built_script raised
 printed_bool place = record {
   tokens = spell place kind.Word (codes "bool") ∷ [];
   spells = word_spells place (codes "bool") refl;
@@ -108,7 +108,7 @@ printed_bool place = record {
 }
 
 printed_text : (place : Place) → PrintedSort place sort.Text
-unfolding after kept_as word_terminal built built_right_side built_statement built_event built_kind built_class built_member built_script raised
+unfolding row_of kept_as word_terminal built built_right_side built_statement built_event built_kind built_class built_member built_script raised
 printed_text place = record {
   tokens = spell place kind.Word (codes "text") ∷ [];
   spells = word_spells place (codes "text") refl;
@@ -121,7 +121,7 @@ abbrev ref_row : List Item → List Item
 ref_row more = item.Token terminal.Name ∷ item.Build action.RefSort ∷ more
 
 printed_ref : (place : Place) (class : List ℕ) → is_free class ≡ true → PrintedSort place (sort.Reference class)
-unfolding after kept_as word_terminal built built_right_side built_statement built_event built_kind built_class raised
+unfolding row_of kept_as word_terminal built built_right_side built_statement built_event built_kind built_class raised
 printed_ref place class f = record {
   tokens = spell place kind.Word (codes "ref") ∷ spell place kind.Word class ∷ [];
   spells = words_spell place (codes "ref") class _ refl (word_spells place class (free_word class f));
@@ -202,7 +202,7 @@ record PrintedParams (place : Place) (ps : List Param) : Type 0 where
       → Ds (item.Part part.Params ∷ items) (with_params [] b) (inner ++ ts) out
 
 no_params : (place : Place) → PrintedParams place []
-unfolding after kept_as
+unfolding row_of kept_as
 no_params place = record {
   inner = marked mark.CloseParen ∷ [];
   piece = join (one_mark place mark.OpenParen) (closing_mark place mark.CloseParen) (λ rest e. refl);
@@ -245,7 +245,7 @@ record PrintedResult (place : Place) (s : Sort) : Type 0 where
       → Ds (item.Part part.Members ∷ items) b (tokens ++ spell place kind.Word name ∷ marked mark.OpenParen ∷ ts) out
 
 void_result : (place : Place) → PrintedResult place sort.Void
-unfolding after kept_as word_terminal built built_right_side built_statement built_event built_kind built_class raised
+unfolding row_of kept_as word_terminal built built_right_side built_statement built_event built_kind built_class raised
 void_result place = record {
   tokens = spell place kind.Word (codes "void") ∷ [];
   spells = word_spells place (codes "void") refl;
@@ -255,7 +255,7 @@ void_result place = record {
 }
 
 sort_result : (place : Place) (s : Sort) → PrintedSort place s → PrintedResult place s
-unfolding after kept_as
+unfolding row_of kept_as
 sort_result place s p = record {
   tokens = p.tokens;
   spells = p.spells;
@@ -323,7 +323,7 @@ method_printed place n m g =
     regrouped us vs ws ts t = simp append_assoc
 
 field_printed : (place : Place) (n : ℕ) (name : List ℕ) (s : Sort) → is_free name ≡ true → GoodSort s → PrintedMember place n (member.Field name s)
-unfolding after kept_as built built_right_side built_statement built_event built_kind built_class built_member raised
+unfolding row_of kept_as built built_right_side built_statement built_event built_kind built_class built_member raised
 field_printed place n name s f g =
     let p = printed_sort place s g in
     let w = free_word name f in
@@ -346,7 +346,7 @@ pub record GoodConstraint (place : Place) (n : ℕ) (c : Constraint) : Type 0 wh
 
 hard_printed : (place : Place) (n : ℕ) (name : List ℕ) (e : Expr) → is_free name ≡ true → GoodExpr place n e
     → PrintedMember place n (member.Constraint (record { name = name; soft = false; test = e }))
-unfolding after kept_as word_terminal built built_right_side built_statement built_event built_kind built_class built_member raised
+unfolding row_of kept_as word_terminal built built_right_side built_statement built_event built_kind built_class built_member raised
 hard_printed place n name e f g =
     let w = free_word name f in
     member_by place n (member.Constraint (record { name = name; soft = false; test = e }))
@@ -367,7 +367,7 @@ hard_printed place n name e f g =
 
 soft_printed : (place : Place) (n : ℕ) (name : List ℕ) (e : Expr) → is_free name ≡ true → GoodExpr place n e
     → PrintedMember place n (member.Constraint (record { name = name; soft = true; test = e }))
-unfolding after kept_as word_terminal built built_right_side built_statement built_event built_kind built_class built_member raised
+unfolding row_of kept_as word_terminal built built_right_side built_statement built_event built_kind built_class built_member raised
 soft_printed place n name e f g =
     let w = free_word name f in
     member_by place n (member.Constraint (record { name = name; soft = true; test = e }))
@@ -406,7 +406,7 @@ unfolding built built_right_side built_statement built_event built_kind built_cl
 made_listed xs k items b ts out d = Make action.Listed d
 
 a_kind : (place : Place) (k : Kind) → GoodKind place k → Element place put_kinds (item.Part part.MoreKinds) (codes ", ") kind_text 0 k
-unfolding after kept_as
+unfolding row_of kept_as
 a_kind place k g = record {
   tokens = marked mark.Comma ∷ g.tokens;
   low = 0;
@@ -420,7 +420,7 @@ a_kind place k g = record {
 
 events_by : (place : Place) (n : ℕ) (k : Kind) (ks : List Kind) → GoodKind place k → Elements place put_kinds (item.Part part.MoreKinds) (codes ", ") kind_text 0 ks
     → PrintedMember place n (member.Events (k ∷ ks))
-unfolding after kept_as word_terminal built built_right_side built_statement built_event built_kind built_class built_member raised
+unfolding row_of kept_as word_terminal built built_right_side built_statement built_event built_kind built_class built_member raised
 events_by place n k ks g r =
     member_by place n (member.Events (k ∷ ks)) (spell place kind.Word (codes "event") ∷ ((g.tokens ++ r.tokens) ++ marked mark.Semi ∷ [])) 0 (omega arith)
     (to_spells refl
@@ -469,7 +469,7 @@ initial_piece place false = record { cuts = λ rest us e c. c }
 
 initial_does : (place : Place) (f : Bool) (items : List Item) (b : Both) (ts : List Spelled) (out : Both) → Ds items (with_flag f b) ts out
     → Ds (item.Part part.Initial ∷ items) b (initial_tokens place f ++ ts) out
-unfolding initial_tokens after skipped kept_as word_terminal built built_right_side built_statement built_event built_kind built_class raised
+unfolding initial_tokens row_of skipped kept_as word_terminal built built_right_side built_statement built_event built_kind built_class raised
 initial_does place true items b ts out d = Rule part.Initial (item.Build action.Initial ∷ []) refl (Make action.Initial d)
 initial_does place false items b ts out d = Skip part.Initial action.NotInitial refl d
 
@@ -484,7 +484,7 @@ lasting_piece place false = worded place (codes "once") refl
 
 lasting_does : (place : Place) (f : Bool) (items : List Item) (b : Both) (ts : List Spelled) (out : Both) → Ds items (with_flag f b) ts out
     → Ds (item.Part part.Lasting ∷ items) b (lasting_token place f ∷ ts) out
-unfolding lasting_token after kept_as word_terminal built built_right_side built_statement built_event built_kind built_class built_member built_script raised
+unfolding lasting_token row_of kept_as word_terminal built built_right_side built_statement built_event built_kind built_class built_member built_script raised
 lasting_does place true items b ts out d = Rule part.Lasting (item.Build action.Lasting ∷ []) refl (Make action.Lasting d)
 lasting_does place false items b ts out d = Rule part.Lasting (item.Build action.Lasting ∷ []) refl (Make action.Lasting d)
 
@@ -499,7 +499,7 @@ scope_piece place false = worded place (codes "committed") refl
 
 scope_does : (place : Place) (f : Bool) (items : List Item) (b : Both) (ts : List Spelled) (out : Both) → Ds items (with_flag f b) ts out
     → Ds (item.Part part.Scope ∷ items) b (scope_token place f ∷ ts) out
-unfolding scope_token after kept_as word_terminal built built_right_side built_statement built_event built_kind built_class built_member built_script raised
+unfolding scope_token row_of kept_as word_terminal built built_right_side built_statement built_event built_kind built_class built_member built_script raised
 scope_does place true items b ts out d = Rule part.Scope (item.Build action.Scope ∷ []) refl (Make action.Scope d)
 scope_does place false items b ts out d = Rule part.Scope (item.Build action.Scope ∷ []) refl (Make action.Scope d)
 
@@ -518,7 +518,7 @@ mode_piece place mode.Independent = worded place (codes "independent") refl
 
 mode_does : (place : Place) (m : Mode) (items : List Item) (b : Both) (ts : List Spelled) (out : Both) → Ds items (with_mode m b) ts out
     → Ds (item.Part part.Mode ∷ items) b (mode_token place m ∷ ts) out
-unfolding mode_token after kept_as word_terminal built built_right_side built_statement built_event built_kind built_class built_member built_script raised
+unfolding mode_token row_of kept_as word_terminal built built_right_side built_statement built_event built_kind built_class built_member built_script raised
 mode_does place mode.Immediate items b ts out d = Rule part.Mode (item.Build action.Mode ∷ []) refl (Make action.Mode d)
 mode_does place mode.Deferred items b ts out d = Rule part.Mode (item.Build action.Mode ∷ []) refl (Make action.Mode d)
 mode_does place mode.Dependent items b ts out d = Rule part.Mode (item.Build action.Mode ∷ []) refl (Make action.Mode d)
@@ -570,7 +570,7 @@ made_trigger t done k e n bare items b ts out d =
     Make action.Trigger (from (ap (λ m. with_members (done ++ member.Trigger t ∷ []) m b) same) d)
 
 trigger_printed : (place : Place) (n : ℕ) (t : TriggerDecl) → GoodTrigger place n t → PrintedMember place n (member.Trigger t)
-unfolding after kept_as word_terminal built built_right_side built_statement built_event built_kind built_class raised
+unfolding row_of kept_as word_terminal built built_right_side built_statement built_event built_kind built_class raised
 trigger_printed place n t g =
     let ps = printed_params place t.params g.params in
     let e = g.event in

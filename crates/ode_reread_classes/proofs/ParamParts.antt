@@ -6,7 +6,7 @@ use Rattle.ode_grammar.specs.declared.item.Item.TheVariants as item
 use Rattle.ode_grammar.specs.declared.item.Part.TheVariants as part
 use Rattle.ode_grammar.specs.declared.terminal.Terminal.TheVariants as terminal
 use Rattle.ode_grammar.specs.Classes.{one_param}
-use Rattle.ode_grammar.specs.Grammar.{after}
+use Rattle.ode_grammar.specs.Grammar.{row_of}
 use Rattle.ode_grammar.specs.Texts.{Next, Rule}
 use Rattle.ode_syntax.specs.Kept.{kept_as, Spelled}
 use Rattle.ode_reread.proofs.Both.{Both}
@@ -34,7 +34,7 @@ more_part (suc (suc (suc (suc (suc (suc (suc (suc (suc (suc (suc (suc (suc (suc 
 more_part (suc (suc (suc (suc (suc (suc (suc (suc (suc (suc (suc (suc (suc (suc (suc (suc n)))))))))))))))) = item.Token terminal.CloseParen
 
 pub last_param : (n : ℕ) → n ≤ 15 → (items : List Item) (b : Both) (ts : List Spelled) (out : Both) → Ds items b ts out → Ds (more_part n ∷ items) b (marked mark.CloseParen ∷ ts) out
-unfolding after kept_as
+unfolding row_of kept_as
 last_param zero l items b ts out d = Next terminal.CloseParen refl d
 last_param (suc zero) l items b ts out d = Rule part.SixteenthParam [] refl d
 last_param (suc (suc zero)) l items b ts out d = Rule part.FifteenthParam [] refl d
@@ -55,7 +55,7 @@ last_param (suc (suc (suc (suc (suc (suc (suc (suc (suc (suc (suc (suc (suc (suc
 
 pub next_param : (n : ℕ) → n ≤ 14 → (items : List Item) (b : Both) (ts : List Spelled) (out : Both) → Ds (one_param (more_part n) ++ items) b ts out
     → Ds (more_part (suc n) ∷ items) b (marked mark.Comma ∷ ts) out
-unfolding after kept_as
+unfolding row_of kept_as
 next_param zero l items b ts out d = Rule part.SixteenthParam (one_param (item.Token terminal.CloseParen)) refl d
 next_param (suc zero) l items b ts out d = Rule part.FifteenthParam (one_param (item.Part part.SixteenthParam)) refl d
 next_param (suc (suc zero)) l items b ts out d = Rule part.FourteenthParam (one_param (item.Part part.FifteenthParam)) refl d

@@ -15,7 +15,7 @@ use Rattle.ode_grammar.specs.declared.item.Item.TheVariants as item
 use Rattle.ode_grammar.specs.declared.item.Part.TheVariants as part
 use Rattle.ode_grammar.specs.declared.reader.Start.TheVariants as start
 use Rattle.ode_grammar.specs.declared.terminal.Terminal.TheVariants as terminal
-use Rattle.ode_grammar.specs.Grammar.{after, items_of, skipped}
+use Rattle.ode_grammar.specs.Grammar.{after, items_of, row_of, skipped}
 use Rattle.ode_grammar.specs.Stacks.{top}
 use Rattle.ode_grammar.specs.Statements.{class_rest}
 use Rattle.ode_heights.specs.Heights.{none}
@@ -99,7 +99,7 @@ unfolding skipped
 no_statement_skip a e = none-some a e
 
 declares : (row : List Item) → after part.Statement terminal.Class ≡ Some row → class_rest ++ item.Token terminal.Semi ∷ item.Build action.Declare ∷ [] ≡ row
-unfolding after
+unfolding row_of
 declares row e = same_Some (class_rest ++ item.Token terminal.Semi ∷ item.Build action.Declare ∷ []) row e
 
 declared_last : (b : Both) → script_tree (make action.Declare b).trees.scripts ≡ declared b.trees.classes

@@ -10,7 +10,7 @@ use Rattle.ode_grammar.specs.declared.reader.Start.{Start}
 use Rattle.ode_grammar.specs.declared.reader.Start.TheVariants as start
 use Rattle.ode_grammar.specs.declared.terminal.Terminal.{Terminal}
 use Rattle.ode_grammar.specs.declared.terminal.Terminal.TheVariants as terminal
-use Rattle.ode_grammar.specs.Grammar.{after, items_of}
+use Rattle.ode_grammar.specs.Grammar.{items_of, row_of}
 use Rattle.ode_grammar.specs.Stacks.{top}
 use Rattle.ode_grammar.specs.Statements.{body, class_rest}
 use Rattle.ode_grammar.specs.Texts.{Derives, Done, Make, Rule}
@@ -80,7 +80,7 @@ plain_own n most l = omega arith
 
 class_derives : (place : Place) (n : ℕ) (c : ClassDecl) → (g : GoodClass place n c)
     → Ds (item.Part part.Class ∷ []) at_start (spell place kind.Word (codes "class") ∷ (printed_class place n c g).tokens) (with_class c (printed_class place n c g).low at_start)
-unfolding after word_terminal kept_as
+unfolding row_of word_terminal kept_as
 class_derives place n c g =
     let p = printed_class place n c g in
     Rule part.Class class_rest refl (subst (λ us. Derives both class_rest at_start us (with_class c p.low at_start)) (append-nil p.tokens) (p.does [] at_start [] (with_class c p.low at_start) Done))

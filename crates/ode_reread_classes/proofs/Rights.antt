@@ -14,9 +14,10 @@ use Rattle.ode_grammar.specs.declared.item.Part.TheVariants as part
 use Rattle.ode_grammar.specs.declared.terminal.Terminal.{Terminal}
 use Rattle.ode_grammar.specs.declared.terminal.Terminal.TheVariants as terminal
 use Rattle.ode_grammar.specs.Expressions.{behind_unary}
-use Rattle.ode_grammar.specs.Grammar.{after, skipped}
+use Rattle.ode_grammar.specs.Grammar.{after, row_of, skipped}
+use Rattle.ode_grammar.specs.Terminals.{named}
 use Rattle.ode_grammar.specs.Texts.{Done, Next, Make, Rule}
-use Rattle.ode_grammar.proofs.Follows.{IfRow}
+use Rattle.ode_grammar.proofs.Follows.{named_after, IfRow}
 use Rattle.ode_syntax.specs.Built.{built}
 use Rattle.ode_syntax.specs.Kept.{kept_as, Spelled}
 use Rattle.ode_reread.proofs.Both.{Both, keep, make}
@@ -25,7 +26,7 @@ use Rattle.ode_reread.proofs.ExprRows.{longer, rows}
 use Rattle.ode_reread.proofs.Marked.{marked}
 use Rattle.ode_reread.proofs.Prints.{Ds}
 use Rattle.ode_reread_classes.proofs.Chains.{acted, dots_view, early, kept_dot, late, leaf_front, name_row, pair_front, rhs_atoms, script_rhs_atoms, undo, version_front, Dotted, DotsView, Ended, IsAtoms}
-use Rattle.ode_reread_classes.proofs.Derivations.{from, left_nothing, row_of, splits, together, view, with_items, with_tokens, Left, Ruled, View}
+use Rattle.ode_reread_classes.proofs.Derivations.{from, left_nothing, known_row, splits, together, view, with_items, with_tokens, Left, Ruled, View}
 
 abbrev pub plain_items : List Item
 plain_items = item.Build action.Plain ∷ item.Token terminal.Semi ∷ []
@@ -100,7 +101,7 @@ pub record IsStand (p : Part) (o : Option Action) : Type 0 where
 
 -- by the terminals of operators alone
 has_factors : (p : Part) (o : Option Action) → after p terminal.Times ≡ Some (early o ++ (item.Part part.Unary ∷ item.Build action.Binary ∷ behind_unary ++ plain_items)) → HasRows p o part.Factors after_factors
-unfolding after
+unfolding row_of
 has_factors p o e terminal.Times = (e, refl)
 has_factors p o e other = tt
 
@@ -108,7 +109,7 @@ abbrev pub sums_row : List Item
 sums_row = item.Part part.Unary ∷ item.Part part.Factors ∷ item.Build action.Binary ∷ item.Part part.Sums ∷ (after_sums ++ plain_items)
 
 has_sums : (p : Part) (o : Option Action) → after p terminal.Plus ≡ Some (early o ++ sums_row) → after p terminal.Minus ≡ Some (early o ++ sums_row) → HasRows p o part.Sums after_sums
-unfolding after
+unfolding row_of
 has_sums p o e f terminal.Plus = (e, refl)
 has_sums p o e f terminal.Minus = (f, refl)
 has_sums p o e f other = tt
@@ -117,7 +118,7 @@ abbrev pub compare_row : List Item
 compare_row = item.Part part.Unary ∷ item.Part part.Factors ∷ item.Part part.Sums ∷ item.Build action.Binary ∷ (after_compare ++ plain_items)
 
 has_compare : (p : Part) (o : Option Action) → after p terminal.Compares ≡ Some (early o ++ compare_row) → HasRows p o part.Compare after_compare
-unfolding after
+unfolding row_of
 has_compare p o e terminal.Compares = (e, refl)
 has_compare p o e other = tt
 
@@ -126,7 +127,7 @@ ands_row =
     item.Part part.Unary ∷ item.Part part.Factors ∷ item.Part part.Sums ∷ item.Part part.Compare ∷ item.Build action.Binary ∷ item.Part part.Ands ∷ (after_ands ++ plain_items)
 
 has_ands : (p : Part) (o : Option Action) → after p terminal.AndAnd ≡ Some (early o ++ ands_row) → HasRows p o part.Ands after_ands
-unfolding after
+unfolding row_of
 has_ands p o e terminal.AndAnd = (e, refl)
 has_ands p o e other = tt
 
@@ -136,12 +137,12 @@ ors_row =
     ∷ plain_items
 
 has_ors : (p : Part) (o : Option Action) → after p terminal.OrOr ≡ Some (early o ++ ors_row) → HasRows p o part.Ors []
-unfolding after
+unfolding row_of
 has_ors p o e terminal.OrOr = (e, refl)
 has_ors p o e other = tt
 
 pub dots_stand : IsStand part.RhsDots None
-unfolding after
+unfolding row_of
 dots_stand = record {
   dot = refl;
   semi = refl;
@@ -154,7 +155,7 @@ dots_stand = record {
 }
 
 pub dot_stand : IsStand part.RhsDot (Some action.Field)
-unfolding after
+unfolding row_of
 dot_stand = record {
   dot = refl;
   semi = refl;
@@ -167,7 +168,7 @@ dot_stand = record {
 }
 
 pub name_stand : IsStand part.RhsName (Some action.Variable)
-unfolding after
+unfolding row_of
 name_stand = record {
   dot = refl;
   semi = refl;
@@ -231,27 +232,27 @@ module _ {p : Part} {o : Option Action} (s : IsStand p o) where
 
   ors_stand : {d e : Both} {us : List Spelled} → View part.Ors [] d e us → (c : Both) → acted o c ≡ d → (items : List Item) (ts : List Spelled) (out : Both)
       → Ds items (make action.Plain e) ts out → Ds (item.Part p ∷ items) c (us ++ marked mark.Semi ∷ ts) out
-  ors_stand (Ruled t row f x) c q items ts out d = operator_stands [] row s (row_of _ (s.ors t.terminal) f) x c q items ts out d
+  ors_stand (Ruled t row f x) c q items ts out d = operator_stands [] row s (known_row _ (s.ors t.terminal) f) x c q items ts out d
   ors_stand (Left a f x) c q items ts out d = end_stands (left_nothing part.Ors skips_ors a f x) c q items ts out d
 
   ands_stand : {d e : Both} {us : List Spelled} → View part.Ands after_ands d e us → (c : Both) → acted o c ≡ d → (items : List Item) (ts : List Spelled) (out : Both)
       → Ds items (make action.Plain e) ts out → Ds (item.Part p ∷ items) c (us ++ marked mark.Semi ∷ ts) out
-  ands_stand (Ruled t row f x) c q items ts out d = operator_stands after_ands row s (row_of _ (s.ands t.terminal) f) x c q items ts out d
+  ands_stand (Ruled t row f x) c q items ts out d = operator_stands after_ands row s (known_row _ (s.ands t.terminal) f) x c q items ts out d
   ands_stand (Left a f x) c q items ts out d = ors_stand (view (left_nothing part.Ands skips_ands a f x)) c q items ts out d
 
   compare_stands : {d e : Both} {us : List Spelled} → View part.Compare after_compare d e us → (c : Both) → acted o c ≡ d → (items : List Item) (ts : List Spelled) (out : Both)
       → Ds items (make action.Plain e) ts out → Ds (item.Part p ∷ items) c (us ++ marked mark.Semi ∷ ts) out
-  compare_stands (Ruled t row f x) c q items ts out d = operator_stands after_compare row s (row_of _ (s.compare t.terminal) f) x c q items ts out d
+  compare_stands (Ruled t row f x) c q items ts out d = operator_stands after_compare row s (known_row _ (s.compare t.terminal) f) x c q items ts out d
   compare_stands (Left a f x) c q items ts out d = ands_stand (view (left_nothing part.Compare skips_compare a f x)) c q items ts out d
 
   sums_stand : {d e : Both} {us : List Spelled} → View part.Sums after_sums d e us → (c : Both) → acted o c ≡ d → (items : List Item) (ts : List Spelled) (out : Both)
       → Ds items (make action.Plain e) ts out → Ds (item.Part p ∷ items) c (us ++ marked mark.Semi ∷ ts) out
-  sums_stand (Ruled t row f x) c q items ts out d = operator_stands after_sums row s (row_of _ (s.sums t.terminal) f) x c q items ts out d
+  sums_stand (Ruled t row f x) c q items ts out d = operator_stands after_sums row s (known_row _ (s.sums t.terminal) f) x c q items ts out d
   sums_stand (Left a f x) c q items ts out d = compare_stands (view (left_nothing part.Sums skips_sums a f x)) c q items ts out d
 
   factors_stand : {d e : Both} {us : List Spelled} → View part.Factors after_factors d e us → (c : Both) → acted o c ≡ d → (items : List Item) (ts : List Spelled) (out : Both)
       → Ds items (make action.Plain e) ts out → Ds (item.Part p ∷ items) c (us ++ marked mark.Semi ∷ ts) out
-  factors_stand (Ruled t row f x) c q items ts out d = operator_stands after_factors row s (row_of _ (s.factors t.terminal) f) x c q items ts out d
+  factors_stand (Ruled t row f x) c q items ts out d = operator_stands after_factors row s (known_row _ (s.factors t.terminal) f) x c q items ts out d
   factors_stand (Left a f x) c q items ts out d = sums_stand (view (left_nothing part.Factors skips_factors a f x)) c q items ts out d
 
 chain_stands : (n : ℕ) {p : Part} {o : Option Action} → IsStand p o → {us : List Spelled} {d e : Both} → DotsView behind_unary d e us → length us ≤ n → (c : Both) → acted o c ≡ d
@@ -267,18 +268,18 @@ chain_stands (suc n) {p = p} {o = o} s {d = b} (Dotted {ts = us} a t f g y) l c 
 -- ---- whole right sides
 
 pub data BegunRight (r : Part) (k : Terminal) (row : List Item) : Type 0 where
-  Chain : (pre : List Item) (o : Option Action) (q : Part) → row ≡ pre ++ (early o ++ item.Part part.Dots ∷ []) → after r k ≡ Some (pre ++ item.Part q ∷ []) → IsStand q o
+  Chain : (pre : List Item) (o : Option Action) (q : Part) → row ≡ pre ++ (early o ++ item.Part part.Dots ∷ []) → row_of r k ≡ Some (pre ++ item.Part q ∷ []) → IsStand q o
       → BegunRight r k row
-  Signed : row ≡ item.Part part.Unary ∷ item.Build action.Sign ∷ [] → after r k ≡ Some (item.Part part.Unary ∷ item.Build action.Sign ∷ (behind_unary ++ plain_items))
+  Signed : row ≡ item.Part part.Unary ∷ item.Build action.Sign ∷ [] → row_of r k ≡ Some (item.Part part.Unary ∷ item.Build action.Sign ∷ (behind_unary ++ plain_items))
       → BegunRight r k row
 
 abbrev pub IsRight : Part → Type 0
-IsRight r = (k : Terminal) → IfRow (BegunRight r k) (after part.Unary k)
+IsRight r = (k : Terminal) → IfRow (BegunRight r k) (row_of part.Unary k)
 
 right_by : (r : Part) → IsAtoms r (item.Part part.RhsDots ∷ []) → BegunRight r terminal.Name name_row
-    → after r terminal.Minus ≡ Some (item.Part part.Unary ∷ item.Build action.Sign ∷ (behind_unary ++ plain_items))
-    → after r terminal.Not ≡ Some (item.Part part.Unary ∷ item.Build action.Sign ∷ (behind_unary ++ plain_items)) → IsRight r
-unfolding after
+    → row_of r terminal.Minus ≡ Some (item.Part part.Unary ∷ item.Build action.Sign ∷ (behind_unary ++ plain_items))
+    → row_of r terminal.Not ≡ Some (item.Part part.Unary ∷ item.Build action.Sign ∷ (behind_unary ++ plain_items)) → IsRight r
+unfolding row_of
 right_by r i n e f terminal.Leaf = Chain leaf_front None part.RhsDots refl i.leaf dots_stand
 right_by r i n e f terminal.Number = Chain leaf_front None part.RhsDots refl i.number dots_stand
 right_by r i n e f terminal.Seconds = Chain leaf_front None part.RhsDots refl i.seconds dots_stand
@@ -293,11 +294,11 @@ right_by r i n e f terminal.Not = Signed refl f
 right_by r i n e f other = tt
 
 pub rhs_right : IsRight part.Rhs
-unfolding after
+unfolding row_of
 rhs_right = right_by part.Rhs rhs_atoms (Chain [] (Some action.Variable) part.RhsName refl refl name_stand) refl refl
 
 pub script_right : IsRight part.ScriptRhs
-unfolding after
+unfolding row_of
 script_right = right_by part.ScriptRhs script_rhs_atoms (Chain (item.Build action.Variable ∷ []) None part.RhsDots refl refl dots_stand) refl refl
 
 -- the row of an operand in that of an expression
@@ -320,23 +321,23 @@ right_front pre o more = simp append_assoc
 plain_by : (r : Part) → IsRight r → (us : List Spelled) (b e : Both) → View part.Expr [] b e us → (items : List Item) (ts : List Spelled) (out : Both)
     → Ds items (make action.Plain e) ts out → Ds (item.Part r ∷ items) b (us ++ marked mark.Semi ∷ ts) out
 plain_by r i us b e (Left a f x) items ts out d = absurd (no_expr_skip a f)
-plain_by r i us b e (Ruled {ts = vs} t row f x) items ts out d = cases (row_of _ (i t.terminal) l.some)
+plain_by r i us b e (Ruled {ts = vs} t row f x) items ts out d = cases (known_row _ (i (named t.terminal)) l.some)
   where
-    l : Longer behind_unary (after part.Unary t.terminal) row
-    l = is_longer behind_unary (after part.Unary t.terminal) row (sym (rows t.terminal) ∙ f)
+    l : Longer behind_unary (row_of part.Unary (named t.terminal)) row
+    l = is_longer behind_unary (row_of part.Unary (named t.terminal)) row (sym (rows (named t.terminal)) ∙ f)
 
     y : Ds (l.front ++ behind_unary) (keep t b) vs e
     y = with_items (append-nil row ∙ l.same) x
 
-    cases : BegunRight r t.terminal l.front → Ds (item.Part r ∷ items) b (t ∷ (vs ++ marked mark.Semi ∷ ts)) out
+    cases : BegunRight r (named t.terminal) l.front → Ds (item.Part r ∷ items) b (t ∷ (vs ++ marked mark.Semi ∷ ts)) out
     cases (Signed q g) =
         let z = together (with_items (ap (λ zs. zs ++ behind_unary) q) y) (Make action.Plain (Next terminal.Semi refl (from (kept_semi (make action.Plain e)) d))) in
-        Rule r (item.Part part.Unary ∷ item.Build action.Sign ∷ (behind_unary ++ plain_items)) g z
+        Rule r (item.Part part.Unary ∷ item.Build action.Sign ∷ (behind_unary ++ plain_items)) (named_after r t.terminal _ g) z
     cases (Chain pre o q same g s) =
         let p = splits (with_items (ap (λ zs. zs ++ behind_unary) same ∙ right_front pre o behind_unary) y) pre (early o ++ item.Part part.Dots ∷ behind_unary) refl in
         let w = chain_stands (length p.vs) s (dots_view (undo o p.behind)) (omega arith) p.mid refl items ts out d in
         let z = marked mark.Semi ∷ ts in
-        Rule r (pre ++ item.Part q ∷ []) g
+        Rule r (pre ++ item.Part q ∷ []) (named_after r t.terminal _ g)
         (with_items (sym (append_assoc pre (item.Part q ∷ []) items)) (with_tokens (sym (append_assoc p.us p.vs z) ∙ ap (λ ws. ws ++ z) p.same) (together p.first w)))
 
 -- what is derived as an expression is one as a right side

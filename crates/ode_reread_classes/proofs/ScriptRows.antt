@@ -6,7 +6,7 @@ use Rattle.ode_grammar.specs.declared.item.Item.TheVariants as item
 use Rattle.ode_grammar.specs.declared.item.Part.TheVariants as part
 use Rattle.ode_grammar.specs.declared.terminal.Terminal.{Terminal}
 use Rattle.ode_grammar.specs.declared.terminal.Terminal.TheVariants as terminal
-use Rattle.ode_grammar.specs.Grammar.{after}
+use Rattle.ode_grammar.specs.Grammar.{row_of}
 use Rattle.ode_grammar.specs.Statements.{class_rest, dotted_call}
 use Rattle.ode_grammar.proofs.Follows.{IfRow}
 use Rattle.ode_heights.specs.Heights.{raised}
@@ -80,7 +80,7 @@ called_alone place b w c =
     let r = call_right place b c.mid c.call in
     done_alone place b (make action.Call c.mid) w r.right r.is_do c.behind
 
-call_after : (place : Place) (k : Terminal) (pre : List Item) → after part.Unary k ≡ Some (pre ++ item.Part part.Dots ∷ [])
+call_after : (place : Place) (k : Terminal) (pre : List Item) → row_of part.Unary k ≡ Some (pre ++ item.Part part.Dots ∷ [])
     → RowDoes place part.Statement k (pre ++ (dotted_call ++ called_done))
 call_after place k pre e kd bytes s b w l = called_alone place b w (atom_called place k pre called_done e kd bytes s b w l)
 
@@ -113,14 +113,14 @@ clock_after : (place : Place) → RowDoes place part.Statement terminal.Clock (i
 unfolding kept_as built built_right_side built_statement built_event built_kind built_class built_member built_script raised
 clock_after place kd bytes s b w l = let t = l.1.1 in record { x = statement.Clock (clock_text t.0); n = 0; good = tt; is = sym l.2.3 ∙ ap (make action.Clock) t.1 }
 
-pub clock_text_rows : (place : Place) (k : Terminal) → IfRow (RowDoes place part.ClockText k) (after part.ClockText k)
-unfolding after kept_as
+pub clock_text_rows : (place : Place) (k : Terminal) → IfRow (RowDoes place part.ClockText k) (row_of part.ClockText k)
+unfolding row_of kept_as
 clock_text_rows place terminal.Text = λ kd bytes s b w l. (leaf_of kd bytes, sym l)
 clock_text_rows place terminal.Instant = λ kd bytes s b w l. (leaf_of kd bytes, sym l)
 clock_text_rows place other = tt
 
-pub statement_rows : (place : Place) (k : Terminal) → IfRow (RowDoes place part.Statement k) (after part.Statement k)
-unfolding after
+pub statement_rows : (place : Place) (k : Terminal) → IfRow (RowDoes place part.Statement k) (row_of part.Statement k)
+unfolding row_of
 statement_rows place terminal.Class = class_after place
 statement_rows place terminal.Begin = begin_after place
 statement_rows place terminal.Commit = commit_after place

@@ -11,7 +11,7 @@ use Rattle.ode_grammar.specs.declared.item.Part.{Part}
 use Rattle.ode_grammar.specs.declared.item.Part.TheVariants as part
 use Rattle.ode_grammar.specs.declared.terminal.Terminal.TheVariants as terminal
 use Rattle.ode_grammar.specs.Expressions.{arguments}
-use Rattle.ode_grammar.specs.Grammar.{after}
+use Rattle.ode_grammar.specs.Grammar.{after, row_of}
 use Rattle.ode_grammar.specs.Statements.{ending, new}
 use Rattle.ode_grammar.specs.Texts.{Done, Next, Make, Rule}
 use Rattle.ode_heights.specs.Heights.{raised}
@@ -64,11 +64,11 @@ pub record IsSimple (p : Part) (more : List Item) : Type 0 where
   pub place : (items : List Item) → IsPlace p items (item.Part part.CallDot ∷ item.Build action.Call ∷ (done more ++ items))
 
 pub inner_side : IsSide part.Rhs
-unfolding after
+unfolding row_of
 inner_side = record { right = rhs_right; change = record { pnew = refl; newversion = refl; activate = refl }; place = rhs_place }
 
 pub inner_simple : IsSimple part.Inners appended
-unfolding after
+unfolding row_of
 inner_simple = record {
   say = refl;
   pdelete = refl;
@@ -79,11 +79,11 @@ inner_simple = record {
 }
 
 pub script_side : IsSide part.ScriptRhs
-unfolding after
+unfolding row_of
 script_side = record { right = script_right; change = record { pnew = refl; newversion = refl; activate = refl }; place = script_rhs_place }
 
 pub script_simple : IsSimple part.Statement alone
-unfolding after
+unfolding row_of
 script_simple = record {
   say = refl;
   pdelete = refl;
@@ -138,11 +138,11 @@ plain_printed place n e g =
 -- ---- calls
 
 dot_opens : after part.RhsDot terminal.OpenParen ≡ Some (arguments ++ item.Build action.Call ∷ ending)
-unfolding after
+unfolding row_of
 dot_opens = refl
 
 call_opens : after part.CallDot terminal.OpenParen ≡ Some (arguments ++ [])
-unfolding after
+unfolding row_of
 call_opens = refl
 
 made_call : (e : Expr) (own : ℕ) (bare : Bool) (name : List ℕ) (args : List Expr) (most : ℕ) (items : List Item) (b : Both) (ts : List Spelled) (out : Both)
@@ -174,19 +174,19 @@ call_printed place n e name args g f h =
     }
 
 name_opens : after part.RhsName terminal.OpenParen ≡ Some (arguments ++ item.Build action.OwnCall ∷ ending)
-unfolding after
+unfolding row_of
 name_opens = refl
 
 inner_opens : after part.InnerName terminal.OpenParen ≡ Some (arguments ++ item.Build action.OwnCall ∷ done [])
-unfolding after
+unfolding row_of
 inner_opens = refl
 
 rhs_name : after part.Rhs terminal.Name ≡ Some (item.Part part.RhsName ∷ [])
-unfolding after
+unfolding row_of
 rhs_name = refl
 
 pub inners_name : after part.Inners terminal.Name ≡ Some (item.Part part.InnerName ∷ appended)
-unfolding after
+unfolding row_of
 inners_name = refl
 
 made_own_call : (name : List ℕ) (args : List Expr) (n : ℕ) (items : List Item) (b : Both) (ts : List Spelled) (out : Both)

@@ -10,7 +10,7 @@ use Rattle.ode_grammar.specs.declared.item.Part.TheVariants as part
 use Rattle.ode_grammar.specs.declared.terminal.Terminal.{Terminal}
 use Rattle.ode_grammar.specs.declared.terminal.Terminal.TheVariants as terminal
 use Rattle.ode_grammar.specs.Expressions.{arguments, behind_unary, comp, conj, sum, term}
-use Rattle.ode_grammar.specs.Grammar.{after}
+use Rattle.ode_grammar.specs.Grammar.{row_of}
 use Rattle.ode_grammar.specs.Statements.{dotted_call, ending, field_set, new}
 use Rattle.ode_grammar.proofs.Follows.{IfRow}
 use Rattle.ode_heights.specs.declared.height.Height.{Height}
@@ -22,7 +22,7 @@ use Rattle.ode_value.specs.declared.statement.Expr.TheVariants as expr
 use Rattle.ode_value.specs.declared.statement.Rhs.TheVariants as rhs
 use Rattle.ode_syntax.specs.Built.{built, built_right_side}
 use Rattle.ode_syntax.specs.Kept.{kept_as, name_of}
-use Rattle.ode_reread.proofs.AllRows.{row_does}
+use Rattle.ode_reread.proofs.AllRows.{row_is}
 use Rattle.ode_reread.proofs.Both.{Both, keep, make}
 use Rattle.ode_reread.proofs.Effects.{finished, name_free, replaced, spelt, Adds, Effect, Replaces}
 use Rattle.ode_reread.proofs.Goods.{field_good, name_good, Good}
@@ -48,10 +48,10 @@ argued place b d w a l = λ xs n c is good.
     let made : make action.Argument d ≡ with_args (xs ++ a.e ∷ []) (max n a.h.own) c = ap (make action.Argument) (a.is ∙ ap (with_expr a.e a.h) is) in
     raised_by (l.1.1 (xs ++ a.e ∷ []) (max n a.h.own) c made (more_args place n xs a.e a.h good a.good)) l.2
 
-args_first : (place : Place) → (k : Terminal) (row : List Item) → after part.Expr k ≡ Some row → RowDoes place part.Args k (row ++ args_items)
+args_first : (place : Place) → (k : Terminal) (row : List Item) → row_of part.Expr k ≡ Some row → RowDoes place part.Args k (row ++ args_items)
 args_first place k row e kd bytes s b w l =
     let r = parted place row args_items (keep (spelt k kd bytes) b) w l in
-    argued place b r.mid w (row_does place part.Expr k row e kd bytes s b r.mid (old place row _ r.mid r.first)) r.behind
+    argued place b r.mid w (row_is place part.Expr k row e kd bytes s b r.mid (old place row _ r.mid r.first)) r.behind
 
 args_next : (place : Place) → RowDoes place part.MoreArgs terminal.Comma (item.Part part.Expr ∷ args_items)
 unfolding kept_as
@@ -72,8 +72,8 @@ variable_row = name_row ++ behind_unary
 abbrev pub sign_row : List Item
 sign_row = item.Part part.Unary ∷ item.Build action.Sign ∷ behind_unary
 
-pub args_rows : (place : Place) → (k : Terminal) → IfRow (RowDoes place part.Args k) (after part.Args k)
-unfolding after
+pub args_rows : (place : Place) → (k : Terminal) → IfRow (RowDoes place part.Args k) (row_of part.Args k)
+unfolding row_of
 args_rows place terminal.CloseParen = args_end place part.Args (λ b w f. f)
 args_rows place terminal.Leaf = args_first place terminal.Leaf leaf_row refl
 args_rows place terminal.Number = args_first place terminal.Number leaf_row refl
@@ -88,8 +88,8 @@ args_rows place terminal.Minus = args_first place terminal.Minus sign_row refl
 args_rows place terminal.Not = args_first place terminal.Not sign_row refl
 args_rows place other = tt
 
-pub more_args_rows : (place : Place) (k : Terminal) → IfRow (RowDoes place part.MoreArgs k) (after part.MoreArgs k)
-unfolding after
+pub more_args_rows : (place : Place) (k : Terminal) → IfRow (RowDoes place part.MoreArgs k) (row_of part.MoreArgs k)
+unfolding row_of
 more_args_rows place terminal.CloseParen = args_end place part.MoreArgs (λ b w f. f)
 more_args_rows place terminal.Comma = args_next place
 more_args_rows place other = tt
@@ -117,14 +117,14 @@ sets_next : (place : Place) → RowDoes place part.MoreSets terminal.Comma (item
 unfolding kept_as
 sets_next place kd bytes s b w l = one_set place (name_of l.1) (name_free l.1) b w l.3
 
-pub sets_rows : (place : Place) (k : Terminal) → IfRow (RowDoes place part.Sets k) (after part.Sets k)
-unfolding after
+pub sets_rows : (place : Place) (k : Terminal) → IfRow (RowDoes place part.Sets k) (row_of part.Sets k)
+unfolding row_of
 sets_rows place terminal.Name = sets_first place
 sets_rows place terminal.CloseParen = sets_end place part.Sets (λ b w f. f)
 sets_rows place other = tt
 
-pub more_sets_rows : (place : Place) (k : Terminal) → IfRow (RowDoes place part.MoreSets k) (after part.MoreSets k)
-unfolding after
+pub more_sets_rows : (place : Place) (k : Terminal) → IfRow (RowDoes place part.MoreSets k) (row_of part.MoreSets k)
+unfolding row_of
 more_sets_rows place terminal.Comma = sets_next place
 more_sets_rows place terminal.CloseParen = sets_end place part.MoreSets (λ b w f. f)
 more_sets_rows place other = tt
@@ -150,8 +150,8 @@ call_dot_ends place kd bytes s b w l = λ m e h c is f good.
     let a = argued_call place b w l in
     record { e = e; h = h; name = m; args = a.x; n = a.n; good = good; free = f; goods = a.good; is = a.is ∙ ap (with_args a.x a.n) is }
 
-pub call_dot_rows : (place : Place) (k : Terminal) → IfRow (RowDoes place part.CallDot k) (after part.CallDot k)
-unfolding after
+pub call_dot_rows : (place : Place) (k : Terminal) → IfRow (RowDoes place part.CallDot k) (row_of part.CallDot k)
+unfolding row_of
 call_dot_rows place terminal.Dot = call_dot_field place
 call_dot_rows place terminal.OpenParen = call_dot_ends place
 call_dot_rows place other = tt
@@ -170,14 +170,14 @@ called place more b d w a l =
     record { mid = p.0; call = p.1.1 name a.e a.h b (ap (with_name name) a.is) (name_free l.3.1) a.good; behind = p.2 }
 
 -- an atom begins a part
-pub atom_called : (place : Place) → (k : Terminal) (pre more : List Item) → after part.Unary k ≡ Some (pre ++ item.Part part.Dots ∷ [])
+pub atom_called : (place : Place) → (k : Terminal) (pre more : List Item) → row_of part.Unary k ≡ Some (pre ++ item.Part part.Dots ∷ [])
     → (kd : TokenKind) (bytes : List ℕ) → Sound place (spelt k kd bytes) → (b w : Both) → Does place (pre ++ (dotted_call ++ more)) (keep (spelt k kd bytes) b) w
     → Called place more b w
 atom_called place k pre more e kd bytes s b w l =
     let r = parted place pre (dotted_call ++ more) (keep (spelt k kd bytes) b) w l in
     called place more b r.mid w (fronted place k pre e kd bytes s b r.mid r.first) r.behind
 
-chained_by : (place : Place) → (k : Terminal) (pre : List Item) → after part.Unary k ≡ Some (pre ++ item.Part part.Dots ∷ [])
+chained_by : (place : Place) → (k : Terminal) (pre : List Item) → row_of part.Unary k ≡ Some (pre ++ item.Part part.Dots ∷ [])
     → RowDoes place part.Chained k (pre ++ (dotted_call ++ []))
 chained_by place k pre e kd bytes s b w l =
     let r = atom_called place k pre [] e kd bytes s b w l in
@@ -186,8 +186,8 @@ chained_by place k pre e kd bytes s b w l =
 abbrev pub name_front : List Item
 name_front = item.Build action.Variable ∷ []
 
-pub chained_rows : (place : Place) → (k : Terminal) → IfRow (RowDoes place part.Chained k) (after part.Chained k)
-unfolding after
+pub chained_rows : (place : Place) → (k : Terminal) → IfRow (RowDoes place part.Chained k) (row_of part.Chained k)
+unfolding row_of
 chained_rows place terminal.Leaf = chained_by place terminal.Leaf leaf_front refl
 chained_rows place terminal.Number = chained_by place terminal.Number leaf_front refl
 chained_rows place terminal.Seconds = chained_by place terminal.Seconds leaf_front refl
@@ -239,13 +239,13 @@ abbrev IsReplacing : Part → Type 0
 IsReplacing q = (place : Place) (b w : Both) → Effect place q b w → Replaces place b w
 
 stands : (place : Place) → (o : Option Action) → Commutes o → (q : Part) → IsReplacing q → (xs : List Item) → AllReplace place xs
-    → (k : Terminal) (row : List Item) → after q k ≡ Some row → is_held k ≡ true → (kd : TokenKind) (bytes : List ℕ) → Sound place (spelt k kd bytes) → (b w : Both)
+    → (k : Terminal) (row : List Item) → row_of q k ≡ Some row → is_held k ≡ true → (kd : TokenKind) (bytes : List ℕ) → Sound place (spelt k kd bytes) → (b w : Both)
     → Does place (early o ++ (row ++ (xs ++ plain_items))) (keep (spelt k kd bytes) b) w → Stands place o b w
 stands place o commutes q replacing xs all k row e held kd bytes s b w l = λ x h c is good.
     let t = spelt k kd bytes in
     let y = subst (λ z. Does place (row ++ (xs ++ plain_items)) z w) (commutes k kd bytes b held) (undone place o (row ++ (xs ++ plain_items)) (keep t b) w l) in
     let r = parted place row (xs ++ plain_items) (keep t (acted o b)) w y in
-    let f = replacing place (acted o b) r.mid (row_does place q k row e kd bytes s (acted o b) r.mid (old place row _ r.mid r.first)) in
+    let f = replacing place (acted o b) r.mid (row_is place q k row e kd bytes s (acted o b) r.mid (old place row _ r.mid r.first)) in
     let p = parted place xs plain_items r.mid w r.behind in
     made_right place c p.mid w (all c r.mid p.mid (f x h c is good) p.first) p.behind
 
@@ -318,8 +318,8 @@ own_right place kd bytes s b w l = λ m c is f.
     })
     r.behind.3
 
-pub rhs_dots_rows : (place : Place) → (k : Terminal) → IfRow (RowDoes place part.RhsDots k) (after part.RhsDots k)
-unfolding after kept_as
+pub rhs_dots_rows : (place : Place) → (k : Terminal) → IfRow (RowDoes place part.RhsDots k) (row_of part.RhsDots k)
+unfolding row_of kept_as
 rhs_dots_rows place terminal.Dot = λ kd bytes s b w l. dots_news place b w (next_name place None b w l)
 rhs_dots_rows place terminal.Semi = λ kd bytes s b w l. dots_news place b w (semi_stands place None b w l)
 rhs_dots_rows place terminal.Times = λ kd bytes s b w l.
@@ -336,8 +336,8 @@ rhs_dots_rows place terminal.OrOr = λ kd bytes s b w l.
     dots_news place b w (stands place None dots_stand.commutes part.Ors (λ p c d f. f) [] (none_replace place) terminal.OrOr ors_row refl refl kd bytes s b w l)
 rhs_dots_rows place other = tt
 
-pub rhs_dot_rows : (place : Place) → (k : Terminal) → IfRow (RowDoes place part.RhsDot k) (after part.RhsDot k)
-unfolding after kept_as
+pub rhs_dot_rows : (place : Place) → (k : Terminal) → IfRow (RowDoes place part.RhsDot k) (row_of part.RhsDot k)
+unfolding row_of kept_as
 rhs_dot_rows place terminal.Dot = λ kd bytes s b w l. dot_news place b w (next_name place (Some action.Field) b w l)
 rhs_dot_rows place terminal.Semi = λ kd bytes s b w l. dot_news place b w (semi_stands place (Some action.Field) b w l)
 rhs_dot_rows place terminal.OpenParen = field_right place
@@ -355,8 +355,8 @@ rhs_dot_rows place terminal.OrOr = λ kd bytes s b w l.
     dot_news place b w (stands place (Some action.Field) dot_stand.commutes part.Ors (λ p c d f. f) [] (none_replace place) terminal.OrOr ors_row refl refl kd bytes s b w l)
 rhs_dot_rows place other = tt
 
-pub rhs_name_rows : (place : Place) → (k : Terminal) → IfRow (RowDoes place part.RhsName k) (after part.RhsName k)
-unfolding after kept_as
+pub rhs_name_rows : (place : Place) → (k : Terminal) → IfRow (RowDoes place part.RhsName k) (row_of part.RhsName k)
+unfolding row_of kept_as
 rhs_name_rows place terminal.Dot = λ kd bytes s b w l. name_news place b w (next_name place (Some action.Variable) b w l)
 rhs_name_rows place terminal.Semi = λ kd bytes s b w l. name_news place b w (semi_stands place (Some action.Variable) b w l)
 rhs_name_rows place terminal.OpenParen = own_right place
@@ -376,24 +376,24 @@ rhs_name_rows place other = tt
 
 -- ---- whole right sides
 
-chain_owned : (place : Place) (k : Terminal) (pre : List Item) → after part.Unary k ≡ Some (pre ++ item.Part part.Dots ∷ []) → (kd : TokenKind) (bytes : List ℕ)
+chain_owned : (place : Place) (k : Terminal) (pre : List Item) → row_of part.Unary k ≡ Some (pre ++ item.Part part.Dots ∷ []) → (kd : TokenKind) (bytes : List ℕ)
     → Sound place (spelt k kd bytes) → (b w : Both) → Does place (pre ++ item.Part part.RhsDots ∷ []) (keep (spelt k kd bytes) b) w → AddsOwned place b w
 chain_owned place k pre e kd bytes s b w l =
     let r = parted place pre (item.Part part.RhsDots ∷ []) (keep (spelt k kd bytes) b) w l in
     let a = fronted place k pre e kd bytes s b r.mid r.first in
     raised_by (r.behind.1.1 a.e a.h b a.is a.good) r.behind.2
 
-chain_right : (place : Place) (k : Terminal) (pre : List Item) → after part.Unary k ≡ Some (pre ++ item.Part part.Dots ∷ [])
+chain_right : (place : Place) (k : Terminal) (pre : List Item) → row_of part.Unary k ≡ Some (pre ++ item.Part part.Dots ∷ [])
     → RowDoes place part.Rhs k (pre ++ item.Part part.RhsDots ∷ [])
 chain_right place k pre e kd bytes s b w l = unowned (chain_owned place k pre e kd bytes s b w l)
 
-sign_owned : (place : Place) (k : Terminal) → after part.Expr k ≡ Some sign_row → (kd : TokenKind) (bytes : List ℕ) → Sound place (spelt k kd bytes) → (b w : Both)
+sign_owned : (place : Place) (k : Terminal) → row_of part.Expr k ≡ Some sign_row → (kd : TokenKind) (bytes : List ℕ) → Sound place (spelt k kd bytes) → (b w : Both)
     → Does place (sign_row ++ plain_items) (keep (spelt k kd bytes) b) w → AddsOwned place b w
 sign_owned place k e kd bytes s b w l =
     let r = parted place sign_row plain_items (keep (spelt k kd bytes) b) w l in
-    made_right place b r.mid w (row_does place part.Expr k sign_row e kd bytes s b r.mid (old place sign_row _ r.mid r.first)) r.behind
+    made_right place b r.mid w (row_is place part.Expr k sign_row e kd bytes s b r.mid (old place sign_row _ r.mid r.first)) r.behind
 
-sign_right : (place : Place) (k : Terminal) → after part.Expr k ≡ Some sign_row → RowDoes place part.Rhs k (sign_row ++ plain_items)
+sign_right : (place : Place) (k : Terminal) → row_of part.Expr k ≡ Some sign_row → RowDoes place part.Rhs k (sign_row ++ plain_items)
 sign_right place k e kd bytes s b w l = unowned (sign_owned place k e kd bytes s b w l)
 
 name_right : (place : Place) → RowDoes place part.Rhs terminal.Name (item.Part part.RhsName ∷ [])
@@ -452,8 +452,8 @@ change_right : (place : Place) (b w : Both) → Changed place ending b w → Add
 unfolding kept_as
 change_right place b w c = raised_by c.right c.behind.3
 
-pub rhs_rows : (place : Place) → (k : Terminal) → IfRow (RowDoes place part.Rhs k) (after part.Rhs k)
-unfolding after
+pub rhs_rows : (place : Place) → (k : Terminal) → IfRow (RowDoes place part.Rhs k) (row_of part.Rhs k)
+unfolding row_of
 rhs_rows place terminal.Leaf = chain_right place terminal.Leaf leaf_front refl
 rhs_rows place terminal.Number = chain_right place terminal.Number leaf_front refl
 rhs_rows place terminal.Seconds = chain_right place terminal.Seconds leaf_front refl
@@ -470,8 +470,8 @@ rhs_rows place terminal.NewVersion = λ kd bytes s b w l. unowned (change_right 
 rhs_rows place terminal.Activate = λ kd bytes s b w l. unowned (change_right place b w (activate_changes place ending kd bytes b w l))
 rhs_rows place other = tt
 
-pub script_rhs_rows : (place : Place) (k : Terminal) → IfRow (RowDoes place part.ScriptRhs k) (after part.ScriptRhs k)
-unfolding after
+pub script_rhs_rows : (place : Place) (k : Terminal) → IfRow (RowDoes place part.ScriptRhs k) (row_of part.ScriptRhs k)
+unfolding row_of
 script_rhs_rows place terminal.Leaf = chain_owned place terminal.Leaf leaf_front refl
 script_rhs_rows place terminal.Number = chain_owned place terminal.Number leaf_front refl
 script_rhs_rows place terminal.Seconds = chain_owned place terminal.Seconds leaf_front refl

@@ -10,10 +10,11 @@ use Rattle.ode_grammar.specs.declared.item.Part.TheVariants as part
 use Rattle.ode_grammar.specs.declared.terminal.Terminal.{Terminal}
 use Rattle.ode_grammar.specs.declared.terminal.Terminal.TheVariants as terminal
 use Rattle.ode_grammar.specs.Expressions.{arguments}
-use Rattle.ode_grammar.specs.Grammar.{after}
+use Rattle.ode_grammar.specs.Grammar.{after, row_of}
+use Rattle.ode_grammar.specs.Terminals.{named}
 use Rattle.ode_grammar.specs.Statements.{field_set}
 use Rattle.ode_grammar.specs.Texts.{Next, Make, Rule}
-use Rattle.ode_grammar.proofs.Follows.{IfRow}
+use Rattle.ode_grammar.proofs.Follows.{named_after, IfRow}
 use Rattle.ode_heights.specs.Heights.{raised}
 use Rattle.ode_terminals.specs.declared.seen.Place.{Place}
 use Rattle.ode_value.specs.Printing.{expr_text, in_brackets, operand_text, with_commas}
@@ -30,7 +31,7 @@ use Rattle.ode_reread.proofs.Marked.{as_operand, marked, operand_height, with_ex
 use Rattle.ode_reread.proofs.Prints.{regroup, Ds}
 use Rattle.ode_reread.proofs.Spells.{ends, opens_append, word_opens}
 use Rattle.ode_reread_classes.proofs.Chains.{called, name_next, name_rule, operand_of, IsPlace}
-use Rattle.ode_reread_classes.proofs.Derivations.{from, mark_rule, row_of, view, with_items, Left, Ruled, View}
+use Rattle.ode_reread_classes.proofs.Derivations.{from, mark_rule, known_row, view, with_items, Left, Ruled, View}
 use Rattle.ode_reread_classes.proofs.Lists.{elements, weaker, Element, Elements}
 use Rattle.ode_reread_classes.proofs.Parts.{GoodArgs, GoodExpr, GoodOf, GoodSet, GoodSets}
 use Rattle.ode_reread_classes.proofs.Pieces.{begun, between_blanks, closing_mark, expr_spells, join, mark_blank, marks_behind, of_spells, one_mark, operand_text_spells, retoken, to_spells, word, word_begun_mark, Piece}
@@ -40,11 +41,11 @@ use Rattle.ode_reread_classes.proofs.Rights.{no_expr_skip}
 -- ---- a part that begins as another does
 
 abbrev pub Begins : Part → List Item → Type 0
-Begins p more = (k : Terminal) → IfRow (λ row. after p k ≡ Some (row ++ more)) (after part.Expr k)
+Begins p more = (k : Terminal) → IfRow (λ row. row_of p k ≡ Some (row ++ more)) (row_of part.Expr k)
 
 begins_by : (p : Part) (more items : List Item) → Begins p more → {b out : Both} {ts : List Spelled} → View part.Expr (more ++ items) b out ts → Ds (item.Part p ∷ items) b ts out
 begins_by p more items f (Left a e x) = absurd (no_expr_skip a e)
-begins_by p more items f (Ruled t row e x) = Rule p (row ++ more) (row_of _ (f t.terminal) e) (with_items (sym (append_assoc row more items)) x)
+begins_by p more items f (Ruled t row e x) = Rule p (row ++ more) (named_after p t.terminal _ (known_row _ (f (named t.terminal)) e)) (with_items (sym (append_assoc row more items)) x)
 
 pub begins : (p : Part) (more : List Item) → Begins p more → (items : List Item) {b out : Both} {ts : List Spelled} → Ds (item.Part part.Expr ∷ more ++ items) b ts out
     → Ds (item.Part p ∷ items) b ts out
@@ -56,7 +57,7 @@ abbrev pub args_items : List Item
 args_items = item.Build action.Argument ∷ item.Part part.MoreArgs ∷ []
 
 pub args_begin : Begins part.Args args_items
-unfolding after
+unfolding row_of
 args_begin terminal.Leaf = refl
 args_begin terminal.Number = refl
 args_begin terminal.Seconds = refl
@@ -76,7 +77,7 @@ unfolding built built_right_side raised
 made_argument xs k n e bare items b ts out d = Make action.Argument d
 
 argument : (place : Place) (n : ℕ) (e : Expr) → GoodExpr place n e → Element place with_args (item.Part part.MoreArgs) (codes ", ") expr_text n e
-unfolding after kept_as
+unfolding row_of kept_as
 argument place n e g = record {
   tokens = marked mark.Comma ∷ g.tokens;
   low = g.low.own;
@@ -98,7 +99,7 @@ pub record PrintedArgs (place : Place) (n : ℕ) (xs : List Expr) : Type 0 where
       → Ds (item.Part part.Args ∷ items) (with_args [] 0 b) (inner ++ ts) out
 
 no_args : (place : Place) (n : ℕ) → PrintedArgs place n []
-unfolding after kept_as
+unfolding row_of kept_as
 no_args place n = record {
   inner = marked mark.CloseParen ∷ [];
   low = 0;
@@ -109,7 +110,7 @@ no_args place n = record {
 
 some_args : (place : Place) (n : ℕ) (e : Expr) (xs : List Expr) → GoodExpr place n e → Elements place with_args (item.Part part.MoreArgs) (codes ", ") expr_text n xs
     → PrintedArgs place n (e ∷ xs)
-unfolding after kept_as
+unfolding row_of kept_as
 some_args place n e xs g r = let p = g.no_higher in let q = r.no_higher in record {
   inner = (g.tokens ++ r.tokens) ++ marked mark.CloseParen ∷ [];
   low = max g.low.own r.low;
@@ -158,7 +159,7 @@ set_tail place n s g done k items b ts out d =
     (g.1.prints.whole (sets_items ++ items) (with_name s.0 (with_sets done k b)) ts out (made_set done k g.1.low.own s.0 s.1 g.1.low.bare (item.Part part.MoreSets ∷ items) b ts out d))
 
 field : (place : Place) (n : ℕ) (s : List ℕ × Expr) → GoodSet place n s → Element place with_sets (item.Part part.MoreSets) (codes ", ") set_text n s
-unfolding after kept_as
+unfolding row_of kept_as
 field place n s g = record {
   tokens = marked mark.Comma ∷ spell place kind.Word s.0 ∷ marked mark.Assign ∷ g.1.tokens;
   low = g.1.low.own;
@@ -178,7 +179,7 @@ pub record PrintedSets (place : Place) (n : ℕ) (xs : List (List ℕ × Expr)) 
       → Ds (item.Part part.Sets ∷ items) (with_sets [] 0 b) (inner ++ ts) out
 
 no_sets : (place : Place) (n : ℕ) → PrintedSets place n []
-unfolding after kept_as
+unfolding row_of kept_as
 no_sets place n = record {
   inner = marked mark.CloseParen ∷ [];
   low = 0;
@@ -189,7 +190,7 @@ no_sets place n = record {
 
 some_sets : (place : Place) (n : ℕ) (s : List ℕ × Expr) (xs : List (List ℕ × Expr)) → GoodSet place n s
     → Elements place with_sets (item.Part part.MoreSets) (codes ", ") set_text n xs → PrintedSets place n (s ∷ xs)
-unfolding after kept_as
+unfolding row_of kept_as
 some_sets place n s xs g r = let p = g.1.no_higher in let q = r.no_higher in record {
   inner = ((spell place kind.Word s.0 ∷ marked mark.Assign ∷ g.1.tokens) ++ r.tokens) ++ marked mark.CloseParen ∷ [];
   low = max g.1.low.own r.low;

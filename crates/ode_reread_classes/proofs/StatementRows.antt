@@ -8,7 +8,7 @@ use Rattle.ode_grammar.specs.declared.item.Part.TheVariants as part
 use Rattle.ode_grammar.specs.declared.terminal.Terminal.{Terminal}
 use Rattle.ode_grammar.specs.declared.terminal.Terminal.TheVariants as terminal
 use Rattle.ode_grammar.specs.Expressions.{arguments}
-use Rattle.ode_grammar.specs.Grammar.{after}
+use Rattle.ode_grammar.specs.Grammar.{row_of}
 use Rattle.ode_grammar.specs.Statements.{body, dotted_call}
 use Rattle.ode_grammar.proofs.Follows.{IfRow}
 use Rattle.ode_heights.specs.declared.height.Height.{Height}
@@ -22,7 +22,7 @@ use Rattle.ode_value.specs.declared.statement.Stmt.{Stmt}
 use Rattle.ode_value.specs.declared.statement.Stmt.TheVariants as stmt
 use Rattle.ode_syntax.specs.Built.{built, built_right_side, built_statement}
 use Rattle.ode_syntax.specs.Kept.{kept_as, name_of}
-use Rattle.ode_reread.proofs.AllRows.{row_does}
+use Rattle.ode_reread.proofs.AllRows.{row_is}
 use Rattle.ode_reread.proofs.Both.{Both, keep, make}
 use Rattle.ode_reread.proofs.Effects.{name_free, spelt}
 use Rattle.ode_reread.proofs.Goods.{name_good}
@@ -66,8 +66,8 @@ else_after place kd bytes s b w l =
     else_of [] n g = tt
     else_of (s ∷ xs) n g = g
 
-pub else_rows : (place : Place) (k : Terminal) → IfRow (RowDoes place part.Else k) (after part.Else k)
-unfolding after
+pub else_rows : (place : Place) (k : Terminal) → IfRow (RowDoes place part.Else k) (row_of part.Else k)
+unfolding row_of
 else_rows place terminal.Else = else_after place
 else_rows place other = tt
 
@@ -186,7 +186,7 @@ called_alone place b w c =
 abbrev called_done : List Item
 called_done = item.Build action.Call ∷ done appended
 
-call_after : (place : Place) → (k : Terminal) (pre : List Item) → after part.Unary k ≡ Some (pre ++ item.Part part.Dots ∷ [])
+call_after : (place : Place) → (k : Terminal) (pre : List Item) → row_of part.Unary k ≡ Some (pre ++ item.Part part.Dots ∷ [])
     → RowDoes place part.Inners k (pre ++ (dotted_call ++ called_done))
 call_after place k pre e kd bytes s b w l = called_alone place b w (atom_called place k pre called_done e kd bytes s b w l)
 
@@ -220,8 +220,8 @@ dot_after place kd bytes s b w l = λ m c is f.
     let r = call_right place c p.0 a in
     raised_by (record { x = stmt.Do r.right.x; n = r.right.n; good = do_good place r.right.n r.right.x r.is_do r.right.good.0; is = ap (make action.Do) r.right.is }) p.2.3
 
-pub inner_name_rows : (place : Place) (k : Terminal) → IfRow (RowDoes place part.InnerName k) (after part.InnerName k)
-unfolding after
+pub inner_name_rows : (place : Place) (k : Terminal) → IfRow (RowDoes place part.InnerName k) (row_of part.InnerName k)
+unfolding row_of
 inner_name_rows place terminal.Assign = assign_after place
 inner_name_rows place terminal.OpenParen = own_after place
 inner_name_rows place terminal.Dot = dot_after place
@@ -232,19 +232,19 @@ inner_name_rows place other = tt
 abbrev return_items : List Item
 return_items = item.Token terminal.Semi ∷ item.Build action.Return ∷ []
 
-value_after : (place : Place) → (k : Terminal) (row : List Item) → after part.Expr k ≡ Some row → RowDoes place part.ReturnValue k (row ++ return_items)
+value_after : (place : Place) → (k : Terminal) (row : List Item) → row_of part.Expr k ≡ Some row → RowDoes place part.ReturnValue k (row ++ return_items)
 unfolding kept_as built built_right_side built_statement raised
 value_after place k row e kd bytes s b w l =
     let r = parted place row return_items (keep (spelt k kd bytes) b) w l in
-    let a = row_does place part.Expr k row e kd bytes s b r.mid (old place row _ r.mid r.first) in
+    let a = row_is place part.Expr k row e kd bytes s b r.mid (old place row _ r.mid r.first) in
     raised_by (record { x = stmt.Return (Some a.e); n = a.h.own; good = return_good place a.h.own a.e (expr_up place a.e a.h a.h.own (omega arith) a.good); is = ap (make action.Return) a.is }) r.behind.3
 
 no_value_after : (place : Place) → RowDoes place part.ReturnValue terminal.Semi (item.Build action.ReturnNothing ∷ [])
 unfolding kept_as built built_right_side built_statement raised
 no_value_after place kd bytes s b w l = raised_by (record { x = stmt.Return None; n = 0; good = return_nothing_good place 0; is = refl }) l
 
-pub return_value_rows : (place : Place) → (k : Terminal) → IfRow (RowDoes place part.ReturnValue k) (after part.ReturnValue k)
-unfolding after
+pub return_value_rows : (place : Place) → (k : Terminal) → IfRow (RowDoes place part.ReturnValue k) (row_of part.ReturnValue k)
+unfolding row_of
 return_value_rows place terminal.Semi = no_value_after place
 return_value_rows place terminal.Leaf = value_after place terminal.Leaf leaf_row refl
 return_value_rows place terminal.Number = value_after place terminal.Number leaf_row refl
@@ -283,8 +283,8 @@ if_after place kd bytes s b w l =
 
 -- ---- all statements of a body
 
-pub inners_rows : (place : Place) → (k : Terminal) → IfRow (RowDoes place part.Inners k) (after part.Inners k)
-unfolding after kept_as
+pub inners_rows : (place : Place) → (k : Terminal) → IfRow (RowDoes place part.Inners k) (row_of part.Inners k)
+unfolding row_of kept_as
 inners_rows place terminal.Let = let_after place
 inners_rows place terminal.Name = name_after place
 inners_rows place terminal.If = if_after place

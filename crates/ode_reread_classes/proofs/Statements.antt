@@ -10,7 +10,7 @@ use Rattle.ode_grammar.specs.declared.item.Part.{Part}
 use Rattle.ode_grammar.specs.declared.item.Part.TheVariants as part
 use Rattle.ode_grammar.specs.declared.terminal.Terminal.{Terminal}
 use Rattle.ode_grammar.specs.declared.terminal.Terminal.TheVariants as terminal
-use Rattle.ode_grammar.specs.Grammar.{after, skipped}
+use Rattle.ode_grammar.specs.Grammar.{after, row_of, skipped}
 use Rattle.ode_grammar.specs.Statements.{body}
 use Rattle.ode_grammar.specs.Texts.{Next, Make, Rule, Skip}
 use Rattle.ode_heights.specs.declared.height.Height.{Height}
@@ -200,7 +200,7 @@ deactivate_good {p = p} {more = more} i place n e f g r = let l = g.no_higher in
     regrouped us vs ts = simp append_assoc
 
 pub tabort_good : (place : Place) (n : ℕ) → GoodStmt place n stmt.TAbort
-unfolding after kept_as word_terminal built built_right_side built_statement raised
+unfolding row_of kept_as word_terminal built built_right_side built_statement raised
 tabort_good place n =
     stmt_good place n stmt.TAbort _ (spell place kind.Word (codes "tabort") ∷ marked mark.Semi ∷ []) 0 stmt-TAbort (omega arith)
     (to_spells refl (join (word place (codes "tabort") refl) (closing_mark place mark.Semi) (λ rest x. refl)))
@@ -209,7 +209,7 @@ tabort_good place n =
 -- ---- right sides
 
 pub let_good : (place : Place) (n : ℕ) (name : List ℕ) (r : Rhs) → is_free name ≡ true → GoodRight place n r → GoodStmt place n (stmt.Let (var.Name name) r)
-unfolding after kept_as word_terminal built built_right_side built_statement raised
+unfolding row_of kept_as word_terminal built built_right_side built_statement raised
 let_good place n name r f g =
     let p = printed_right place n r g in
     let w = free_word name f in
@@ -226,7 +226,7 @@ let_good place n name r f g =
     (regroup p.tokens (marked mark.Semi ∷ []) ts (p.right (item.Build action.Let ∷ (appended ++ items)) (with_name name b) ts out (Make action.Let d))))))
 
 pub set_good : (place : Place) (n : ℕ) (name : List ℕ) (r : Rhs) → is_free name ≡ true → GoodRight place n r → GoodStmt place n (stmt.Set (var.Name name) r)
-unfolding after kept_as word_terminal built built_right_side built_statement raised
+unfolding row_of kept_as word_terminal built built_right_side built_statement raised
 set_good place n name r f g =
     let p = printed_right place n r g in
     let w = free_word name f in
@@ -252,11 +252,11 @@ shown_by {p = p} {more = more} q row place n r x right =
     (regroup x.tokens (marked mark.Semi ∷ []) ts (right (item.Build action.Show ∷ (more ++ items)) b ts out (Make action.Show d))))
 
 pub show_good : (place : Place) (n : ℕ) (r : Rhs) → GoodRight place n r → GoodStmt place n (stmt.Show r)
-unfolding after
+unfolding row_of
 show_good place n r g = let x = printed_right place n r g in shown_by part.Rhs refl place n r x x.right
 
 pub show_alone : (place : Place) (n : ℕ) (r : Rhs) → has_owner r ≡ true → GoodRight place n r → GoodAlone place n (stmt.Show r)
-unfolding after
+unfolding row_of
 show_alone place n r o g = let x = printed_right place n r g in shown_by part.ScriptRhs refl place n r x (x.side o part.ScriptRhs script_side)
 
 done_by : {p : Part} {more : List Item} (place : Place) (n : ℕ) (r : Rhs) → (x : PrintedRight place n r) → AsDo p more r x.low x.tokens → GoodAt p more place n (stmt.Do r)
@@ -275,7 +275,7 @@ do_alone place n r o k g = let x = printed_right place n r g in done_by place n 
 -- ---- what a method returns
 
 return_begin : Begins part.ReturnValue (item.Token terminal.Semi ∷ item.Build action.Return ∷ [])
-unfolding after
+unfolding row_of
 return_begin terminal.Leaf = refl
 return_begin terminal.Number = refl
 return_begin terminal.Seconds = refl
@@ -290,7 +290,7 @@ return_begin terminal.Not = refl
 return_begin other = tt
 
 pub return_good : (place : Place) (n : ℕ) (e : Expr) → GoodExpr place n e → GoodStmt place n (stmt.Return (Some e))
-unfolding after kept_as word_terminal built built_right_side built_statement raised
+unfolding row_of kept_as word_terminal built built_right_side built_statement raised
 return_good place n e g =
     stmt_good place n (stmt.Return (Some e)) _ (spell place kind.Word (codes "return") ∷ (g.tokens ++ marked mark.Semi ∷ [])) g.low.own (stmt-Return (Some e)) g.no_higher
     (worded_spells place (codes "return") e (up n) refl g)
@@ -299,7 +299,7 @@ return_good place n e g =
     Rule part.Inners (item.Part part.ReturnValue ∷ appended) refl (regroup g.tokens (marked mark.Semi ∷ []) ts (begins part.ReturnValue (item.Token terminal.Semi ∷ item.Build action.Return ∷ []) return_begin (appended ++ items) value)))
 
 pub return_nothing_good : (place : Place) (n : ℕ) → GoodStmt place n (stmt.Return None)
-unfolding after kept_as word_terminal built built_right_side built_statement raised
+unfolding row_of kept_as word_terminal built built_right_side built_statement raised
 return_nothing_good place n =
     stmt_good place n (stmt.Return None) _ (spell place kind.Word (codes "return") ∷ marked mark.Semi ∷ []) 0 (stmt-Return None) (omega arith)
     (to_spells refl (join (word place (codes "return") refl) (closing_mark place mark.Semi) (λ rest x. refl)))
@@ -348,7 +348,7 @@ pub record PrintedBody (place : Place) (n : ℕ) (xs : List Stmt) : Type 0 where
   pub does : (items : List Item) (b : Both) (ts : List Spelled) (out : Both) → Ds items (with_body xs low b) ts out → Ds (body ++ items) b (tokens ++ ts) out
 
 body_by : (place : Place) (m n : ℕ) (xs : List Stmt) → Elements place with_body (item.Part part.Inners) (codes " ") stmt_text m xs → m ≤ n → 1 ≤ n → PrintedBody place n xs
-unfolding after skipped kept_as built built_right_side built_statement raised
+unfolding row_of skipped kept_as built built_right_side built_statement raised
 body_by place m n xs r k l = let p = r.no_higher in record {
   tokens = marked mark.OpenBrace ∷ (r.tokens ++ marked mark.CloseBrace ∷ []);
   low = max 1 r.low;
@@ -385,7 +385,7 @@ record PrintedElse (place : Place) (n : ℕ) (xs : List Stmt) : Type 0 where
   pub does : (items : List Item) (b : Both) (ts : List Spelled) (out : Both) → Ds items (with_body xs low b) ts out → Ds (item.Part part.Else ∷ items) b (tokens ++ ts) out
 
 printed_else : (place : Place) (n : ℕ) (xs : List Stmt) → GoodElse place n xs → PrintedElse place n xs
-unfolding after skipped kept_as word_terminal built built_right_side built_statement raised
+unfolding row_of skipped kept_as word_terminal built built_right_side built_statement raised
 printed_else place n [] g = record {
   tokens = [];
   low = 0;
@@ -406,7 +406,7 @@ printed_else place n (s ∷ xs) g =
     }
 
 pub if_good : (place : Place) (n : ℕ) (e : Expr) (xs ys : List Stmt) → GoodExpr place n e → GoodBody place n xs → GoodElse place n ys → GoodStmt place n (stmt.If e xs ys)
-unfolding after kept_as word_terminal built built_right_side built_statement raised
+unfolding row_of kept_as word_terminal built built_right_side built_statement raised
 if_good place n e xs ys g h k =
     let x = printed_body place n xs h in
     let y = printed_else place n ys k in
