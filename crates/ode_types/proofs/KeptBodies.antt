@@ -143,6 +143,10 @@ event_of x = x.0
 both-bare : (e f : KnownEvent) (at : Setting) → (are_masks e.0 (bare at) && are_masks f.0 (bare at)) ≡ (are_masks e.0 at && are_masks f.0 at)
 both-bare e f at = ap (λ b. b && are_masks f.0 (bare at)) (e.1 at) ∙ ap (λ b. are_masks e.0 at && b) (f.1 at)
 
+three-bare : (e f g : KnownEvent) (at : Setting)
+    → (are_masks e.0 (bare at) && are_masks f.0 (bare at) && are_masks g.0 (bare at)) ≡ (are_masks e.0 at && are_masks f.0 at && are_masks g.0 at)
+three-bare e f g at = ap (λ b. b && are_masks g.0 (bare at)) (both-bare e f at) ∙ ap (λ b. (are_masks e.0 at && are_masks f.0 at) && b) (g.1 at)
+
 level-events : (y : event.EventExpr-F KnownEvent) (at : Setting)
     → are_masks_of (map-EventExpr EventExpr (Setting → Bool) are_masks (map-EventExpr KnownEvent EventExpr event_of y)) (bare at) ≡ are_masks_of (map-EventExpr EventExpr (Setting → Bool) are_masks (map-EventExpr KnownEvent EventExpr event_of y)) at
 level-events (event.Leaf k test) at = leaf-bare k test at
@@ -152,11 +156,16 @@ level-events (event.Not e) at = e.1 at
 level-events (event.And e f) at = both-bare e f at
 level-events (event.Or e f) at = both-bare e f at
 level-events (event.Relative e f) at = both-bare e f at
+level-events (event.RelPlus e) at = e.1 at
 level-events (event.Prior e f) at = both-bare e f at
 level-events (event.Sequence e f) at = both-bare e f at
+level-events (event.Pipe e f) at = both-bare e f at
 level-events (event.Choose n e) at = e.1 at
 level-events (event.Every n e) at = e.1 at
-level-events (event.Fa e f g) at = ap (λ b. b && are_masks g.0 (bare at)) (both-bare e f at) ∙ ap (λ b. (are_masks e.0 at && are_masks f.0 at) && b) (g.1 at)
+level-events (event.Fa e f g) at = three-bare e f g at
+level-events (event.FaAbs e f g) at = three-bare e f g at
+level-events (event.Masked e x) at =
+    ap (λ b. b && is_fit (plain_setting (bare at)) sort.Bool x) (e.1 at) ∙ ap (λ b. are_masks e.0 at && b) (is_fit-bare (plain_setting at) sort.Bool x)
 
 are_masks-roll : (d : event.EventExpr-F EventExpr) → are_masks (roll-EventExpr d) ≡ are_masks_of (map-EventExpr EventExpr (Setting → Bool) are_masks d)
 unfolding are_masks

@@ -14,8 +14,8 @@ use Rattle.ode_value.specs.declared.statement.Sort.{Sort}
 use Rattle.ode_value.specs.declared.statement.Sort.TheVariants as sort
 use Rattle.ode_value.specs.Same.{same_kind}
 use Rattle.ode_types.specs.Checks.{◌>>=◌, needs}
-use Rattle.ode_types.specs.Events.{Listing, event_method_in, event_params, is_listed, leaf_listed, listed, listing_of, mask}
-use Rattle.ode_types.specs.Kept.{Setting, are_masks, are_masks_of, held, is_leaf, is_mask}
+use Rattle.ode_types.specs.Events.{Listing, event_method_in, event_params, is_listed, leaf_listed, listed, listing_of, mask, masked}
+use Rattle.ode_types.specs.Kept.{Setting, are_masks, are_masks_of, held, is_fit, is_leaf, is_mask, plain_setting}
 use Rattle.ode_types.specs.Limits.{slot_limit}
 use Rattle.ode_types.specs.Scopes.{Scope, plain_scope, with_params, wrong}
 use Rattle.ode_types.specs.Typing.{fitting}
@@ -98,6 +98,18 @@ module _ (at : Setting) where
   fa-masks : (e f g : EventExpr) → are_masks (checked.Fa e f g) at ≡ (are_masks e at && are_masks f at && are_masks g at)
   fa-masks e f g = ap (λ (s : Setting → Bool). s at) (are_masks_out (checked.Fa e f g)) ∙ simp the_lemmas
 
+  faabs-masks : (e f g : EventExpr) → are_masks (checked.FaAbs e f g) at ≡ (are_masks e at && are_masks f at && are_masks g at)
+  faabs-masks e f g = ap (λ (s : Setting → Bool). s at) (are_masks_out (checked.FaAbs e f g)) ∙ simp the_lemmas
+
+  relplus-masks : (e : EventExpr) → are_masks (checked.RelPlus e) at ≡ are_masks e at
+  relplus-masks e = ap (λ (s : Setting → Bool). s at) (are_masks_out (checked.RelPlus e)) ∙ simp the_lemmas
+
+  pipe-masks : (e f : EventExpr) → are_masks (checked.Pipe e f) at ≡ (are_masks e at && are_masks f at)
+  pipe-masks e f = ap (λ (s : Setting → Bool). s at) (are_masks_out (checked.Pipe e f)) ∙ simp the_lemmas
+
+  masked-masks : (e : EventExpr) (x : Expr) → are_masks (checked.Masked e x) at ≡ (are_masks e at && is_fit (plain_setting at) sort.Bool x)
+  masked-masks e x = ap (λ (s : Setting → Bool). s at) (are_masks_out (checked.Masked e x)) ∙ simp the_lemmas
+
 -- ---- what a check gives
 
 -- what an induction shows of an event expression
@@ -153,16 +165,28 @@ module _ (scope : Scope) (slots : List (Option Sort)) (shows : Shows scope slots
       subst (λ (x : EventExpr). are_masks x at ≡ true) same
       (level p.0 q.0 ∙ both_true (are_masks p.0 at) (are_masks q.0 at) (d.1 scope slots shows p.0 p.1) (e.1 scope slots shows q.0 q.1))
 
-  three_kept : (c d e : Known) (f : EventExpr) → listed c.0 scope >>= (λ x. listed d.0 scope >>= (λ y. listed e.0 scope >>= (λ z. Ok (checked.Fa x y z)))) ≡ Ok f → are_masks f at ≡ true
-  three_kept c d e f h =
-      let p = bind-ok (listed c.0 scope) (λ x. listed d.0 scope >>= (λ y. listed e.0 scope >>= (λ z. Ok (checked.Fa x y z)))) f h in
-      let q = bind-ok (listed d.0 scope) (λ y. listed e.0 scope >>= (λ z. Ok (checked.Fa p.0 y z))) f p.2 in
-      let r = bind-ok (listed e.0 scope) (λ z. Ok (checked.Fa p.0 q.0 z)) f q.2 in
-      let same : checked.Fa p.0 q.0 r.0 ≡ f = cc (r.2) in
+  three_kept : (make : EventExpr → EventExpr → EventExpr → EventExpr) → ((x y z : EventExpr) → are_masks (make x y z) at ≡ (are_masks x at && are_masks y at && are_masks z at))
+      → (c d e : Known) (f : EventExpr) → listed c.0 scope >>= (λ x. listed d.0 scope >>= (λ y. listed e.0 scope >>= (λ z. Ok (make x y z)))) ≡ Ok f → are_masks f at ≡ true
+  three_kept make level c d e f h =
+      let p = bind-ok (listed c.0 scope) (λ x. listed d.0 scope >>= (λ y. listed e.0 scope >>= (λ z. Ok (make x y z)))) f h in
+      let q = bind-ok (listed d.0 scope) (λ y. listed e.0 scope >>= (λ z. Ok (make p.0 y z))) f p.2 in
+      let r = bind-ok (listed e.0 scope) (λ z. Ok (make p.0 q.0 z)) f q.2 in
+      let same : make p.0 q.0 r.0 ≡ f = cc (r.2) in
       subst (λ (x : EventExpr). are_masks x at ≡ true) same
-      (fa-masks at p.0 q.0 r.0
+      (level p.0 q.0 r.0
       ∙ both_true (are_masks p.0 at && are_masks q.0 at) (are_masks r.0 at)
       (both_true (are_masks p.0 at) (are_masks q.0 at) (c.1 scope slots shows p.0 p.1) (d.1 scope slots shows q.0 q.1)) (e.1 scope slots shows r.0 r.1))
+
+  masked_kept : (e : Known) (x : Expr) (f : EventExpr) → masked (listed e.0) x scope ≡ Ok f → are_masks f at ≡ true
+  unfolding masked
+  masked_kept e x f h =
+      let p = bind-ok (listed e.0 scope) (λ a. fitting sort.Bool x (plain_scope scope) >>= (λ y. Ok (checked.Masked a y))) f h in
+      let q = bind-ok (fitting sort.Bool x (plain_scope scope)) (λ y. Ok (checked.Masked p.0 y)) f p.2 in
+      let same : checked.Masked p.0 q.0 ≡ f = cc (q.2) in
+      subst (λ (z : EventExpr). are_masks z at ≡ true) same
+      (masked-masks at p.0 q.0
+      ∙ both_true (are_masks p.0 at) (is_fit (plain_setting at) sort.Bool q.0) (e.1 scope slots shows p.0 p.1)
+      (fitting_kept (plain_scope scope) slots shows.seen sort.Bool x q.0 q.1))
 
 level_kept : (y : event.EventExpr-F Known) (scope : Scope) (slots : List (Option Sort)) → Shows scope slots → (f : EventExpr)
     → listing_of (map-EventExpr EventExpr Listing listed (map-EventExpr Known EventExpr event_of y)) scope ≡ Ok f → are_masks f (setting_of scope slots) ≡ true
@@ -181,7 +205,11 @@ level_kept (event.Prior d e) scope slots shows f h = two_kept scope slots shows 
 level_kept (event.Sequence d e) scope slots shows f h = two_kept scope slots shows checked.Sequence (sequence-masks (setting_of scope slots)) d e f h
 level_kept (event.Choose n e) scope slots shows f h = one_kept scope slots shows (checked.Choose n) (choose-masks (setting_of scope slots) n) e f h
 level_kept (event.Every n e) scope slots shows f h = one_kept scope slots shows (checked.Every n) (every-masks (setting_of scope slots) n) e f h
-level_kept (event.Fa c d e) scope slots shows f h = three_kept scope slots shows c d e f h
+level_kept (event.Fa c d e) scope slots shows f h = three_kept scope slots shows checked.Fa (fa-masks (setting_of scope slots)) c d e f h
+level_kept (event.FaAbs c d e) scope slots shows f h = three_kept scope slots shows checked.FaAbs (faabs-masks (setting_of scope slots)) c d e f h
+level_kept (event.RelPlus e) scope slots shows f h = one_kept scope slots shows checked.RelPlus (relplus-masks (setting_of scope slots)) e f h
+level_kept (event.Pipe d e) scope slots shows f h = two_kept scope slots shows checked.Pipe (pipe-masks (setting_of scope slots)) d e f h
+level_kept (event.Masked e x) scope slots shows f h = masked_kept scope slots shows e x f h
 
 listed-roll : (d : event.EventExpr-F EventExpr) → listed (roll-EventExpr d) ≡ listing_of (map-EventExpr EventExpr Listing listed d)
 unfolding listed

@@ -1,4 +1,4 @@
--- Event expressions: the kinds and masks of their leaves.
+-- Event expressions: the kinds of their leaves, and their masks.
 use Rattle.std.specs.Prelude.{ℕ, List, [], Bool, Option, Some, None, Ok, false}
 use Rattle.std.specs.List.{list_any}
 use Rattle.std.specs.Option.{option_and_then, option_map_or}
@@ -68,6 +68,21 @@ leaf_listed k m scope = do
   test ← mask k m scope
   Ok (checked.Leaf k test)
 
+-- three parts, from left to right
+abbrev pub three : (EventExpr → EventExpr → EventExpr → EventExpr) → Listing → Listing → Listing → Listing
+three make e f g scope = do
+  a ← e scope
+  b ← f scope
+  c ← g scope
+  Ok (make a b c)
+
+-- a mask on a composite event, which is plain and sees the trigger's parameters
+unfoldable pub masked : Listing → Expr → Listing
+masked e x scope = do
+  a ← e scope
+  test ← fitting sort.Bool x (plain_scope scope)
+  Ok (checked.Masked a test)
+
 -- one level of an event expression
 abbrev pub listing_of : event.EventExpr-F Listing → Listing
 listing_of (event.Leaf k m) scope = leaf_listed k m scope
@@ -77,15 +92,15 @@ listing_of (event.Not e) scope = one checked.Not e scope
 listing_of (event.And e f) scope = two checked.And e f scope
 listing_of (event.Or e f) scope = two checked.Or e f scope
 listing_of (event.Relative e f) scope = two checked.Relative e f scope
+listing_of (event.RelPlus e) scope = one checked.RelPlus e scope
 listing_of (event.Prior e f) scope = two checked.Prior e f scope
 listing_of (event.Sequence e f) scope = two checked.Sequence e f scope
+listing_of (event.Pipe e f) scope = two checked.Pipe e f scope
 listing_of (event.Choose n e) scope = one (checked.Choose n) e scope
 listing_of (event.Every n e) scope = one (checked.Every n) e scope
-listing_of (event.Fa e f g) scope = do
-  a ← e scope
-  b ← f scope
-  c ← g scope
-  Ok (checked.Fa a b c)
+listing_of (event.Fa e f g) scope = three checked.Fa e f g scope
+listing_of (event.FaAbs e f g) scope = three checked.FaAbs e f g scope
+listing_of (event.Masked e x) scope = masked e x scope
 
 -- a whole one
 unfoldable pub listed : EventExpr → Listing

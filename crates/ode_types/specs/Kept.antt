@@ -184,7 +184,7 @@ plain_setting at = record at { is_plain = true }
 abbrev pub is_mask : Setting → Option Method → Expr → Bool
 is_mask at m e = is_fit (plain_setting (with_slots (at.slots ++ held (option_map_or (λ (n : Method). n.params) m [])) at)) sort.Bool e
 
--- each leaf's kind is listed, and its mask is one
+-- each leaf's kind is listed, and its mask is one; a mask on a composite event is a plain test
 abbrev pub is_leaf : Kind → Option Expr → Setting → Bool
 is_leaf k test at =
     option_map_or (λ (c : Class). list_any (same_kind k) c.kinds) at.class false
@@ -198,11 +198,15 @@ are_masks_of (event.Not e) at = e at
 are_masks_of (event.And e f) at = e at && f at
 are_masks_of (event.Or e f) at = e at && f at
 are_masks_of (event.Relative e f) at = e at && f at
+are_masks_of (event.RelPlus e) at = e at
 are_masks_of (event.Prior e f) at = e at && f at
 are_masks_of (event.Sequence e f) at = e at && f at
+are_masks_of (event.Pipe e f) at = e at && f at
 are_masks_of (event.Choose n e) at = e at
 are_masks_of (event.Every n e) at = e at
 are_masks_of (event.Fa e f g) at = e at && f at && g at
+are_masks_of (event.FaAbs e f g) at = e at && f at && g at
+are_masks_of (event.Masked e x) at = e at && is_fit (plain_setting at) sort.Bool x
 
 unfoldable pub are_masks : EventExpr → Setting → Bool
 are_masks = fold-EventExpr (Setting → Bool) are_masks_of

@@ -1,4 +1,4 @@
-//! Event expressions: the kinds and masks of their leaves.
+//! Event expressions: the kinds of their leaves, and their masks.
 ghost use Rattle.std.specs.Prelude.{◌≡◌, IfOk};
 ghost use Rattle.std.specs.List.{list_any};
 ghost use Rattle.std.specs.Option.{option_copied};
@@ -111,7 +111,7 @@ fn leaf(
 }
 
 /// An event expression with slots for the names in its masks, or the first rule that it breaks.
-#[tactic(auto, using(crate::proofs::EventLaws::listings))]
+#[tactic(auto, using(crate::proofs::EventLaws::listings), unfolding(crate::specs::Events::masked))]
 pub(crate) fn check_event(
     alloc: Global,
     e: &EventExpr,
@@ -143,6 +143,10 @@ pub(crate) fn check_event(
             let f = check_event(alloc, f.get(), place, locals)?;
             boxed(alloc, EventExpr::Relative(e, f))
         }
+        EventExpr::RelPlus(e) => {
+            let e = check_event(alloc, e.get(), place, locals)?;
+            boxed(alloc, EventExpr::RelPlus(e))
+        }
         EventExpr::Prior(e, f) => {
             let e = check_event(alloc, e.get(), place, locals)?;
             let f = check_event(alloc, f.get(), place, locals)?;
@@ -152,6 +156,11 @@ pub(crate) fn check_event(
             let e = check_event(alloc, e.get(), place, locals)?;
             let f = check_event(alloc, f.get(), place, locals)?;
             boxed(alloc, EventExpr::Sequence(e, f))
+        }
+        EventExpr::Pipe(e, f) => {
+            let e = check_event(alloc, e.get(), place, locals)?;
+            let f = check_event(alloc, f.get(), place, locals)?;
+            boxed(alloc, EventExpr::Pipe(e, f))
         }
         EventExpr::Choose(n, e) => {
             let e = check_event(alloc, e.get(), place, locals)?;
@@ -166,6 +175,17 @@ pub(crate) fn check_event(
             let f = check_event(alloc, f.get(), place, locals)?;
             let g = check_event(alloc, g.get(), place, locals)?;
             boxed(alloc, EventExpr::Fa(e, f, g))
+        }
+        EventExpr::FaAbs(e, f, g) => {
+            let e = check_event(alloc, e.get(), place, locals)?;
+            let f = check_event(alloc, f.get(), place, locals)?;
+            let g = check_event(alloc, g.get(), place, locals)?;
+            boxed(alloc, EventExpr::FaAbs(e, f, g))
+        }
+        EventExpr::Masked(e, test) => {
+            let e = check_event(alloc, e.get(), place, locals)?;
+            let test = fitting(alloc, &Sort::Bool, test, &place.plain(), locals)?;
+            boxed(alloc, EventExpr::Masked(e, test.into_inner()))
         }
     }
 }

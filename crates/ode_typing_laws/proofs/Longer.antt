@@ -167,6 +167,11 @@ module _ (cs : List Class) (d : Class) (above : AllByRecursion (IsNotBelow d.num
   both-imply : (e f : KnownEvent) (at : Setting) → Own at → Implies (are_masks e.0 (before at) && are_masks f.0 (before at)) (are_masks e.0 (behind at) && are_masks f.0 (behind at))
   both-imply e f at own = and-implies (are_masks e.0 (before at)) (are_masks f.0 (before at)) (are_masks e.0 (behind at)) (are_masks f.0 (behind at)) (e.1 at own) (f.1 at own)
 
+  three-imply : (e f g : KnownEvent) (at : Setting) → Own at
+      → Implies (are_masks e.0 (before at) && are_masks f.0 (before at) && are_masks g.0 (before at)) (are_masks e.0 (behind at) && are_masks f.0 (behind at) && are_masks g.0 (behind at))
+  three-imply e f g at own =
+      and-implies (are_masks e.0 (before at) && are_masks f.0 (before at)) (are_masks g.0 (before at)) (are_masks e.0 (behind at) && are_masks f.0 (behind at)) (are_masks g.0 (behind at)) (both-imply e f at own) (g.1 at own)
+
   level-events : (y : event.EventExpr-F KnownEvent) (at : Setting) → Own at
       → Implies (are_masks_of (map-EventExpr EventExpr (Setting → Bool) are_masks (map-EventExpr KnownEvent EventExpr event_of y)) (before at)) (are_masks_of (map-EventExpr EventExpr (Setting → Bool) are_masks (map-EventExpr KnownEvent EventExpr event_of y)) (behind at))
   level-events (event.Leaf k test) at own = leaf-implies k test at own
@@ -176,12 +181,17 @@ module _ (cs : List Class) (d : Class) (above : AllByRecursion (IsNotBelow d.num
   level-events (event.And e f) at own = both-imply e f at own
   level-events (event.Or e f) at own = both-imply e f at own
   level-events (event.Relative e f) at own = both-imply e f at own
+  level-events (event.RelPlus e) at own = e.1 at own
   level-events (event.Prior e f) at own = both-imply e f at own
   level-events (event.Sequence e f) at own = both-imply e f at own
+  level-events (event.Pipe e f) at own = both-imply e f at own
   level-events (event.Choose n e) at own = e.1 at own
   level-events (event.Every n e) at own = e.1 at own
-  level-events (event.Fa e f g) at own =
-      and-implies (are_masks e.0 (before at) && are_masks f.0 (before at)) (are_masks g.0 (before at)) (are_masks e.0 (behind at) && are_masks f.0 (behind at)) (are_masks g.0 (behind at)) (both-imply e f at own) (g.1 at own)
+  level-events (event.Fa e f g) at own = three-imply e f g at own
+  level-events (event.FaAbs e f g) at own = three-imply e f g at own
+  level-events (event.Masked e x) at own =
+      and-implies (are_masks e.0 (before at)) (is_fit (plain_setting (before at)) sort.Bool x) (are_masks e.0 (behind at)) (is_fit (plain_setting (behind at)) sort.Bool x) (e.1 at own)
+      (is_fit-implies cs d above (plain_setting at) own sort.Bool x)
 
   are_masks-roll : (e : event.EventExpr-F EventExpr) → are_masks (roll-EventExpr e) ≡ are_masks_of (map-EventExpr EventExpr (Setting → Bool) are_masks e)
   unfolding are_masks
