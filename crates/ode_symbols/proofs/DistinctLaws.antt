@@ -45,6 +45,9 @@ module _ {A : Type 0} (same : A → A → Bool) (eq : (x y : A) → same x y ≡
       ∙ sym (distinct-last same xs y)
 
   -- so many members of a list, and one more
+  pub list-more : (xs : List A) (i : ℕ) (d : A) → i < length xs → with_new same (distinct same (take i xs)) (get_or xs i d) ≡ distinct same (take (i + 1) xs)
+  list-more xs i d h = distinct-more (take i xs) (get_or xs i d) ∙ ap (distinct same) (sym (take_more xs i d h))
+
   pub map-more : {B : Type 0} (f : B → A) (xs : List B) (i : ℕ) (d : B) → i < length xs → with_new same (distinct same (map f (take i xs))) (f (get_or xs i d)) ≡ distinct same (map f (take (i + 1) xs))
   map-more f xs i d h =
       distinct-more (map f (take i xs)) (f (get_or xs i d))

@@ -1,4 +1,4 @@
+pub mod ConditionLists
+pub mod ConditionMarks
 pub mod DistinctLaws
-pub mod LeafLists
-pub mod LeafMarks
-pub mod OwnLeaves
+pub mod OwnConditions

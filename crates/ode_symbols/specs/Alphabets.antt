@@ -1,39 +1,20 @@
--- Alphabets, which are seen as the rows of their kinds.
-use Rattle.std.specs.Prelude.{◌≡◌, ℕ, zero, suc, ◌+◌, ◌<◌, min, Bool, true, false, List, [], ◌∷◌, ◌++◌, cond, sum_by, Option, Some, None, Result, Ok, Err}
+-- Alphabets: what is asked of an expression's conditions, when one is refused, and lists that grow by what they don't have.
+use Rattle.std.specs.Prelude.{◌≡◌, ◌<◌, min, Bool, false, ◌&&◌, List, [], ◌∷◌, ◌++◌, cond, Option, Some, None, Result, Ok, Err}
 use Rattle.std.specs.List.{list_all, list_any}
-use Rattle.std.specs.Option.{option_map_or}
 use Rattle.ode_value.specs.declared.arithmetic.Fault.{Fault}
 use Rattle.ode_value.specs.declared.event.EventExpr.{EventExpr}
-use Rattle.ode_value.specs.declared.event.Point.{Point}
 use Rattle.ode_value.specs.declared.value.Value.{Value}
 use Rattle.ode_value.specs.declared.value.Value.TheVariants as value
 use Rattle.ode_value.specs.Limits.{symbol_limit, counted_symbols}
-use Rattle.ode_value.specs.Marks.{Leaf, Mark, leaves, among}
-use Rattle.ode_value.specs.Masks.{mask_holds}
-use Rattle.ode_value.specs.Symbols.{MaskedKind, masked_kinds, symbols_in, number_in, holds_in, symbol_count}
+use Rattle.ode_value.specs.Marks.{Leaf, OfEvent, OfLeaf, among, composite_masks, conditions, leaves}
+use Rattle.ode_value.specs.Symbols.{symbol_count}
 use Rattle.ode_symbols.specs.declared.error.AlphabetError.{AlphabetError}
 use Rattle.ode_symbols.specs.declared.error.AlphabetError.TheVariants as error
 
--- the rows of an expression's leaves
-abbrev pub alphabet : EventExpr → List MaskedKind
-alphabet e = masked_kinds (leaves e)
-
--- how many symbols an alphabet has
-abbrev pub size_of : List MaskedKind → ℕ
-size_of rows = 1 + sum_by symbols_in rows
-
--- the symbol of a point, with the arguments of the trigger
-abbrev pub symbol_among : List MaskedKind → List Value → Point → ℕ
-symbol_among rows params p = option_map_or (λ n. suc n) (number_in rows p.kind (λ x. mask_holds (Some x) params p)) 0
-
--- the mark of a symbol, of leaves that are among the alphabet's
-abbrev pub mark_among : List MaskedKind → ℕ → Mark
-mark_among rows zero kind mask = false
-mark_among rows (suc n) kind mask = holds_in rows n kind mask
-
--- the leaves of the first expression are among those of the second
-abbrev pub are_leaves_of : EventExpr → EventExpr → Bool
-are_leaves_of e of = list_all (λ (l : Leaf). among (leaves of) l.0 l.1) (leaves e)
+-- the leaves of the first expression, and its masks on composite events, are among those of the second
+abbrev pub are_conditions_of : EventExpr → EventExpr → Bool
+are_conditions_of e of =
+    list_all (λ (l : Leaf). among (conditions of) (OfLeaf l.0 l.1)) (leaves e) && list_all (λ x. among (conditions of) (OfEvent x)) (composite_masks e)
 
 -- an alphabet is refused where there are too many symbols, and their number is told up to a limit
 abbrev pub IsRefusal : EventExpr → AlphabetError → Type 0

@@ -1,57 +1,66 @@
 //! The alphabet of an event expression.
-ghost use Rattle.std.specs.Prelude.{◌≡◌, ◌<◌, ◌≤◌, IfErr, IfOk, OnOk, true};
-ghost use Rattle.ode_symbols.specs.Alphabets.{IsRefusal, alphabet, are_leaves_of, mark_among, size_of, symbol_among};
+ghost use Rattle.std.specs.Prelude.{◌≡◌, ◌<◌, ◌≤◌, ◌++◌, IfErr, IfOk, OnOk, map, true};
+ghost use Rattle.ode_symbols.specs.Alphabets.{IsRefusal, are_conditions_of};
 ghost use Rattle.ode_value.specs.declared.event.EventExpr.{EventExpr};
 ghost use Rattle.ode_value.specs.Limits.{symbol_limit};
-ghost use Rattle.ode_value.specs.Marks.{spelled};
-ghost use Rattle.ode_value.specs.Symbols.{symbol_count, symbol_mark};
+ghost use Rattle.ode_value.specs.Marks.{Leaf, OfEvent, OfLeaf, composite_masks, leaves, spelled};
+ghost use Rattle.ode_value.specs.Symbols.{alphabet, mark_among, size_of, symbol_among, symbol_count, symbol_mark};
 
 use crate::error::AlphabetError;
-use crate::holding::{holds, number};
-use crate::rows::{MaskedKind, add_leaves, count, masked_kinds, symbols_of};
+use crate::holding::{composite_holds, composite_number, leaf_holds, number};
+use crate::rows::{
+    MaskedKind, add_composite_masks, add_leaves, count, different_masks, masked_kinds, symbols_in,
+    symbols_of,
+};
 use ode_value::limits::SYMBOL_LIMIT;
-use ode_value::{EventExpr, Kind, List, Value};
+use ode_value::{EventExpr, Expr, Kind, List, Value};
 use std::alloc::{AllocError, Global};
 use std::marker::Model;
 
-/// The symbols of an event expression: at most 32 numbers from 0, of which each stands for the leaves that hold at a point.
-/// Symbol 0 is that of a point at which none does.
+/// The symbols of an event expression: at most 64 numbers from 0, of which each stands for the leaves, and the masks on composite
+/// events, that hold at a point. The first symbols are those of points at which no leaf does.
 #[derive(Drop)]
 pub struct Alphabet {
     rows: List<MaskedKind>,
+    masks: List<Expr>,
     size: u8,
     alloc: Global,
 }
 
 impl Model for Alphabet {
-    ghost use Rattle.std.specs.Prelude.{◌≡◌, ◌≤◌, List as Items};
-    ghost use Rattle.ode_symbols.specs.Alphabets.{size_of};
+    ghost use Rattle.std.specs.Prelude.{◌≡◌, ◌≤◌};
     ghost use Rattle.std.specs.Coded.{codes};
     ghost use Rattle.ode_value.specs.contracts.statement.Expr as e;
     ghost use Rattle.ode_value.specs.Limits.{symbol_limit};
-    ghost use Rattle.ode_value.specs.Symbols.{MaskedKind};
+    ghost use Rattle.ode_value.specs.Symbols.{Alphabet, size_of};
 
-    ghost Value = { Items MaskedKind };
+    ghost Value = { Alphabet };
 
     ghost coded = { Prim.hlevel (codes, e.the_row.coded) };
 
-    ghost view = { λ a. a.rows };
+    ghost view = { λ a. record { kinds = a.rows; masks = a.masks } };
 
-    ghost invariant = { λ a. (a.size ≡ size_of a.rows) × (size_of a.rows ≤ symbol_limit) };
+    ghost invariant = { λ a. (a.size ≡ size_of (record { kinds = a.rows; masks = a.masks })) × (size_of (record { kinds = a.rows; masks = a.masks }) ≤ symbol_limit) };
 }
 
 impl Alphabet {
-    /// The alphabet of an expression's leaves.
+    /// The alphabet of an expression's leaves and masks on composite events.
     pub fn of(alloc: Global, e: &EventExpr) -> Result<Alphabet, AlphabetError>
         ensures rows { IfOk result (λ a. a ≡ alphabet e.now) }
         ensures few { OnOk result (symbol_count e.now ≤ symbol_limit) }
         ensures refused { IfErr result (IsRefusal e.now) }
     {
         let rows = masked_kinds(alloc, e)?;
-        let count = count(rows.as_slice());
+        let masks = different_masks(alloc, e)?;
+        let count = count(rows.as_slice(), masks.as_slice());
         if count <= u32::from(SYMBOL_LIMIT) {
             let size = count as u8;
-            Ok(Alphabet { rows, size, alloc })
+            Ok(Alphabet {
+                rows,
+                masks,
+                size,
+                alloc,
+            })
         } else {
             Err(AlphabetError::TooManySymbols { count })
         }
@@ -70,30 +79,71 @@ impl Alphabet {
         ensures value { result ≡ symbol_among self.now params.now (record { kind = kind.now; args = args.now; fields = own.now }) }
         ensures below { result < size_of self.now }
     {
-        let mut before = 1;
+        let masks = self.masks.as_slice();
+        let mut before = symbols_of(masks.len()) as u8;
         for row in self.rows.as_slice() {
-            let masks = row.masks.as_slice();
             if row.kind.same(kind) {
-                return before + number(masks, params, kind, args, own);
+                return before + number(row.masks.as_slice(), masks, params, kind, args, own);
             }
-            before += symbols_of(masks.len()) as u8;
+            before += symbols_in(row, masks) as u8;
         }
-        0
+        composite_number(masks, params, own)
     }
 
-    /// For each leaf of an expression, in the order of the text, whether it is in the mark of a symbol. The leaves are among
-    /// the alphabet's.
+    /// For each leaf of an expression, in the order of the text, and then for each mask on a composite event, whether it is in the
+    /// mark of a symbol. They are among the alphabet's.
     pub fn mark(&self, e: &EventExpr, symbol: u8) -> Result<List<bool>, AllocError>
         ensures mark { IfOk result (λ mark. mark ≡ spelled e.now (mark_among self.now symbol)) }
-        ensures of { IfOk result (λ mark. (of : EventExpr) → self.now ≡ alphabet of → are_leaves_of e.now of ≡ true
+        ensures of { IfOk result (λ mark. (of : EventExpr) → self.now ≡ alphabet of → are_conditions_of e.now of ≡ true
             → mark ≡ spelled e.now (symbol_mark of symbol)) }
+    {
+        self.spell(e, symbol)
+    }
+
+    fn spell(&self, e: &EventExpr, symbol: u8) -> Result<List<bool>, AllocError>
+        ensures { IfOk result (λ mark. mark ≡ spelled e.now (mark_among self.now symbol)) }
+    {
+        let mut mark = List::new(self.alloc);
+        self.spell_leaves(e, symbol, &mut mark)?;
+        self.spell_masks(e, symbol, &mut mark)?;
+        Ok(mark)
+    }
+
+    // Adds the part of the leaves.
+    fn spell_leaves(
+        &self,
+        e: &EventExpr,
+        symbol: u8,
+        mark: &mut List<bool>,
+    ) -> Result<(), AllocError>
+        ensures { OnOk result (mark.new ≡ mark.old ++ map (λ (l : Leaf). mark_among self.now symbol (OfLeaf l.0 l.1)) (leaves e.now)) }
     {
         let mut leaves = List::new(self.alloc);
         add_leaves(self.alloc, e, &mut leaves)?;
-        let mut mark = List::new(self.alloc);
         for leaf in leaves.as_slice() {
-            mark.push(holds(self.rows.as_slice(), symbol, &leaf.0, &leaf.1))?;
+            let rows = self.rows.as_slice();
+            let masks = self.masks.as_slice();
+            mark.push(leaf_holds(rows, masks, symbol, &leaf.0, &leaf.1))?;
         }
-        Ok(mark)
+        Ok(())
+    }
+
+    // Adds the part of the masks on composite events.
+    fn spell_masks(
+        &self,
+        e: &EventExpr,
+        symbol: u8,
+        mark: &mut List<bool>,
+    ) -> Result<(), AllocError>
+        ensures { OnOk result (mark.new ≡ mark.old ++ map (λ x. mark_among self.now symbol (OfEvent x)) (composite_masks e.now)) }
+    {
+        let mut all = List::new(self.alloc);
+        add_composite_masks(self.alloc, e, &mut all)?;
+        for mask in all.as_slice() {
+            let rows = self.rows.as_slice();
+            let masks = self.masks.as_slice();
+            mark.push(composite_holds(rows, masks, symbol, mask))?;
+        }
+        Ok(())
     }
 }

@@ -5,7 +5,7 @@ use std::alloc::AllocError;
 #[derive(Clone, Copy, Debug, PartialEq, Eq)]
 pub enum AlphabetError {
     Memory,
-    /// There are more than 32 symbols: so many, or 65,536 if that is less.
+    /// There are more than 64 symbols: so many, or 65,536 if that is less.
     TooManySymbols { count: u32 },
 }
 

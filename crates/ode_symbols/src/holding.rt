@@ -1,20 +1,26 @@
 //! The number of a point among the symbols of a kind, and what holds at a number.
-ghost use Rattle.std.specs.Prelude.{◌≡◌, ◌<◌, ◌≤◌, ◌+◌, ◌^◌, Some, length, suc};
-ghost use Rattle.ode_symbols.specs.Alphabets.{mark_among};
+ghost use Rattle.std.specs.Prelude.{◌≡◌, ◌<◌, ◌≤◌, ◌+◌, ◌^◌, Some, length};
 ghost use Rattle.ode_value.specs.declared.event.Point.{Point};
 ghost use Rattle.ode_value.specs.Limits.{symbol_limit};
-ghost use Rattle.ode_value.specs.Masks.{mask_holds};
-ghost use Rattle.ode_value.specs.Symbols.{has_bit, holds_in, bits_of};
+ghost use Rattle.ode_value.specs.Marks.{OfEvent, OfLeaf};
+ghost use Rattle.ode_value.specs.Masks.{composite_holds, mask_holds};
+ghost use Rattle.ode_value.specs.Symbols.{behind, bits_before, composite_bits, has_bit, holds_in, mark_among};
 
 use crate::plain::is_true;
-use crate::rows::{MaskedKind, symbols_of};
+use crate::rows::{MaskedKind, symbols_in, symbols_of};
 use ode_value::{Expr, Kind, Value};
 
-/// The number of a point of this kind among the symbols of its masks.
-pub fn number(masks: &[Expr], params: &[Value], kind: &Kind, args: &[Value], own: &[Value]) -> u8
+// Whether a mask on a composite event is true.
+fn is_true_there(mask: &Expr, params: &[Value], own: &[Value]) -> bool
+    ensures { result ≡ composite_holds mask.now params.now own.now }
+{
+    is_true(mask, params, &[], own)
+}
+
+/// The number of a point among the symbols of these masks on composite events.
+pub fn composite_number(masks: &[Expr], params: &[Value], own: &[Value]) -> u8
     requires { 2 ^ length masks.now ≤ symbol_limit }
-    ensures value { result ≡ bits_of
-        (λ x. mask_holds (Some x) params.now (record { kind = kind.now; args = args.now; fields = own.now })) masks.now }
+    ensures value { result ≡ composite_bits masks.now params.now own.now }
     ensures below { result < 2 ^ length masks.now }
 {
     let mut number = 0;
@@ -22,7 +28,33 @@ pub fn number(masks: &[Expr], params: &[Value], kind: &Kind, args: &[Value], own
     while 0 < i {
         i -= 1;
         number *= 2;
-        if is_true(&masks[i], params, args, own) {
+        if is_true_there(&masks[i], params, own) {
+            number += 1;
+        }
+    }
+    number
+}
+
+/// The number of a point of this kind among the symbols of its masks and the masks on composite events.
+pub fn number(
+    kind_masks: &[Expr],
+    masks: &[Expr],
+    params: &[Value],
+    kind: &Kind,
+    args: &[Value],
+    own: &[Value],
+) -> u8
+    requires { 2 ^ (length kind_masks.now + length masks.now) ≤ symbol_limit }
+    ensures value { result ≡ bits_before (composite_bits masks.now params.now own.now)
+        (λ x. mask_holds (Some x) params.now (record { kind = kind.now; args = args.now; fields = own.now })) kind_masks.now }
+    ensures below { result < 2 ^ (length kind_masks.now + length masks.now) }
+{
+    let mut number = composite_number(masks, params, own);
+    let mut i = kind_masks.len();
+    while 0 < i {
+        i -= 1;
+        number *= 2;
+        if is_true(&kind_masks[i], params, args, own) {
             number += 1;
         }
     }
@@ -52,13 +84,30 @@ fn has(masks: &[Expr], number: u8, mask: &Option<Expr>) -> bool
     }
 }
 
+// How a number goes on behind the bits of masks.
+fn behind(masks: &[Expr], number: u8) -> u8
+    ensures { result ≡ behind masks.now number }
+{
+    let mut rest = number;
+    for _mask in masks {
+        rest /= 2;
+    }
+    rest
+}
+
 // Whether a leaf holds at a number among the symbols of these kinds.
-fn holds_in(rows: &[MaskedKind], number: u8, kind: &Kind, mask: &Option<Expr>) -> bool
-    ensures { result ≡ holds_in rows.now number kind.now mask.now }
+fn leaf_in(
+    rows: &[MaskedKind],
+    masks: &[Expr],
+    number: u8,
+    kind: &Kind,
+    mask: &Option<Expr>,
+) -> bool
+    ensures { result ≡ holds_in masks.now rows.now number (OfLeaf kind.now mask.now) }
 {
     let mut rest = number;
     for row in rows {
-        let count = symbols_of(row.masks.len());
+        let count = symbols_in(row, masks);
         if u32::from(rest) < count {
             return row.kind.same(kind) && has(row.masks.as_slice(), rest, mask);
         }
@@ -67,13 +116,47 @@ fn holds_in(rows: &[MaskedKind], number: u8, kind: &Kind, mask: &Option<Expr>) -
     false
 }
 
-/// Whether a leaf holds at a symbol.
-pub fn holds(rows: &[MaskedKind], symbol: u8, kind: &Kind, mask: &Option<Expr>) -> bool
-    ensures { result ≡ mark_among rows.now symbol kind.now mask.now }
+// Whether a mask on a composite event does.
+fn composite_in(rows: &[MaskedKind], masks: &[Expr], number: u8, mask: &Expr) -> bool
+    ensures { result ≡ holds_in masks.now rows.now number (OfEvent mask.now) }
 {
-    if symbol == 0 {
+    let mut rest = number;
+    for row in rows {
+        let count = symbols_in(row, masks);
+        if u32::from(rest) < count {
+            return has_bit(masks, behind(row.masks.as_slice(), rest), mask);
+        }
+        rest -= count as u8;
+    }
+    false
+}
+
+/// Whether a leaf holds at a symbol.
+pub fn leaf_holds(
+    rows: &[MaskedKind],
+    masks: &[Expr],
+    symbol: u8,
+    kind: &Kind,
+    mask: &Option<Expr>,
+) -> bool
+    ensures { result ≡ mark_among (record { kinds = rows.now; masks = masks.now }) symbol (OfLeaf kind.now mask.now) }
+{
+    let apart = symbols_of(masks.len());
+    if u32::from(symbol) < apart {
         false
     } else {
-        holds_in(rows, symbol - 1, kind, mask)
+        leaf_in(rows, masks, symbol - apart as u8, kind, mask)
+    }
+}
+
+/// Whether a mask on a composite event holds at a symbol.
+pub fn composite_holds(rows: &[MaskedKind], masks: &[Expr], symbol: u8, mask: &Expr) -> bool
+    ensures { result ≡ mark_among (record { kinds = rows.now; masks = masks.now }) symbol (OfEvent mask.now) }
+{
+    let apart = symbols_of(masks.len());
+    if u32::from(symbol) < apart {
+        has_bit(masks, symbol, mask)
+    } else {
+        composite_in(rows, masks, symbol - apart as u8, mask)
     }
 }

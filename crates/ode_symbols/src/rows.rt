@@ -1,11 +1,11 @@
-//! The kinds of an expression's leaves, each with its masks.
-ghost use Rattle.std.specs.Prelude.{◌≡◌, ◌++◌, ◌∷◌, ◌^◌, [], IfOk, OnOk, List as Items, filter_map, length, map, min};
+//! The kinds of an expression's leaves, each with its masks, and the masks on composite events.
+ghost use Rattle.std.specs.Prelude.{◌≡◌, ◌<◌, ◌+◌, ◌++◌, ◌∷◌, ◌^◌, [], IfOk, OnOk, List as Items, filter_map, length, map, min};
 ghost use Rattle.std.specs.List.{list_any};
-ghost use Rattle.ode_symbols.specs.Alphabets.{alphabet, size_of, with_any, with_new};
+ghost use Rattle.ode_symbols.specs.Alphabets.{with_any, with_new};
 ghost use Rattle.ode_value.specs.Limits.{counted_symbols};
-ghost use Rattle.ode_value.specs.Marks.{Leaf, leaves};
+ghost use Rattle.ode_value.specs.Marks.{Leaf, composite_masks, leaves};
 ghost use Rattle.ode_value.specs.Same.{same_expr, same_kind};
-ghost use Rattle.ode_value.specs.Symbols.{distinct, mask_of, masked_kind};
+ghost use Rattle.ode_value.specs.Symbols.{distinct, mask_of, masked_kind, masked_kinds, size_of, symbols_in};
 
 use ode_value::limits::COUNTED_SYMBOLS;
 use ode_value::{Copied, EventExpr, Expr, Kind, List};
@@ -47,7 +47,7 @@ fn add_leaf(
 }
 
 /// Adds the leaves of an expression, in the order of the text.
-#[tactic(auto, using(crate::proofs::LeafLists::listings))]
+#[tactic(auto, using(crate::proofs::ConditionLists::listings))]
 pub fn add_leaves(alloc: Global, e: &EventExpr, to: &mut Leaves) -> Result<(), AllocError>
     ensures { OnOk result (to.new ≡ to.old ++ leaves e.now) }
 {
@@ -68,11 +68,16 @@ pub fn add_leaves(alloc: Global, e: &EventExpr, to: &mut Leaves) -> Result<(), A
             add_leaves(alloc, e.get(), to)?;
             add_leaves(alloc, f.get(), to)
         }
+        EventExpr::RelPlus(e) => add_leaves(alloc, e.get(), to),
         EventExpr::Prior(e, f) => {
             add_leaves(alloc, e.get(), to)?;
             add_leaves(alloc, f.get(), to)
         }
         EventExpr::Sequence(e, f) => {
+            add_leaves(alloc, e.get(), to)?;
+            add_leaves(alloc, f.get(), to)
+        }
+        EventExpr::Pipe(e, f) => {
             add_leaves(alloc, e.get(), to)?;
             add_leaves(alloc, f.get(), to)
         }
@@ -82,6 +87,78 @@ pub fn add_leaves(alloc: Global, e: &EventExpr, to: &mut Leaves) -> Result<(), A
             add_leaves(alloc, e.get(), to)?;
             add_leaves(alloc, f.get(), to)?;
             add_leaves(alloc, g.get(), to)
+        }
+        EventExpr::FaAbs(e, f, g) => {
+            add_leaves(alloc, e.get(), to)?;
+            add_leaves(alloc, f.get(), to)?;
+            add_leaves(alloc, g.get(), to)
+        }
+        EventExpr::Masked(e, _) => add_leaves(alloc, e.get(), to),
+    }
+}
+
+// Adds a copy of a mask behind these.
+fn add_copy(alloc: Global, mask: &Expr, to: &mut List<Expr>) -> Result<(), AllocError>
+    ensures { OnOk result (to.new ≡ to.old ++ mask.now ∷ []) }
+{
+    let mask = mask.copy(alloc)?;
+    to.push(mask)
+}
+
+/// Adds the masks on composite events, in the order of the text.
+#[tactic(auto, using(crate::proofs::ConditionLists::mask_listings))]
+pub fn add_composite_masks(
+    alloc: Global,
+    e: &EventExpr,
+    to: &mut List<Expr>,
+) -> Result<(), AllocError>
+    ensures { OnOk result (to.new ≡ to.old ++ composite_masks e.now) }
+{
+    match e {
+        EventExpr::Leaf(_, _) => Ok(()),
+        EventExpr::Any => Ok(()),
+        EventExpr::First => Ok(()),
+        EventExpr::Not(e) => add_composite_masks(alloc, e.get(), to),
+        EventExpr::And(e, f) => {
+            add_composite_masks(alloc, e.get(), to)?;
+            add_composite_masks(alloc, f.get(), to)
+        }
+        EventExpr::Or(e, f) => {
+            add_composite_masks(alloc, e.get(), to)?;
+            add_composite_masks(alloc, f.get(), to)
+        }
+        EventExpr::Relative(e, f) => {
+            add_composite_masks(alloc, e.get(), to)?;
+            add_composite_masks(alloc, f.get(), to)
+        }
+        EventExpr::RelPlus(e) => add_composite_masks(alloc, e.get(), to),
+        EventExpr::Prior(e, f) => {
+            add_composite_masks(alloc, e.get(), to)?;
+            add_composite_masks(alloc, f.get(), to)
+        }
+        EventExpr::Sequence(e, f) => {
+            add_composite_masks(alloc, e.get(), to)?;
+            add_composite_masks(alloc, f.get(), to)
+        }
+        EventExpr::Pipe(e, f) => {
+            add_composite_masks(alloc, e.get(), to)?;
+            add_composite_masks(alloc, f.get(), to)
+        }
+        EventExpr::Choose(_, e) => add_composite_masks(alloc, e.get(), to),
+        EventExpr::Every(_, e) => add_composite_masks(alloc, e.get(), to),
+        EventExpr::Fa(e, f, g) => {
+            add_composite_masks(alloc, e.get(), to)?;
+            add_composite_masks(alloc, f.get(), to)?;
+            add_composite_masks(alloc, g.get(), to)
+        }
+        EventExpr::FaAbs(e, f, g) => {
+            add_composite_masks(alloc, e.get(), to)?;
+            add_composite_masks(alloc, f.get(), to)?;
+            add_composite_masks(alloc, g.get(), to)
+        }
+        EventExpr::Masked(e, mask) => {
+            add_composite_masks(alloc, e.get(), to)?;
+            add_copy(alloc, mask, to)
         }
     }
 }
@@ -189,7 +266,7 @@ fn rows_for(
 
 /// The rows of an expression's leaves.
 pub fn masked_kinds(alloc: Global, e: &EventExpr) -> Result<List<MaskedKind>, AllocError>
-    ensures { IfOk result (λ rows. rows ≡ alphabet e.now) }
+    ensures { IfOk result (λ rows. rows ≡ masked_kinds (leaves e.now)) }
 {
     let mut leaves = List::new(alloc);
     add_leaves(alloc, e, &mut leaves)?;
@@ -197,7 +274,27 @@ pub fn masked_kinds(alloc: Global, e: &EventExpr) -> Result<List<MaskedKind>, Al
     rows_for(alloc, leaves.as_slice(), kinds)
 }
 
-/// How many symbols a kind with so many masks has, or 65,536.
+// Each of these masks once.
+fn each_once(alloc: Global, all: &[Expr]) -> Result<List<Expr>, AllocError>
+    ensures { IfOk result (λ masks. masks ≡ distinct same_expr all.now) }
+{
+    let mut masks = List::new(alloc);
+    for mask in all {
+        add_mask(alloc, &mut masks, mask)?;
+    }
+    Ok(masks)
+}
+
+/// The different masks on composite events in an expression.
+pub fn different_masks(alloc: Global, e: &EventExpr) -> Result<List<Expr>, AllocError>
+    ensures { IfOk result (λ masks. masks ≡ distinct same_expr (composite_masks e.now)) }
+{
+    let mut all = List::new(alloc);
+    add_composite_masks(alloc, e, &mut all)?;
+    each_once(alloc, all.as_slice())
+}
+
+/// How many symbols so many masks tell apart, or 65,536.
 pub fn symbols_of(masks: usize) -> u32
     ensures { result ≡ min (2 ^ masks) counted_symbols }
 {
@@ -208,13 +305,43 @@ pub fn symbols_of(masks: usize) -> u32
     }
 }
 
-/// How many symbols these rows have, or 65,536.
-pub fn count(rows: &[MaskedKind]) -> u32
-    ensures { result ≡ min (size_of rows.now) counted_symbols }
+// The same for so many masks behind fewer than 16 others.
+fn symbols_behind(few: usize, masks: usize) -> u32
+    requires { few < 16 }
+    ensures { result ≡ min (2 ^ (few + masks)) counted_symbols }
 {
-    let mut count = 1;
+    if masks < 16 {
+        symbols_of(few + masks)
+    } else {
+        COUNTED_SYMBOLS
+    }
+}
+
+// The same for a kind's own masks and those on composite events.
+fn symbols_of_both(own: usize, masks: usize) -> u32
+    ensures { result ≡ min (2 ^ (own + masks)) counted_symbols }
+{
+    if own < 16 {
+        symbols_behind(own, masks)
+    } else {
+        COUNTED_SYMBOLS
+    }
+}
+
+/// How many symbols a row has with these masks on composite events, or 65,536.
+pub fn symbols_in(row: &MaskedKind, masks: &[Expr]) -> u32
+    ensures { result ≡ min (symbols_in masks.now row.now) counted_symbols }
+{
+    symbols_of_both(row.masks.len(), masks.len())
+}
+
+/// How many symbols there are of these rows and these masks on composite events, or 65,536.
+pub fn count(rows: &[MaskedKind], masks: &[Expr]) -> u32
+    ensures { result ≡ min (size_of (record { kinds = rows.now; masks = masks.now })) counted_symbols }
+{
+    let mut count = symbols_of(masks.len());
     for row in rows {
-        count = (count + symbols_of(row.masks.len())).min(COUNTED_SYMBOLS);
+        count = (count + symbols_in(row, masks)).min(COUNTED_SYMBOLS);
     }
     count
 }

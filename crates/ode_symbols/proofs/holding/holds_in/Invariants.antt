@@ -1,7 +1,0 @@
-use Rattle.std.proofs.Common.{◌≡◌, drop}
-use Rattle.ode_value.specs.Symbols.{holds_in}
-use Rattle.ode_symbols.proofs.holding.holds_in.Given as goal
-
--- what is left of the number says it of the rows from here on
-abbrev pub invariant-loop-row : goal.invariant-loop-row
-invariant-loop-row l = holds_in l.rows l.number l.kind l.mask ≡ holds_in (drop l.row-index l.rows) l.rest l.kind l.mask
