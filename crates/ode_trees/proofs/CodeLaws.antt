@@ -47,4 +47,17 @@ code-Pairs e set =
     ap code (sym (tree.rolls-Pairs e set)) ∙ code-roll (level.Pairs e set)
     ∙ (λ i. 7 ∷ length-map {B = List ℕ × List ℕ} set (λ (x : StateTree × StateTree). (code x.0, code x.1)) i ∷ (code e ++ codes-pairs set i))
 
-pub ruleset codes = (the_lemmas, append_assoc, append-nil, code-Bit, code-Place, code-Seen, code-Both, code-Flag, code-Count, code-Started, code-Pairs)
+pub code-Chained : (set : List StateTree) → code (tree.Chained set) ≡ 8 ∷ length set ∷ flat_map code set
+code-Chained set =
+    ap code (sym (tree.rolls-Chained set)) ∙ code-roll (level.Chained set)
+    ∙ (λ i. 8 ∷ length-map set code i ∷ codes-each set i)
+
+pub code-Waiting : (e f : StateTree) (set : List StateTree) → code (tree.Waiting e f set) ≡ 9 ∷ length set ∷ (code e ++ (code f ++ flat_map code set))
+code-Waiting e f set =
+    ap code (sym (tree.rolls-Waiting e f set)) ∙ code-roll (level.Waiting e f set)
+    ∙ (λ i. 9 ∷ length-map set code i ∷ (code e ++ (code f ++ codes-each set i)))
+
+pub code-Masked : (e : StateTree) (b : Bool) → code (tree.Masked e b) ≡ 10 ∷ bit_number b ∷ code e
+code-Masked e b = ap code (sym (tree.rolls-Masked e b)) ∙ code-roll (level.Masked e b)
+
+pub ruleset codes = (the_lemmas, append_assoc, append-nil, code-Bit, code-Place, code-Seen, code-Both, code-Flag, code-Count, code-Started, code-Pairs, code-Chained, code-Waiting, code-Masked)

@@ -9,7 +9,7 @@ use Rattle.std.specs.Cmp.{nat_cmp_is}
 use Rattle.std.specs.FinMap.{nat_cmp-IsAntisymmetric}
 use Rattle.std.proofs.Math.Bool.{or-false, or_self_left}
 use Rattle.ode_value.specs.declared.tree.StateTree.{StateTree, out-StateTree, roll-StateTree, roll-out-StateTree, out-roll-StateTree, fold-roll-StateTree, map-StateTree, ind-StateTree}
-use Rattle.ode_value.specs.declared.tree.StateTree.TheOpen.{StateTree-F, Bit, Place, Seen, Both, Flag, Count, Started, Pairs}
+use Rattle.ode_value.specs.declared.tree.StateTree.TheOpen.{StateTree-F, Bit, Place, Seen, Both, Flag, Count, Started, Pairs, Chained, Waiting, Masked}
 use Rattle.ode_value.specs.TreeOrder.{list_cmp, tree_cmp_of, tree_cmp, same_tree, placed, joined, all_joined, pair_cmp}
 
 -- equal in two parts is equal in both
@@ -61,6 +61,9 @@ pair-equal x y h =
     let second = x.1.1 y.1 both.1 in
     λ i. (first i, second i)
 
+trees-equal : (s : List Told) (t : List StateTree) → list_cmp (λ (x : (StateTree → Ordering)) (y : StateTree). x y) (map tree_cmp (map tree_of s)) t ≡ Equal → map tree_of s ≡ t
+trees-equal s t h = list-equal (λ (x : (StateTree → Ordering)) (y : StateTree). x y) tree_cmp tree_of tree_of (λ x y q. x.1 y q) s t h
+
 level-equal : (y : StateTree-F Told) (d : StateTree-F StateTree) → tree_cmp_of (map-StateTree StateTree (StateTree → Ordering) tree_cmp (map-StateTree Told StateTree tree_of y)) d ≡ Equal → map-StateTree Told StateTree tree_of y ≡ d
 level-equal (Bit b) (Bit c) h = ap Bit (bool-equal b c h)
 level-equal (Place b) (Place c) h = ap Place (nat-equal b c h)
@@ -79,12 +82,19 @@ level-equal (Count e b) (Count f c) h =
     ap (λ x. Count x b) (e.1 f p.0) ∙ ap (Count f) (nat-equal b c p.1)
 level-equal (Started e s) (Started f t) h =
     let p = then-equal (tree_cmp e.0 f) (list_cmp (λ x y. x y) (map tree_cmp (map tree_of s)) t) h in
-    let rest = list-equal (λ (x : (StateTree → Ordering)) (y : StateTree). x y) tree_cmp tree_of tree_of (λ x y q. x.1 y q) s t p.1 in
-    ap (λ x. Started x (map tree_of s)) (e.1 f p.0) ∙ ap (Started f) rest
+    ap (λ x. Started x (map tree_of s)) (e.1 f p.0) ∙ ap (Started f) (trees-equal s t p.1)
 level-equal (Pairs e s) (Pairs f t) h =
     let p = then-equal (tree_cmp e.0 f) (list_cmp (λ x y. ordering_then (x.0 y.0) (x.1 y.1)) (map (λ x. (tree_cmp x.0, tree_cmp x.1)) (map trees_of s)) t) h in
     let rest = list-equal (λ (x : (StateTree → Ordering) × (StateTree → Ordering)) (y : StateTree × StateTree). ordering_then (x.0 y.0) (x.1 y.1)) (λ x. (tree_cmp x.0, tree_cmp x.1)) trees_of trees_of pair-equal s t p.1 in
     ap (λ x. Pairs x (map trees_of s)) (e.1 f p.0) ∙ ap (Pairs f) rest
+level-equal (Chained s) (Chained t) h = ap Chained (trees-equal s t h)
+level-equal (Waiting e f s) (Waiting g k t) h =
+    let p = then-equal (tree_cmp e.0 g) (ordering_then (tree_cmp f.0 k) (list_cmp (λ x y. x y) (map tree_cmp (map tree_of s)) t)) h in
+    let q = then-equal (tree_cmp f.0 k) (list_cmp (λ x y. x y) (map tree_cmp (map tree_of s)) t) p.1 in
+    ap (λ x. Waiting x f.0 (map tree_of s)) (e.1 g p.0) ∙ ap (λ x. Waiting g x (map tree_of s)) (f.1 k q.0) ∙ ap (Waiting g k) (trees-equal s t q.1)
+level-equal (Masked e b) (Masked f c) h =
+    let p = then-equal (tree_cmp e.0 f) (bool_cmp b c) h in
+    ap (λ x. Masked x b) (e.1 f p.0) ∙ ap (Masked f) (bool-equal b c p.1)
 level-equal _ _ h = cc
 
 pub tree-equal : (s t : StateTree) → tree_cmp s t ≡ Equal → s ≡ t
@@ -187,6 +197,11 @@ level-itself (Pairs e s) =
     both-equal (tree_cmp e.0 e.0)
     (list_cmp (λ (x : (StateTree → Ordering) × (StateTree → Ordering)) (y : StateTree × StateTree). ordering_then (x.0 y.0) (x.1 y.1)) (map (λ x. (tree_cmp x.0, tree_cmp x.1)) (map same_pair s)) (map same_pair s))
     e.1 (pairs-itself s)
+level-itself (Chained s) = list-itself s
+level-itself (Waiting e f s) =
+    let own = list_cmp (λ (x : (StateTree → Ordering)) (y : StateTree). x y) (map tree_cmp (map same_of s)) (map same_of s) in
+    both-equal (tree_cmp e.0 e.0) (ordering_then (tree_cmp f.0 f.0) own) e.1 (both-equal (tree_cmp f.0 f.0) own f.1 (list-itself s))
+level-itself (Masked e b) = both-equal (tree_cmp e.0 e.0) (bool_cmp b b) e.1 (bool-itself b)
 
 pub tree-itself : (s : StateTree) → tree_cmp s s ≡ Equal
 tree-itself = ind-StateTree (λ s. tree_cmp s s ≡ Equal) (λ x y q. subst (λ d. tree_cmp (roll-StateTree d) (roll-StateTree d) ≡ Equal) q (here y)) where

@@ -1,4 +1,5 @@
 pub mod After
+pub mod Chains
 pub mod CodeLaws
 pub mod CountLaws
 pub mod CoverLaws
@@ -9,6 +10,8 @@ pub mod MachineLaws
 pub mod OrderLaws
 pub mod PairSets
 pub mod PartLaws
+pub mod Pipes
 pub mod Started
 pub mod Steps
 pub mod TreeAnswers
+pub mod Waiting

@@ -54,7 +54,16 @@ started-started e f s t = at_levels _ _ _ _ (tree.outs-Started e s) (tree.outs-S
 pub pairs-pairs : (e f : StateTree) (s t : List (StateTree × StateTree)) → tree_cmp (tree.Pairs e s) (tree.Pairs f t) ≡ ordering_then (tree_cmp e f) (list_cmp pair_cmp s t)
 pairs-pairs e f s t = at_levels _ _ _ _ (tree.outs-Pairs e s) (tree.outs-Pairs f t) ∙ ap (ordering_then (tree_cmp e f)) (paired s t)
 
-pub ruleset orders = (the_lemmas, opened, bit-bit, place-place, seen-seen, both-both, flag-flag, count-count, started-started, pairs-pairs)
+pub chained-chained : (s t : List StateTree) → tree_cmp (tree.Chained s) (tree.Chained t) ≡ list_cmp tree_cmp s t
+chained-chained s t = at_levels _ _ _ _ (tree.outs-Chained s) (tree.outs-Chained t) ∙ list-by_folds s t
+
+pub waiting-waiting : (e f g h : StateTree) (s t : List StateTree) → tree_cmp (tree.Waiting e f s) (tree.Waiting g h t) ≡ ordering_then (tree_cmp e g) (ordering_then (tree_cmp f h) (list_cmp tree_cmp s t))
+waiting-waiting e f g h s t = at_levels _ _ _ _ (tree.outs-Waiting e f s) (tree.outs-Waiting g h t) ∙ ap (λ o. ordering_then (tree_cmp e g) (ordering_then (tree_cmp f h) o)) (list-by_folds s t)
+
+pub masked-masked : (e f : StateTree) (b c : Bool) → tree_cmp (tree.Masked e b) (tree.Masked f c) ≡ ordering_then (tree_cmp e f) (bool_cmp b c)
+masked-masked e f b c = at_levels _ _ _ _ (tree.outs-Masked e b) (tree.outs-Masked f c)
+
+pub ruleset orders = (the_lemmas, opened, bit-bit, place-place, seen-seen, both-both, flag-flag, count-count, started-started, pairs-pairs, chained-chained, waiting-waiting, masked-masked)
 
 empty_less : {A B : Type 0} (cmp : A → B → Ordering) (ys : List B) → 0 < length ys → Less ≡ list_cmp cmp [] ys
 empty_less cmp [] h = absurd (omega arith)

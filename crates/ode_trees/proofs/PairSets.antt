@@ -33,7 +33,7 @@ other_way true false false = refl
 other_way false a b = refl
 
 -- what is false at 0 is true somewhere below a bound where its later values are
-below-suc : (p : ℕ → Bool) (n : ℕ) → p 0 ≡ false → some_below p (suc n) ≡ some_below (λ k. p (suc k)) n
+pub below-suc : (p : ℕ → Bool) (n : ℕ) → p 0 ≡ false → some_below p (suc n) ≡ some_below (λ k. p (suc k)) n
 below-suc p zero h = h
 below-suc p (suc n) h = ap (λ b. b || p (suc n)) (below-suc p n h)
 

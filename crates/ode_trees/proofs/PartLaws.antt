@@ -63,3 +63,27 @@ left-Pairs e set = ap (left_of (tree.Pairs e set)) (tree.outs-Pairs e set)
 pub pairs-Pairs : (e : StateTree) (set : List (StateTree × StateTree)) → pairs (tree.Pairs e set) ≡ set
 unfolding pairs
 pairs-Pairs e set = ap pairs_of (tree.outs-Pairs e set)
+
+pub started-Chained : (set : List StateTree) → started (tree.Chained set) ≡ set
+unfolding started
+started-Chained set = ap started_of (tree.outs-Chained set)
+
+pub left-Waiting : (e g : StateTree) (set : List StateTree) → left (tree.Waiting e g set) ≡ e
+unfolding left
+left-Waiting e g set = ap (left_of (tree.Waiting e g set)) (tree.outs-Waiting e g set)
+
+pub right-Waiting : (e g : StateTree) (set : List StateTree) → right (tree.Waiting e g set) ≡ g
+unfolding right
+right-Waiting e g set = ap (right_of (tree.Waiting e g set)) (tree.outs-Waiting e g set)
+
+pub started-Waiting : (e g : StateTree) (set : List StateTree) → started (tree.Waiting e g set) ≡ set
+unfolding started
+started-Waiting e g set = ap started_of (tree.outs-Waiting e g set)
+
+pub left-Masked : (e : StateTree) (b : Bool) → left (tree.Masked e b) ≡ e
+unfolding left
+left-Masked e b = ap (left_of (tree.Masked e b)) (tree.outs-Masked e b)
+
+pub bit-Masked : (e : StateTree) (b : Bool) → bit (tree.Masked e b) ≡ b
+unfolding bit
+bit-Masked e b = ap bit_of (tree.outs-Masked e b)

@@ -28,7 +28,7 @@ shift f m p n h =
 pub begun : (f : TreeMachine) (m : List Mark) (n : ℕ) → after f m (suc n - suc n) ≡ f.first
 begun f m n = let none : suc n - suc n ≡ 0 = omega arith in ap (after f m) none
 
-any-started : (b : Bool) (q : StateTree → Bool) (s : StateTree) (set : List StateTree) → list_any q (with_first b (joined tree_cmp s) set) ≡ (list_any q set || (b && q s))
+pub any-started : (b : Bool) (q : StateTree → Bool) (s : StateTree) (set : List StateTree) → list_any q (with_first b (joined tree_cmp s) set) ≡ (list_any q set || (b && q s))
 any-started true q s set = any-joined tree_cmp tree-equal q s set ∙ or_comm (q s) (list_any q set)
 any-started false q s set = sym (or-false (list_any q set))
 

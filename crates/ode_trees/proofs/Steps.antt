@@ -9,11 +9,11 @@ use Rattle.ode_value.specs.declared.event.Kind.{Kind}
 use Rattle.ode_value.specs.declared.statement.Expr.{Expr}
 use Rattle.ode_value.specs.declared.event.EventExpr.TheOpen as o
 use Rattle.ode_value.specs.declared.tree.StateTree.TheVariants as tree
-use Rattle.ode_value.specs.Marks.{Mark, no_mark}
+use Rattle.ode_value.specs.Marks.{Mark, OfEvent, OfLeaf, no_mark}
 use Rattle.ode_value.specs.Points.{Points, some_below, count_below, points_of}
 use Rattle.ode_value.specs.Trees.{TreeMachine, machine_of, next_count, next_turn}
 use Rattle.ode_trees.proofs.After.{after}
-use Rattle.ode_trees.proofs.PartLaws.{left-Seen, bit-Seen, left-Both, right-Both, left-Flag, right-Flag, bit-Flag, left-Count, count-Count, bit-Bit, count-Place}
+use Rattle.ode_trees.proofs.PartLaws.{left-Seen, bit-Seen, left-Both, right-Both, left-Flag, right-Flag, bit-Flag, left-Count, count-Count, bit-Bit, count-Place, left-Masked, bit-Masked}
 
 -- before the first point there is no answer, and after each point the answer is whether it is one of the points
 pub record Runs (machine : TreeMachine) (p : Points) (m : List Mark) : Type 0 where
@@ -71,7 +71,7 @@ module _ (m : List Mark) where
   pub runs_leaf : (k : Kind) (x : Option Expr) → Runs (machine_of (o.Leaf k x)) (points_of (o.Leaf k x)) m
   runs_leaf k x = record {
     none = bit-Bit false;
-    each = λ n h. bit-Bit (get_or m n no_mark k x) ∙ sym (ap (λ b. b && get_or m n no_mark k x) (lt-ltb n (length m) h));
+    each = λ n h. bit-Bit (get_or m n no_mark (OfLeaf k x)) ∙ sym (ap (λ b. b && get_or m n no_mark (OfLeaf k x)) (lt-ltb n (length m) h));
   }
 
   pub runs_any : Runs (machine_of o.Any) (points_of o.Any) m
@@ -207,4 +207,19 @@ module _ (m : List Mark) where
   runs_every e p n r = record {
     none = rw (left-Count, r.none) refl;
     each = λ k h. let seen : suc k ≤ length m = omega arith in rw (every_after e n (suc k), left-Count, count-Count, r.each k h, turning_is e p r n (suc k) seen) (turned n (count_below (p m) k) (p m k));
+  }
+
+  -- whether a mask holds at the last of the points so far
+  abbrev holding : Expr → ℕ → Bool
+  holding x zero = false
+  holding x (suc n) = get_or m n no_mark (OfEvent x)
+
+  masked_after : (e : TreeMachine) (x : Expr) (n : ℕ) → after (machine_of (o.Masked e x)) m n ≡ tree.Masked (after e m n) (holding x n)
+  masked_after e x zero = refl
+  masked_after e x (suc n) = rw (masked_after e x n, left-Masked) refl
+
+  pub runs_masked : (e : TreeMachine) (p : Points) (x : Expr) → Runs e p m → Runs (machine_of (o.Masked e x)) (points_of (o.Masked p x)) m
+  runs_masked e p x r = record {
+    none = rw (left-Masked, r.none) refl;
+    each = λ n h. rw (masked_after e x (suc n), left-Masked, bit-Masked, r.each n h) refl;
   }

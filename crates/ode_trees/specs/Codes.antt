@@ -16,6 +16,9 @@ code_of (level.Flag e f b) = 4 ∷ bit_number b ∷ (e ++ f)
 code_of (level.Count e n) = 5 ∷ n ∷ e
 code_of (level.Started e set) = 6 ∷ length set ∷ (e ++ flat_map (λ x. x) set)
 code_of (level.Pairs e set) = 7 ∷ length set ∷ (e ++ flat_map (λ x. x.0 ++ x.1) set)
+code_of (level.Chained set) = 8 ∷ length set ∷ flat_map (λ x. x) set
+code_of (level.Waiting e f set) = 9 ∷ length set ∷ (e ++ (f ++ flat_map (λ x. x) set))
+code_of (level.Masked e b) = 10 ∷ bit_number b ∷ e
 
 unfoldable pub code : StateTree → List ℕ
 code = fold-StateTree (List ℕ) code_of

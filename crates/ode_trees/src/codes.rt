@@ -50,6 +50,20 @@ pub fn write(s: &StateTree, to: &mut Vec<u64>) -> Result<(), AllocError>
             write(e.get(), to)?;
             write_pairs(set.as_slice(), to)
         }
+        StateTree::Chained(set) => {
+            put(to, 8, set.len() as u64)?;
+            write_all(set.as_slice(), to)
+        }
+        StateTree::Waiting(e, f, set) => {
+            put(to, 9, set.len() as u64)?;
+            write(e.get(), to)?;
+            write(f.get(), to)?;
+            write_all(set.as_slice(), to)
+        }
+        StateTree::Masked(e, b) => {
+            put(to, 10, u64::from(*b))?;
+            write(e.get(), to)
+        }
     }
 }
 

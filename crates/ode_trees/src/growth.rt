@@ -3,10 +3,10 @@ ghost use Rattle.std.specs.Prelude.{◌≡◌, ◌<◌, ◌≤◌, ◌++◌, ◌
 ghost use Rattle.std.specs.List.{list_any, slice_get};
 ghost use Rattle.ode_trees.specs.Codes.{code};
 ghost use Rattle.ode_trees.specs.Found.{Covers, IsAnswer, Leads};
-ghost use Rattle.ode_trees.specs.ListMachines.{each_step, listed_count};
+ghost use Rattle.ode_trees.specs.ListMachines.{condition_count, each_step, listed_count};
 ghost use Rattle.ode_value.specs.declared.tree.StateTree.{StateTree as Tree};
 ghost use Rattle.ode_value.specs.Limits.{state_limit};
-ghost use Rattle.ode_value.specs.Marks.{Mark, leaves, spelled};
+ghost use Rattle.ode_value.specs.Marks.{Mark, spelled};
 ghost use Rattle.ode_value.specs.Numbers.{has_numbers};
 ghost use Rattle.ode_value.specs.TreeCount.{counted, with_tree};
 ghost use Rattle.ode_value.specs.TreeOrder.{same_tree};
@@ -138,7 +138,7 @@ fn step_by_each(
     marks: &[List<bool>],
     s: &StateTree,
 ) -> Result<List<StateTree>, AllocError>
-    requires whole { All (λ (mark : Items Bool). length mark ≡ length (leaves e.now)) marks.now }
+    requires whole { All (λ (mark : Items Bool). length mark ≡ condition_count e.now) marks.now }
     requires numbers { has_numbers e.now ≡ true }
     ensures { IfOk result (λ new. new ≡ each_step e.now marks.now s.now) }
 {
@@ -159,7 +159,7 @@ fn add_row(
 ) -> Result<(), AllocError>
     requires within { q < length found.old.trees }
     requires covers { Covers found.old.trees found.old.numbers.entries (λ k. k.items) }
-    requires whole { All (λ (mark : Items Bool). length mark ≡ length (leaves e.now)) marks.now }
+    requires whole { All (λ (mark : Items Bool). length mark ≡ condition_count e.now) marks.now }
     requires numbers { has_numbers e.now ≡ true }
     ensures covers { OnOk result (Covers found.new.trees found.new.numbers.entries (λ k. k.items)) }
     ensures trees { OnOk result (found.new.trees
@@ -189,7 +189,7 @@ fn begin(alloc: Global, e: &EventExpr) -> Result<Search, AllocError>
 
 // All trees that words reach, with the trees after each, or more of them than a trigger may have.
 fn explore(alloc: Global, e: &EventExpr, marks: &[List<bool>]) -> Result<Search, AllocError>
-    requires whole { All (λ (mark : Items Bool). length mark ≡ length (leaves e.now)) marks.now }
+    requires whole { All (λ (mark : Items Bool). length mark ≡ condition_count e.now) marks.now }
     requires numbers { has_numbers e.now ≡ true }
     ensures count { IfOk result (λ found. counted (length found.trees) ≡ counted (listed_count e.now marks.now)) }
     ensures first { IfOk result (λ found. slice_get found.trees 0 ≡ Some (first_tree e.now)) }
@@ -205,13 +205,13 @@ fn explore(alloc: Global, e: &EventExpr, marks: &[List<bool>]) -> Result<Search,
 }
 
 /// The trees that words of these marks reach, where a trigger may have so many. A mark says of each leaf, in the order of the text,
-/// whether it holds.
+/// whether it holds, and then of each mask on a composite event.
 pub fn reach(
     alloc: Global,
     e: &EventExpr,
     marks: &[List<bool>],
 ) -> Result<Option<Reached>, AllocError>
-    requires whole { All (λ (mark : Items Bool). length mark ≡ length (leaves e.now)) marks.now }
+    requires whole { All (λ (mark : Items Bool). length mark ≡ condition_count e.now) marks.now }
     requires numbers { has_numbers e.now ≡ true }
     ensures few { IfOk result (λ answer. IfSome answer (λ reached. length reached.trees ≤ state_limit)) }
     ensures answer { IfOk result (λ answer. (ms : Items Mark) → marks.now ≡ map (spelled e.now) ms → IsAnswer e.now ms answer) }

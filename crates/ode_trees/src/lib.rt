@@ -2,7 +2,9 @@
 #![tactic(auto)]
 
 mod codes;
+mod copying;
 mod count;
+mod cursor;
 mod growth;
 mod laws;
 mod machine;

@@ -1,39 +1,19 @@
 //! The first tree of an expression, a step and the answer.
-ghost use Rattle.std.specs.Prelude.{◌≡◌, ◌+◌, ◌<◌, ◌≤◌, ◌^◌, [], IfOk, OnOk, length, map, min, true};
+ghost use Rattle.std.specs.Prelude.{◌≡◌, ◌&&◌, ◌+◌, ◌<◌, ◌≤◌, ◌∷◌, [], IfOk, OnOk, cond, filter, length, map, min, true};
 ghost use Rattle.std.specs.List.{list_any};
-ghost use Rattle.ode_trees.specs.ListMachines.{leaf_count, next_listed, pairs_after};
+ghost use Rattle.ode_trees.specs.ListMachines.{condition_count, leaf_count, list_machine, mask_count, next_listed, pairs_after, past, start, unanswered_after};
 ghost use Rattle.ode_value.specs.Limits.{choose_limit};
-ghost use Rattle.ode_value.specs.Marks.{Mark, leaves, spelled};
+ghost use Rattle.ode_value.specs.Marks.{Mark, spelled};
 ghost use Rattle.ode_value.specs.Numbers.{has_numbers};
 ghost use Rattle.ode_value.specs.TreeOrder.{all_joined, joined, pair_cmp, tree_cmp};
 ghost use Rattle.ode_value.specs.Trees.{answers, first_tree, is_spent, left, machine, next_count, next_tree, next_turn, right, with_first};
 
+use crate::copying::copy;
+use crate::cursor::{Cursor, mask_count, past, start};
 use crate::part::{bit, count, left, pairs, right, started};
 use crate::set::join;
 use ode_value::{Boxed, EventExpr, List, StateTree};
 use std::alloc::{AllocError, Global};
-
-// How many leaves the expression has.
-#[tactic(auto, using(crate::proofs::ListMachineLaws::listings))]
-fn leaf_count(e: &EventExpr) -> usize
-    requires { leaf_count e.now < 2 ^ 64 }
-    ensures { result ≡ leaf_count e.now }
-{
-    match e {
-        EventExpr::Leaf(_, _) => 1,
-        EventExpr::Any => 0,
-        EventExpr::First => 0,
-        EventExpr::Not(e) => leaf_count(e.get()),
-        EventExpr::And(e, f) => leaf_count(e.get()) + leaf_count(f.get()),
-        EventExpr::Or(e, f) => leaf_count(e.get()) + leaf_count(f.get()),
-        EventExpr::Relative(e, f) => leaf_count(e.get()) + leaf_count(f.get()),
-        EventExpr::Prior(e, f) => leaf_count(e.get()) + leaf_count(f.get()),
-        EventExpr::Sequence(e, f) => leaf_count(e.get()) + leaf_count(f.get()),
-        EventExpr::Choose(_, e) => leaf_count(e.get()),
-        EventExpr::Every(_, e) => leaf_count(e.get()),
-        EventExpr::Fa(e, f, g) => leaf_count(e.get()) + leaf_count(f.get()) + leaf_count(g.get()),
-    }
-}
 
 fn seen(alloc: Global, bit: bool, part: StateTree) -> Result<StateTree, AllocError>
     ensures { IfOk result (λ t. t ≡ StateTree.Seen bit part) }
@@ -82,6 +62,31 @@ fn with_pairs(
     ensures { IfOk result (λ t. t ≡ StateTree.Pairs part set) }
 {
     Ok(StateTree::Pairs(Boxed::new(alloc, part)?, set))
+}
+
+fn waiting(
+    alloc: Global,
+    first: StateTree,
+    third: StateTree,
+    set: List<StateTree>,
+) -> Result<StateTree, AllocError>
+    ensures { IfOk result (λ t. t ≡ StateTree.Waiting first third set) }
+{
+    Ok(StateTree::Waiting(Boxed::new(alloc, first)?, Boxed::new(alloc, third)?, set))
+}
+
+fn masked(alloc: Global, part: StateTree, holds: bool) -> Result<StateTree, AllocError>
+    ensures { IfOk result (λ t. t ≡ StateTree.Masked part holds) }
+{
+    Ok(StateTree::Masked(Boxed::new(alloc, part)?, holds))
+}
+
+fn alone(alloc: Global, s: StateTree) -> Result<List<StateTree>, AllocError>
+    ensures { IfOk result (λ set. set ≡ s ∷ []) }
+{
+    let mut set = List::new(alloc);
+    set.push(s)?;
+    Ok(set)
 }
 
 /// The tree before the first point.
@@ -133,6 +138,24 @@ pub fn init(alloc: Global, e: &EventExpr) -> Result<StateTree, AllocError>
             let part = init(alloc, e.get())?;
             with_pairs(alloc, part, List::new(alloc))
         }
+        EventExpr::RelPlus(e) => {
+            let first = init(alloc, e.get())?;
+            Ok(StateTree::Chained(alone(alloc, first)?))
+        }
+        EventExpr::Pipe(e, f) => {
+            let first = init(alloc, e.get())?;
+            let second = init(alloc, f.get())?;
+            flagged(alloc, first, second, false)
+        }
+        EventExpr::FaAbs(e, _, g) => {
+            let first = init(alloc, e.get())?;
+            let third = init(alloc, g.get())?;
+            waiting(alloc, first, third, List::new(alloc))
+        }
+        EventExpr::Masked(e, _) => {
+            let part = init(alloc, e.get())?;
+            masked(alloc, part, false)
+        }
     }
 }
 
@@ -155,6 +178,10 @@ pub fn out(e: &EventExpr, s: &StateTree) -> bool
         EventExpr::Choose(n, e) => out(e.get(), left(s)) && count(s) == *n,
         EventExpr::Every(_, e) => out(e.get(), left(s)) && count(s) == 0,
         EventExpr::Fa(_, f, _) => any_first_out(f.get(), pairs(s)),
+        EventExpr::RelPlus(e) => any_out(e.get(), started(s)),
+        EventExpr::Pipe(_, _) => bit(s),
+        EventExpr::FaAbs(_, f, _) => any_out(f.get(), started(s)),
+        EventExpr::Masked(e, _) => out(e.get(), left(s)) && bit(s),
     }
 }
 
@@ -212,7 +239,7 @@ fn turn_after(n: u32, answers: bool, c: u32) -> u32
     }
 }
 
-// The tree after one more point, of which the list says from a place on which leaves hold.
+// The tree after one more point, of which the list says from two places on which leaves and masks hold.
 #[cycle(step)]
 #[tactic(auto, using(crate::proofs::ListMachineLaws::steps))]
 fn step_at(
@@ -220,14 +247,15 @@ fn step_at(
     e: &EventExpr,
     s: &StateTree,
     mark: &[bool],
-    at: usize,
+    at: Cursor,
 ) -> Result<StateTree, AllocError>
-    requires fits { at + leaf_count e.now ≤ length mark.now }
+    requires leaf { at.leaf + leaf_count e.now ≤ length mark.now }
+    requires mask { at.mask + mask_count e.now ≤ length mark.now }
     requires numbers { has_numbers e.now ≡ true }
     ensures { IfOk result (λ t. t ≡ next_listed e.now at mark.now s.now) }
 {
     match e {
-        EventExpr::Leaf(_, _) => Ok(StateTree::Bit(mark[at])),
+        EventExpr::Leaf(_, _) => Ok(StateTree::Bit(mark[at.leaf])),
         EventExpr::Any => Ok(StateTree::Bit(true)),
         EventExpr::First => Ok(StateTree::Place(place_after(count(s)))),
         EventExpr::Not(e) => {
@@ -264,6 +292,13 @@ fn step_at(
             counted(alloc, part, turn_after(*n, answers, count(s)))
         }
         EventExpr::Fa(e, f, g) => step_fa(alloc, e.get(), f.get(), g.get(), s, mark, at),
+        EventExpr::RelPlus(e) => step_relplus(alloc, e.get(), s, mark, at),
+        EventExpr::Pipe(e, f) => step_pipe(alloc, e.get(), f.get(), s, mark, at),
+        EventExpr::FaAbs(e, f, g) => step_faabs(alloc, e.get(), f.get(), g.get(), s, mark, at),
+        EventExpr::Masked(e, _) => {
+            let part = step_at(alloc, e.get(), left(s), mark, at)?;
+            masked(alloc, part, mark[at.mask + mask_count(e.get())])
+        }
     }
 }
 
@@ -275,16 +310,17 @@ fn step_two(
     f: &EventExpr,
     s: &StateTree,
     mark: &[bool],
-    at: usize,
+    at: Cursor,
 ) -> Result<(StateTree, StateTree), AllocError>
-    requires fits { at + (leaf_count e.now + leaf_count f.now) ≤ length mark.now }
+    requires leaf { at.leaf + (leaf_count e.now + leaf_count f.now) ≤ length mark.now }
+    requires mask { at.mask + (mask_count e.now + mask_count f.now) ≤ length mark.now }
     requires numbers { has_numbers e.now ≡ true }
     requires numbers_too { has_numbers f.now ≡ true }
     ensures first { IfOk result (λ t. t.0 ≡ next_listed e.now at mark.now (left s.now)) }
-    ensures second { IfOk result (λ t. t.1 ≡ next_listed f.now (at + leaf_count e.now) mark.now (right s.now)) }
+    ensures second { IfOk result (λ t. t.1 ≡ next_listed f.now (past (list_machine e.now) at) mark.now (right s.now)) }
 {
     let first = step_at(alloc, e, left(s), mark, at)?;
-    let second = step_at(alloc, f, right(s), mark, at + leaf_count(e))?;
+    let second = step_at(alloc, f, right(s), mark, past(e, at))?;
     Ok((first, second))
 }
 
@@ -322,6 +358,80 @@ fn begin_pair(
     Ok(())
 }
 
+// The tree of `pipe` with these parts after a step, where the first one answers or doesn't.
+fn passed(
+    alloc: Global,
+    starts: bool,
+    f: &EventExpr,
+    part: StateTree,
+    second: StateTree,
+) -> Result<StateTree, AllocError>
+    ensures { IfOk result (λ t. t ≡ StateTree.Flag part second (starts && answers f.now second)) }
+{
+    let flag = starts && out(f, &second);
+    flagged(alloc, part, second, flag)
+}
+
+// The members of a set that answer.
+fn answering(
+    alloc: Global,
+    e: &EventExpr,
+    set: List<StateTree>,
+) -> Result<List<StateTree>, AllocError>
+    ensures { IfOk result (λ kept. kept ≡ filter (answers e.now) set) }
+{
+    let mut kept = List::new(alloc);
+    for s in set.into_vec() {
+        if out(e, &s) {
+            kept.push(s)?;
+        }
+    }
+    Ok(kept)
+}
+
+// The tree of `relplus` with this set after a step.
+fn chain(alloc: Global, e: &EventExpr, set: List<StateTree>) -> Result<StateTree, AllocError>
+    ensures { IfOk result (λ t. t ≡ StateTree.Chained (with_first (list_any (answers e.now) set) (joined tree_cmp (first_tree e.now)) set)) }
+{
+    let mut set = set;
+    let answers = any_out(e, set.as_slice());
+    begin(alloc, answers, e, &mut set)?;
+    Ok(StateTree::Chained(set))
+}
+
+// The set itself, or its members that answer.
+fn unspoilt(
+    alloc: Global,
+    spoilt: bool,
+    f: &EventExpr,
+    set: List<StateTree>,
+) -> Result<List<StateTree>, AllocError>
+    ensures { IfOk result (λ kept. kept ≡ cond spoilt (filter (answers f.now) set) set) }
+{
+    if spoilt {
+        answering(alloc, f, set)
+    } else {
+        Ok(set)
+    }
+}
+
+// The tree of `faabs` with these parts after a step: where G answers, those that don't answer go; where E does, a first tree joins.
+fn wait(
+    alloc: Global,
+    starts: bool,
+    spoilt: bool,
+    f: &EventExpr,
+    first: StateTree,
+    third: StateTree,
+    set: List<StateTree>,
+) -> Result<StateTree, AllocError>
+    ensures { IfOk result (λ t. t ≡ StateTree.Waiting first third (with_first starts (joined tree_cmp (first_tree f.now)) (cond spoilt (filter (answers f.now) set) set))) }
+{
+    let mut set = unspoilt(alloc, spoilt, f, set)?;
+    begin(alloc, starts, f, &mut set)?;
+    waiting(alloc, first, third, set)
+}
+
 #[cycle(step)]
 #[tactic(auto, using(crate::proofs::ListMachineLaws::steps))]
 fn step_relative(
@@ -330,15 +440,16 @@ fn step_relative(
     f: &EventExpr,
     s: &StateTree,
     mark: &[bool],
-    at: usize,
+    at: Cursor,
 ) -> Result<StateTree, AllocError>
-    requires fits { at + (leaf_count e.now + leaf_count f.now) ≤ length mark.now }
+    requires leaf { at.leaf + (leaf_count e.now + leaf_count f.now) ≤ length mark.now }
+    requires mask { at.mask + (mask_count e.now + mask_count f.now) ≤ length mark.now }
     requires numbers { has_numbers e.now ≡ true }
     requires numbers_too { has_numbers f.now ≡ true }
     ensures { IfOk result (λ t. t ≡ next_listed (EventExpr.Relative e.now f.now) at mark.now s.now) }
 {
     let part = step_at(alloc, e, left(s), mark, at)?;
-    let mut set = step_all(alloc, f, started(s), mark, at + leaf_count(e))?;
+    let mut set = step_all(alloc, f, started(s), mark, past(e, at))?;
     let answers = out(e, &part);
     begin(alloc, answers, f, &mut set)?;
     with_started(alloc, part, set)
@@ -353,30 +464,122 @@ fn step_fa(
     g: &EventExpr,
     s: &StateTree,
     mark: &[bool],
-    at: usize,
+    at: Cursor,
 ) -> Result<StateTree, AllocError>
-    requires fits { at + (leaf_count e.now + leaf_count f.now + leaf_count g.now) ≤ length mark.now }
+    requires leaf { at.leaf + (leaf_count e.now + leaf_count f.now + leaf_count g.now) ≤ length mark.now }
+    requires mask { at.mask + (mask_count e.now + mask_count f.now + mask_count g.now) ≤ length mark.now }
     requires numbers { has_numbers e.now ≡ true }
     requires numbers_too { has_numbers f.now ≡ true }
     requires numbers_also { has_numbers g.now ≡ true }
     ensures { IfOk result (λ t. t ≡ next_listed (EventExpr.Fa e.now f.now g.now) at mark.now s.now) }
 {
     let part = step_at(alloc, e, left(s), mark, at)?;
-    let mut set = step_pairs(alloc, f, g, pairs(s), mark, at + leaf_count(e))?;
+    let mut set = step_pairs(alloc, f, g, pairs(s), mark, past(e, at))?;
     let answers = out(e, &part);
     begin_pair(alloc, answers, f, g, &mut set)?;
     with_pairs(alloc, part, set)
 }
 
 #[cycle(step)]
+#[tactic(auto, using(crate::proofs::ListMachineLaws::steps))]
+fn step_relplus(
+    alloc: Global,
+    e: &EventExpr,
+    s: &StateTree,
+    mark: &[bool],
+    at: Cursor,
+) -> Result<StateTree, AllocError>
+    requires leaf { at.leaf + leaf_count e.now ≤ length mark.now }
+    requires mask { at.mask + mask_count e.now ≤ length mark.now }
+    requires numbers { has_numbers e.now ≡ true }
+    ensures { IfOk result (λ t. t ≡ next_listed (EventExpr.RelPlus e.now) at mark.now s.now) }
+{
+    let set = step_all(alloc, e, started(s), mark, at)?;
+    chain(alloc, e, set)
+}
+
+#[cycle(step)]
+#[tactic(auto, using(crate::proofs::ListMachineLaws::steps))]
+fn step_pipe(
+    alloc: Global,
+    e: &EventExpr,
+    f: &EventExpr,
+    s: &StateTree,
+    mark: &[bool],
+    at: Cursor,
+) -> Result<StateTree, AllocError>
+    requires leaf { at.leaf + (leaf_count e.now + leaf_count f.now) ≤ length mark.now }
+    requires mask { at.mask + (mask_count e.now + mask_count f.now) ≤ length mark.now }
+    requires numbers { has_numbers e.now ≡ true }
+    requires numbers_too { has_numbers f.now ≡ true }
+    ensures { IfOk result (λ t. t ≡ next_listed (EventExpr.Pipe e.now f.now) at mark.now s.now) }
+{
+    let part = step_at(alloc, e, left(s), mark, at)?;
+    let starts = out(e, &part);
+    let second = step_if(alloc, starts, f, right(s), mark, past(e, at))?;
+    passed(alloc, starts, f, part, second)
+}
+
+// The tree after one more point, or the same tree.
+#[cycle(step)]
+fn step_if(
+    alloc: Global,
+    goes: bool,
+    e: &EventExpr,
+    s: &StateTree,
+    mark: &[bool],
+    at: Cursor,
+) -> Result<StateTree, AllocError>
+    requires leaf { at.leaf + leaf_count e.now ≤ length mark.now }
+    requires mask { at.mask + mask_count e.now ≤ length mark.now }
+    requires numbers { has_numbers e.now ≡ true }
+    ensures { IfOk result (λ t. t ≡ cond goes (next_listed e.now at mark.now s.now) s.now) }
+{
+    if goes {
+        step_at(alloc, e, s, mark, at)
+    } else {
+        copy(alloc, s)
+    }
+}
+
+#[cycle(step)]
+#[tactic(auto, using(crate::proofs::ListMachineLaws::steps))]
+fn step_faabs(
+    alloc: Global,
+    e: &EventExpr,
+    f: &EventExpr,
+    g: &EventExpr,
+    s: &StateTree,
+    mark: &[bool],
+    at: Cursor,
+) -> Result<StateTree, AllocError>
+    requires leaf { at.leaf + (leaf_count e.now + leaf_count f.now + leaf_count g.now) ≤ length mark.now }
+    requires mask { at.mask + (mask_count e.now + mask_count f.now + mask_count g.now) ≤ length mark.now }
+    requires numbers { has_numbers e.now ≡ true }
+    requires numbers_too { has_numbers f.now ≡ true }
+    requires numbers_also { has_numbers g.now ≡ true }
+    ensures { IfOk result (λ t. t ≡ next_listed (EventExpr.FaAbs e.now f.now g.now) at mark.now s.now) }
+{
+    let second = past(e, at);
+    let part = step_at(alloc, e, left(s), mark, at)?;
+    let third = step_at(alloc, g, right(s), mark, past(f, second))?;
+    let set = step_unanswered(alloc, f, started(s), mark, second)?;
+    let starts = out(e, &part);
+    let spoilt = out(g, &third);
+    wait(alloc, starts, spoilt, f, part, third, set)
+}
+
+// The members of a set after their steps, as a set.
+#[cycle(step)]
 fn step_all(
     alloc: Global,
     e: &EventExpr,
     set: &[StateTree],
     mark: &[bool],
-    at: usize,
+    at: Cursor,
 ) -> Result<List<StateTree>, AllocError>
-    requires fits { at + leaf_count e.now ≤ length mark.now }
+    requires leaf { at.leaf + leaf_count e.now ≤ length mark.now }
+    requires mask { at.mask + mask_count e.now ≤ length mark.now }
     requires numbers { has_numbers e.now ≡ true }
     ensures { IfOk result (λ t. t ≡ all_joined tree_cmp [] (map (next_listed e.now at mark.now) set.now)) }
 {
@@ -388,6 +591,30 @@ fn step_all(
     Ok(after)
 }
 
+// The same of those that don't answer.
+#[cycle(step)]
+fn step_unanswered(
+    alloc: Global,
+    e: &EventExpr,
+    set: &[StateTree],
+    mark: &[bool],
+    at: Cursor,
+) -> Result<List<StateTree>, AllocError>
+    requires leaf { at.leaf + leaf_count e.now ≤ length mark.now }
+    requires mask { at.mask + mask_count e.now ≤ length mark.now }
+    requires numbers { has_numbers e.now ≡ true }
+    ensures { IfOk result (λ t. t ≡ unanswered_after e.now at mark.now [] set.now) }
+{
+    let mut after = List::new(alloc);
+    for s in set {
+        if !out(e, s) {
+            let next = step_at(alloc, e, s, mark, at)?;
+            join(&mut after, next)?;
+        }
+    }
+    Ok(after)
+}
+
 #[cycle(step)]
 fn step_pairs(
     alloc: Global,
@@ -395,9 +622,10 @@ fn step_pairs(
     g: &EventExpr,
     set: &[(StateTree, StateTree)],
     mark: &[bool],
-    at: usize,
+    at: Cursor,
 ) -> Result<List<(StateTree, StateTree)>, AllocError>
-    requires fits { at + leaf_count f.now + leaf_count g.now ≤ length mark.now }
+    requires leaf { at.leaf + (leaf_count f.now + leaf_count g.now) ≤ length mark.now }
+    requires mask { at.mask + (mask_count f.now + mask_count g.now) ≤ length mark.now }
     requires numbers { has_numbers f.now ≡ true }
     requires numbers_too { has_numbers g.now ≡ true }
     ensures { IfOk result (λ t. t ≡ pairs_after f.now g.now at mark.now [] set.now) }
@@ -406,21 +634,22 @@ fn step_pairs(
     for s in set {
         if !out(f, &s.0) && !out(g, &s.1) {
             let first = step_at(alloc, f, &s.0, mark, at)?;
-            let second = step_at(alloc, g, &s.1, mark, at + leaf_count(f))?;
+            let second = step_at(alloc, g, &s.1, mark, past(f, at))?;
             join(&mut after, (first, second))?;
         }
     }
     Ok(after)
 }
 
-/// The tree after one more point, of which the mark says of each leaf, in the order of the text, whether it holds.
+/// The tree after one more point, of which the mark says of each leaf, in the order of the text, whether it holds, and then of each mask on
+/// a composite event.
 pub fn step(
     alloc: Global,
     e: &EventExpr,
     s: &StateTree,
     mark: &[bool],
 ) -> Result<StateTree, AllocError>
-    requires whole { length mark.now ≡ length (leaves e.now) }
+    requires whole { length mark.now ≡ condition_count e.now }
     requires numbers { has_numbers e.now ≡ true }
     ensures { IfOk result (λ t. (m : Mark) → mark.now ≡ spelled e.now m → t ≡ next_tree e.now m s.now) }
 {
@@ -434,9 +663,9 @@ pub(crate) fn step_listed(
     s: &StateTree,
     mark: &[bool],
 ) -> Result<StateTree, AllocError>
-    requires whole { length mark.now ≡ length (leaves e.now) }
+    requires whole { length mark.now ≡ condition_count e.now }
     requires numbers { has_numbers e.now ≡ true }
-    ensures { IfOk result (λ t. t ≡ next_listed e.now 0 mark.now s.now) }
+    ensures { IfOk result (λ t. t ≡ next_listed e.now (start e.now) mark.now s.now) }
 {
-    step_at(alloc, e, s, mark, 0)
+    step_at(alloc, e, s, mark, start(e))
 }

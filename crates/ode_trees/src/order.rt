@@ -82,6 +82,24 @@ pub fn compare(s: &StateTree, t: &StateTree) -> Ordering
             ),
             _ => Ordering::Less,
         },
+        StateTree::Chained(x) => match t {
+            StateTree::Chained(y) => compare_trees(x.as_slice(), y.as_slice()),
+            _ => Ordering::Less,
+        },
+        StateTree::Waiting(e, f, x) => match t {
+            StateTree::Waiting(g, h, y) => then(
+                compare(e.get(), g.get()),
+                then(
+                    compare(f.get(), h.get()),
+                    compare_trees(x.as_slice(), y.as_slice()),
+                ),
+            ),
+            _ => Ordering::Less,
+        },
+        StateTree::Masked(e, b) => match t {
+            StateTree::Masked(f, c) => then(compare(e.get(), f.get()), compare_bools(*b, *c)),
+            _ => Ordering::Less,
+        },
     }
 }
 

@@ -15,6 +15,8 @@ pub fn left(s: &StateTree) -> &StateTree
         StateTree::Count(e, _) => e.get(),
         StateTree::Started(e, _) => e.get(),
         StateTree::Pairs(e, _) => e.get(),
+        StateTree::Waiting(e, _, _) => e.get(),
+        StateTree::Masked(e, _) => e.get(),
         _ => s,
     }
 }
@@ -26,6 +28,7 @@ pub fn right(s: &StateTree) -> &StateTree
     match s {
         StateTree::Both(_, f) => f.get(),
         StateTree::Flag(_, f, _) => f.get(),
+        StateTree::Waiting(_, g, _) => g.get(),
         _ => s,
     }
 }
@@ -38,6 +41,7 @@ pub fn bit(s: &StateTree) -> bool
         StateTree::Bit(b) => *b,
         StateTree::Seen(b, _) => *b,
         StateTree::Flag(_, _, b) => *b,
+        StateTree::Masked(_, b) => *b,
         _ => false,
     }
 }
@@ -59,6 +63,8 @@ pub fn started(s: &StateTree) -> &[StateTree]
 {
     match s {
         StateTree::Started(_, set) => set.as_slice(),
+        StateTree::Chained(set) => set.as_slice(),
+        StateTree::Waiting(_, _, set) => set.as_slice(),
         _ => &[],
     }
 }
