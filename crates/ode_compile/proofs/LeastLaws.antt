@@ -1,7 +1,7 @@
 -- The least tables of compiled triggers.
 use Rattle.std.proofs.Common.{List, [], ◌∷◌, ◌++◌, subst, ◌∙◌, arith}
 use Rattle.std.specs.List.{AllByRecursion}
-use Rattle.ode_value.specs.Symbols.{MaskedKind}
+use Rattle.ode_value.specs.Symbols.{Alphabet}
 use Rattle.ode_value.specs.Tables.{IsWord, Means, Table}
 use Rattle.ode_value.specs.declared.event.EventExpr.{EventExpr}
 use Rattle.ode_value.specs.declared.member.TriggerDecl.{TriggerDecl}
@@ -30,15 +30,15 @@ means_as large small e same means = record {
       same.answers word own.each ∙ means.answers word own;
 }
 
-compiled_as : (t : TriggerDecl) (large small : Table) (rows : List MaskedKind) → IsLeastOf large small → IsCompiled t large rows → IsCompiled t small rows
+compiled_as : (t : TriggerDecl) (large small : Table) (rows : Alphabet) → IsLeastOf large small → IsCompiled t large rows → IsCompiled t small rows
 compiled_as t large small rows least is = record {
   whole = least.whole;
   means = means_as large small t.event least.answers is.means;
   states = omega (arith, least.few, is.states);
-  rows_are = is.rows_are;
+  alphabet_is = is.alphabet_is;
 }
 
-pub least_compiled : (ts : List TriggerDecl) (tables least : List Table) (alphabets : List (List MaskedKind)) → AreLeastOf tables least → AreCompiled ts tables alphabets → AreCompiled ts least alphabets
+pub least_compiled : (ts : List TriggerDecl) (tables least : List Table) (alphabets : List Alphabet) → AreLeastOf tables least → AreCompiled ts tables alphabets → AreCompiled ts least alphabets
 least_compiled [] [] [] [] all is = tt
 least_compiled [] [] [] (a ∷ more) all is = absurd is
 least_compiled [] [] (y ∷ ys) more all is = absurd all

@@ -19,9 +19,10 @@ use Rattle.ode_value.proofs.LeafLaws.{numbers_out}
 use Rattle.ode_types.specs.Bodies.{body}
 use Rattle.ode_types.specs.Checks.{◌>>=◌, each, needs}
 use Rattle.ode_types.specs.Declaring.{begins, declared, numbered, parent_in, with_member, without_members}
-use Rattle.ode_types.specs.Events.{Listing, is_listed, leaf_listed, listed, listing_of, mask}
+use Rattle.ode_types.specs.Events.{Listing, is_listed, leaf_listed, listed, listing_of, mask, masked}
 use Rattle.ode_types.specs.Families.{class_named}
-use Rattle.ode_types.specs.Scopes.{Scope, member_scope, wrong}
+use Rattle.ode_types.specs.Scopes.{Scope, member_scope, plain_scope, wrong}
+use Rattle.ode_types.specs.Typing.{fitting}
 use Rattle.ode_types.specs.Static.{check_class, checked_member, completed, constraint_checked, method_checked, trigger_checked}
 use Rattle.ode_types.proofs.CheckedClasses.{bind-ok}
 use Rattle.ode_types.proofs.KeptEvents.{all_more}
@@ -73,6 +74,18 @@ sequence-numbers e f = numbers_out (checked.Sequence e f) ∙ simp the_lemmas
 fa-numbers : (e f g : EventExpr) → has_numbers (checked.Fa e f g) ≡ (has_numbers e && (has_numbers f && has_numbers g))
 fa-numbers e f g = numbers_out (checked.Fa e f g) ∙ simp the_lemmas
 
+faabs-numbers : (e f g : EventExpr) → has_numbers (checked.FaAbs e f g) ≡ (has_numbers e && (has_numbers f && has_numbers g))
+faabs-numbers e f g = numbers_out (checked.FaAbs e f g) ∙ simp the_lemmas
+
+relplus-numbers : (e : EventExpr) → has_numbers (checked.RelPlus e) ≡ has_numbers e
+relplus-numbers e = numbers_out (checked.RelPlus e) ∙ simp the_lemmas
+
+pipe-numbers : (e f : EventExpr) → has_numbers (checked.Pipe e f) ≡ (has_numbers e && has_numbers f)
+pipe-numbers e f = numbers_out (checked.Pipe e f) ∙ simp the_lemmas
+
+masked-numbers : (e : EventExpr) (x : Expr) → has_numbers (checked.Masked e x) ≡ has_numbers e
+masked-numbers e x = numbers_out (checked.Masked e x) ∙ simp the_lemmas
+
 -- ---- a check of an event expression keeps its numbers
 
 -- what an induction shows of an event expression
@@ -109,14 +122,24 @@ module _ (scope : Scope) where
       let same : make p.0 q.0 ≡ f = cc (q.2) in
       ap has_numbers (sym same) ∙ level p.0 q.0 ∙ ap (λ b. b && has_numbers q.0) (d.1 scope p.0 p.1) ∙ ap (λ b. has_numbers d.0 && b) (e.1 scope q.0 q.1)
 
-  three_kept : (c d e : Known) (f : EventExpr) → listed c.0 scope >>= (λ x. listed d.0 scope >>= (λ y. listed e.0 scope >>= (λ z. Ok (checked.Fa x y z)))) ≡ Ok f
+  masked_kept : (e : Known) (x : Expr) (f : EventExpr) → masked (listed e.0) x scope ≡ Ok f → has_numbers f ≡ has_numbers e.0
+  unfolding masked
+  masked_kept e x f h =
+      let p = bind-ok (listed e.0 scope) (λ a. fitting sort.Bool x (plain_scope scope) >>= (λ y. Ok (checked.Masked a y))) f h in
+      let q = bind-ok (fitting sort.Bool x (plain_scope scope)) (λ y. Ok (checked.Masked p.0 y)) f p.2 in
+      let same : checked.Masked p.0 q.0 ≡ f = cc (q.2) in
+      ap has_numbers (sym same) ∙ masked-numbers p.0 q.0 ∙ e.1 scope p.0 p.1
+
+  three_kept : (make : EventExpr → EventExpr → EventExpr → EventExpr)
+      → ((x y z : EventExpr) → has_numbers (make x y z) ≡ (has_numbers x && (has_numbers y && has_numbers z)))
+      → (c d e : Known) (f : EventExpr) → listed c.0 scope >>= (λ x. listed d.0 scope >>= (λ y. listed e.0 scope >>= (λ z. Ok (make x y z)))) ≡ Ok f
       → has_numbers f ≡ (has_numbers c.0 && (has_numbers d.0 && has_numbers e.0))
-  three_kept c d e f h =
-      let p = bind-ok (listed c.0 scope) (λ x. listed d.0 scope >>= (λ y. listed e.0 scope >>= (λ z. Ok (checked.Fa x y z)))) f h in
-      let q = bind-ok (listed d.0 scope) (λ y. listed e.0 scope >>= (λ z. Ok (checked.Fa p.0 y z))) f p.2 in
-      let r = bind-ok (listed e.0 scope) (λ z. Ok (checked.Fa p.0 q.0 z)) f q.2 in
-      let same : checked.Fa p.0 q.0 r.0 ≡ f = cc (r.2) in
-      ap has_numbers (sym same) ∙ fa-numbers p.0 q.0 r.0
+  three_kept make level c d e f h =
+      let p = bind-ok (listed c.0 scope) (λ x. listed d.0 scope >>= (λ y. listed e.0 scope >>= (λ z. Ok (make x y z)))) f h in
+      let q = bind-ok (listed d.0 scope) (λ y. listed e.0 scope >>= (λ z. Ok (make p.0 y z))) f p.2 in
+      let r = bind-ok (listed e.0 scope) (λ z. Ok (make p.0 q.0 z)) f q.2 in
+      let same : make p.0 q.0 r.0 ≡ f = cc (r.2) in
+      ap has_numbers (sym same) ∙ level p.0 q.0 r.0
       ∙ ap (λ b. b && (has_numbers q.0 && has_numbers r.0)) (c.1 scope p.0 p.1)
       ∙ ap (λ b. has_numbers c.0 && (b && has_numbers r.0)) (d.1 scope q.0 q.1)
       ∙ ap (λ b. has_numbers c.0 && (has_numbers d.0 && b)) (e.1 scope r.0 r.1)
@@ -135,7 +158,11 @@ level_kept (event.Prior d e) scope f h = two_kept scope checked.Prior prior-numb
 level_kept (event.Sequence d e) scope f h = two_kept scope checked.Sequence sequence-numbers d e f h
 level_kept (event.Choose n e) scope f h = one_kept scope (checked.Choose n) (λ b. in_range n && b) (choose-numbers n) e f h
 level_kept (event.Every n e) scope f h = one_kept scope (checked.Every n) (λ b. in_range n && b) (every-numbers n) e f h
-level_kept (event.Fa c d e) scope f h = three_kept scope c d e f h
+level_kept (event.Fa c d e) scope f h = three_kept scope checked.Fa fa-numbers c d e f h
+level_kept (event.FaAbs c d e) scope f h = three_kept scope checked.FaAbs faabs-numbers c d e f h
+level_kept (event.RelPlus e) scope f h = one_kept scope checked.RelPlus (λ b. b) relplus-numbers e f h
+level_kept (event.Pipe d e) scope f h = two_kept scope checked.Pipe pipe-numbers d e f h
+level_kept (event.Masked e x) scope f h = masked_kept scope e x f h
 
 event_kept : (e : EventExpr) → Keeps e
 event_kept = ind-EventExpr Keeps (λ x y q. subst (λ d. Keeps (roll-EventExpr d)) q (here y)) where

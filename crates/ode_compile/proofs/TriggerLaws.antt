@@ -9,14 +9,13 @@ use Rattle.ode_value.specs.ClassLimits.{limits_trigger, limits_triggers}
 use Rattle.ode_value.specs.Lengths.{class_records, piece_count, table_length, table_records}
 use Rattle.ode_value.specs.Limits.{value_limit}
 use Rattle.ode_value.specs.PrintedClasses.{decl_text}
-use Rattle.ode_value.specs.Symbols.{MaskedKind}
+use Rattle.ode_value.specs.Symbols.{Alphabet, alphabet}
 use Rattle.ode_value.specs.Tables.{Means, Table}
 use Rattle.ode_value.specs.TreeCount.{tree_count}
 use Rattle.ode_value.specs.Weights.{record_count, table_size}
 use Rattle.ode_value.specs.declared.class.Class.{Class}
 use Rattle.ode_value.specs.declared.member.TriggerDecl.{TriggerDecl}
 use Rattle.ode_value.specs.declared.statement.ClassDecl.{ClassDecl}
-use Rattle.ode_symbols.specs.Alphabets.{alphabet}
 use Rattle.ode_table.specs.Whole.{IsWhole}
 use Rattle.ode_compile.specs.Compiling.{AreCompiled, IsCompiled, counted_sizes, size_of_table, tree_counts}
 
@@ -26,7 +25,7 @@ all_at P (x ∷ xs) zero d all h = all.0
 all_at P (x ∷ xs) (suc i) d all h = all_at P xs i d all.1 (omega arith)
 
 -- one more trigger
-pub compiled_more : (ts : List TriggerDecl) (tables : List Table) (alphabets : List (List MaskedKind)) (t : TriggerDecl) (table : Table) (rows : List MaskedKind)
+pub compiled_more : (ts : List TriggerDecl) (tables : List Table) (alphabets : List Alphabet) (t : TriggerDecl) (table : Table) (rows : Alphabet)
     → AreCompiled ts tables alphabets → IsCompiled t table rows → AreCompiled (ts ++ t ∷ []) (tables ++ table ∷ []) (alphabets ++ rows ∷ [])
 compiled_more [] [] [] t table rows all one = (one, tt)
 compiled_more [] [] (a ∷ more) t table rows all one = absurd all
@@ -40,10 +39,10 @@ pub limits_next : (t : TriggerDecl) (ts : List TriggerDecl) → limits_trigger t
 limits_next t ts h = ap (λ m. m >> limits_triggers ts) h
 
 -- a table with as many states as the event has trees is compiled
-pub built_as : (t : TriggerDecl) (table : Table) (rows : List MaskedKind) → IsWhole table → Means table t.event → table.states ≡ tree_count t.event → rows ≡ alphabet t.event → IsCompiled t table rows
-built_as t table rows whole means count own = record { whole = whole; means = means; states = omega (arith, count); rows_are = own }
+pub built_as : (t : TriggerDecl) (table : Table) (rows : Alphabet) → IsWhole table → Means table t.event → table.states ≡ tree_count t.event → rows ≡ alphabet t.event → IsCompiled t table rows
+built_as t table rows whole means count own = record { whole = whole; means = means; states = omega (arith, count); alphabet_is = own }
 
-pub as_many : (ts : List TriggerDecl) (tables : List Table) (alphabets : List (List MaskedKind)) → AreCompiled ts tables alphabets → length tables ≡ length ts
+pub as_many : (ts : List TriggerDecl) (tables : List Table) (alphabets : List Alphabet) → AreCompiled ts tables alphabets → length tables ≡ length ts
 as_many [] [] [] all = refl
 as_many [] [] (a ∷ more) all = absurd all
 as_many [] (x ∷ xs) more all = absurd all
@@ -52,13 +51,13 @@ as_many (s ∷ ss) (x ∷ xs) [] all = absurd all
 as_many (s ∷ ss) (x ∷ xs) (a ∷ more) all = ap suc (as_many ss xs more all.1)
 
 -- as many tables as counts
-pub counts_level : (ts : List TriggerDecl) (tables : List Table) (counts : List ℕ) (alphabets : List (List MaskedKind)) → AreCompiled ts tables alphabets
+pub counts_level : (ts : List TriggerDecl) (tables : List Table) (counts : List ℕ) (alphabets : List Alphabet) → AreCompiled ts tables alphabets
     → counts ≡ tree_counts ts → length counts ≡ length tables
 counts_level ts tables counts alphabets all counted =
     ap (λ (ns : List ℕ). length ns) counted ∙ length-map ts (λ (t : TriggerDecl). tree_count t.event) ∙ sym (as_many ts tables alphabets all)
 
 -- the sizes with which tables count are those of their triggers
-sizes_are : (ts : List TriggerDecl) (tables : List Table) (alphabets : List (List MaskedKind)) → AreCompiled ts tables alphabets
+sizes_are : (ts : List TriggerDecl) (tables : List Table) (alphabets : List Alphabet) → AreCompiled ts tables alphabets
     → counted_sizes (tree_counts ts) tables ≡ map table_size ts
 sizes_are [] [] [] all = refl
 sizes_are [] [] (a ∷ more) all = absurd all
@@ -69,7 +68,7 @@ sizes_are (s ∷ ss) (x ∷ xs) (a ∷ more) all =
     ap (λ n. (tree_count s.event, n) ∷ counted_sizes (tree_counts ss) xs) all.0.means.symbols
     ∙ ap (λ sizes. table_size s ∷ sizes) (sizes_are ss xs more all.1)
 
-pub records_are : (c : Class) (d : ClassDecl) (text : List ℕ) (tables : List Table) (counts : List ℕ) (alphabets : List (List MaskedKind))
+pub records_are : (c : Class) (d : ClassDecl) (text : List ℕ) (tables : List Table) (counts : List ℕ) (alphabets : List Alphabet)
     → text ≡ decl_text d → counts ≡ tree_counts c.triggers → AreCompiled c.triggers tables alphabets
     → class_records (length text) (counted_sizes counts tables) ≡ record_count (record { class = c; tree = d })
 unfolding record_count
@@ -90,12 +89,12 @@ fewer_states n most symbols le =
     let pieces = fewer_pieces (table_length n symbols) (table_length most symbols) (omega (arith, cells, le)) in
     omega (arith, pieces)
 
-fewer_of : (t : TriggerDecl) (table : Table) (rows : List MaskedKind) → IsCompiled t table rows → table_records (size_of_table table) ≤ table_records (table_size t)
+fewer_of : (t : TriggerDecl) (table : Table) (rows : Alphabet) → IsCompiled t table rows → table_records (size_of_table table) ≤ table_records (table_size t)
 fewer_of t table rows is =
     subst (λ (n : ℕ). table_records (size_of_table table) ≤ table_records (tree_count t.event, n)) is.means.symbols
     (fewer_states table.states (tree_count t.event) table.symbols is.states)
 
-pub tables_fewer : (ts : List TriggerDecl) (tables : List Table) (alphabets : List (List MaskedKind)) → AreCompiled ts tables alphabets
+pub tables_fewer : (ts : List TriggerDecl) (tables : List Table) (alphabets : List Alphabet) → AreCompiled ts tables alphabets
     → sum_by table_records (map size_of_table tables) ≤ sum_by table_records (map table_size ts)
 tables_fewer [] [] [] all = omega arith
 tables_fewer [] [] (a ∷ more) all = absurd all
@@ -109,7 +108,7 @@ tables_fewer (s ∷ ss) (x ∷ xs) (a ∷ more) all =
     let most = sum_by-cons table_records (table_size s) (map table_size ss) in
     omega (arith, here, rest, own, most)
 
-pub records_fewer : (c : Class) (d : ClassDecl) (text : List ℕ) (tables : List Table) (alphabets : List (List MaskedKind))
+pub records_fewer : (c : Class) (d : ClassDecl) (text : List ℕ) (tables : List Table) (alphabets : List Alphabet)
     → text ≡ decl_text d → AreCompiled c.triggers tables alphabets → class_records (length text) (map size_of_table tables) ≤ record_count (record { class = c; tree = d })
 unfolding record_count
 records_fewer c d text tables alphabets printed all =

@@ -5,7 +5,7 @@ use Rattle.ode_value.specs.Answers.{Answer, ◌>>=◌, checks, refuses}
 use Rattle.ode_value.specs.ClassLimits.{limits_class}
 use Rattle.ode_value.specs.Limits.{class_limit, counted_symbols, state_limit, symbol_limit}
 use Rattle.ode_value.specs.Numbers.{has_numbers}
-use Rattle.ode_value.specs.Symbols.{MaskedKind, symbol_count}
+use Rattle.ode_value.specs.Symbols.{Alphabet, symbol_count, alphabet}
 use Rattle.ode_value.specs.Tables.{Means, Table}
 use Rattle.ode_value.specs.TreeCount.{tree_count}
 use Rattle.ode_value.specs.Worlds.{Declared}
@@ -16,7 +16,6 @@ use Rattle.ode_value.specs.declared.statement.ClassDecl.{ClassDecl}
 use Rattle.ode_value.specs.declared.statement.Member.{Member}
 use Rattle.ode_value.specs.declared.statement.Member.TheVariants as member
 use Rattle.ode_minimal.specs.Minimal.{AnswersAs, IsMinimal, IsReached}
-use Rattle.ode_symbols.specs.Alphabets.{alphabet}
 use Rattle.ode_table.specs.Whole.{IsWhole}
 use Rattle.ode_types.specs.Static.{check_class}
 
@@ -53,14 +52,14 @@ few_records count = refuses (nat_lt class_limit count) (refusal.ClassTooLarge co
 
 -- The table of a trigger fits together, means its event and has no more states than that has trees; its symbols are those of the event's
 -- alphabet.
-pub record IsCompiled (t : TriggerDecl) (table : Table) (rows : List MaskedKind) : Type 0 where
+pub record IsCompiled (t : TriggerDecl) (table : Table) (rows : Alphabet) : Type 0 where
   pub whole : IsWhole table
   pub means : Means table t.event
   pub states : table.states ≤ tree_count t.event
-  pub rows_are : rows ≡ alphabet t.event
+  pub alphabet_is : rows ≡ alphabet t.event
 
 -- as many of both as there are triggers, in order
-abbrev pub AreCompiled : List TriggerDecl → List Table → List (List MaskedKind) → Type 0
+abbrev pub AreCompiled : List TriggerDecl → List Table → List Alphabet → Type 0
 AreCompiled [] [] [] = Unit {0}
 AreCompiled (t ∷ ts) (table ∷ tables) (rows ∷ alphabets) = IsCompiled t table rows × AreCompiled ts tables alphabets
 AreCompiled _ _ _ = ⊥

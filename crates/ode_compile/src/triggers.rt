@@ -4,7 +4,7 @@ ghost use Rattle.std.specs.List.{AllByRecursion};
 ghost use Rattle.ode_value.specs.ClassLimits.{limits_trigger, limits_triggers};
 ghost use Rattle.ode_value.specs.Numbers.{has_numbers};
 ghost use Rattle.ode_value.specs.TreeCount.{tree_count};
-ghost use Rattle.ode_symbols.specs.Alphabets.{alphabet};
+ghost use Rattle.ode_value.specs.Symbols.{alphabet};
 ghost use Rattle.ode_compile.specs.Answers.{Passes};
 ghost use Rattle.ode_compile.specs.Compiling.{AreCompiled, IsCompiled, few_states, few_symbols, tree_counts};
 

@@ -10,9 +10,8 @@ use Rattle.ode_value.specs.declared.member.Method.{Method}
 use Rattle.ode_value.specs.declared.member.TriggerDecl.{TriggerDecl}
 use Rattle.ode_value.specs.declared.statement.Stmt.{Stmt}
 use Rattle.ode_value.specs.Classes.{Trigger, own_triggers}
-use Rattle.ode_value.specs.Symbols.{MaskedKind}
+use Rattle.ode_value.specs.Symbols.{Alphabet, alphabet, size_of}
 use Rattle.ode_value.specs.Tables.{Table}
-use Rattle.ode_symbols.specs.Alphabets.{alphabet, size_of}
 use Rattle.ode_types.specs.Families.{class_numbered, upward}
 use Rattle.ode_states.specs.Advance.{no_table}
 use Rattle.ode_interpreter.specs.declared.firing.Trigger as code
@@ -22,7 +21,7 @@ use Rattle.ode_interpreter.specs.declared.firing.Trigger as code
 pub record Parts : Type 0 where
   pub classes : List Class
   pub tables : List Table
-  pub alphabets : List (List MaskedKind)
+  pub alphabets : List Alphabet
   pub maps : List ℕ
 
 -- a class with its ancestors, the farthest first

@@ -11,7 +11,7 @@ ghost use Rattle.ode_types.specs.Families as families;
 ghost use Rattle.ode_types.specs.declared.running.Running.{Running};
 ghost use Rattle.ode_states.specs.Advance.{alphabet_of, table_of};
 ghost use Rattle.ode_states.specs.Machine.{checked};
-ghost use Rattle.ode_symbols.specs.Alphabets.{alphabet};
+ghost use Rattle.ode_value.specs.Symbols.{alphabet};
 ghost use Rattle.ode_value.specs.declared.member.TriggerDecl.{TriggerDecl};
 ghost use Rattle.ode_schema.specs.Parts.{AreFit, Parts, table_by, table_place, trigger_under};
 

@@ -14,7 +14,7 @@ use Rattle.ode_value.specs.Firings.{is_of, firing_of, ends_by, after_firings, ob
 use Rattle.ode_value.specs.GoodWorlds.{RiseFrom}
 use Rattle.ode_value.specs.Objects.{Activation}
 use Rattle.ode_value.specs.Pasts.{Past, Kept, numbers}
-use Rattle.ode_value.specs.Symbols.{MaskedKind}
+use Rattle.ode_value.specs.Symbols.{Alphabet}
 use Rattle.ode_value.specs.Tables.{Table}
 use Rattle.ode_value.specs.Transactions.{Firing}
 use Rattle.ode_value.specs.Worlds.{Declared, Object}
@@ -140,7 +140,7 @@ once_of : (class place : ℕ) (t : Option TriggerDecl) (trigger : Trigger) → o
 once_of class place None trigger is = absurd (cc)
 once_of class place (Some t) trigger is = let same : trigger_of class (place, t) ≡ trigger = cc in ap (λ (u : Trigger). not u.decl.perpetual) same
 
-module _ (by : ℕ → ℕ → Table) (tables : List Table) (alphabets : List (List MaskedKind)) (classes : List Declared) (p : Point) (o : Object) (acts : List Running)
+module _ (by : ℕ → ℕ → Table) (tables : List Table) (alphabets : List Alphabet) (classes : List Declared) (p : Point) (o : Object) (acts : List Running)
     (are : AreOf by tables alphabets classes o acts) where
   once_is : (a : Running) (of : IsOf by tables alphabets classes o.class a) → once (checked classes) a ≡ not of.trigger.decl.perpetual
   once_is a of =

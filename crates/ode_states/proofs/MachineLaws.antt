@@ -11,11 +11,10 @@ use Rattle.ode_value.specs.Firings.{is_of, watch_by, watch_at, firing_of, change
 use Rattle.ode_value.specs.Objects.{Activation, Histories, Starts, grown, view_of}
 use Rattle.ode_value.specs.Pasts.{Past, Kept, Watch, lists, numbers, stepped, StandsFor}
 use Rattle.ode_value.specs.Points.{fires_on}
-use Rattle.ode_value.specs.Symbols.{MaskedKind, symbol}
+use Rattle.ode_value.specs.Symbols.{Alphabet, symbol, symbol_among}
 use Rattle.ode_value.specs.Tables.{Table, next_state, says_yes}
 use Rattle.ode_value.specs.Worlds.{Declared, Object, kept_at}
 use Rattle.ode_value.proofs.PastLaws.{step_stands, step_fires}
-use Rattle.ode_symbols.specs.Alphabets.{symbol_among}
 use Rattle.ode_types.specs.declared.running.Running.{Running}
 use Rattle.ode_states.specs.declared.fired.Fired.{Fired}
 use Rattle.ode_states.specs.Advance.{table_of, state_after, fires, advanced, fired_of}
@@ -112,7 +111,7 @@ one_trigger a trigger (t ∷ ts) rise found =
     (cases_Bool (is_of t (activation_of a)))
 
 -- ---- by tables
-module _ (by : ℕ → ℕ → Table) (tables : List Table) (alphabets : List (List MaskedKind)) (classes : List Declared) (p : Point) where
+module _ (by : ℕ → ℕ → Table) (tables : List Table) (alphabets : List Alphabet) (classes : List Declared) (p : Point) where
   abbrev Of : ℕ → Running → Type 0
   Of = IsOf by tables alphabets classes
 
@@ -128,7 +127,7 @@ module _ (by : ℕ → ℕ → Table) (tables : List Table) (alphabets : List (L
   state_is : (class : ℕ) (a : Running) (of : Of class a) → stepped by (watch_of of.trigger a.args) a.state p ≡ after a
   state_is class a of =
       ap (λ (t : Table). next_state t a.state (symbol of.trigger.decl.event a.args p)) (table_is class a of)
-      ∙ ap (λ (rows : List MaskedKind). next_state (table_of tables a) a.state (symbol_among rows a.args p)) (sym of.alphabet)
+      ∙ ap (λ (rows : Alphabet). next_state (table_of tables a) a.state (symbol_among rows a.args p)) (sym of.alphabet)
 
   watch_is : (o : Object) (acts : List Running) → o.activations ≡ map activation_of acts → (class : ℕ) (a : Running) (of : Of class a)
       → numbered a.id (map activation_of acts) ≡ Some (activation_of a) → watch_at classes o a.id ≡ Some (watch_of of.trigger a.args)

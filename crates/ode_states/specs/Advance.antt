@@ -5,9 +5,8 @@ use Rattle.std.specs.Option.{option_and_then, option_map_or}
 use Rattle.ode_value.specs.declared.class.Class.{Class}
 use Rattle.ode_value.specs.declared.event.Point.{Point}
 use Rattle.ode_value.specs.declared.member.TriggerDecl.{TriggerDecl}
-use Rattle.ode_value.specs.Symbols.{MaskedKind}
+use Rattle.ode_value.specs.Symbols.{Alphabet, size_of, symbol_among}
 use Rattle.ode_value.specs.Tables.{Table, next_state, says_yes}
-use Rattle.ode_symbols.specs.Alphabets.{size_of, symbol_among}
 use Rattle.ode_types.specs.declared.running.Running.{Running}
 use Rattle.ode_types.specs.Families.{class_numbered}
 use Rattle.ode_states.specs.declared.fired.Fired.{Fired}
@@ -19,11 +18,14 @@ no_table = record { states = 0; symbols = 0; next = []; yes = [] }
 abbrev pub table_of : List Table → Running → Table
 table_of tables a = slice_index_or tables a.table no_table
 
-abbrev pub alphabet_of : List (List MaskedKind) → Running → List MaskedKind
-alphabet_of alphabets a = slice_index_or alphabets a.table []
+abbrev pub no_alphabet : Alphabet
+no_alphabet = record { kinds = []; masks = [] }
+
+abbrev pub alphabet_of : List Alphabet → Running → Alphabet
+alphabet_of alphabets a = slice_index_or alphabets a.table no_alphabet
 
 -- an activation's place is one of both lists, its state is one of its table's, and its table is over its alphabet
-pub record IsReady (tables : List Table) (alphabets : List (List MaskedKind)) (a : Running) : Type 0 where
+pub record IsReady (tables : List Table) (alphabets : List Alphabet) (a : Running) : Type 0 where
   pub table : a.table < length tables
   pub alphabet : a.table < length alphabets
   pub state : a.state < (table_of tables a).states
@@ -35,13 +37,13 @@ once classes a =
     option_map_or (λ (t : TriggerDecl). not t.perpetual) (option_and_then (λ (c : Class). slice_get c.triggers a.trigger) (class_numbered classes a.class)) false
 
 -- the state after a point, and whether it fires there: it is on, and its table says yes behind the point
-abbrev pub state_after : List Table → List (List MaskedKind) → Point → Running → ℕ
+abbrev pub state_after : List Table → List Alphabet → Point → Running → ℕ
 state_after tables alphabets p a = next_state (table_of tables a) a.state (symbol_among (alphabet_of alphabets a) a.args p)
 
-abbrev pub fires : List Table → List (List MaskedKind) → Point → Running → Bool
+abbrev pub fires : List Table → List Alphabet → Point → Running → Bool
 fires tables alphabets p a = a.on && says_yes (table_of tables a) (state_after tables alphabets p a)
 
-abbrev pub step_by : List Table → List (List MaskedKind) → List Class → Point → Running → Step
+abbrev pub step_by : List Table → List Alphabet → List Class → Point → Running → Step
 step_by tables alphabets classes p a = record {
   state = state_after tables alphabets p a;
   fires = fires tables alphabets p a;
@@ -53,7 +55,7 @@ abbrev pub moved : Running → Step → Running
 moved a s = record { id = a.id; class = a.class; trigger = a.trigger; args = a.args; state = s.state; on = s.on; table = a.table }
 
 -- an activation behind the point
-abbrev pub advanced : List Table → List (List MaskedKind) → List Class → Point → Running → Running
+abbrev pub advanced : List Table → List Alphabet → List Class → Point → Running → Running
 advanced tables alphabets classes p a = moved a (step_by tables alphabets classes p a)
 
 -- a firing comes before another: by the class, an ancestor's number being less, then by the trigger's place there, then by number
@@ -78,5 +80,5 @@ abbrev pub fires_among : (Running → Step) → List Running → List Fired
 fires_among f acts = fold placed [] (map fired_of (filter (λ a. (f a).fires) acts))
 
 -- the firings at a point
-abbrev pub fired_in : List Table → List (List MaskedKind) → List Class → Point → List Running → List Fired
+abbrev pub fired_in : List Table → List Alphabet → List Class → Point → List Running → List Fired
 fired_in tables alphabets classes p acts = fires_among (step_by tables alphabets classes p) acts

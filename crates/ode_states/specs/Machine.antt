@@ -9,11 +9,10 @@ use Rattle.ode_value.specs.Fitting.{trigger_in}
 use Rattle.ode_value.specs.GoodWorlds.{RiseFrom}
 use Rattle.ode_value.specs.Objects.{Activation, Histories, Starts, IsWithin}
 use Rattle.ode_value.specs.Pasts.{Past, Kept, StandsFor}
-use Rattle.ode_value.specs.Symbols.{MaskedKind}
+use Rattle.ode_value.specs.Symbols.{Alphabet, alphabet}
 use Rattle.ode_value.specs.Tables.{Table, Means}
 use Rattle.ode_value.specs.Transactions.{Firing}
 use Rattle.ode_value.specs.Worlds.{Declared, Object}
-use Rattle.ode_symbols.specs.Alphabets.{alphabet}
 use Rattle.ode_types.specs.declared.running.Running.{Running}
 use Rattle.ode_states.specs.declared.fired.Fired.{Fired}
 use Rattle.ode_states.specs.Advance.{table_of, alphabet_of}
@@ -45,7 +44,7 @@ module _ {O A : Type 0} (past : Past O A) (classes : List Declared) (p : Point) 
   machine_firings kept = fired_in past (both_lists past) o classes (kept_behind kept)
 
 -- by classes and places of triggers their tables, and by places the tables and alphabets that stand there
-module _ (by : ℕ → ℕ → Table) (tables : List Table) (alphabets : List (List MaskedKind)) (classes : List Declared) where
+module _ (by : ℕ → ℕ → Table) (tables : List Table) (alphabets : List Alphabet) (classes : List Declared) where
   -- an activation of a trigger that a class has, with the trigger's table and the alphabet of its event
   pub record IsOf (class : ℕ) (a : Running) : Type 0 where
     pub trigger : Trigger

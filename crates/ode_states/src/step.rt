@@ -1,8 +1,8 @@
 //! One activation's step.
-ghost use Rattle.std.specs.Prelude.{◌≡◌, []};
+ghost use Rattle.std.specs.Prelude.{◌≡◌};
 ghost use Rattle.std.specs.Option.{option_copied, unwrap_or};
-ghost use Rattle.ode_states.specs.Advance.{no_table, once, step_by};
-ghost use Rattle.ode_symbols.specs.Alphabets.{symbol_among};
+ghost use Rattle.ode_states.specs.Advance.{no_alphabet, no_table, once, step_by};
+ghost use Rattle.ode_value.specs.Symbols.{symbol_among};
 ghost use Rattle.ode_value.specs.Tables.{next_state, says_yes};
 
 use ode_symbols::Alphabet;
@@ -39,7 +39,7 @@ fn symbol_in(
     args: &[Value],
     own: &[Value],
 ) -> u8
-    ensures { result ≡ symbol_among (unwrap_or (option_copied alphabet.entry) []) params.now (record { kind = kind.now; args = args.now; fields = own.now }) }
+    ensures { result ≡ symbol_among (unwrap_or (option_copied alphabet.entry) no_alphabet) params.now (record { kind = kind.now; args = args.now; fields = own.now }) }
 {
     match alphabet {
         Some(alphabet) => alphabet.symbol(params, kind, args, own),

@@ -1,12 +1,12 @@
 //! The table of an event expression.
 ghost use Rattle.std.specs.Prelude.{◌≡◌, ◌<◌, ◌≤◌, All, Bool, EachIndex, IfErr, IfOk, List as Items, length, map, slice_index, true};
 ghost use Rattle.std.specs.List.{range_with_len};
-ghost use Rattle.ode_symbols.specs.Alphabets.{alphabet, mark_among, size_of};
+ghost use Rattle.ode_value.specs.Symbols.{alphabet, mark_among, size_of};
 ghost use Rattle.ode_table.specs.Built.{IsBuilt, IsOver, IsRefused, table_by};
 ghost use Rattle.ode_table.specs.Whole.{IsWhole};
 ghost use Rattle.ode_value.specs.declared.event.EventExpr.{EventExpr};
 ghost use Rattle.ode_value.specs.Limits.{state_limit};
-ghost use Rattle.ode_value.specs.Marks.{leaves, spelled};
+ghost use Rattle.ode_value.specs.Marks.{spelled};
 ghost use Rattle.ode_value.specs.Numbers.{has_numbers};
 ghost use Rattle.ode_value.specs.Tables.{Means};
 ghost use Rattle.ode_value.specs.TreeCount.{tree_count};
@@ -19,7 +19,7 @@ use ode_trees::{Reached, out, reach};
 use ode_value::{EventExpr, List, StateTree};
 use std::alloc::{AllocError, Global};
 
-// For each symbol whether each leaf of the expression holds at it.
+// For each symbol whether each leaf of the expression, and then each of its masks on composite events, holds at it.
 fn marks_of(alloc: Global, e: &EventExpr, a: &Alphabet) -> Result<List<List<bool>>, AllocError>
     ensures { IfOk result (λ marks. marks ≡ map (λ s. spelled e.now (mark_among a.now s)) (range_with_len 0 (size_of a.now))) }
 {
@@ -68,7 +68,7 @@ fn table_of(
     Ok(Table::of_parts(states, symbols, next, yes))
 }
 
-/// The table of an expression over an alphabet that has its leaves. Each number of a `choose` or an `every` is within the limit.
+/// The table of an expression over an alphabet that has its leaves and its masks on composite events. Each number of a `choose` or an `every` is within the limit.
 pub fn build(alloc: Global, e: &EventExpr, a: &Alphabet) -> Result<Table, BuildError>
     requires numbers { has_numbers e.now ≡ true }
     ensures built { IfOk result (λ t. (of : EventExpr) → IsOver e.now of a.now → IsBuilt e.now of t) }

@@ -2,7 +2,7 @@ use Rattle.std.proofs.Common.{◌≡◌, ℕ, ◌+◌, List, [], ◌∷◌, ◌+
 use Rattle.std.proofs.lemmas.List.{drop_more, map-append, take_more}
 use Rattle.std.proofs.lemmas.Result.{err_from_is_err_and}
 use Rattle.ode_value.specs.ClassLimits.{limits_trigger, limits_triggers}
-use Rattle.ode_value.specs.Symbols.{MaskedKind}
+use Rattle.ode_value.specs.Symbols.{Alphabet}
 use Rattle.ode_value.specs.Tables.{Table}
 use Rattle.ode_value.specs.TreeCount.{tree_count}
 use Rattle.ode_value.specs.declared.member.TriggerDecl.{TriggerDecl}
@@ -36,7 +36,7 @@ loop-trigger-preserved c =
       compiled =
           subst (λ (us : List TriggerDecl). AreCompiled us c.push.new.self c.push-in-loop-trigger.new.self) (sym taken)
           (subst (λ (xs : List Table). AreCompiled (take i ts ++ t ∷ []) xs c.push-in-loop-trigger.new.self) (sym c.in_ok-push.ensures.ok)
-          (subst (λ (rows : List (List MaskedKind)). AreCompiled (take i ts ++ t ∷ []) tables rows) (sym c.in_ok-push-2.ensures.ok)
+          (subst (λ (rows : List Alphabet). AreCompiled (take i ts ++ t ∷ []) tables rows) (sym c.in_ok-push-2.ensures.ok)
           (compiled_more (take i ts) c.loop-trigger.tables c.loop-trigger.alphabets t c.in_ok-table.table c.in_ok-table.alphabet c.loop-trigger.invariant.compiled c.in_ok-table.ensures.compiled)));
       counts =
           c.in_ok-push-3.ensures.ok

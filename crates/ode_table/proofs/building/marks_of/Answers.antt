@@ -1,7 +1,7 @@
 use Rattle.std.proofs.Common.{ℕ, [], ◌∷◌, ◌++◌, sym, ◌∙◌, arith}
 use Rattle.std.proofs.lemmas.List.FromFn.{map-range_with_len_more}
 use Rattle.ode_value.specs.Marks.{spelled}
-use Rattle.ode_symbols.specs.Alphabets.{mark_among}
+use Rattle.ode_value.specs.Symbols.{mark_among}
 use Rattle.ode_table.proofs.building.marks_of.Goals as goal
 
 pub loop-s-preserved : goal.loop-s-preserved

@@ -1,7 +1,7 @@
 use Rattle.std.proofs.Common.{◌≡◌, map}
 use Rattle.std.specs.List.{range_with_len}
 use Rattle.ode_value.specs.Marks.{spelled}
-use Rattle.ode_symbols.specs.Alphabets.{mark_among}
+use Rattle.ode_value.specs.Symbols.{mark_among}
 use Rattle.ode_table.proofs.building.marks_of.Given as goal
 
 -- the symbols so far
