@@ -25,6 +25,10 @@ CLASSES = """class Item { int n; text name; ref Item next; constraint small: n <
     trigger perpetual dependent later(int k): after add && k > n ==> { say "later"; add(2); }
     trigger perpetual whole independent kept(ref Item log): prior(before twice, after tabort) ==> { log.add(2); }
     trigger perpetual gap(): fa(after tbegin, after link, after add) and !before delete ==> { say "linked first"; }
+    trigger perpetual again(): relplus(choose 2 (after add)) ==> { say "again"; }
+    trigger perpetual whole third_add(): pipe(after add, every 3 (any)) ==> { say "third add"; }
+    trigger perpetual between(): faabs(after tbegin, after link, choose 2 (after add)) ==> { say "linked between"; }
+    trigger perpetual few(int k): (after add or before twice) && n < k ==> { say "few"; show n; }
     trigger once loop(): relative(before twice, after add) ==> { add(-2); }
     trigger perpetual grown(): after newversion && n > 2 ==> { say "grown"; add(-2); }
     trigger whole shrunk(ref Item r): before delversion ==> { delversion r; show version(this); }
@@ -77,7 +81,7 @@ class Writer:
             return self.new(self.items, f"{bag}.fill();")
         if self.random.random() < 0.12:
             self.drawn += 1
-            trigger = self.random.choice(["low(20)", "third()", "often()", "pair()", "later(30)", f"kept({other})", "gap()", "loop()", "tock()", "tock()", "grown()", f"shrunk({item})", f"shrunk({other})", "rise()", "rise()", "low(true)", "none()"])
+            trigger = self.random.choice(["low(20)", "third()", "often()", "pair()", "later(30)", f"kept({other})", "gap()", "again()", "third_add()", "between()", "few(10)", "loop()", "tock()", "tock()", "grown()", f"shrunk({item})", f"shrunk({other})", "rise()", "rise()", "low(true)", "none()"])
             return f"activate {item}.{trigger};"
         if self.random.random() < 0.1:
             return self.clock()

@@ -31,7 +31,7 @@ use Rattle.ode_value.specs.Firings.{is_of}
 use Rattle.ode_value.specs.Fitting.{trigger_in}
 use Rattle.ode_value.specs.Keys.{activation_key}
 use Rattle.ode_value.specs.Objects.{Activation}
-use Rattle.ode_value.specs.Symbols.{MaskedKind}
+use Rattle.ode_value.specs.Symbols.{Alphabet}
 use Rattle.ode_value.specs.Tables.{Table}
 use Rattle.ode_value.specs.Worlds.{Declared}
 use Rattle.ode_value.specs.declared.class.Class.{Class}
@@ -192,13 +192,13 @@ fold_all : (P : Fired → Type 0) (more fs : List Fired) → AllByRecursion P fs
 fold_all P [] fs all rest = all
 fold_all P (f ∷ more) fs all rest = fold_all P more (placed fs f) (placed_all P fs f all rest.0) rest.1
 
-pub fired_all : (P : Fired → Type 0) (tables : List Table) (alphabets : List (List MaskedKind)) (classes : List Class) (point : Point) (acts : List Running) → AllByRecursion (λ a. P (fired_of a)) acts
+pub fired_all : (P : Fired → Type 0) (tables : List Table) (alphabets : List Alphabet) (classes : List Class) (point : Point) (acts : List Running) → AllByRecursion (λ a. P (fired_of a)) acts
     → AllByRecursion P (fired_in tables alphabets classes point acts)
 fired_all P tables alphabets classes point acts all =
     let firing = filter (λ a. (step_by tables alphabets classes point a).fires) acts in
     fold_all P (map fired_of firing) [] tt (all-map P fired_of firing (all-filter (λ a. P (fired_of a)) (λ a. (step_by tables alphabets classes point a).fires) acts all))
 
-pub fired_short : (tables : List Table) (alphabets : List (List MaskedKind)) (classes : List Class) (point : Point) (acts : List Running) → AllByRecursion HasShortArgs acts
+pub fired_short : (tables : List Table) (alphabets : List Alphabet) (classes : List Class) (point : Point) (acts : List Running) → AllByRecursion HasShortArgs acts
     → AllByRecursion IsShortlyFired (fired_in tables alphabets classes point acts)
 fired_short = fired_all IsShortlyFired
 

@@ -18,7 +18,7 @@ use Rattle.ode_value.specs.Lengths.{class_records, table_records}
 use Rattle.ode_value.specs.Limits.{class_limit, weight_limit}
 use Rattle.ode_value.specs.PrintedClasses.{decl_text}
 use Rattle.ode_value.specs.Records.{Row}
-use Rattle.ode_value.specs.Symbols.{MaskedKind}
+use Rattle.ode_value.specs.Symbols.{Alphabet}
 use Rattle.ode_value.specs.Tables.{Table}
 use Rattle.ode_value.specs.Weights.{record_count, table_size, weight}
 use Rattle.ode_value.specs.Worlds.{Declared}
@@ -50,7 +50,7 @@ few_of_limits c h =
     let second = both_ok (refuses (nat_lt class_limit count) (refusal.ClassTooLarge count)) (λ _. Ok c) c first.2 in
     ltb-false class_limit count (not_refused (nat_lt class_limit count) (refusal.ClassTooLarge count) second.0 second.1)
 
-sized_of_few : (ts : List TriggerDecl) (own : List Table) (alphabets : List (List MaskedKind)) → AreCompiled ts own alphabets
+sized_of_few : (ts : List TriggerDecl) (own : List Table) (alphabets : List Alphabet) → AreCompiled ts own alphabets
     → sum_by table_records (map size_of_table own) < 2 ^ 16 → AllByRecursion IsSized own
 sized_of_few [] [] alphabets all few = tt
 sized_of_few [] (x ∷ xs) alphabets all few = absurd all
@@ -60,14 +60,14 @@ sized_of_few (t ∷ ts) (x ∷ xs) (rows ∷ more) all few =
     let sum = sum_by-cons table_records (size_of_table x) (map size_of_table xs) in
     (sized_by x all.0.whole (omega (arith, sum, few)), sized_of_few ts xs more all.1 (omega (arith, sum, few)))
 
-own_sized : (c : Declared) (own : List Table) (alphabets : List (List MaskedKind)) → AreCompiled c.class.triggers own alphabets → limits_class c ≡ Ok c → AllByRecursion IsSized own
+own_sized : (c : Declared) (own : List Table) (alphabets : List Alphabet) → AreCompiled c.class.triggers own alphabets → limits_class c ≡ Ok c → AllByRecursion IsSized own
 unfolding record_count class_limit
 own_sized c own alphabets all limits =
     let few : class_records (length (decl_text c.tree)) (map table_size c.class.triggers) ≤ class_limit = few_of_limits c limits in
     let fewer = tables_fewer c.class.triggers own alphabets all in
     sized_of_few c.class.triggers own alphabets all (omega (arith, few, fewer))
 
-pub class_held : (l : Language) (records : List Row) (w : ListWorld) (held : HoldsWorld l records w) (c : Declared) (own : List Table) (alphabets : List (List MaskedKind))
+pub class_held : (l : Language) (records : List Row) (w : ListWorld) (held : HoldsWorld l records w) (c : Declared) (own : List Table) (alphabets : List Alphabet)
     → IsClass l w.bones.classes c → AreCompiled c.class.triggers own alphabets → weight (bones_with c w.bones) ≤ weight_limit
     → (after : HoldsWorld l (applied (puts (class_rows (stored_with c own held.stored).tables c)) records) (world_with c w)) × (after.stored ≡ stored_with c own held.stored)
 class_held l records w held c own alphabets is made light =

@@ -20,7 +20,7 @@ use Rattle.ode_value.specs.GoodWorlds.{IsPast}
 use Rattle.ode_value.specs.Language.{ListWorld}
 use Rattle.ode_value.specs.Objects.{Activation, Histories, Starts}
 use Rattle.ode_value.specs.Pasts.{Kept, Watch}
-use Rattle.ode_value.specs.Symbols.{MaskedKind}
+use Rattle.ode_value.specs.Symbols.{Alphabet}
 use Rattle.ode_value.specs.Tables.{Means, Table}
 use Rattle.ode_value.specs.TreeCount.{tree_count}
 use Rattle.ode_value.specs.Worlds.{Declared, Object, class_numbered}
@@ -38,14 +38,14 @@ whole_table : (t : Table) → IsWholeTable t → IsWhole t
 whole_table t is = record { some = is.some; next = is.rows; in_range = each_below t.next t.states is.numbers; yes = is.answers }
 
 module _ (by : ℕ → ℕ → Table) (class : ℕ) where
-  table_of : (place : ℕ) (t : TriggerDecl) (table : Table) (rows : List MaskedKind) → by class place ≡ table → IsCompiled t table rows → IsTableOf by (trigger_of class (place, t))
+  table_of : (place : ℕ) (t : TriggerDecl) (table : Table) (rows : Alphabet) → by class place ≡ table → IsCompiled t table rows → IsTableOf by (trigger_of class (place, t))
   table_of place t table rows is made = record {
     whole = subst IsWhole (sym is) (whole_table table made.whole);
     small = subst (λ u. u.states ≤ tree_count t.event) (sym is) made.states;
     means = subst (λ u. Means u t.event) (sym is) made.means;
   }
 
-  tables_from : (first : ℕ) (ts : List TriggerDecl) (own : List Table) (alphabets : List (List MaskedKind)) → AreCompiled ts own alphabets
+  tables_from : (first : ℕ) (ts : List TriggerDecl) (own : List Table) (alphabets : List Alphabet) → AreCompiled ts own alphabets
       → map (by class) (range_with_len first (length ts)) ≡ own → AllByRecursion (IsTableOf by) (map (trigger_of class) (enumerate_from first ts))
   tables_from first [] own alphabets all same = tt
   tables_from first (t ∷ ts) [] alphabets all same = absurd all
@@ -55,14 +55,14 @@ module _ (by : ℕ → ℕ → Table) (class : ℕ) where
       let rest : map (by class) (range_with_len (first + 1) (length ts)) ≡ xs = cc in
       (table_of first t x rows here all.0, tables_from (first + 1) ts xs more all.1 rest)
 
-pub as_many : (ts : List TriggerDecl) (own : List Table) (alphabets : List (List MaskedKind)) → AreCompiled ts own alphabets → length own ≡ length ts
+pub as_many : (ts : List TriggerDecl) (own : List Table) (alphabets : List Alphabet) → AreCompiled ts own alphabets → length own ≡ length ts
 as_many [] [] alphabets all = refl
 as_many [] (x ∷ xs) alphabets all = absurd all
 as_many (t ∷ ts) [] alphabets all = absurd all
 as_many (t ∷ ts) (x ∷ xs) [] all = absurd all
 as_many (t ∷ ts) (x ∷ xs) (rows ∷ more) all = ap suc (as_many ts xs more all.1)
 
-pub own_mean : (c : Declared) (own : List Table) (alphabets : List (List MaskedKind)) (tables : ℕ → ℕ → Table) → AreCompiled c.class.triggers own alphabets
+pub own_mean : (c : Declared) (own : List Table) (alphabets : List Alphabet) (tables : ℕ → ℕ → Table) → AreCompiled c.class.triggers own alphabets
     → HasTables (tables_with c.class.number own tables) c
 own_mean c own alphabets tables all =
     tables_from (tables_with c.class.number own tables) c.class.number 0 c.class.triggers own alphabets all
@@ -102,7 +102,7 @@ module _ (tables : ℕ → ℕ → Table) (cs more : List Declared) where
   pasts_more = rows_then id_of (Object3 tables cs) (Object3 tables (cs ++ more))
       (λ o k l rows. rows_then number_of (Stays tables cs l.own) (Stays tables (cs ++ more) l.own) (λ a state start s. stays_more l.own a state start s) o.activations k.activations l.activations rows)
 
-pub stands_with : (tables : ℕ → ℕ → Table) (v : NumberWorld) (w : ListWorld) (c : Declared) (own : List Table) (alphabets : List (List MaskedKind))
+pub stands_with : (tables : ℕ → ℕ → Table) (v : NumberWorld) (w : ListWorld) (c : Declared) (own : List Table) (alphabets : List Alphabet)
     → StandsAs tables v w → AreNumbered w.bones → AreBefore c.class.number w.bones.classes → AreCompiled c.class.triggers own alphabets
     → StandsAs (tables_with c.class.number own tables) (world_with c v) (world_with c w)
 stands_with tables v w c own alphabets stands numbered before made =

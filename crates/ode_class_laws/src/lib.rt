@@ -9,7 +9,7 @@ ghost use Rattle.ode_value.specs.Language.{Language, ListWorld};
 ghost use Rattle.ode_value.specs.Limits.{weight_limit};
 ghost use Rattle.ode_value.specs.PrintedClasses.{decl_text};
 ghost use Rattle.ode_value.specs.Records.{Row};
-ghost use Rattle.ode_value.specs.Symbols.{MaskedKind};
+ghost use Rattle.ode_value.specs.Symbols.{Alphabet};
 ghost use Rattle.ode_value.specs.Tables.{Table};
 ghost use Rattle.ode_value.specs.Weights.{weight};
 ghost use Rattle.ode_value.specs.Worlds.{Declared};
@@ -34,7 +34,7 @@ pub fn declared_classes_are_stored()
 /// Over records that hold a world, the changes that put the rows of an accepted class with its compiled tables make records that hold the
 /// world with the class behind the others, where that isn't too heavy: what is stored is the database of before with the class and its tables.
 pub fn declared_classes_are_held()
-    ensures { (l : Language) (records : Items Row) (w : ListWorld) (held : HoldsWorld l records w) (c : Declared) (own : Items Table) (alphabets : Items (Items MaskedKind))
+    ensures { (l : Language) (records : Items Row) (w : ListWorld) (held : HoldsWorld l records w) (c : Declared) (own : Items Table) (alphabets : Items Alphabet)
         → IsClass l w.bones.classes c → AreCompiled c.class.triggers own alphabets → weight (bones_with c w.bones) ≤ weight_limit
         → (after : HoldsWorld l (applied (puts (class_rows (stored_with c own held.stored).tables c)) records) (world_with c w)) × (after.stored ≡ stored_with c own held.stored) }
 {}

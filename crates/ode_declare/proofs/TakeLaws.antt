@@ -27,7 +27,7 @@ use Rattle.ode_value.specs.GoodWorlds.{IsGood}
 use Rattle.ode_value.specs.Language.{Language, ListWorld}
 use Rattle.ode_value.specs.Objects.{Histories, Starts}
 use Rattle.ode_value.specs.Settling.{Settled}
-use Rattle.ode_value.specs.Symbols.{MaskedKind}
+use Rattle.ode_value.specs.Symbols.{Alphabet}
 use Rattle.ode_value.specs.Tables.{Table}
 use Rattle.ode_value.specs.Weights.{weight}
 use Rattle.ode_value.specs.Worlds.{Bones, Declared}
@@ -103,7 +103,7 @@ rose_behind first result why a b n calm is same rose =
     (rose_as (IsErrOf first engine.DiskFault) (IsErrOf result engine.DiskFault) b n (failed_as first result why engine.DiskFault is same) (failed_as result first why engine.DiskFault same is) rose)
 
 -- the stored tables are those of the file behind the class
-pub agree_behind : (classes : List Declared) (c : Declared) (own : List Table) (alphabets : List (List MaskedKind)) (p after : Parts) (class : Class) (stored : ℕ → ℕ → Table) → stored ≡ tables_in p → c.class ≡ class → after ≡ parts_with class own alphabets p
+pub agree_behind : (classes : List Declared) (c : Declared) (own : List Table) (alphabets : List Alphabet) (p after : Parts) (class : Class) (stored : ℕ → ℕ → Table) → stored ≡ tables_in p → c.class ≡ class → after ≡ parts_with class own alphabets p
     → AllByRecursion (AgreesOn (tables_with c.class.number own (tables_in p)) (tables_in (parts_with c.class own alphabets p))) classes → AllByRecursion (AgreesOn (tables_with c.class.number own stored) (tables_in after)) classes
 agree_behind classes c own alphabets p after class stored is same parts agree =
     subst (λ (ts : ℕ → ℕ → Table). AllByRecursion (AgreesOn (tables_with c.class.number own ts) (tables_in after)) classes) (sym is)

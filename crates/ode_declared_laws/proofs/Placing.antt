@@ -14,12 +14,11 @@ use Rattle.ode_declared_laws.specs.Adding.{AreAligned, parts_with, tables_in}
 use Rattle.ode_laws.specs.Alike.{AgreesOn}
 use Rattle.ode_schema.specs.Parts.{AreFit, IsFit, Parts, table_by, table_place}
 use Rattle.ode_states.specs.Advance.{no_table}
-use Rattle.ode_symbols.specs.Alphabets.{alphabet}
 use Rattle.ode_types.proofs.CheckedClasses.{checked-next}
 use Rattle.ode_types.specs.Checked.{AreChecked, IsChecked}
 use Rattle.ode_types.specs.Families.{class_numbered}
 use Rattle.ode_value.specs.Classes.{Trigger, trigger_of}
-use Rattle.ode_value.specs.Symbols.{MaskedKind}
+use Rattle.ode_value.specs.Symbols.{Alphabet, alphabet}
 use Rattle.ode_value.specs.Tables.{Table}
 use Rattle.ode_value.specs.Worlds.{Declared}
 use Rattle.ode_value.specs.declared.class.Class.{Class}
@@ -58,8 +57,8 @@ table_is tables maps class place at table is has =
     ap (λ (o : Option ℕ). option_map_or (λ n. slice_index_or tables n no_table) o no_table) is ∙ get_or_from_slice_get tables at table no_table has
 
 -- a compiled trigger has its table and alphabet at its place
-compiled_at : (ts : List TriggerDecl) (own : List Table) (alphabets : List (List MaskedKind)) → AreCompiled ts own alphabets → (k : ℕ) (t : TriggerDecl) → slice_get ts k ≡ Some t
-    → (table : Table) × (rows : List MaskedKind) × (slice_get own k ≡ Some table) × (slice_get alphabets k ≡ Some rows) × IsCompiled t table rows
+compiled_at : (ts : List TriggerDecl) (own : List Table) (alphabets : List Alphabet) → AreCompiled ts own alphabets → (k : ℕ) (t : TriggerDecl) → slice_get ts k ≡ Some t
+    → (table : Table) × (rows : Alphabet) × (slice_get own k ≡ Some table) × (slice_get alphabets k ≡ Some rows) × IsCompiled t table rows
 compiled_at [] own alphabets all k t is = absurd (cc)
 compiled_at (u ∷ ts) [] alphabets all k t is = absurd all
 compiled_at (u ∷ ts) (x ∷ xs) [] all k t is = absurd all
@@ -67,7 +66,7 @@ compiled_at (u ∷ ts) (x ∷ xs) (rows ∷ more) all zero t is =
     let same : u ≡ t = cc in (x, rows, refl, refl, subst (λ (v : TriggerDecl). IsCompiled v x rows) same all.0)
 compiled_at (u ∷ ts) (x ∷ xs) (rows ∷ more) all (suc k) t is = compiled_at ts xs more all.1 k t is
 
-as_many_tables : (ts : List TriggerDecl) (own : List Table) (alphabets : List (List MaskedKind)) → AreCompiled ts own alphabets → length alphabets ≡ length own
+as_many_tables : (ts : List TriggerDecl) (own : List Table) (alphabets : List Alphabet) → AreCompiled ts own alphabets → length alphabets ≡ length own
 as_many_tables [] [] [] all = refl
 as_many_tables [] [] (rows ∷ more) all = absurd all
 as_many_tables [] (x ∷ xs) alphabets all = absurd all
@@ -75,7 +74,7 @@ as_many_tables (t ∷ ts) [] alphabets all = absurd all
 as_many_tables (t ∷ ts) (x ∷ xs) [] all = absurd all
 as_many_tables (t ∷ ts) (x ∷ xs) (rows ∷ more) all = ap suc (as_many_tables ts xs more all.1)
 
-module _ (p : Parts) (fit : AreFit p) (aligned : AreAligned p) (c : Class) (number : c.number ≡ length p.classes + 1) (own : List Table) (alphabets : List (List MaskedKind))
+module _ (p : Parts) (fit : AreFit p) (aligned : AreAligned p) (c : Class) (number : c.number ≡ length p.classes + 1) (own : List Table) (alphabets : List Alphabet)
     (made : AreCompiled c.triggers own alphabets) where
   abbrev after : Parts
   after = parts_with c own alphabets p
@@ -120,7 +119,7 @@ module _ (p : Parts) (fit : AreFit p) (aligned : AreAligned p) (c : Class) (numb
   own_fit few place t is =
       let it = compiled_at c.triggers own alphabets made place t is in
       let table : Table = it.0 in
-      let rows : List MaskedKind = it.1 in
+      let rows : Alphabet = it.1 in
       let compiled : IsCompiled t table rows = it.4 in
       let within : place < length own = slice_get_within own place table it.2 in
       let same : length p.tables + place ≡ length p.alphabets + place = let level = aligned.alphabets in omega (arith, level) in
@@ -130,7 +129,7 @@ module _ (p : Parts) (fit : AreFit p) (aligned : AreAligned p) (c : Class) (numb
         small = omega (arith, few, within);
         table = table;
         has_table = get_right p.tables own place ∙ it.2;
-        has_alphabet = ap (slice_get after.alphabets) same ∙ get_right p.alphabets alphabets place ∙ it.3 ∙ ap (λ (r : List MaskedKind). Some r) compiled.rows_are;
+        has_alphabet = ap (slice_get after.alphabets) same ∙ get_right p.alphabets alphabets place ∙ it.3 ∙ ap (λ (r : Alphabet). Some r) compiled.alphabet_is;
         symbols = compiled.means.symbols;
       }
 
@@ -186,11 +185,11 @@ module _ (p : Parts) (fit : AreFit p) (aligned : AreAligned p) (c : Class) (numb
       (λ j t is. let it = compiled_at c.triggers own alphabets made j t is in
       zero_on c.number j (own_there j it.0 it.2 ∙ sym (own_stored j it.0 it.2)))
 
-pub program_fits : (p : Parts) (c : Class) (own : List Table) (alphabets : List (List MaskedKind)) → AreFit p → AreAligned p → IsChecked p.classes c → AreCompiled c.triggers own alphabets
+pub program_fits : (p : Parts) (c : Class) (own : List Table) (alphabets : List Alphabet) → AreFit p → AreAligned p → IsChecked p.classes c → AreCompiled c.triggers own alphabets
     → length p.tables + length own < 2 ^ 32 → AreFit (parts_with c own alphabets p)
 program_fits p c own alphabets fit aligned is made few = fits_with p fit aligned c (checked-next p.classes c is).number own alphabets made few
 
-pub program_aligned : (p : Parts) (c : Class) (own : List Table) (alphabets : List (List MaskedKind)) → AreAligned p → AreCompiled c.triggers own alphabets → AreAligned (parts_with c own alphabets p)
+pub program_aligned : (p : Parts) (c : Class) (own : List Table) (alphabets : List Alphabet) → AreAligned p → AreCompiled c.triggers own alphabets → AreAligned (parts_with c own alphabets p)
 program_aligned p c own alphabets aligned made =
     let same = as_many_tables c.triggers own alphabets made in
     let places = aligned.places in
@@ -204,7 +203,7 @@ all_behind : (P : Declared → Type 0) (ds : List Declared) (d : Declared) → A
 all_behind P [] d all here = (here, tt)
 all_behind P (e ∷ ds) d all here = (all.0, all_behind P ds d all.1 here)
 
-pub program_agrees : (p : Parts) (classes : List Declared) (c : Declared) (own : List Table) (alphabets : List (List MaskedKind)) → p.classes ≡ map (λ (d : Declared). d.class) classes → AreChecked p.classes
+pub program_agrees : (p : Parts) (classes : List Declared) (c : Declared) (own : List Table) (alphabets : List Alphabet) → p.classes ≡ map (λ (d : Declared). d.class) classes → AreChecked p.classes
     → AreFit p → AreAligned p → IsChecked p.classes c.class → AreCompiled c.class.triggers own alphabets
     → AllByRecursion (AgreesOn (tables_with c.class.number own (tables_in p)) (tables_in (parts_with c.class own alphabets p))) (classes ++ c ∷ [])
 program_agrees p classes c own alphabets same checked fit aligned is made =

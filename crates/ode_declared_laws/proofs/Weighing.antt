@@ -17,7 +17,7 @@ use Rattle.ode_value.specs.Lengths.{key_length, piece_count, pieces_length, tabl
 use Rattle.ode_value.specs.Limits.{value_limit}
 use Rattle.ode_value.specs.PrintedClasses.{decl_text}
 use Rattle.ode_value.specs.Records.{Row, byte, total_weight}
-use Rattle.ode_value.specs.Symbols.{MaskedKind}
+use Rattle.ode_value.specs.Symbols.{Alphabet}
 use Rattle.ode_value.specs.Tables.{Table}
 use Rattle.ode_value.specs.TreeCount.{tree_count}
 use Rattle.ode_value.specs.Weights.{class_weight, trigger_weight}
@@ -93,7 +93,7 @@ over d t = trigger_length (tree_count d.event) t.symbols - trigger_length t.stat
 with_more : (weighs own most all : ℕ) → weighs ≡ own → own ≤ most → most ≡ all → weighs + (most - own) ≡ all
 with_more weighs own most all is less same = omega (arith, is, less, same)
 
-table_weighs : (class place : ℕ) (t : Table) (d : TriggerDecl) (rows : List MaskedKind) → IsCompiled d t rows
+table_weighs : (class place : ℕ) (t : Table) (d : TriggerDecl) (rows : Alphabet) → IsCompiled d t rows
     → total_weight (table_head class place t ∷ []) + total_weight (table_pieces class place t) + over d t ≡ trigger_weight d
 table_weighs class place t d rows made =
     let pieces : total_weight (table_pieces class place t) ≡ pieces_length (table_length t.states t.symbols) =
@@ -109,7 +109,7 @@ module _ (class : ℕ) (by : ℕ → Table) where
   abbrev pieces : ℕ → ℕ → List Row
   pieces k n = flat_map (λ place. table_pieces class place (by place)) (range_with_len k n)
 
-  tables_weigh : (k : ℕ) (ts : List TriggerDecl) (own : List Table) (alphabets : List (List MaskedKind)) → AreCompiled ts own alphabets → map by (range_with_len k (length ts)) ≡ own
+  tables_weigh : (k : ℕ) (ts : List TriggerDecl) (own : List Table) (alphabets : List Alphabet) → AreCompiled ts own alphabets → map by (range_with_len k (length ts)) ≡ own
       → total_weight (heads k (length ts)) + total_weight (pieces k (length ts)) + spare_beside (tree_counts ts) own ≡ sum_by trigger_weight ts
   tables_weigh k [] own alphabets all same = refl
   tables_weigh k (t ∷ ts) [] alphabets all same = absurd all
@@ -139,7 +139,7 @@ head_length c =
     let four = length-append a c.class.name in
     omega (arith, one, two, three, four)
 
-pub class_weighs : (by : ℕ → ℕ → Table) (c : Declared) (own : List Table) (alphabets : List (List MaskedKind)) → IsStoredBy by c c.class (decl_text c.tree) own → AreCompiled c.class.triggers own alphabets
+pub class_weighs : (by : ℕ → ℕ → Table) (c : Declared) (own : List Table) (alphabets : List Alphabet) → IsStoredBy by c c.class (decl_text c.tree) own → AreCompiled c.class.triggers own alphabets
     → put_bytes (puts (class_rows by c)) + spare_beside (tree_counts c.class.triggers) own ≡ class_weight c
 class_weighs by c own alphabets is made =
     let T : List Row = text_rows c in

@@ -1,7 +1,7 @@
 -- A program with one more class.
 use Rattle.std.specs.Prelude.{◌≡◌, ℕ, List, [], ◌∷◌, ◌++◌, length}
 use Rattle.ode_schema.specs.Parts.{Parts, table_by}
-use Rattle.ode_value.specs.Symbols.{MaskedKind}
+use Rattle.ode_value.specs.Symbols.{Alphabet}
 use Rattle.ode_value.specs.Tables.{Table}
 use Rattle.ode_value.specs.declared.class.Class.{Class}
 
@@ -11,7 +11,7 @@ pub record AreAligned (p : Parts) : Type 0 where
   pub alphabets : length p.alphabets ≡ length p.tables
 
 -- a class behind the others, with its tables and their alphabets behind theirs
-abbrev pub parts_with : Class → List Table → List (List MaskedKind) → Parts → Parts
+abbrev pub parts_with : Class → List Table → List Alphabet → Parts → Parts
 parts_with c own alphabets p = record {
   classes = p.classes ++ c ∷ [];
   tables = p.tables ++ own;

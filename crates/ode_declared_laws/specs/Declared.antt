@@ -10,14 +10,14 @@ use Rattle.ode_value.specs.Limits.{weight_limit}
 use Rattle.ode_value.specs.Objects.{Histories, Starts}
 use Rattle.ode_value.specs.Records.{Row}
 use Rattle.ode_value.specs.Settling.{Settled}
-use Rattle.ode_value.specs.Symbols.{MaskedKind}
+use Rattle.ode_value.specs.Symbols.{Alphabet}
 use Rattle.ode_value.specs.Tables.{Table}
 use Rattle.ode_value.specs.Texts.{class_line, committed_line}
 use Rattle.ode_value.specs.Weights.{weight}
 use Rattle.ode_value.specs.Worlds.{Declared}
 
 -- a class that is accepted behind those of a world, and compiled, with parts that a record can count and room for its records
-pub record IsDeclared (l : Language) (w : ListWorld) (c : Declared) (own : List Table) (alphabets : List (List MaskedKind)) : Type 0 where
+pub record IsDeclared (l : Language) (w : ListWorld) (c : Declared) (own : List Table) (alphabets : List Alphabet) : Type 0 where
   pub is : IsClass l w.bones.classes c
   pub compiled : AreCompiled c.class.triggers own alphabets
   pub few : HasFewParts c

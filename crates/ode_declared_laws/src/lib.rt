@@ -27,7 +27,7 @@ ghost use Rattle.ode_value.specs.Limits.{name_limit, weight_limit};
 ghost use Rattle.ode_value.specs.Pasts.{lists};
 ghost use Rattle.ode_value.specs.PrintedClasses.{decl_text};
 ghost use Rattle.ode_value.specs.Settling.{abort, commit, transaction};
-ghost use Rattle.ode_value.specs.Symbols.{MaskedKind};
+ghost use Rattle.ode_value.specs.Symbols.{Alphabet};
 ghost use Rattle.ode_value.specs.Tables.{Table};
 ghost use Rattle.ode_value.specs.Texts.{class_line};
 ghost use Rattle.ode_value.specs.Transactions.{Script, begun};
@@ -47,7 +47,7 @@ use ode_view_laws::{overlays_have_views, transactions_begin_with_views};
 
 /// The records of a class with its compiled tables are as many bytes as the class weighs, with what its tables count more.
 pub fn classes_weigh_their_records()
-    ensures { (by : ℕ → ℕ → Table) (c : Declared) (own : Items Table) (alphabets : Items (Items MaskedKind)) → IsStoredBy by c c.class (decl_text c.tree) own → AreCompiled c.class.triggers own alphabets
+    ensures { (by : ℕ → ℕ → Table) (c : Declared) (own : Items Table) (alphabets : Items Alphabet) → IsStoredBy by c c.class (decl_text c.tree) own → AreCompiled c.class.triggers own alphabets
         → put_bytes (puts (class_rows by c)) + spare_beside (tree_counts c.class.triggers) own ≡ class_weight c }
 {}
 
@@ -58,10 +58,10 @@ pub fn checked_classes_have_few_parts()
 
 /// A program takes one more checked class, with its compiled tables behind the others.
 pub fn programs_take_classes()
-    ensures fit { (p : Parts) (c : Class) (own : Items Table) (alphabets : Items (Items MaskedKind)) → AreFit p → AreAligned p → IsChecked p.classes c → AreCompiled c.triggers own alphabets
+    ensures fit { (p : Parts) (c : Class) (own : Items Table) (alphabets : Items Alphabet) → AreFit p → AreAligned p → IsChecked p.classes c → AreCompiled c.triggers own alphabets
         → length p.tables + length own < 2 ^ 32 → AreFit (parts_with c own alphabets p) }
-    ensures aligned { (p : Parts) (c : Class) (own : Items Table) (alphabets : Items (Items MaskedKind)) → AreAligned p → AreCompiled c.triggers own alphabets → AreAligned (parts_with c own alphabets p) }
-    ensures agrees { (p : Parts) (classes : Items Declared) (c : Declared) (own : Items Table) (alphabets : Items (Items MaskedKind)) → p.classes ≡ map (λ (d : Declared). d.class) classes → AreChecked p.classes
+    ensures aligned { (p : Parts) (c : Class) (own : Items Table) (alphabets : Items Alphabet) → AreAligned p → AreCompiled c.triggers own alphabets → AreAligned (parts_with c own alphabets p) }
+    ensures agrees { (p : Parts) (classes : Items Declared) (c : Declared) (own : Items Table) (alphabets : Items Alphabet) → p.classes ≡ map (λ (d : Declared). d.class) classes → AreChecked p.classes
         → AreFit p → AreAligned p → IsChecked p.classes c.class → AreCompiled c.class.triggers own alphabets
         → AllByRecursion (AgreesOn (tables_with c.class.number own (tables_in p)) (tables_in (parts_with c.class own alphabets p))) (classes ++ c ∷ []) }
 {}
@@ -78,7 +78,7 @@ pub fn declarations_settle()
 /// Over records that hold a world, changes that put a declared class's records, and then do what a transaction does that began with this
 /// world and changed nothing, make records that hold what the declaration leaves: by any tables that are the stored ones for each trigger.
 pub fn declared_classes_settle()
-    ensures { (l : Language) (base : Entries) (w : ListWorld) (held : HoldsCounted l base w) (c : Declared) (own : Items Table) (alphabets : Items (Items MaskedKind)) (rows rest all : Changes) (tables : ℕ → ℕ → Table)
+    ensures { (l : Language) (base : Entries) (w : ListWorld) (held : HoldsCounted l base w) (c : Declared) (own : Items Table) (alphabets : Items Alphabet) (rows rest all : Changes) (tables : ℕ → ℕ → Table)
         → HasRisingKeys base → IsDeclared l w c own alphabets → length c.class.name ≤ name_limit
         → ((by : ℕ → ℕ → Table) → IsStoredBy by c c.class (decl_text c.tree) own → rows ≡ puts (class_rows by c))
         → ((at : Entries) (q : Key) → value_under (applied rest at) q ≡ stands_after (began_over from.Script held.world.stored.world) at q)

@@ -38,16 +38,19 @@ pub fn keeps_numbers(e: &EventExpr) -> bool
 {
     match e {
         EventExpr::Leaf(_, _) | EventExpr::Any | EventExpr::First => true,
-        EventExpr::Not(e) => keeps_numbers(e.get()),
+        EventExpr::Not(e) | EventExpr::RelPlus(e) | EventExpr::Masked(e, _) => {
+            keeps_numbers(e.get())
+        }
         EventExpr::And(e, f)
         | EventExpr::Or(e, f)
         | EventExpr::Relative(e, f)
         | EventExpr::Prior(e, f)
-        | EventExpr::Sequence(e, f) => keeps_numbers(e.get()) && keeps_numbers(f.get()),
+        | EventExpr::Sequence(e, f)
+        | EventExpr::Pipe(e, f) => keeps_numbers(e.get()) && keeps_numbers(f.get()),
         EventExpr::Choose(n, e) | EventExpr::Every(n, e) => {
             1 <= *n && *n <= 65535 && keeps_numbers(e.get())
         }
-        EventExpr::Fa(e, f, g) => {
+        EventExpr::Fa(e, f, g) | EventExpr::FaAbs(e, f, g) => {
             keeps_numbers(e.get()) && keeps_numbers(f.get()) && keeps_numbers(g.get())
         }
     }

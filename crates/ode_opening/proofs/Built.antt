@@ -15,7 +15,7 @@ use Rattle.ode_value.specs.Answers.{Answer, ◌>>◌, ◌>>=◌, checks, refuses
 use Rattle.ode_value.specs.ClassLimits.{limits_class, limits_triggers}
 use Rattle.ode_value.specs.Lengths.{table_records}
 use Rattle.ode_value.specs.Limits.{class_limit}
-use Rattle.ode_value.specs.Symbols.{MaskedKind}
+use Rattle.ode_value.specs.Symbols.{Alphabet}
 use Rattle.ode_value.specs.Tables.{Table}
 use Rattle.ode_value.specs.TreeCount.{tree_count}
 use Rattle.ode_value.specs.Weights.{record_count, table_size}
@@ -58,7 +58,7 @@ few_triggers known d x is = by (checks (check_class known d)) is
 
 -- ---- one behind others
 
-both_compiled : (ts us : List TriggerDecl) (xs ys : List Table) (rows more : List (List MaskedKind)) → AreCompiled ts xs rows → AreCompiled us ys more → AreCompiled (ts ++ us) (xs ++ ys) (rows ++ more)
+both_compiled : (ts us : List TriggerDecl) (xs ys : List Table) (rows more : List Alphabet) → AreCompiled ts xs rows → AreCompiled us ys more → AreCompiled (ts ++ us) (xs ++ ys) (rows ++ more)
 both_compiled [] us [] ys [] more one two = two
 both_compiled [] us [] ys (r ∷ rows) more one two = absurd one
 both_compiled [] us (x ∷ xs) ys rows more one two = absurd one

@@ -22,6 +22,7 @@ use Rattle.ode_grammar.specs.declared.terminal.Terminal.TheVariants as terminal
 use Rattle.ode_grammar.specs.Grammar.{after, items_of, skipped}
 use Rattle.ode_grammar.specs.Reading.{by_row, made_after, made_at_end, made_of_skipped, next, run}
 use Rattle.ode_grammar.specs.Stacks.{rest, top}
+use Rattle.ode_grammar.specs.Terminals.{named as as_name}
 use Rattle.ode_heights.specs.Heights.{none}
 use Rattle.ode_terminals.specs.declared.seen.Place.{Place}
 use Rattle.ode_terminals.specs.Seen.{place_of}
@@ -127,15 +128,19 @@ named_event action.Any v h = (h.0, h.1, h.2)
 named_event action.First v h = (h.0, h.1, h.2)
 named_event action.Unmasked v h = (h.0, h.1, h.2)
 named_event action.Masked v h = (h.0, h.1, h.2)
+named_event action.MaskedEvent v h = (h.0, h.1, h.2)
 named_event action.NotEvent v h = (h.0, h.1, h.2)
 named_event action.AndEvents v h = (h.0, h.1, h.2)
 named_event action.OrEvents v h = (h.0, h.1, h.2)
 named_event action.Relative v h = (h.0, h.1, h.2)
+named_event action.RelPlus v h = (all_rest IsFree v.names h.0, h.1, h.2)
 named_event action.Prior v h = (h.0, h.1, h.2)
 named_event action.Sequence v h = (h.0, h.1, h.2)
+named_event action.Pipe v h = (all_rest IsFree v.names h.0, h.1, h.2)
 named_event action.Choose v h = (h.0, h.1, h.2)
 named_event action.Every v h = (h.0, h.1, h.2)
 named_event action.Fa v h = (h.0, h.1, h.2)
+named_event action.FaAbs v h = (all_rest IsFree v.names h.0, h.1, h.2)
 named_event a v h = named_kind a v h
 
 named_statement : (a : Action) (v : Trees) → IsNamed v → IsNamed (built_statement a v)
@@ -220,12 +225,12 @@ named_skipped (Some a) v h = named_built a v h
 
 named_after : (items : List Item) (v : Trees) (t : Spelled) → IsNamed v → IsNamed (made_after trees items v t)
 named_after [] v t h = h
-named_after (item.Token k ∷ items) v t h = named_kept t.terminal t.kind t.bytes v h
+named_after (item.Token k ∷ items) v t h = named_kept (as_name t.terminal) t.kind t.bytes v h
 named_after (item.Build a ∷ items) v t h = named_after items (trees.make a v) t (named_built a v h)
 named_after (item.Part p ∷ items) v t h = by_rows (after p t.terminal) (skipped p) (named_after items (made_of_skipped trees (skipped p) v) t (named_skipped (skipped p) v h)) where
   by_rows : (row : Option (List Item)) (skip : Option Action) → IsNamed (made_after trees items (made_of_skipped trees (skipped p) v) t)
       → IsNamed (by_row (λ (items : List Item). trees.keep t v) (made_after trees items (made_of_skipped trees (skipped p) v) t) v row skip)
-  by_rows (Some row) skip past = named_kept t.terminal t.kind t.bytes v h
+  by_rows (Some row) skip past = named_kept (as_name t.terminal) t.kind t.bytes v h
   by_rows None (Some a) past = past
   by_rows None None past = h
 

@@ -6,23 +6,22 @@ use Rattle.ode_class_records.specs.Weighing.{spare_beside}
 use Rattle.ode_compile.specs.Compiling.{AreCompiled, tree_counts}
 use Rattle.ode_opening_tables.specs.Answers.{AreBeside, AreBuiltFrom}
 use Rattle.ode_opening_tables.specs.Tables.{spare_in, spare_of}
-use Rattle.ode_symbols.specs.Alphabets.{alphabet}
 use Rattle.ode_value.specs.Lengths.{trigger_length}
-use Rattle.ode_value.specs.Symbols.{MaskedKind, symbol_count}
+use Rattle.ode_value.specs.Symbols.{Alphabet, symbol_count, alphabet}
 use Rattle.ode_value.specs.Tables.{Means, Table}
 use Rattle.ode_value.specs.TreeCount.{tree_count}
 use Rattle.ode_value.specs.declared.member.TriggerDecl.{TriggerDecl}
 
-pub alphabets_are : (ts : List TriggerDecl) (built : List Table) (rows : List (List MaskedKind)) → AreCompiled ts built rows → rows ≡ map (λ (t : TriggerDecl). alphabet t.event) ts
+pub alphabets_are : (ts : List TriggerDecl) (built : List Table) (rows : List Alphabet) → AreCompiled ts built rows → rows ≡ map (λ (t : TriggerDecl). alphabet t.event) ts
 alphabets_are [] [] [] all = refl
 alphabets_are [] [] (r ∷ rows) all = absurd all
 alphabets_are [] (b ∷ built) rows all = absurd all
 alphabets_are (t ∷ ts) [] rows all = absurd all
 alphabets_are (t ∷ ts) (b ∷ built) [] all = absurd all
 alphabets_are (t ∷ ts) (b ∷ built) (r ∷ rows) all =
-    ap (λ x. x ∷ rows) all.0.rows_are ∙ ap (λ xs. alphabet t.event ∷ xs) (alphabets_are ts built rows all.1)
+    ap (λ x. x ∷ rows) all.0.alphabet_is ∙ ap (λ xs. alphabet t.event ∷ xs) (alphabets_are ts built rows all.1)
 
-pub as_many : (ts : List TriggerDecl) (built : List Table) (rows : List (List MaskedKind)) → AreCompiled ts built rows → length built ≡ length ts
+pub as_many : (ts : List TriggerDecl) (built : List Table) (rows : List Alphabet) → AreCompiled ts built rows → length built ≡ length ts
 as_many [] [] [] all = refl
 as_many [] [] (r ∷ rows) all = absurd all
 as_many [] (b ∷ built) rows all = absurd all
@@ -31,7 +30,7 @@ as_many (t ∷ ts) (b ∷ built) [] all = absurd all
 as_many (t ∷ ts) (b ∷ built) (r ∷ rows) all = ap suc (as_many ts built rows all.1)
 
 -- stored tables weigh beside the counts what they do beside their triggers
-pub spare_is : (ts : List TriggerDecl) (built : List Table) (rows : List (List MaskedKind)) (stored : List Table) → AreCompiled ts built rows → AreBeside built stored
+pub spare_is : (ts : List TriggerDecl) (built : List Table) (rows : List Alphabet) (stored : List Table) → AreCompiled ts built rows → AreBeside built stored
     → spare_beside (tree_counts ts) stored ≡ spare_in ts stored
 spare_is [] built rows [] all beside = refl
 spare_is [] built rows (s ∷ stored) all beside = refl
@@ -44,7 +43,7 @@ spare_is (t ∷ ts) (b ∷ built) (r ∷ rows) (s ∷ stored) all beside =
     ∙ ap (λ n. spare_of t s + n) (spare_is ts built rows stored all.1 (λ at table there. beside (suc at) table there))
 
 -- the table at a trigger's place means its event
-means_at : (ts : List TriggerDecl) (built : List Table) (rows : List (List MaskedKind)) → AreCompiled ts built rows → (place : ℕ) (t : TriggerDecl) → slice_get ts place ≡ Some t
+means_at : (ts : List TriggerDecl) (built : List Table) (rows : List Alphabet) → AreCompiled ts built rows → (place : ℕ) (t : TriggerDecl) → slice_get ts place ≡ Some t
     → IsSomeAnd (slice_get built place) (λ table. Means table t.event)
 means_at [] built rows all place t is = absurd (cc)
 means_at (u ∷ ts) [] rows all place t is = absurd all
@@ -52,7 +51,7 @@ means_at (u ∷ ts) (b ∷ built) [] all place t is = absurd all
 means_at (u ∷ ts) (b ∷ built) (r ∷ rows) all zero t is = let same : u ≡ t = cc in subst (λ (v : TriggerDecl). Means b v.event) same all.0.means
 means_at (u ∷ ts) (b ∷ built) (r ∷ rows) all (suc place) t is = means_at ts built rows all.1 place t is
 
-pub built_from : (ts : List TriggerDecl) (built : List Table) (rows : List (List MaskedKind)) → AreCompiled ts built rows → AreBuiltFrom built 0 ts
+pub built_from : (ts : List TriggerDecl) (built : List Table) (rows : List Alphabet) → AreCompiled ts built rows → AreBuiltFrom built 0 ts
 built_from ts built rows all = λ place t is.
     let same : place ≡ 0 + place = omega arith in
     subst (λ (k : ℕ). IsSomeAnd (slice_get built k) (λ table. Means table t.event)) same (means_at ts built rows all place t is)

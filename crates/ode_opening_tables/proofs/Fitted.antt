@@ -12,7 +12,7 @@ use Rattle.ode_opening_tables.specs.Answers.{AreBeside, parts_of}
 use Rattle.ode_opening_tables.specs.Tables.{places_from, spare_in}
 use Rattle.ode_passes.specs.declared.error.OpenError.{OpenError}
 use Rattle.ode_schema.specs.Parts.{AreFit}
-use Rattle.ode_symbols.specs.Alphabets.{alphabet}
+use Rattle.ode_value.specs.Symbols.{alphabet}
 use Rattle.ode_types.specs.Checked.{AreChecked}
 use Rattle.ode_value.specs.Tables.{Table}
 use Rattle.ode_value.specs.declared.member.TriggerDecl.{TriggerDecl}

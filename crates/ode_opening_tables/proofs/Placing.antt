@@ -15,7 +15,7 @@ use Rattle.ode_types.proofs.ClassLists.{numbered-more}
 use Rattle.ode_types.specs.Checked.{AreChecked, AreCheckedBehind}
 use Rattle.ode_types.specs.Families.{class_numbered}
 use Rattle.ode_types.specs.Indexed.{AreNumbered}
-use Rattle.ode_value.specs.Symbols.{MaskedKind}
+use Rattle.ode_value.specs.Symbols.{Alphabet}
 use Rattle.ode_value.specs.Tables.{Table}
 use Rattle.ode_value.specs.declared.class.Class.{Class}
 use Rattle.ode_value.specs.declared.member.TriggerDecl.{TriggerDecl}
@@ -64,8 +64,8 @@ placed (d ∷ cs) first (suc n) place c t is has =
     }
 
 -- a compiled trigger has its table and alphabet at its place
-compiled_at : (ts : List TriggerDecl) (own : List Table) (alphabets : List (List MaskedKind)) → AreCompiled ts own alphabets → (k : ℕ) (t : TriggerDecl) → slice_get ts k ≡ Some t
-    → (table : Table) × (rows : List MaskedKind) × (slice_get own k ≡ Some table) × (slice_get alphabets k ≡ Some rows) × IsCompiled t table rows
+compiled_at : (ts : List TriggerDecl) (own : List Table) (alphabets : List Alphabet) → AreCompiled ts own alphabets → (k : ℕ) (t : TriggerDecl) → slice_get ts k ≡ Some t
+    → (table : Table) × (rows : Alphabet) × (slice_get own k ≡ Some table) × (slice_get alphabets k ≡ Some rows) × IsCompiled t table rows
 compiled_at [] own alphabets all k t is = absurd (cc)
 compiled_at (u ∷ ts) [] alphabets all k t is = absurd all
 compiled_at (u ∷ ts) (x ∷ xs) [] all k t is = absurd all
@@ -101,7 +101,7 @@ checked_numbered known (c ∷ cs) numbered checked =
 pub are_numbered : (cs : List Class) → AreChecked cs → AreNumbered cs
 are_numbered cs checked = checked_numbered [] cs refl checked
 
-module _ (classes : List Class) (numbered : AreNumbered classes) (built stored : List Table) (alphabets : List (List MaskedKind))
+module _ (classes : List Class) (numbered : AreNumbered classes) (built stored : List Table) (alphabets : List Alphabet)
     (compiled : AreCompiled (triggers_of classes) built alphabets) (beside : AreBeside built stored) (as_many : length stored ≡ length built) (few : length built < 2 ^ 32) where
   fits_at : (n place : ℕ) (c : Class) (t : TriggerDecl) → slice_get classes n ≡ Some c → slice_get c.triggers place ≡ Some t
       → IsFit (record { classes = classes; tables = stored; alphabets = alphabets; maps = places_from 0 classes }) (suc n) place t
@@ -117,7 +117,7 @@ module _ (classes : List Class) (numbered : AreNumbered classes) (built stored :
         small = omega (arith, few, within);
         table = own.0;
         has_table = own.1;
-        has_alphabet = it.3 ∙ ap (λ (r : List MaskedKind). Some r) it.4.rows_are;
+        has_alphabet = it.3 ∙ ap (λ (r : Alphabet). Some r) it.4.alphabet_is;
         symbols = beside_same (slice_get built (at.start + place)) it.0 own.0 it.2 (beside (at.start + place) own.0 own.1) ∙ it.4.means.symbols;
       }
 

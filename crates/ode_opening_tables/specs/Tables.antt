@@ -7,12 +7,11 @@ use Rattle.ode_opening.specs.Building.{triggers_of}
 use Rattle.ode_passes.specs.Rules.{Ruled}
 use Rattle.ode_passes.specs.declared.cause.Cause.{Cause}
 use Rattle.ode_passes.specs.declared.cause.Cause.TheVariants as cause
-use Rattle.ode_symbols.specs.Alphabets.{alphabet}
 use Rattle.ode_table.specs.Whole.{IsWhole}
 use Rattle.ode_value.specs.Classes.{Trigger, own_triggers}
 use Rattle.ode_value.specs.Lengths.{trigger_length}
 use Rattle.ode_value.specs.Records.{Row}
-use Rattle.ode_value.specs.Symbols.{MaskedKind}
+use Rattle.ode_value.specs.Symbols.{Alphabet, alphabet}
 use Rattle.ode_value.specs.Tables.{Means, Table}
 use Rattle.ode_value.specs.Weights.{trigger_weight}
 use Rattle.ode_value.specs.declared.class.Class.{Class}
@@ -47,7 +46,7 @@ abbrev pub all_triggers : List Class → List Trigger
 all_triggers classes = flat_map own_triggers classes
 
 -- the alphabet of each
-abbrev pub alphabets_of : List Class → List (List MaskedKind)
+abbrev pub alphabets_of : List Class → List Alphabet
 alphabets_of classes = map (λ (t : TriggerDecl). alphabet t.event) (triggers_of classes)
 
 -- for each class the place of its first table, from a place on

@@ -27,7 +27,7 @@ use Rattle.ode_value.specs.Acts.{Act, Done}
 use Rattle.ode_value.specs.Firings.{Place, arises, both_lists, fired, fired_in, grown_past, new_point, object_after, whole_list, with_point}
 use Rattle.ode_value.specs.Objects as objects
 use Rattle.ode_value.specs.Pasts.{numbers}
-use Rattle.ode_value.specs.Symbols.{MaskedKind}
+use Rattle.ode_value.specs.Symbols.{Alphabet}
 use Rattle.ode_value.specs.Tables.{Table}
 use Rattle.ode_value.specs.Transactions.{Firing, with_bones}
 use Rattle.ode_value.specs.Worlds as worlds
@@ -128,7 +128,7 @@ unfolding acts
 gives_running classes base maps x id t running is given =
     are_running maps id t.current.activations running (sym (ap (λ (f : Option Tracked). actives_at classes base id f >>= running_from maps id []) is) ∙ given)
 
-pub all_arise : (by : ℕ → ℕ → Table) (tables : List Table) (alphabets : List (List MaskedKind)) (maps : List ℕ) (classes : List Class) (base : Entries) (kind : Kind) (args : List Value)
+pub all_arise : (by : ℕ → ℕ → Table) (tables : List Table) (alphabets : List Alphabet) (maps : List ℕ) (classes : List Class) (base : Entries) (kind : Kind) (args : List Value)
     (x : Layer) (y : NumberTx) (id : ℕ) (t : Tracked) (running : List Running) → Stands x y → tracked_at id x ≡ Some t → t.current.live ≡ true → HoldsActivations id t.current x
     → acts classes base id maps x ≡ Ok running → AreOf by tables alphabets y.now.bones.classes (object_as id t.current) running
     → Arises y (all_fired tables alphabets y.now.bones.classes (point_of id t.current kind args) running)
@@ -148,7 +148,7 @@ all_arise by tables alphabets maps classes base kind args x y id t running stand
     (taken_activations on (λ r. refl) t.current.activations running its)
     (numbers_fire by tables alphabets declared p o running are (kept_as t.current) rows)
 
-pub whole_arise : (by : ℕ → ℕ → Table) (tables : List Table) (alphabets : List (List MaskedKind)) (maps : List ℕ) (classes : List Class) (base : Entries) (kind : Kind) (args : List Value)
+pub whole_arise : (by : ℕ → ℕ → Table) (tables : List Table) (alphabets : List Alphabet) (maps : List ℕ) (classes : List Class) (base : Entries) (kind : Kind) (args : List Value)
     (x : Layer) (y : NumberTx) (id : ℕ) (t : Tracked) (running : List Running) → Stands x y → tracked_at id x ≡ Some t → t.current.live ≡ true → HoldsActivations id t.current x
     → acts classes base id maps x ≡ Ok running → AreOf by tables alphabets y.now.bones.classes (object_as id t.current) running
     → Arises y (whole_fired tables alphabets y.now.bones.classes (point_of id t.current kind args) running)

@@ -26,7 +26,7 @@ use Rattle.ode_value.specs.Firings.{after_firings, changed_row, ends_by, fired_b
 use Rattle.ode_value.specs.GoodWorlds.{RiseFrom}
 use Rattle.ode_value.specs.Objects.{Activation}
 use Rattle.ode_value.specs.Pasts.{Kept, Watch, numbers, stepped}
-use Rattle.ode_value.specs.Symbols.{MaskedKind}
+use Rattle.ode_value.specs.Symbols.{Alphabet}
 use Rattle.ode_value.specs.Tables.{Table, says_yes}
 use Rattle.ode_value.specs.Transactions.{Firing}
 use Rattle.ode_value.specs.Worlds as worlds
@@ -143,7 +143,7 @@ sees_by place (Some c) = refl
 
 -- ---- the law
 
-module _ (by : ℕ → ℕ → Table) (tables : List Table) (alphabets : List (List MaskedKind)) (classes : List Declared) (p : Point) (o : worlds.Object) (acts : List Running)
+module _ (by : ℕ → ℕ → Table) (tables : List Table) (alphabets : List Alphabet) (classes : List Declared) (p : Point) (o : worlds.Object) (acts : List Running)
     (are : AreOf by tables alphabets classes o acts) (kept : Kept (Unit {0}) ℕ) (is : kept.activations ≡ map (row_of state_of) acts) where
   abbrev Of : Running → Type 0
   Of = IsOf by tables alphabets classes o.class

@@ -16,7 +16,7 @@ use Rattle.ode_types.specs.Families.{class_numbered}
 use Rattle.ode_types.specs.declared.running.Running.{Running}
 use Rattle.ode_value.specs.Acts.{Outcome, Done}
 use Rattle.ode_value.specs.Firings.{new_point}
-use Rattle.ode_value.specs.Symbols.{MaskedKind}
+use Rattle.ode_value.specs.Symbols.{Alphabet}
 use Rattle.ode_value.specs.Tables.{Table}
 use Rattle.ode_value.specs.Transactions.{Firing}
 use Rattle.ode_value.specs.Worlds.{Declared}
@@ -38,7 +38,7 @@ abbrev pub sees_whole : List Class → Running → Bool
 sees_whole classes a = sees_in (class_numbered classes a.class) a.trigger
 
 -- by tables, alphabets and classes
-module _ (tables : List Table) (alphabets : List (List MaskedKind)) (classes : List Declared) where
+module _ (tables : List Table) (alphabets : List Alphabet) (classes : List Declared) where
   -- activations behind a point, and the firings there
   abbrev pub all_behind : Point → List Running → List Running
   all_behind p acts = map (advanced tables alphabets (checked classes) p) acts

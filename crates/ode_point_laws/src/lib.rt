@@ -14,7 +14,7 @@ ghost use Rattle.ode_states.specs.Machine.{AreOf};
 ghost use Rattle.ode_types.specs.declared.running.Running.{Running};
 ghost use Rattle.ode_value.specs.Firings.{arises, both_lists, whole_list};
 ghost use Rattle.ode_value.specs.Pasts.{numbers};
-ghost use Rattle.ode_value.specs.Symbols.{MaskedKind};
+ghost use Rattle.ode_value.specs.Symbols.{Alphabet};
 ghost use Rattle.ode_value.specs.Tables.{Table as States};
 ghost use Rattle.ode_value.specs.declared.class.Class.{Class};
 ghost use Rattle.ode_value.specs.declared.event.Kind.{Kind};
@@ -24,13 +24,13 @@ ghost use Rattle.ode_value.specs.declared.value.Value.{Value};
 /// arises, with the same firings in the same order. Their keys are held; their places have their triggers' tables and alphabets. At an
 /// abort those that see whole histories go on alone, and alone they fire.
 pub fn points_follow()
-    ensures both { (by : ℕ → ℕ → States) (tables : Items States) (alphabets : Items (Items MaskedKind)) (maps : Items ℕ) (classes : Items Class) (base : Entries) (kind : Kind) (args : Items Value)
+    ensures both { (by : ℕ → ℕ → States) (tables : Items States) (alphabets : Items Alphabet) (maps : Items ℕ) (classes : Items Class) (base : Entries) (kind : Kind) (args : Items Value)
         (x : Layer) (y : NumberTx) (id : ℕ) (t : Tracked) (running : Items Running) → Stands x y → tracked_at id x ≡ Some t → t.current.live ≡ true → HoldsActivations id t.current x
         → acts classes base id maps x ≡ Ok running → AreOf by tables alphabets y.now.bones.classes (object_as id t.current) running
         → Arises y (all_fired tables alphabets y.now.bones.classes (point_of id t.current kind args) running)
         (put_acts classes base id (all_behind tables alphabets y.now.bones.classes (point_of id t.current kind args) running) x)
         (arises (numbers by) (both_lists (numbers by)) id kind args y) }
-    ensures whole { (by : ℕ → ℕ → States) (tables : Items States) (alphabets : Items (Items MaskedKind)) (maps : Items ℕ) (classes : Items Class) (base : Entries) (kind : Kind) (args : Items Value)
+    ensures whole { (by : ℕ → ℕ → States) (tables : Items States) (alphabets : Items Alphabet) (maps : Items ℕ) (classes : Items Class) (base : Entries) (kind : Kind) (args : Items Value)
         (x : Layer) (y : NumberTx) (id : ℕ) (t : Tracked) (running : Items Running) → Stands x y → tracked_at id x ≡ Some t → t.current.live ≡ true → HoldsActivations id t.current x
         → acts classes base id maps x ≡ Ok running → AreOf by tables alphabets y.now.bones.classes (object_as id t.current) running
         → Arises y (whole_fired tables alphabets y.now.bones.classes (point_of id t.current kind args) running)

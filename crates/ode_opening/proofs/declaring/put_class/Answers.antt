@@ -1,5 +1,5 @@
 use Rattle.std.proofs.Common.{◌++◌, ℕ, List, sym, subst}
-use Rattle.ode_value.specs.Symbols.{MaskedKind}
+use Rattle.ode_value.specs.Symbols.{Alphabet}
 use Rattle.ode_value.specs.Tables.{Table}
 use Rattle.ode_value.specs.declared.class.Class.{Class}
 use Rattle.ode_opening.proofs.Built.{built_more}
@@ -15,7 +15,7 @@ returns-clause-built c = λ are.
     let counts = a.counts ++ made.counts in
     subst (λ (ns : List ℕ). AreBuilt (record { classes = c.add.new.self; tables = c.put_tables.new.tables; alphabets = c.put_alphabets.new.alphabets; counts = ns }))
     (sym c.in_ok-put_counts.ensures)
-    (subst (λ (rows : List (List MaskedKind)). AreBuilt (record { classes = c.add.new.self; tables = c.put_tables.new.tables; alphabets = rows; counts = counts }))
+    (subst (λ (rows : List Alphabet). AreBuilt (record { classes = c.add.new.self; tables = c.put_tables.new.tables; alphabets = rows; counts = counts }))
     (sym c.in_ok-put_alphabets.ensures)
     (subst (λ (ts : List Table). AreBuilt (record { classes = c.add.new.self; tables = ts; alphabets = alphabets; counts = counts })) (sym c.in_ok-put_tables.ensures)
     (subst (λ (cs : List Class). AreBuilt (record { classes = cs; tables = tables; alphabets = alphabets; counts = counts })) (sym c.in_ok-add.ensures.ok)
