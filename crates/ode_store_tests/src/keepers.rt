@@ -276,8 +276,8 @@ fn step_stopped(
     Ok(Some((answer, store.first_left()?)))
 }
 
-// Makes a step on this image with a stop at a call, torn in each way. Opened again the file has what stood there before, or what
-// the step put.
+// Makes a step on this image with a stop at a call, torn in each of these ways. Opened again the file has what stood there
+// before, or what the step put.
 fn stop_at(
     rt: &impl Abort,
     alloc: Global,
@@ -285,9 +285,10 @@ fn stop_at(
     step: Step,
     before: Option<u8>,
     at: u64,
+    tears: &[Torn],
 ) -> Result<Place, AllocError> {
     let after = Some(step.byte());
-    for torn in &TEARS {
+    for torn in tears {
         let Some((answer, found)) = step_stopped(alloc, image, step, at, *torn)? else {
             return Ok(Place::Before);
         };
@@ -305,17 +306,19 @@ fn stop_at(
     Ok(Place::During)
 }
 
-// Makes a step with a stop at each of its calls, and answers how many it has.
+// Makes a step with a stop at each of its calls from this one on, torn in each of these ways, and answers how many it has.
 fn stop_everywhere(
     rt: &impl Abort,
     alloc: Global,
     image: &[u8],
     step: Step,
     before: Option<u8>,
+    first: u64,
+    tears: &[Torn],
 ) -> Result<u64, AllocError> {
     let mut calls = 0_u64;
-    for at in 0..100 {
-        match stop_at(rt, alloc, image, step, before, at)? {
+    for at in first..100 {
+        match stop_at(rt, alloc, image, step, before, at, tears)? {
             Place::Before => {}
             Place::During => calls = calls.saturating_add(1),
             Place::Behind => return Ok(calls),
@@ -328,7 +331,7 @@ fn stop_everywhere(
 #[test]
 fn a_commit_makes_four_calls_and_outlives_a_stop_at_each(rt: HostRuntime) -> Result<(), Fail> {
     let image = new_file(rt.alloc())?;
-    let calls = stop_everywhere(&rt, rt.alloc(), &image, Step::One(7), None);
+    let calls = stop_everywhere(&rt, rt.alloc(), &image, Step::One(7), None, 0, &TEARS);
     equal(&rt, &calls, &Ok(4));
     Ok(())
 }
@@ -368,14 +371,41 @@ fn records_go_over_to_the_other_area_and_back(rt: HostRuntime) -> Result<(), Fai
     Ok(())
 }
 
+// The call behind the opening of a file with eight frames: a sync, both slots, the snapshot, two reads for each frame, and two
+// for the last gate.
+const OPENED: u64 = 22;
+
 // A checkpoint writes and syncs the snapshot, looks at the other slot's gate, writes and syncs its header and its gate, and
-// adds the frame by four calls more.
-#[test]
-fn a_checkpoint_outlives_a_stop_at_each_call(rt: HostRuntime) -> Result<(), Fail> {
-    let mut store = Store::new(rt.alloc())?;
-    equal(&rt, &store.filled(0..8), &Some((0, 1, 4096)));
+// adds the frame by four calls more. Each stop reads a whole area twice, so there are few in a test.
+fn checkpoint_stopped(rt: &impl Abort, alloc: Global, tears: &[Torn]) -> Result<(), AllocError> {
+    let mut store = Store::new(alloc)?;
+    equal(rt, &store.filled(0..8), &Some((0, 1, 4096)));
     let image = store.host.image();
-    let calls = stop_everywhere(&rt, rt.alloc(), image, Step::Many(8), Some(7));
-    equal(&rt, &calls, &Ok(11));
+    let calls = stop_everywhere(rt, alloc, image, Step::Many(8), Some(7), OPENED, tears);
+    equal(rt, &calls, &Ok(11));
+    Ok(())
+}
+
+#[test]
+fn a_checkpoint_outlives_a_stop_that_loses_what_is_pending(rt: HostRuntime) -> Result<(), Fail> {
+    checkpoint_stopped(&rt, rt.alloc(), &[Torn::Nothing])?;
+    Ok(())
+}
+
+#[test]
+fn a_checkpoint_outlives_a_stop_that_keeps_what_is_pending(rt: HostRuntime) -> Result<(), Fail> {
+    checkpoint_stopped(&rt, rt.alloc(), &[Torn::Whole])?;
+    Ok(())
+}
+
+#[test]
+fn a_checkpoint_outlives_a_stop_that_cuts_what_is_pending(rt: HostRuntime) -> Result<(), Fail> {
+    checkpoint_stopped(&rt, rt.alloc(), &[Torn::Front(1)])?;
+    Ok(())
+}
+
+#[test]
+fn a_checkpoint_outlives_a_stop_that_spoils_what_is_pending(rt: HostRuntime) -> Result<(), Fail> {
+    checkpoint_stopped(&rt, rt.alloc(), &[Torn::Fill(0xA5)])?;
     Ok(())
 }
