@@ -32,11 +32,12 @@ use Rattle.ode_paging.specs.Standing.{HasPage, HavePages, image_of}
 use Rattle.ode_pagemap.specs.declared.checkpoint.Checkpoint.{Checkpoint}
 use Rattle.ode_pagemap.specs.declared.map.PageMap.{PageMap}
 use Rattle.ode_pagemap.specs.Holding.{PagesHold}
-use Rattle.ode_pagemap.specs.Cached.{without}
+use Rattle.ode_pagemap.specs.Cached.{AreAmong, without}
 use Rattle.ode_pagemap.specs.Ready.{CountsFor, IsFormed, IsPlannedFor, IsReady, need_for}
 use Rattle.ode_pagemap.specs.Steps.{IsOf, StandUnder, images_after}
 use Rattle.ode_pagemap.proofs.Forgotten.{all_without}
 use Rattle.ode_pagemap.proofs.Renewed.{makes, renewed}
+use Rattle.ode_pagemap.proofs.Taken.{pages_among}
 use Rattle.ode_pagemap.proofs.Under.{in_of, page_here, under_of}
 
 -- what two things say of an answer says a third
@@ -113,8 +114,8 @@ counts_for opened pages (Some c) many some = record { images_are = some.images; 
 module _ (keeper now : PageMap) (plan : Plan) (due : Option Checkpoint) (opened : Opened) (formed : IsFormed plan)
     (made : opened ≡ record keeper.opened { images = images_after due plan.images keeper.opened.images; index = all_pointed plan.moves.items keeper.opened.index })
     (header_is : now.header ≡ keeper.header) (is : now.opened ≡ record opened { count = plan.count; bytes = plan.counts.bytes; queued = plan.counts.queued })
-    (rest : now.cache.pages.entries ≡ without plan.images keeper.cache.pages.entries)
-    (gone : AllByRecursion (λ e. image_of plan.images e.0 ≡ None) now.cache.pages.entries) (of : IfSome due (λ c. CountsFor keeper.opened c)) where
+    (left : List (ℕ × Entries)) (rest : left ≡ without plan.images keeper.cache.pages.entries) (gone : AllByRecursion (λ e. image_of plan.images e.0 ≡ None) left)
+    (among : (all : List Entries) → AreAmong all left → AreAmong all plan.pages.entries → AreAmong all now.cache.pages.entries) (of : IfSome due (λ c. CountsFor keeper.opened c)) where
   module _ (view : View) (entries : Entries) (changes : Changes) (planned : IsPlannedFor keeper view entries changes plan) where
     pub ready_of : IsReady now view changes entries (record { frame = plan.frame; due = due })
     ready_of =
@@ -123,6 +124,7 @@ module _ (keeper now : PageMap) (plan : Plan) (due : Option Checkpoint) (opened 
         let pages = holds.opens.has.pages in
         let later = planned.planned.now in
         let journal_is : now.opened.journal ≡ keeper.opened.journal = ap (λ (o : Opened). o.journal) is ∙ ap (λ (o : Opened). o.journal) made in
+        let new = renewed keeper.header keeper.opened.journal keeper.opened.images pages holds.file old changes plan planned.planned formed.payload in
         let stood = all_without (λ e. HasPage keeper.header keeper.opened.images holds.file e.0 e.1) plan.images keeper.cache.pages.entries holds.cached in
         record {
           images = keeper.opened.images;
@@ -141,12 +143,11 @@ module _ (keeper now : PageMap) (plan : Plan) (due : Option Checkpoint) (opened 
             map = ap (λ (l : Entries). applied changes l) holds.opens.has.map ∙ sym planned.planned.entries;
             bytes = ap (λ (o : Opened). o.bytes) is ∙ planned.counted.bytes;
             queued = ap (λ (o : Opened). o.queued) is ∙ planned.counted.queued;
-            cached = zip_all (λ e. HasPage keeper.header keeper.opened.images holds.file e.0 e.1) (λ e. image_of plan.images e.0 ≡ None) (λ e. slice_get later e.0 ≡ Some e.1)
-                now.cache.pages.entries
+            cached = among later
+                (zip_all (λ e. HasPage keeper.header keeper.opened.images holds.file e.0 e.1) (λ e. image_of plan.images e.0 ≡ None) (λ e. slice_get later e.0 ≡ Some e.1) left
                 (subst (λ (l : List (ℕ × Entries)). AllByRecursion (λ e. HasPage keeper.header keeper.opened.images holds.file e.0 e.1) l) (sym rest) stood) gone
-                (λ e stands none.
-                (renewed keeper.header keeper.opened.journal keeper.opened.images pages holds.file old changes plan planned.planned formed.payload).others e.0 none
-                ∙ page_here keeper.header keeper.opened.journal keeper.opened.images pages holds.file old e.0 e.1 stands);
+                (λ e stands none. new.others e.0 none ∙ page_here keeper.header keeper.opened.journal keeper.opened.images pages holds.file old e.0 e.1 stands))
+                (pages_among plan.images pages later new plan.pages.entries formed.pages formed.payload.rising);
             within = subst (λ (n : ℕ). n ≤ MAX_RECORD_BYTES) planned.counted.bytes formed.within;
           };
         }

@@ -13,6 +13,7 @@ pub mod Under
 pub mod Reserved
 pub mod Forgotten
 pub mod Renewed
+pub mod Taken
 pub mod Committing
 pub mod Committed
 pub mod Paged

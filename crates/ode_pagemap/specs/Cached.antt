@@ -1,6 +1,6 @@
 -- What a cache of pages has.
-use Rattle.std.specs.Prelude.{ℕ, not, nat_eq, List, [], ◌∷◌, take, cond}
-use Rattle.std.specs.List.{filter}
+use Rattle.std.specs.Prelude.{◌≡◌, ℕ, not, nat_eq, List, [], ◌∷◌, take, cond, Some}
+use Rattle.std.specs.List.{AllByRecursion, filter, slice_get}
 use Rattle.std.specs.Map.{remove_entry}
 use Rattle.ode_keep.specs.Entries.{Entries}
 use Rattle.ode_paging.specs.Images.{Image}
@@ -18,3 +18,7 @@ used most page held = take most (page ∷ filter (λ n. not (nat_eq page n)) hel
 abbrev pub without : List Image → List (ℕ × Entries) → List (ℕ × Entries)
 without [] pages = pages
 without (i ∷ images) pages = without images (remove_entry (nat_eq i.0) pages)
+
+-- each of these is the page of its number among all
+abbrev pub AreAmong : List Entries → List (ℕ × Entries) → Type 0
+AreAmong all pages = AllByRecursion (λ e. slice_get all e.0 ≡ Some e.1) pages

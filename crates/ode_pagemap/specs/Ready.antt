@@ -1,6 +1,5 @@
 -- What a commit has at hand before its first write.
-use Rattle.std.specs.Prelude.{◌≡◌, ◌≤◌, ℕ, List, [], length, Some}
-use Rattle.std.specs.List.{AllByRecursion, slice_get}
+use Rattle.std.specs.Prelude.{◌≡◌, ◌≤◌, ℕ, List, [], length}
 use Rattle.std.specs.Option.{IfSome}
 use Rattle.ode_gate.specs.declared.places.TheConstants.{MAX_PAGES, REGION_LEN}
 use Rattle.ode_host.specs.View.{View}
@@ -13,11 +12,13 @@ use Rattle.ode_paging.specs.declared.opening.Opened.{Opened}
 use Rattle.ode_paging.specs.declared.planning.Plan.{Plan}
 use Rattle.ode_paging.specs.Gathering.{gathered}
 use Rattle.ode_paging.specs.Images.{Image, IsPayload, payload_of}
+use Rattle.ode_paging.specs.Imaging.{AreImages}
 use Rattle.ode_paging.specs.Indexing.{indexed}
 use Rattle.ode_paging.specs.Planning.{IsCountOf, IsPlanned}
 use Rattle.ode_pagemap.specs.declared.checkpoint.Checkpoint.{Checkpoint}
 use Rattle.ode_pagemap.specs.declared.map.PageMap.{PageMap}
 use Rattle.ode_pagemap.specs.declared.ready.Ready.{Ready}
+use Rattle.ode_pagemap.specs.Cached.{AreAmong}
 use Rattle.ode_pagemap.specs.Holding.{PagesHold}
 use Rattle.ode_pagemap.specs.Steps.{IsOf, Makes, StandUnder, images_after}
 
@@ -37,10 +38,11 @@ pub record IsPlannedFor (keeper : PageMap) (view : View) (entries : Entries) (ch
   pub planned : IsPlanned keeper.header keeper.opened.images holds.file holds.opens.has.pages changes plan
   pub counted : IsCountOf plan.counts (applied changes entries)
 
--- What holds of a plan whatever the host is. The keys of its moves rise, and its full frame spells its images and fits an
--- empty region.
+-- What holds of a plan whatever the host is. The keys of its moves rise, its images are those of its pages, and its full frame
+-- spells them and fits an empty region.
 pub record IsFormed (plan : Plan) : Type 0 where
   pub rising : HasRisingKeys plan.moves.items
+  pub pages : AreImages plan.pages.entries plan.images
   pub few : length plan.images ≤ MAX_IMAGES
   pub payload : IsPayload plan.images plan.frame.payload
   pub full : plan.frame.spare ≡ 0
@@ -55,7 +57,7 @@ pub record Knows (keeper : PageMap) (images : List Image) (pages : List Entries)
   pub map : entries ≡ gathered [] pages
   pub bytes : keeper.opened.bytes ≡ record_bytes entries
   pub queued : keeper.opened.queued ≡ count_of_kind entry_kind entries
-  pub cached : AllByRecursion (λ e. slice_get pages e.0 ≡ Some e.1) keeper.cache.pages.entries
+  pub cached : AreAmong pages keeper.cache.pages.entries
   pub within : record_bytes entries ≤ MAX_RECORD_BYTES
 
 -- These records still stand on the disk. A frame is at hand that makes the changes, and a checkpoint of them where one is

@@ -4,11 +4,13 @@ ghost use Rattle.std.specs.List.{AllByRecursion};
 ghost use Rattle.std.specs.Map.{keys_of, lookup, remove_entry};
 ghost use Rattle.std.specs.Option.{option_copied};
 ghost use Rattle.lru.specs.LruCache.{promoted};
+ghost use Rattle.ode_keep.specs.Entries.{Entries};
 ghost use Rattle.ode_paging.specs.Standing.{image_of};
 
 use lru::LruCache;
 use ode_paging::{Images, Page};
 use std::alloc::{AllocError, Global};
+use std::collections::BTreeMap;
 use std::num::NonZeroUsize;
 
 /// Some pages by their numbers, the most recently used first.
@@ -21,7 +23,8 @@ pub(crate) struct Cache {
 }
 
 impl Cache {
-    ghost use Rattle.ode_pagemap.specs.Cached.{most_of, used, without};
+    ghost use Rattle.std.specs.Prelude.{List};
+    ghost use Rattle.ode_pagemap.specs.Cached.{AreAmong, most_of, used, without};
 
     /// A cache of no pages, with room for so many.
     pub(crate) fn new(alloc: Global, most: u32) -> Result<Cache, AllocError>
@@ -84,6 +87,19 @@ impl Cache {
         // The numbers differ, as this call tells.
         let _ = self.pages.len();
         let _ = self.pages.pop(&number);
+    }
+
+    /// These pages are held from then on, those with the highest numbers in front, in place of what was held under their
+    /// numbers. Where there is no memory some aren't.
+    pub(crate) fn take_all(&mut self, pages: BTreeMap<u32, Page>)
+        ensures among { (all : List Entries) → AreAmong all self.old.pages.entries → AreAmong all pages.entries
+            → AreAmong all self.new.pages.entries }
+        ensures most { most_of self.new ≡ most_of self.old }
+    {
+        for (number, page) in pages.into_iter() {
+            self.forget(number);
+            let _ = self.take_in(number, page);
+        }
     }
 
     /// No page that has one of these images is held any more.

@@ -76,6 +76,7 @@ impl PageMap {
     {
         let Plan {
             moves,
+            pages,
             images,
             rooms,
             frame,
@@ -84,6 +85,7 @@ impl PageMap {
         } = self.plan(host, batch)?;
         self.cache.forget_all(&images);
         let due = take_over(self.alloc, &mut self.opened, &moves, images)?;
+        self.cache.take_all(pages);
         self.opened.count = count;
         self.opened.bytes = counts.bytes;
         self.opened.queued = counts.queued;

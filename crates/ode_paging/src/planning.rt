@@ -15,6 +15,7 @@ ghost use Rattle.ode_value.specs.Keys.{entry_kind};
 ghost use Rattle.ode_paging.specs.Gathering.{gathered};
 ghost use Rattle.ode_paging.specs.Hands.{GrowsBy, HasInHand};
 ghost use Rattle.ode_paging.specs.Images.{IsPayload};
+ghost use Rattle.ode_paging.specs.Imaging.{AreImages};
 ghost use Rattle.ode_paging.specs.Indexing.{indexed};
 ghost use Rattle.ode_paging.specs.Making.{AreMade};
 ghost use Rattle.ode_paging.specs.Planning.{IsCountOf, IsPlanned};
@@ -27,11 +28,13 @@ use crate::images::Images;
 use crate::imaging::{PageRoom, images_of, rooms_of};
 use crate::index::Index;
 use crate::making::{Change, Source};
+use crate::pages::Page;
 use ode_host::Host;
 use ode_journal::Frame;
 use ode_keep::{Batch, KeepError, MAX_CHANGES, MAX_RECORD_BYTES};
 use ode_value::Key;
 use std::alloc::{AllocError, Global};
+use std::collections::BTreeMap;
 
 /// How many bytes records count, and how many of them are entries of the queue.
 #[derive(Clone, Copy)]
@@ -129,12 +132,14 @@ pub(crate) fn make_changes<H: Host>(
     Ok(moves)
 }
 
-/// What a commit is to write and to change: the images of the pages that change and a full frame of them, how much room
+/// What a commit is to write and to change: the pages that change, their images and a full frame of them, how much room
 /// these pages have, where keys lead then, how many pages there are, and what the records count.
 #[derive(Drop)]
 pub struct Plan {
     /// Where keys lead then.
     pub moves: Vec<Move>,
+    /// The pages that change, as they are then.
+    pub pages: BTreeMap<u32, Page>,
     /// The images of the pages that change.
     pub images: Images,
     /// How much room these pages have.
@@ -166,6 +171,7 @@ pub fn plan_batch<H: Host>(
         → IsPlanned source.entry.header.now source.entry.images.now file pages batch.now plan) }
     ensures keys { IfOk result (λ plan. keys_of plan.moves.items ≡ keys_of batch.now) }
     ensures rising { IfOk result (λ plan. HasRisingKeys plan.moves.items) }
+    ensures pages { IfOk result (λ plan. AreImages plan.pages.entries plan.images) }
     ensures few_images { IfOk result (λ plan. length plan.images ≤ MAX_IMAGES) }
     ensures counted { IfOk result (λ plan. (file : List ℕ) (pages : List Entries) → Tells (H.view host.old) file
         → HavePages source.entry.header.now source.entry.images.now file 0 pages → ArePages pages → count ≡ length pages
@@ -197,12 +203,14 @@ pub fn plan_batch<H: Host>(
     let images = images_of(alloc, &hand)?;
     let rooms = rooms_of(alloc, &hand)?;
     let frame = frame_of(alloc, &images)?;
+    let Hand { pages, count, .. } = hand;
     Ok(Plan {
         moves,
+        pages,
         images,
         rooms,
         frame,
-        count: hand.count,
+        count,
         counts,
     })
 }

@@ -24,5 +24,6 @@ returns-clause-ready g c = λ entries h.
     let opened = c.take_over.new.opened in
     let same : c.deref.result.now ≡ plan.moves.items = cc in
     let made = subst (λ (ms : Moves). opened ≡ record keeper.opened { images = images_after due plan.images keeper.opened.images; index = all_pointed ms keeper.opened.index }) same c.in_ok-due.ensures.ok in
-    ready_of keeper _ plan due opened c.in_ok-moves.ensures.formed made refl refl c.forget_all.ensures.rest c.forget_all.ensures.gone c.in_ok-due.ensures.due _ entries c.args.batch.now
+    ready_of keeper _ plan due opened c.in_ok-moves.ensures.formed made refl refl c.forget_all.new.self.pages.entries c.forget_all.ensures.rest c.forget_all.ensures.gone
+    c.take_all.ensures.among c.in_ok-due.ensures.due _ entries c.args.batch.now
     (c.in_ok-moves.ensures.planned entries h)
