@@ -1,7 +1,7 @@
 -- What the calls of a commit leave of the pages in hand.
 use Rattle.std.proofs.Common.{◌≡◌, ◌<◌, ◌≤◌, max, ℕ, ◌+◌, List, Bool, true, false, Option, Some, None, Result, Ok, Err, IfOk, OnOk, length, refl, sym, ap, subst, ◌∙◌, arith}
 use Rattle.std.specs.BTreeMap.{insert_entry}
-use Rattle.std.specs.Bool.{OnTrue}
+use Rattle.std.specs.Bool.{OnFalse, OnTrue}
 use Rattle.std.specs.Option.{IfNone, is_some}
 use Rattle.std.specs.Ordering.{nat_cmp}
 use Rattle.std.specs.Result.{is_err, is_ok}
@@ -38,6 +38,14 @@ told_ok false r told to ok = tt
 pub not_err : {T E : Type 0} {P : Type 0} (b : Bool) (r : Result T E) → b ≡ is_err r → b ≡ false → OnOk r P → P
 not_err b (Ok x) told off ok = ok
 not_err b (Err e) told off ok = absurd (cc (told, off))
+
+pub told_true : {P : Type 0} (b : Bool) → b ≡ true → OnTrue b P → P
+told_true true told was = was
+told_true false told was = absurd (cc (told))
+
+pub told_false : {P : Type 0} (b : Bool) → b ≡ false → OnFalse b P → P
+told_false true told was = absurd (cc (told))
+told_false false told was = was
 
 damaged_as : (R S : Type 0) {P Q : Type 0} (e : KeepError) → (P → Q) → OnDamaged {A = R} (Err e) P → OnDamaged {A = S} (Err e) Q
 damaged_as R S Memory to was = tt

@@ -18,7 +18,7 @@ use Rattle.ode_paging.specs.Hands.{HasInHand}
 use Rattle.ode_paging.specs.Images.{Image}
 use Rattle.ode_paging.specs.Indexing.{Leads, indexed}
 use Rattle.ode_paging.specs.Making.{IsMade}
-use Rattle.ode_paging.specs.Replacing.{ArePages, page_at, page_changed, pointed}
+use Rattle.ode_paging.specs.Replacing.{ArePages, page_at, page_changed, page_with, pointed}
 use Rattle.ode_paging.proofs.Columns.{to_last, value_only}
 use Rattle.ode_paging.proofs.Indexed.{indexed_keys, same_none}
 use Rattle.ode_paging.proofs.Replaced.{all_rising, changed_twice, leads_rising, only_in, page_of, pointed_at, pointed_rising, pointed_twice, replaced, value_of}
@@ -71,13 +71,14 @@ module _ (view : View) (header : Header) (images : List Image) (hand : Hand) (pa
     leads = sym (no_pointer (indexed 0 [] now) k (leads_rising now are.rising) (sym nowhere));
   }
 
-  -- the value is taken out of its page
-  pub made_out : (page : ℕ) → Some page ≡ led → HasInHand view header images hand pages (page_changed now page k None) → IsMade view header images hand pages now k None None
-  made_out page there has =
-      let is = replaced now k None page are (inr (sym there)) (omega (arith, leads_within now k page are there)) in
-      record { after = page_changed now page k None; has = has; are = is.are; entries = is.entries; leads = is.leads }
+  -- the value is changed in its page
+  pub made_in : (value : Option (List ℕ)) (page : ℕ) → Some page ≡ led → HasInHand view header images hand pages (page_changed now page k value)
+      → IsMade view header images hand pages now k value (page_with page value)
+  made_in value page there has =
+      let is = replaced now k value page are (inr (sym there)) (omega (arith, leads_within now k page are there)) in
+      record { after = page_changed now page k value; has = has; are = is.are; entries = is.entries; leads = is.leads }
 
-  -- and put into any
+  -- where it was taken out one is put into any
   pub made_put : (v : List ℕ) (page : ℕ) (before : View) (old : Hand) (out : IsMade before header images old pages now k None None) → page ≤ length out.after
       → HasInHand view header images hand pages (page_changed out.after page k (Some v)) → IsMade view header images hand pages now k (Some v) (Some page)
   made_put v page before old out within has =

@@ -90,6 +90,25 @@ impl Hand {
         }
     }
 
+    /// Puts a value into a page in hand in the place of the one under its key, or takes that one out where there is no room.
+    /// Answers whether the value is put.
+    pub(crate) fn exchange_in(&mut self, page: u32, key: Key, value: &[u8]) -> bool
+        ensures put { OnTrue result (MakesChange self.old self.new page key (Some value.now)) }
+        ensures out { OnFalse result (IsInHand self.old page → MakesChange self.old self.new page key None) }
+        ensures few { GrowsBy 0 self.old self.new }
+    {
+        let Some(entries) = self.pages.get_mut(&page) else {
+            return false;
+        };
+        match entries.put(key, value) {
+            Ok(()) => true,
+            Err(_) => {
+                entries.remove(key);
+                false
+            }
+        }
+    }
+
     /// Takes the value under a key out of a page in hand.
     pub(crate) fn remove_from(&mut self, page: u32, key: Key)
         ensures changed { IsInHand self.old page → MakesChange self.old self.new page key None }

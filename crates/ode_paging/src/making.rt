@@ -93,6 +93,48 @@ impl Hand {
         Ok(taken)
     }
 
+    // Puts a value in the place of the one under its key, where the key leads to a page that has the room. Else it takes that
+    // one out, if there is one. Answers the bytes that the old record counted, and the page into which the value is put.
+    fn exchange<H: Host>(
+        &mut self,
+        host: &mut H,
+        source: Source<'_>,
+        led: Option<u32>,
+        key: Key,
+        value: &[u8],
+    ) -> Result<(u64, Option<u32>), KeepError>
+        requires { IsOfPages source.header.now }
+        ensures put { IfOk result (λ x. IfSome x.1 (λ page. (pages now : List Entries) → ArePages now
+            → led ≡ lookup (is_at (key_cmp key)) (indexed 0 [] now)
+            → HasInHand (H.view host.old) source.entry.header.now source.entry.images.now self.old pages now
+            → IsMade (H.view host.new) source.entry.header.now source.entry.images.now self.new pages now key (Some value.now) (Some page))) }
+        ensures out { IfOk result (λ x. IfNone x.1 ((pages now : List Entries) → ArePages now
+            → led ≡ lookup (is_at (key_cmp key)) (indexed 0 [] now)
+            → HasInHand (H.view host.old) source.entry.header.now source.entry.images.now self.old pages now
+            → IsMade (H.view host.new) source.entry.header.now source.entry.images.now self.new pages now key None None)) }
+        ensures counted { IfOk result (λ x. (pages now : List Entries) → ArePages now
+            → led ≡ lookup (is_at (key_cmp key)) (indexed 0 [] now)
+            → HasInHand (H.view host.old) source.entry.header.now source.entry.images.now self.old pages now
+            → x.0 ≡ bytes_of (value_under (gathered [] now) key)) }
+        ensures damaged { OnDamaged result ((pages now : List Entries) → ArePages now
+            → led ≡ lookup (is_at (key_cmp key)) (indexed 0 [] now)
+            → HasInHand (H.view host.old) source.entry.header.now source.entry.images.now self.old pages now → ⊥) }
+        ensures too_large { OnTooLarge result (λ _. ⊥) }
+        ensures few { OnOk result (GrowsBy 1 self.old self.new) }
+        ensures looks { Looks (H.view host.old) (H.view host.new) }
+        ensures cause { RoseIf (IsErrOf result KeepError.DiskFault) (H.view host.old).disk_faults (H.view host.new).disk_faults }
+    {
+        let Some(page) = led else {
+            return Ok((0, None));
+        };
+        self.bring(host, source.header, source.images, page)?;
+        let taken = self.counted(page, key);
+        if self.exchange_in(page, key, value) {
+            return Ok((taken, Some(page)));
+        }
+        Ok((taken, None))
+    }
+
     // Puts a value into a page, if one is named, and this is in hand and has the room. Answers which.
     fn put_in_named(&mut self, page: Option<u32>, key: Key, value: &[u8]) -> Option<u32>
         ensures put { IfSome result (λ page. MakesChange self.old self.new page key (Some value.now)) }
@@ -169,12 +211,11 @@ impl Hand {
         Ok(page)
     }
 
-    // Puts a value into its own page, or that into which one was put last, or some other. Answers which.
+    // Puts a value into the page into which one was put last, or some other. Answers which.
     fn put_somewhere<H: Host>(
         &mut self,
         host: &mut H,
         source: Source<'_>,
-        own: Option<u32>,
         key: Key,
         value: &[u8],
     ) -> Result<u32, KeepError>
@@ -191,9 +232,6 @@ impl Hand {
         ensures looks { Looks (H.view host.old) (H.view host.new) }
         ensures cause { RoseIf (IsErrOf result KeepError.DiskFault) (H.view host.old).disk_faults (H.view host.new).disk_faults }
     {
-        if let Some(page) = self.put_in_named(own, key, value) {
-            return Ok(page);
-        }
         if let Some(page) = self.put_in_named(self.last, key, value) {
             return Ok(page);
         }
@@ -229,21 +267,29 @@ impl Hand {
         ensures looks { Looks (H.view host.old) (H.view host.new) }
         ensures cause { RoseIf (IsErrOf result KeepError.DiskFault) (H.view host.old).disk_faults (H.view host.new).disk_faults }
     {
-        let taken = self.take_out(host, source, led, key)?;
-        match value {
-            Some(value) => {
-                let page = self.put_somewhere(host, source, led, key, value.as_slice())?;
-                Ok(Change {
-                    page: Some(page),
-                    taken,
-                    put: KEY_LEN as u64 + value.len() as u64,
-                })
-            }
-            None => Ok(Change {
+        let Some(value) = value else {
+            let taken = self.take_out(host, source, led, key)?;
+            return Ok(Change {
                 page: None,
                 taken,
                 put: 0,
-            }),
+            });
+        };
+        let put = KEY_LEN as u64 + value.len() as u64;
+        let bytes = value.as_slice();
+        let (taken, own) = self.exchange(host, source, led, key, bytes)?;
+        if let Some(page) = own {
+            return Ok(Change {
+                page: Some(page),
+                taken,
+                put,
+            });
         }
+        let page = self.put_somewhere(host, source, key, bytes)?;
+        Ok(Change {
+            page: Some(page),
+            taken,
+            put,
+        })
     }
 }

@@ -3,7 +3,7 @@ use Rattle.ode_keep.specs.Growth.{bytes_of}
 use Rattle.ode_paging.specs.Replacing.{page_at}
 use Rattle.ode_paging.proofs.Handed.{page_in_hand}
 use Rattle.ode_paging.proofs.Handled.{changed_in_hand, damaged_by}
-use Rattle.ode_paging.proofs.Made.{leads_within, made_nothing, made_out, no_value, value_led}
+use Rattle.ode_paging.proofs.Made.{leads_within, made_in, made_nothing, no_value, value_led}
 use Rattle.ode_paging.proofs.hand.Hand.take_out.Goals as goal
 
 pub returns-in_err-bring-clause-damaged : goal.returns-in_err-bring-clause-damaged
@@ -16,7 +16,7 @@ returns-clause-out g c = λ pages now are led has.
     let view = g.H.Host.view c.bring.new.host in
     let there = sym c.in-Some.is ∙ led in
     let mid = c.in_ok-bring.ensures.covers pages now (leads_within now c.args.key c.in-Some.page are there) has in
-    made_out view c.args.source.header.now c.args.source.images.now c.remove_from.new.self pages now c.args.key are c.in-Some.page there
+    made_in view c.args.source.header.now c.args.source.images.now c.remove_from.new.self pages now c.args.key are None c.in-Some.page there
     (changed_in_hand view c.args.source.header.now c.args.source.images.now c.bring.new.self c.remove_from.new.self pages now mid c.in-Some.page c.args.key None
     (c.remove_from.ensures.changed c.in_ok-bring.ensures.held)).1
 
