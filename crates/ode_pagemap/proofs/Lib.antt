@@ -15,5 +15,6 @@ pub mod Forgotten
 pub mod Renewed
 pub mod Taken
 pub mod Committing
+pub mod Least
 pub mod Committed
 pub mod Paged

@@ -1,9 +1,10 @@
 -- What a commit has at hand before its first write.
-use Rattle.std.specs.Prelude.{◌≡◌, ◌≤◌, ℕ, List, [], length}
+use Rattle.std.specs.Prelude.{◌≡◌, ◌<◌, ◌≤◌, ◌+◌, ◌*◌, ℕ, List, [], length, IsSome}
 use Rattle.std.specs.Option.{IfSome}
+use Rattle.ode_gate.specs.Changes.{WritesAtMost}
 use Rattle.ode_gate.specs.declared.places.TheConstants.{MAX_PAGES, REGION_LEN}
 use Rattle.ode_host.specs.View.{View}
-use Rattle.ode_journal.specs.Appends.{need_of}
+use Rattle.ode_journal.specs.Appends.{need_of, room_of}
 use Rattle.ode_value.specs.Keys.{entry_kind}
 use Rattle.ode_keep.specs.Entries.{Changes, Entries, HasRisingKeys, applied, count_of_kind, record_bytes}
 use Rattle.ode_keep.specs.declared.limits.TheConstants.{MAX_RECORD_BYTES}
@@ -20,7 +21,7 @@ use Rattle.ode_pagemap.specs.declared.map.PageMap.{PageMap}
 use Rattle.ode_pagemap.specs.declared.ready.Ready.{Ready}
 use Rattle.ode_pagemap.specs.Cached.{AreAmong}
 use Rattle.ode_pagemap.specs.Holding.{PagesHold}
-use Rattle.ode_pagemap.specs.Steps.{IsOf, Makes, StandUnder, images_after}
+use Rattle.ode_pagemap.specs.Steps.{ChangesRegion, IsOf, Makes, StandUnder, checkpoint_length, images_after}
 
 -- what a frame of these images takes
 abbrev pub need_for : List Image → ℕ
@@ -48,6 +49,26 @@ pub record IsFormed (plan : Plan) : Type 0 where
   pub full : plan.frame.spare ≡ 0
   pub fits : need_of plan.frame.payload ≤ REGION_LEN
   pub within : plan.counts.bytes ≤ MAX_RECORD_BYTES
+
+-- The frame spells the images of at most two pages for each change. Where it doesn't fit behind the journal, and only there, a
+-- checkpoint of the images that there were is due.
+pub record IsLeast (older : PageMap) (changes : Changes) (ready : Ready) : Type 0 where
+  pub over : List Image
+  pub spelled : IsPayload over ready.frame.payload
+  pub few : length over ≤ 2 * length changes
+  pub due : IfSome ready.due (λ c. (c.images ≡ older.opened.images) × (room_of older.opened.journal < need_of ready.frame.payload))
+
+-- What a commit writes: a frame of the images of at most two pages for each change, in the region of the journal, where it fits
+-- there. Else a checkpoint of the images that there were stands in front of it.
+pub record WritesLeast (older : PageMap) (changes : Changes) (old new : View) : Type 0 where
+  pub over : List Image
+  pub payload : List ℕ
+  pub spelled : IsPayload over payload
+  pub few : length over ≤ 2 * length changes
+  pub frame : need_of payload ≤ room_of older.opened.journal → IsSome old.image → new.written ≡ old.written + need_of payload
+  pub region : need_of payload ≤ room_of older.opened.journal → (entries : Entries) → (h : PagesHold older old entries)
+      → ChangesRegion older.header older.opened.journal h.file new
+  pub checkpoint : WritesAtMost (checkpoint_length older.opened.images + need_of payload) old new
 
 -- In memory are these images, and what is to know of these pages, which have these records. Those that are held are among them.
 pub record Knows (keeper : PageMap) (images : List Image) (pages : List Entries) (entries : Entries) : Type 0 where

@@ -9,6 +9,7 @@ use Rattle.ode_gate.specs.Slots.{Counts, IsSlot}
 use Rattle.ode_host.specs.Host.{Stands}
 use Rattle.ode_host.specs.View.{View}
 use Rattle.ode_journal.specs.declared.journal.Journal.{Journal}
+use Rattle.ode_journal.specs.Appends.{SameOutside}
 use Rattle.ode_journal.specs.Frames.{gate_behind}
 use Rattle.ode_keep.specs.Entries.{Changes, Entries, applied}
 use Rattle.ode_pages.specs.Pages.{IsPage}
@@ -44,6 +45,12 @@ pub record StandUnder (header : Header) (place : Journal) (images : List Image) 
   pub stands : Stands file view
   pub counts : Counts file header
   pub has : StandIn header place images pages file
+
+-- a file stands on the disk that is the same as this one outside the region of the journal
+pub record ChangesRegion (header : Header) (place : Journal) (file : List ℕ) (view : View) : Type 0 where
+  pub next : List ℕ
+  pub stands : Stands next view
+  pub outside : SameOutside header.journal_at place.end file next
 
 -- the image stands for the entries of these pages, and the text is as it was
 pub record LeavesPages (pages : List Entries) (old : View) (image out : List ℕ) : Type 0 where

@@ -1,16 +1,19 @@
 //! The keeper of pages keeps records: their changes are written before they are answered.
-ghost use Rattle.std.specs.Prelude.{◌≡◌, ◌+◌, ◌<◌, ◌≤◌, length, IfErr, IfOk, IsErrOf, IsTrue, MatchOption, OnErr, OnOk};
+ghost use Rattle.std.specs.Prelude.{◌≡◌, ◌+◌, ◌*◌, ◌<◌, ◌≤◌, List, None, length, IfErr, IfOk, IsErrOf, IsTrue, MatchOption, OnErr, OnOk};
 ghost use Rattle.std.specs.Option.{IfSome};
+ghost use Rattle.ode_gate.specs.Changes.{WritesAtMost};
 ghost use Rattle.ode_gate.specs.declared.places.TheConstants.{REGION_LEN};
 ghost use Rattle.ode_host.specs.Causes.{RoseIf};
-ghost use Rattle.ode_host.specs.Host.{DiskCalls, LeavesOnly, Looks};
+ghost use Rattle.ode_host.specs.Host.{DiskCalls, LeavesOnly, Looks, Puts};
 ghost use Rattle.ode_journal.specs.Appends.{need_of, room_of};
 ghost use Rattle.ode_keep.specs.Entries.{Changes, Entries, applied, record_bytes};
 ghost use Rattle.ode_keep.specs.Keeping.{LeavesOldOrNew, OnDamaged, OnRefusal, OnTooLarge, is_usable};
 ghost use Rattle.ode_keep.specs.ShortValues.{HasShortValues};
+ghost use Rattle.ode_paging.specs.Images.{Image};
 ghost use Rattle.ode_paging.specs.Meaning.{PagesMean};
 ghost use Rattle.ode_pagemap.specs.Holding.{PagesHold, is_live};
-ghost use Rattle.ode_pagemap.specs.Ready.{IsFormed, IsPlannedFor, IsReady};
+ghost use Rattle.ode_pagemap.specs.Ready.{IsFormed, IsLeast, IsPlannedFor, IsReady, WritesLeast};
+ghost use Rattle.ode_pagemap.specs.Steps.{ChangesRegion, StandUnder, bytes_before};
 
 use crate::map::PageMap;
 use crate::ready::{Ready, take_over};
@@ -29,6 +32,7 @@ impl PageMap {
         ensures planned { IfOk result (λ plan. (entries : Entries) → PagesHold self.now (H.view host.old) entries
             → IsPlannedFor self.now (H.view host.new) entries batch.now plan) }
         ensures formed { IfOk result IsFormed }
+        ensures two_each { IfOk result (λ plan. length plan.images ≤ 2 * length batch.now) }
         ensures too_large { OnTooLarge result (λ total. (entries : Entries) → PagesHold self.now (H.view host.old) entries
             → (total ≡ record_bytes (applied batch.now entries)) × (MAX_RECORD_BYTES < total)) }
         ensures damaged { OnDamaged result ((entries : Entries) → PagesHold self.now (H.view host.old) entries → ⊥) }
@@ -65,6 +69,8 @@ impl PageMap {
         ensures pages { IfOk result (λ r. IfSome r.due (λ c. c.count ≤ MAX_PAGES)) }
         ensures room { IfOk result (λ r. MatchOption r.due (need_of r.frame.payload ≤ room_of self.new.opened.journal)
             (λ _. need_of r.frame.payload ≤ REGION_LEN)) }
+        ensures least { IfOk result (λ r. IsLeast self.old batch.now r) }
+        ensures stay { OnOk result ((self.new.header ≡ self.old.header) × (self.new.opened.journal ≡ self.old.opened.journal)) }
         ensures refused { OnErr result ((entries : Entries) → PagesHold self.old (H.view host.old) entries
             → PagesHold self.new (H.view host.new) entries) }
         ensures too_large { OnTooLarge result (λ total. (entries : Entries) → PagesHold self.old (H.view host.old) entries
@@ -104,6 +110,11 @@ impl PageMap {
             → PagesHold self.new (H.view host.new) (applied changes entries)) }
         ensures any_moment { (changes : Changes) (entries : Entries) → IsReady self.old (H.view host.old) changes entries ready.now
             → LeavesOnly (H.view host.old) (H.view host.new) (LeavesOldOrNew PagesMean entries changes (H.view host.old)) }
+        ensures region { ready.now.due ≡ None → OnOk result ((images : List Image) (pages : List Entries)
+            → (stand : StandUnder self.old.header self.old.opened.journal images pages (H.view host.old))
+            → ChangesRegion self.old.header self.old.opened.journal stand.file (H.view host.new)) }
+        ensures puts { ready.now.due ≡ None → OnOk result (Puts (need_of ready.now.frame.payload) (H.view host.old) (H.view host.new)) }
+        ensures most { OnOk result (WritesAtMost (bytes_before ready.now.due + need_of ready.now.frame.payload) (H.view host.old) (H.view host.new)) }
         ensures kind { IfErr result (λ e. e ≡ KeepError.DiskFault) }
         ensures leaves { DiskCalls (IsErrOf result KeepError.DiskFault) (H.view host.old) (H.view host.new) }
         ensures usable { is_live self.new ≡ is_usable result }
@@ -138,6 +149,9 @@ impl PageMap {
         ensures usable { is_live self.new ≡ is_usable result }
         ensures leaves { DiskCalls (IsErrOf result KeepError.DiskFault) (H.view host.old) (H.view host.new) }
         ensures damaged { OnDamaged result ((entries : Entries) → PagesHold self.old (H.view host.old) entries → ⊥) }
+
+        // Where the frame fits its journal it is all that is written. Else a checkpoint stands in front of it.
+        ensures writes { OnOk result (WritesLeast self.old batch.now (H.view host.old) (H.view host.new)) }
     {
         match self.prepare(host, batch) {
             Ok(ready) => self.write_out(host, &ready),

@@ -13,7 +13,7 @@ ghost use Rattle.ode_paging.specs.Gathering.{gathered};
 ghost use Rattle.ode_paging.specs.Images.{Image};
 ghost use Rattle.ode_paging.specs.Meaning.{PagesMean};
 ghost use Rattle.ode_paging.specs.Overlays.{laid};
-ghost use Rattle.ode_pagemap.specs.Steps.{IsOf, Makes, StandUnder, bytes_before, images_after};
+ghost use Rattle.ode_pagemap.specs.Steps.{ChangesRegion, IsOf, Makes, StandUnder, bytes_before, images_after};
 
 use crate::checkpoint::{Checkpoint, make_checkpoint};
 use ode_gate::{Header, MAX_PAGES};
@@ -30,6 +30,9 @@ fn add_frame<H: Host>(host: &mut H, journal: &mut Journal, frame: &Frame) -> Res
     ensures any_moment { (header : Header) (images over : List Image) (pages later : List Entries) (changes : Changes)
         → StandUnder header journal.old images pages (H.view host.old) → Makes changes over frame.now.payload pages later
         → LeavesOnly (H.view host.old) (H.view host.new) (LeavesOldOrNew PagesMean (gathered [] pages) changes (H.view host.old)) }
+    ensures region { OnOk result ((header : Header) (images : List Image) (pages : List Entries)
+        → (stand : StandUnder header journal.old images pages (H.view host.old))
+        → ChangesRegion header journal.old stand.file (H.view host.new)) }
     ensures puts { OnOk result (Puts (need_of frame.now.payload) (H.view host.old) (H.view host.new)) }
     ensures leaves { DiskCalls (IsErr result) (H.view host.old) (H.view host.new) }
 {
@@ -62,6 +65,9 @@ pub(crate) fn write_changes<H: Host>(
         → Makes changes over frame.now.payload pages later
         → LeavesOnly (H.view host.old) (H.view host.new) (LeavesOldOrNew PagesMean (gathered [] pages) changes (H.view host.old)) }
     ensures form { IsOfPages header.old → IsOfPages header.new }
+    ensures region { due.entry ≡ None → OnOk result ((images : List Image) (pages : List Entries)
+        → (stand : StandUnder header.old journal.old images pages (H.view host.old))
+        → ChangesRegion header.old journal.old stand.file (H.view host.new)) }
     ensures puts { due.entry ≡ None → OnOk result (Puts (need_of frame.now.payload) (H.view host.old) (H.view host.new)) }
     ensures most { OnOk result (WritesAtMost (bytes_before (option_copied due.entry) + need_of frame.now.payload) (H.view host.old) (H.view host.new)) }
     ensures leaves { DiskCalls (IsErr result) (H.view host.old) (H.view host.new) }

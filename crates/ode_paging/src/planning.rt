@@ -173,6 +173,7 @@ pub fn plan_batch<H: Host>(
     ensures rising { IfOk result (λ plan. HasRisingKeys plan.moves.items) }
     ensures pages { IfOk result (λ plan. AreImages plan.pages.entries plan.images) }
     ensures few_images { IfOk result (λ plan. length plan.images ≤ MAX_IMAGES) }
+    ensures two_each { IfOk result (λ plan. length plan.images ≤ 2 * length batch.now) }
     ensures counted { IfOk result (λ plan. (file : List ℕ) (pages : List Entries) → Tells (H.view host.old) file
         → HavePages source.entry.header.now source.entry.images.now file 0 pages → ArePages pages → count ≡ length pages
         → index.now ≡ indexed 0 [] pages

@@ -17,6 +17,11 @@ returns-in-Ok-clause-added g c header images over pages later changes stand make
     frame_added header place images pages old stand changes over c.args.frame.now.payload later makes c.append.new.self (g.H.Host.view c.append.new.host)
     done.0 (ap (λ (j : Journal). j.end) c.in-Ok.ensures.longer) done.1 done.2
 
+pub returns-in-Ok-clause-region : goal.returns-in-Ok-clause-region
+returns-in-Ok-clause-region g c header images pages stand =
+    let done = c.in-Ok.ensures.acknowledged header.journal_at stand.file stand.has.over.frames (journal_stands header c.args.journal.now images pages (g.H.Host.view c.args.host.now) stand) in
+    record { next = done.0; stands = done.1.stands; outside = done.2 }
+
 pub returns-in-Ok-clause-any_moment : goal.returns-in-Ok-clause-any_moment
 returns-in-Ok-clause-any_moment g c header images over pages later changes stand makes =
     let place = c.args.journal.now in

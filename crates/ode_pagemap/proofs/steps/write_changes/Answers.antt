@@ -12,6 +12,10 @@ use Rattle.ode_pagemap.proofs.Framing.{old_left, text_back}
 use Rattle.ode_pagemap.proofs.Renewing.{laid_alone}
 use Rattle.ode_pagemap.proofs.steps.write_changes.Goals as goal
 
+pub returns-in-None-clause-region : goal.returns-in-None-clause-region
+returns-in-None-clause-region g c none =
+    on_ok_weaker c.add_frame.result (λ region images pages stand. region c.args.header.now images pages stand) c.add_frame.ensures.region
+
 pub returns-in-None-clause-any_moment : goal.returns-in-None-clause-any_moment
 returns-in-None-clause-any_moment g c images over pages later changes stand of makes = c.add_frame.ensures.any_moment c.args.header.now images over pages later changes stand makes
 

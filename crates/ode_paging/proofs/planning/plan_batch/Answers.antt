@@ -48,3 +48,12 @@ returns-clause-few_images g c =
       ap (λ (l : List (ℕ × Entries)). length l) c.new-hand.ensures.empty,
       c.requires.few,
     )
+
+pub returns-clause-two_each : goal.returns-clause-two_each
+returns-clause-two_each g c =
+    omega (
+      arith,
+      are_length c.make_changes.new.hand.pages.entries c.in_ok-images.images c.in_ok-images.ensures,
+      c.in_ok-moves.ensures.few,
+      ap (λ (l : List (ℕ × Entries)). length l) c.new-hand.ensures.empty,
+    )

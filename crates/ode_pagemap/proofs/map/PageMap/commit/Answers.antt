@@ -4,6 +4,7 @@ use Rattle.ode_paging.specs.Meaning.{PagesMean}
 use Rattle.ode_pagemap.specs.Laws.{stands_law}
 use Rattle.ode_pagemap.proofs.Committed.{looked}
 use Rattle.ode_pagemap.proofs.Framing.{text_back}
+use Rattle.ode_pagemap.proofs.Least.{all_least}
 use Rattle.ode_pagemap.proofs.map.PageMap.commit.Goals as goal
 
 pub returns-in-Ok-clause-any_moment : goal.returns-in-Ok-clause-any_moment
@@ -18,3 +19,8 @@ returns-in-Ok-clause-any_moment g c entries h =
     (looked stands.0 old mid entries batch (g.met.H.Host.text_stands c.args.host.now) stands.1 stands.2 looks)
     (weaker mid new (LeavesOldOrNew PagesMean entries batch mid) (LeavesOldOrNew PagesMean entries batch old) (text_back entries batch old mid looks.text)
     (c.write_out.ensures.any_moment batch entries (c.in-Ok.ensures.ready entries h)))
+
+pub returns-in-Ok-clause-writes : goal.returns-in-Ok-clause-writes
+returns-in-Ok-clause-writes g c =
+    all_least c.args.self.now c.prepare.new.self c.args.batch.now (g.H.Host.view c.args.host.now) (g.H.Host.view c.prepare.new.host) (g.H.Host.view c.write_out.new.host)
+    c.in-Ok.ready c.in-Ok.ensures.least c.in-Ok.ensures.stay.0 c.in-Ok.ensures.stay.1 c.in-Ok.ensures.looks c.write_out.result c.write_out.ensures.region c.write_out.ensures.puts c.write_out.ensures.most

@@ -2,6 +2,7 @@ use Rattle.std.proofs.Common.{◌≡◌, [], refl, subst}
 use Rattle.ode_paging.specs.Making.{Moves, all_pointed}
 use Rattle.ode_pagemap.specs.Steps.{images_after}
 use Rattle.ode_pagemap.proofs.Committing.{on_err_any, ready_of, short_of, still_holds}
+use Rattle.ode_pagemap.proofs.Least.{least_of}
 use Rattle.ode_pagemap.proofs.map.PageMap.prepare.Goals as goal
 
 pub returns-in_err-moves-clause-refused : goal.returns-in_err-moves-clause-refused
@@ -27,3 +28,7 @@ returns-clause-ready g c = λ entries h.
     ready_of keeper _ plan due opened c.in_ok-moves.ensures.formed made refl refl c.forget_all.new.self.pages.entries c.forget_all.ensures.rest c.forget_all.ensures.gone
     c.take_all.ensures.among c.in_ok-due.ensures.due _ entries c.args.batch.now
     (c.in_ok-moves.ensures.planned entries h)
+
+pub returns-clause-least : goal.returns-clause-least
+returns-clause-least g c =
+    least_of c.args.self.now c.in_ok-moves.field-0 c.in_ok-moves.ensures.formed c.args.batch.now c.in_ok-due.due c.in_ok-moves.ensures.two_each c.in_ok-due.ensures.due c.in_ok-due.ensures.room
