@@ -37,7 +37,7 @@ without_members number name parent = record {
 
 -- with one more member
 abbrev pub with_member : Class → Member → Class
-with_member c (member.Field name s) = record c { fields = c.fields ++ record { name = name; sort = s } ∷ [] }
+with_member c (member.Field name s) = record c { fields = c.fields ++ record { name = name; sort = s; birth = 0; literal = None } ∷ [] }
 with_member c (member.Method m) = record c { methods = c.methods ++ m ∷ [] }
 with_member c (member.Constraint x) = record c { constraints = c.constraints ++ x ∷ [] }
 with_member c (member.Events kinds) = record c { kinds = c.kinds ++ kinds }

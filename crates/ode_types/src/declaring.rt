@@ -305,7 +305,12 @@ fn declare_field(
     }
     let name = name.copy(alloc)?;
     let sort = sort.copy(alloc)?;
-    draft.fields.push(Field { name, sort })?;
+    draft.fields.push(Field {
+        name,
+        sort,
+        birth: 0,
+        literal: None,
+    })?;
     Ok(())
 }
 

@@ -237,7 +237,12 @@ fn add_member(alloc: Global, class: &mut Class, member: Member) -> Result<(), Al
     ensures { OnOk result (class.new ≡ with_member class.old member) }
 {
     match member {
-        Member::Field(name, sort) => class.fields.push(Field { name, sort }),
+        Member::Field(name, sort) => class.fields.push(Field {
+            name,
+            sort,
+            birth: 0,
+            literal: None,
+        }),
         Member::Method(method) => class.methods.push(method),
         Member::Constraint(constraint) => class.constraints.push(constraint),
         Member::Events(kinds) => add_kinds(alloc, class, kinds.as_slice()),

@@ -1,4 +1,5 @@
 pub mod Below
+pub mod BornLaws
 pub mod Decimals
 pub mod ExampleLaws
 pub mod FirstBytes
@@ -6,6 +7,9 @@ pub mod FreeNames
 pub mod LeafLaws
 pub mod LengthLaws
 pub mod LocalPoints
+pub mod MovedEvents
+pub mod MovedMarks
+pub mod MovingLaws
 pub mod PastLaws
 pub mod PlainLaws
 pub mod PointLaws

@@ -101,7 +101,7 @@ Told = (e : Expr) × Tells e
 abbrev expr_of : Told → Expr
 expr_of x = x.0
 
-same_expr-roll : (d : expr.Expr-F Expr) (f : Expr) → same_expr (roll-Expr d) f ≡ same_expr_of (map-Expr Expr (Expr → Bool) same_expr d) (out-Expr f)
+pub same_expr-roll : (d : expr.Expr-F Expr) (f : Expr) → same_expr (roll-Expr d) f ≡ same_expr_of (map-Expr Expr (Expr → Bool) same_expr d) (out-Expr f)
 unfolding same_expr
 same_expr-roll d f = ap (λ g. g f) (fold-roll-Expr (Expr → Bool) (λ x y. same_expr_of x (out-Expr y)) d)
 

@@ -11,6 +11,7 @@ use Rattle.ode_value.specs.PrintedClasses.{decl_text}
 use Rattle.ode_value.specs.Worlds.{Declared, Entry, Position, class_numbered, Object, Bones}
 use Rattle.ode_value.specs.Versions.{Version}
 use Rattle.ode_value.specs.Classes.{trigger_at}
+use Rattle.ode_value.specs.Fields.{AreDeclared, HasLiterals}
 use Rattle.ode_value.specs.Fitting.{FitFields, HaveTrigger, trigger_in}
 use Rattle.ode_value.specs.Limits.{number_limit, transaction_limit, queue_limit, generation_limit, weight_limit}
 use Rattle.ode_value.specs.ClassLimits.{limits_class}
@@ -30,13 +31,14 @@ pub record IsNext (most n : ℕ) : Type 0 where
 
 -- ---- classes
 
--- A class's text is read as its tree, which is accepted after the earlier classes and gives the class.
+-- A class's text is read as its tree, which is accepted after the earlier classes and gives the class. No field was added to it.
 pub record IsClass (l : Language) (earlier : List Declared) (c : Declared) : Type 0 where
   pub number : c.class.number ≡ length earlier + 1
   pub low : c.class.number < 2 ^ 32
   pub text : l.statement_of (decl_text c.tree ++ codes ";") ≡ Ok (statement.Class c.tree)
   pub checked : l.class_of (map (λ (d : Declared). d.class) earlier) c.tree ≡ Ok c.class
   pub limits : limits_class c ≡ Ok c
+  pub fields : AreDeclared c.class
 
 -- each class, behind the earlier ones
 abbrev pub AreClasses : Language → List Declared → List Declared → Type 0
@@ -45,11 +47,13 @@ AreClasses l earlier (c ∷ cs) = IsClass l earlier c × AreClasses l (earlier +
 
 -- ---- objects
 
--- a version: a drawn number, an earlier parent, fields that fit
+-- a version: a drawn number, an earlier parent, a stamp, fields that fit, of which those that came later are their literals
 pub record IsVersion (b : Bones) (c : Class) (last : ℕ) (v : Version) : Type 0 where
   pub number : v.number ≤ last
   pub parent : IfSome v.parent (λ p. (0 < p) × (p < v.number))
+  pub stamp : v.stamp ≤ length b.added
   pub fields : FitFields b c.fields v.fields
+  pub later : HasLiterals v.stamp c.fields v.fields
 
 -- an activation: a trigger that the class has, a drawn number, on
 pub record IsActivation (b : Bones) (class : ℕ) (a : Activation) : Type 0 where
@@ -95,9 +99,10 @@ pub record IsPosition (p : Position) : Type 0 where
 
 -- ---- the whole
 
--- bones: no two objects or activations have one number
+-- bones: no class was given fields, no two objects or activations have one number
 pub record AreBones (l : Language) (b : Bones) : Type 0 where
   pub classes : AreClasses l [] b.classes
+  pub added : b.added ≡ []
   pub rising : RiseFrom 0 (map (λ (o : Object). o.id) b.objects)
   pub objects : AllByRecursion (IsObject b) b.objects
   pub numbers : IsDistinct nat_eq (flat_map drawn_numbers b.objects)

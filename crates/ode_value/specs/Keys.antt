@@ -1,4 +1,4 @@
--- The keys of records: nine kinds, and the numbers that follow each.
+-- The keys of records: ten kinds, and the numbers that follow each.
 use Rattle.std.specs.Prelude.{ℕ}
 use Rattle.std.specs.Ordering.{nat_cmp, ordering_then}
 use Rattle.std.specs.declared.cmp.Ordering.{Ordering}
@@ -50,6 +50,10 @@ activation_kind = 8
 abbrev pub entry_kind : ℕ
 entry_kind = 9
 
+-- a field that was added to a class
+abbrev pub added_kind : ℕ
+added_kind = 10
+
 -- ---- the keys
 
 -- of the counters
@@ -79,3 +83,7 @@ activation_key id number = key activation_kind id number
 -- of an entry
 abbrev pub entry_key : (number : ℕ) → Key
 entry_key number = key entry_kind number 0
+
+-- of an added field, by its class and its birth
+abbrev pub added_key : (class birth : ℕ) → Key
+added_key class birth = key added_kind class birth

@@ -1,5 +1,5 @@
 -- How many bytes records take: those of a key, and the value's.
-use Rattle.std.specs.Prelude.{ℕ, ◌+◌, ◌-◌, ◌*◌, ◌/◌, List, length}
+use Rattle.std.specs.Prelude.{ℕ, zero, suc, ◌+◌, ◌-◌, ◌*◌, ◌/◌, List, length}
 use Rattle.std.specs.List.{sum_by}
 use Rattle.ode_value.specs.Limits.{value_limit}
 use Rattle.ode_value.specs.declared.value.Value.{Value}
@@ -36,9 +36,14 @@ pieces_length n = key_length * piece_count n + n
 abbrev pub table_length : ℕ → ℕ → ℕ
 table_length states symbols = 2 * (states * symbols) + states
 
--- the counters
-abbrev pub counters_length : ℕ
-counters_length = record_length 45
+-- a stamp, or how many fields were added; 0 isn't spelled
+abbrev pub stamp_length : ℕ → ℕ
+stamp_length zero = 0
+stamp_length (suc n) = 4
+
+-- the counters, by how many fields were added
+abbrev pub counters_length : ℕ → ℕ
+counters_length added = record_length (45 + stamp_length added)
 
 -- a class's head, by its name, and its text, by the text's length
 abbrev pub class_length : List ℕ → ℕ → ℕ
@@ -52,13 +57,17 @@ trigger_length states symbols = record_length 3 + pieces_length (table_length st
 abbrev pub object_length : ℕ
 object_length = record_length 8
 
--- the value of a version, by its fields
-abbrev pub version_size : List Value → ℕ
-version_size fields = 6 + values_length fields
+-- the value of a version, by its stamp and the fields that it has
+abbrev pub version_size : ℕ → List Value → ℕ
+version_size stamp fields = 6 + stamp_length stamp + values_length fields
 
 -- a version
-abbrev pub version_length : List Value → ℕ
-version_length fields = record_length (version_size fields)
+abbrev pub version_length : ℕ → List Value → ℕ
+version_length stamp fields = record_length (version_size stamp fields)
+
+-- an added field, by its name and its literal
+abbrev pub added_length : List ℕ → Value → ℕ
+added_length name literal = record_length (6 + length name + value_length literal)
 
 -- an activation
 abbrev pub activation_length : List Value → ℕ

@@ -3,6 +3,7 @@ pub mod Acts
 pub mod Answers
 pub mod Arithmetic
 pub mod Changes
+pub mod Changing
 pub mod ClassLimits
 pub mod Classes
 pub mod Completing
@@ -14,6 +15,7 @@ pub mod Evaluation
 pub mod Examples
 pub mod Executing
 pub mod Expressions
+pub mod Fields
 pub mod Firings
 pub mod Fitting
 pub mod GoodWorlds
@@ -28,6 +30,7 @@ pub mod MachineExamples
 pub mod Making
 pub mod Marks
 pub mod Masks
+pub mod Moving
 pub mod Numbers
 pub mod Objects
 pub mod Operators

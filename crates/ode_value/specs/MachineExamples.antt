@@ -61,7 +61,7 @@ watched_object = record {
   class = 1;
   live = true;
   last = 1;
-  versions = record { number = 1; parent = None; fields = [] } ∷ [];
+  versions = record { number = 1; parent = None; stamp = 0; fields = [] } ∷ [];
   activations = record { number = 2; class = 1; trigger = 0; args = []; on = true } ∷ [];
 }
 

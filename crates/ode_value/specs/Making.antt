@@ -21,9 +21,13 @@ use Rattle.ode_value.specs.Worlds.{Object, Bones, World, with_object, with_kept}
 abbrev pub drawn : Bones → Bones
 drawn b = record b { next = b.next + 1 }
 
--- a version of this number has these fields
-abbrev pub with_fields : ℕ → List Value → Version → Version
-with_fields number fields v = cond (v.number == number) (record v { fields = fields }) v
+-- how many fields were added: the stamp of what is made or set now
+abbrev pub stamp_now : Bones → ℕ
+stamp_now b = length b.added
+
+-- a version of this number has these fields, with this stamp
+abbrev pub with_fields : ℕ → ℕ → List Value → Version → Version
+with_fields stamp number fields v = cond (v.number == number) (record v { fields = fields; stamp = stamp }) v
 
 -- the versions without the one of this number
 abbrev pub without_version : ℕ → List Version → List Version
@@ -33,11 +37,11 @@ without_version number versions = filter (λ (v : Version). not (v.number == num
 abbrev pub switched_off : ℕ → Activation → Activation
 switched_off number a = cond (a.number == number) (record a { on = false }) a
 
--- an object with a new version, derived from this one
-abbrev pub derived_from : Version → Object → Object
-derived_from v o = record o {
+-- an object with a new version of this stamp, derived from this one
+abbrev pub derived_from : ℕ → Version → Object → Object
+derived_from stamp v o = record o {
   last = o.last + 1;
-  versions = o.versions ++ record { number = o.last + 1; parent = Some v.number; fields = v.fields } ∷ [];
+  versions = o.versions ++ record { number = o.last + 1; parent = Some v.number; stamp = stamp; fields = v.fields } ∷ [];
 }
 
 -- the reference to it
@@ -48,15 +52,15 @@ next_version o = record { object = o.id; version = Some (o.last + 1) }
 abbrev pub pinned : Ref → ℕ → Ref
 pinned r number = record { object = r.object; version = Some number }
 
--- a new object with its first version
-abbrev pub object_with : ℕ → ℕ → List Value → Object
-object_with id class fields = record {
+-- a new object with its first version, of this stamp
+abbrev pub object_with : ℕ → ℕ → ℕ → List Value → Object
+object_with stamp id class fields = record {
   id = id;
   class = class;
   live = true;
   last = 1;
   activations = [];
-  versions = record { number = 1; parent = None; fields = fields } ∷ [];
+  versions = record { number = 1; parent = None; stamp = stamp; fields = fields } ∷ [];
 }
 
 -- an object with a new activation
@@ -71,16 +75,18 @@ module _ {O A : Type 0} where
   sets_field r place value = do
     v ← version r
     let fields = slice_set v.fields place value
-    changes (version_key r.object v.number ∷ []) (version_size fields) draws_none
-    alters_object r.object (λ o. record o { versions = map (with_fields v.number fields) o.versions })
+    stamp ← sees stamp_now
+    changes (version_key r.object v.number ∷ []) (version_size stamp fields) draws_none
+    alters_object r.object (λ o. record o { versions = map (with_fields stamp v.number fields) o.versions })
 
   -- a new version of an object, derived from the one that a reference denotes
   abbrev pub derives : Ref → Act O A Ref
   derives r = do
     v ← version r
     o ← object r.object
-    changes (object_key o.id ∷ version_key o.id (o.last + 1) ∷ []) (version_size v.fields) (λ b. nat_lt o.last version_limit)
-    alters_object o.id (derived_from v)
+    stamp ← sees stamp_now
+    changes (object_key o.id ∷ version_key o.id (o.last + 1) ∷ []) (version_size stamp v.fields) (λ b. nat_lt o.last version_limit)
+    alters_object o.id (derived_from stamp v)
     prints (version_line (next_version o))
     gives (next_version o)
 
@@ -118,7 +124,7 @@ module _ {O A : Type 0} (past : Past O A) where
   -- the world with a new object
   abbrev pub with_new : ℕ → List Value → World O A → World O A
   with_new class fields w = record {
-    bones = let b = w.bones in drawn (record b { objects = b.objects ++ object_with b.next class fields ∷ [] });
+    bones = let b = w.bones in drawn (record b { objects = b.objects ++ object_with (stamp_now b) b.next class fields ∷ [] });
     pasts = w.pasts ++ (w.bones.next, record { own = past.empty; activations = [] }) ∷ [];
   }
 
@@ -137,7 +143,8 @@ module _ {O A : Type 0} (past : Past O A) where
   abbrev pub makes : ℕ → List Value → Act O A ℕ
   makes class fields = do
     id ← sees (λ b. b.next)
-    changes (object_key id ∷ version_key id 1 ∷ []) (version_size fields) has_number
+    stamp ← sees stamp_now
+    changes (object_key id ∷ version_key id 1 ∷ []) (version_size stamp fields) has_number
     turns (with_new class fields)
     does (touching id)
     prints (new_line id)

@@ -1,5 +1,5 @@
 -- What an object is beside its versions: the lists of its points, and its activations.
-use Rattle.std.specs.Prelude.{ℕ, ◌≤◌, Bool, cond, List, [], ◌∷◌, ◌++◌, length}
+use Rattle.std.specs.Prelude.{ℕ, ◌≤◌, Bool, cond, List, [], ◌∷◌, ◌++◌, length, map}
 use Rattle.ode_value.specs.declared.event.Point.{Point}
 use Rattle.ode_value.specs.declared.value.Value.{Value}
 use Rattle.ode_value.specs.Views.{History, view}
@@ -35,7 +35,7 @@ pub record IsWithin (start : Starts) (h : Histories) : Type 0 where
   pub whole : start.whole ≤ length h.whole
   pub committed : start.committed ≤ length h.committed
 
--- with one more point; with one more in the list of all points alone; and with the points that an abort leaves
+-- with one more point; with one more in the list of all points alone; with the points that an abort leaves; with a change of each
 abbrev pub grown : Histories → Point → Histories
 grown h p = record { whole = h.whole ++ p ∷ []; committed = h.committed ++ p ∷ [] }
 
@@ -44,3 +44,6 @@ grown_whole h p = record { whole = h.whole ++ p ∷ []; committed = h.committed 
 
 abbrev pub rewound : Histories → Histories → Histories
 rewound first now = record { whole = now.whole; committed = first.committed }
+
+abbrev pub altered : (Point → Point) → Histories → Histories
+altered change h = record { whole = map change h.whole; committed = map change h.committed }

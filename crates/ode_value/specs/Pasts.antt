@@ -5,7 +5,7 @@ use Rattle.ode_value.specs.declared.event.EventExpr.{EventExpr}
 use Rattle.ode_value.specs.declared.event.Point.{Point}
 use Rattle.ode_value.specs.declared.value.Value.{Value}
 use Rattle.ode_value.specs.Marks.{marks}
-use Rattle.ode_value.specs.Objects.{Histories, Starts, new_starts, view_of, grown, grown_whole, rewound}
+use Rattle.ode_value.specs.Objects.{Histories, Starts, new_starts, view_of, grown, grown_whole, rewound, altered}
 use Rattle.ode_value.specs.Points.{fires_on}
 use Rattle.ode_value.specs.Symbols.{symbol}
 use Rattle.ode_value.specs.Tables.{Table, next_state, says_yes, Stands}
@@ -33,6 +33,8 @@ pub record Past (O A : Type 0) : Type 0 where
   pub back : Watch → A → A → A
   -- whether the last point fires the trigger
   pub fires : Watch → O → A → Bool
+  -- with a change of every point
+  pub alter : (Point → Point) → O → O
 
 -- what is kept of an object beside the world: of its own, and of each of its activations, by number
 pub record Kept (O A : Type 0) : Type 0 where
@@ -51,6 +53,7 @@ lists = record {
   rewind = rewound;
   back = λ w first now. first;
   fires = λ w h start. fires_on w.event w.args (view_of w.whole h start);
+  alter = altered;
 }
 
 -- numbers, by the tables of the triggers
@@ -72,6 +75,7 @@ module _ (tables : ℕ → ℕ → Table) where
     rewind = λ first now. tt;
     back = λ w first now. cond w.whole now first;
     fires = λ w u state. says_yes (table_of w) state;
+    alter = λ change u. tt;
   }
 
   -- an activation's number stands for its view

@@ -1,11 +1,13 @@
 -- Records: the bytes of keys, values and records, and how they count.
-use Rattle.std.specs.Prelude.{ℕ, ◌+◌, ◌%◌, ◌^◌, List, [], ◌∷◌, ◌++◌, length, cond, Option, Some, None}
+use Rattle.std.specs.Prelude.{ℕ, zero, suc, ◌+◌, ◌%◌, ◌^◌, List, [], ◌∷◌, ◌++◌, length, cond, Option, Some, None}
 use Rattle.std.specs.Int.{w16, w32, w64, to_be_bytes, cast_unsigned}
 use Rattle.std.specs.List.{flat_map}
 use Rattle.std.specs.Option.{unwrap_or}
+use Rattle.ode_value.specs.declared.class.Field.{Field}
 use Rattle.ode_value.specs.declared.key.Key.{Key}
 use Rattle.ode_value.specs.declared.value.Value.{Value}
 use Rattle.ode_value.specs.declared.value.Value.TheVariants as value
+use Rattle.ode_value.specs.Fields.{born_values}
 use Rattle.ode_value.specs.Keys.{version_key}
 use Rattle.ode_value.specs.Lengths.{record_length}
 use Rattle.ode_value.specs.Versions.{Version}
@@ -35,9 +37,24 @@ clock_bytes (Some p) = byte 1 ++ to_be_bytes w64 (cast_unsigned w64 p.instant) +
 abbrev pub Row : Type 0
 Row = Key × List ℕ
 
--- a version, under its number in the object of this one
-abbrev pub version_row : ℕ → Version → Row
-version_row id v = (version_key id v.number, to_be_bytes w32 (unwrap_or v.parent 0) ++ to_be_bytes w16 (length v.fields) ++ flat_map spelled_value v.fields)
+-- a stamp, or how many fields were added; 0 isn't spelled
+abbrev pub stamp_bytes : ℕ → List ℕ
+stamp_bytes zero = []
+stamp_bytes (suc n) = to_be_bytes w32 (suc n)
+
+-- how many fields a version has; a high bit says that a stamp follows
+abbrev pub stamped_count : ℕ → ℕ → ℕ
+stamped_count zero count = count
+stamped_count (suc n) count = count + 2 ^ 15
+
+-- the value of a version, by its parent, its stamp and the fields that it has
+abbrev pub version_bytes : ℕ → ℕ → List Value → List ℕ
+version_bytes parent stamp fields =
+    to_be_bytes w32 parent ++ to_be_bytes w16 (stamped_count stamp (length fields)) ++ stamp_bytes stamp ++ flat_map spelled_value fields
+
+-- a version, under its number in the object of this one, by the fields of its class
+abbrev pub version_row : ℕ → List Field → Version → Row
+version_row id fields v = (version_key id v.number, version_bytes (unwrap_or v.parent 0) v.stamp (born_values v.stamp fields v.fields))
 
 -- how many bytes a record counts
 abbrev pub row_weight : Row → ℕ

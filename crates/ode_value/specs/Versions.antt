@@ -2,10 +2,12 @@
 use Rattle.std.specs.Prelude.{ℕ, List, [], ◌∷◌, cond, ◌==◌, Option, Some, None}
 use Rattle.ode_value.specs.declared.value.Value.{Value}
 
--- a version: its number, the version that it was derived from, and a value for each field of the class
+-- A version: its number, the version that it was derived from, and a value for each field of the class. Its stamp is how many fields
+-- the database had been given when it was made or a field of it was last set.
 pub record Version : Type 0 where
   pub number : ℕ
   pub parent : Option ℕ
+  pub stamp : ℕ
   pub fields : List Value
 
 -- the version of this number

@@ -1,6 +1,7 @@
 -- A world: what is plain to see of it, its bones, and what is kept of the pasts of its objects.
 use Rattle.std.specs.Prelude.{ℕ, ℤ, List, [], ◌∷◌, Bool, cond, ◌==◌, Option, Some, None}
 use Rattle.std.specs.Str.{bytes_eq}
+use Rattle.ode_value.specs.declared.change.Added.{Added}
 use Rattle.ode_value.specs.declared.class.Class.{Class}
 use Rattle.ode_value.specs.declared.statement.ClassDecl.{ClassDecl}
 use Rattle.ode_value.specs.declared.value.Value.{Value}
@@ -8,7 +9,7 @@ use Rattle.ode_value.specs.Objects.{Activation}
 use Rattle.ode_value.specs.Pasts.{Kept}
 use Rattle.ode_value.specs.Versions.{Version}
 
--- a declared class: as it was checked, and as it was written
+-- a declared class: as it was checked, with the fields that were added to it, and as it was written
 pub record Declared : Type 0 where
   pub class : Class
   pub tree : ClassDecl
@@ -36,10 +37,12 @@ pub record Position : Type 0 where
   pub object : ℕ
   pub place : ℕ
 
--- The classes and the objects, each in rising order of numbers; the next number of an object or an activation, the next
--- transaction's number; the queue of firings by number and the next number there; the clock.
+-- The classes and the objects, each in rising order of numbers; the fields that were added to classes, in the order of their births;
+-- the next number of an object or an activation, the next transaction's number; the queue of firings by number and the next number
+-- there; the clock.
 pub record Bones : Type 0 where
   pub classes : List Declared
+  pub added : List Added
   pub objects : List Object
   pub next : ℕ
   pub transaction : ℕ
@@ -54,7 +57,7 @@ pub record World (O A : Type 0) : Type 0 where
 
 -- the bones of a fresh database
 abbrev pub empty_bones : Bones
-empty_bones = record { classes = []; objects = []; next = 1; transaction = 1; queue = []; next_entry = 1; clock = None }
+empty_bones = record { classes = []; added = []; objects = []; next = 1; transaction = 1; queue = []; next_entry = 1; clock = None }
 
 -- a fresh database
 abbrev pub empty_world : {O A : Type 0} → World O A

@@ -5,17 +5,21 @@ use crate::list::{Copied, List};
 use crate::member::{Constraint, Method, TriggerDecl};
 use crate::name::Name;
 use crate::statement::Sort;
+use crate::value::Value;
 use std::alloc::{AllocError, Global};
 
-/// A field of a class.
+/// A field of a class. One that was added to it has the number of its birth, and a literal for the versions that don't have it; one
+/// that was declared has birth 0 and none.
 #[derive(Drop)]
 pub struct Field {
     pub name: Name,
     pub sort: Sort,
+    pub birth: u32,
+    pub literal: Option<Value>,
 }
 
-/// A declared class. Classes are numbered from 1. The fields and the kinds of its ancestors stand before its own, and its trees are
-/// checked: they name parameters, locals and fields by their places.
+/// A declared class. Classes are numbered from 1. The fields and the kinds of its ancestors stand before its own, and of its fields the
+/// declared ones before the added ones. Its trees are checked: they name parameters, locals and fields by their places.
 #[derive(Drop)]
 pub struct Class {
     pub number: u32,
@@ -33,9 +37,14 @@ impl Field {
     pub fn copy(&self, alloc: Global) -> Result<Field, AllocError>
         ensures { IfOk result (λ copy. copy ≡ self.now) }
     {
+        let name = self.name.copy(alloc)?;
+        let sort = self.sort.copy(alloc)?;
+        let literal = self.literal.copy_in(alloc)?;
         Ok(Field {
-            name: self.name.copy(alloc)?,
-            sort: self.sort.copy(alloc)?,
+            name,
+            sort,
+            birth: self.birth,
+            literal,
         })
     }
 }

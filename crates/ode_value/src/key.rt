@@ -9,7 +9,7 @@ pub struct Key {
     pub b: u64,
 }
 
-/// The nine kinds of records. The definitions have the same numbers in `specs/Keys.antt`.
+/// The ten kinds of records. The definitions have the same numbers in `specs/Keys.antt`.
 impl Key {
     /// The counters of a world, the clock among them; both numbers are 0.
     pub const COUNTERS: u8 = 1;
@@ -29,6 +29,8 @@ impl Key {
     pub const ACTIVATION: u8 = 8;
     /// An entry of the queue: its number, and 0.
     pub const ENTRY: u8 = 9;
+    /// A field that was added to a class: the class's number, and the field's birth.
+    pub const ADDED: u8 = 10;
 }
 
 /// The kinds of the code are those of the definitions.
@@ -42,4 +44,5 @@ pub fn kinds_agree()
     ensures version { Key.VERSION ≡ keys.version_kind }
     ensures activation { Key.ACTIVATION ≡ keys.activation_kind }
     ensures entry { Key.ENTRY ≡ keys.entry_kind }
+    ensures added { Key.ADDED ≡ keys.added_kind }
 {}

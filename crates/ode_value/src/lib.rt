@@ -4,6 +4,7 @@
 mod arithmetic;
 mod binding;
 mod boxed;
+mod change;
 mod class;
 mod digits;
 mod event;
@@ -27,6 +28,7 @@ mod words;
 pub use arithmetic::{Fault, int_op};
 pub use binding::{Param, Var};
 pub use boxed::Boxed;
+pub use change::{Added, Change};
 pub use class::{Class, Field};
 pub use digits::{decimal, int_text, parse_decimal};
 pub use event::{EventExpr, Kind, Mode, Point};

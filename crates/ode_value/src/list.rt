@@ -145,6 +145,15 @@ impl<A: Copied, B: Copied> Copied for (A, B) {
     }
 }
 
+impl<A: Copied, B: Copied, C: Copied> Copied for (A, B, C) {
+    fn copy_in(&self, alloc: Global) -> Result<(A, B, C), AllocError> {
+        let first = self.0.copy_in(alloc)?;
+        let second = self.1.copy_in(alloc)?;
+        let third = self.2.copy_in(alloc)?;
+        Ok((first, second, third))
+    }
+}
+
 impl<T: Copied> Copied for Option<T> {
     fn copy_in(&self, alloc: Global) -> Result<Option<T>, AllocError> {
         match self {

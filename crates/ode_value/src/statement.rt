@@ -252,6 +252,12 @@ fn copy_operand(alloc: Global, e: &Expr) -> Result<Boxed<Expr>, AllocError>
     Boxed::new(alloc, copy)
 }
 
+impl Copied for Sort {
+    fn copy_in(&self, alloc: Global) -> Result<Sort, AllocError> {
+        self.copy(alloc)
+    }
+}
+
 impl Copied for Expr {
     fn copy_in(&self, alloc: Global) -> Result<Expr, AllocError> {
         self.copy(alloc)

@@ -1,4 +1,4 @@
-use Rattle.std.proofs.Common.{arith}
+use Rattle.std.proofs.Common.{arith, refl}
 use Rattle.std.specs.List.{IsDistinct}
 use Rattle.ode_value.specs.Limits.{queue_limit}
 use Rattle.ode_value.specs.Weights.{weight}
@@ -9,6 +9,7 @@ unfolding weight queue_limit IsDistinct
 returns c l = record {
   bones = record {
     classes = tt;
+    added = refl;
     rising = tt;
     objects = tt;
     numbers = tt;
