@@ -1,5 +1,5 @@
 -- What is read from the front of bytes is spelled there, and what is spelled is read again.
-use Rattle.std.proofs.Common.{◌≡◌, ℕ, ℤ, Fits, suc, ◌+◌, ◌^◌, ◌<◌, ◌≤◌, Bool, true, false, cond, ltb, List, [], ◌∷◌, ◌++◌, length, get_or, take, drop, Option, Some, None, refl, sym, ap, subst, ◌∙◌, append_assoc, arith, inl, inr}
+use Rattle.std.proofs.Common.{◌≡◌, ℕ, ℤ, Fits, zero, suc, ◌+◌, ◌^◌, ◌<◌, ◌≤◌, Bool, true, false, cond, ltb, List, [], ◌∷◌, ◌++◌, length, get_or, take, drop, Option, Some, None, refl, sym, ap, subst, ◌∙◌, append_assoc, arith, inl, inr}
 use Rattle.std.specs.Prelude.{FitsSigned, nat_lt, ◌==◌}
 use Rattle.std.specs.Int.{Width, w16, w32, w64, byte_len, from_be_bytes, to_be_bytes, cast_signed, cast_unsigned}
 use Rattle.std.proofs.lemmas.Bool.{cases_lt, ltb-false, le-ltb}
@@ -9,8 +9,9 @@ use Rattle.std.proofs.Math.Facts.{Fits-of_z}
 use borrow.Author.Gap.{read_sfits}
 use Rattle.std.proofs.lemmas.List.{take_at, drop_at, take-append-drop, length-append, length-take, get_or-drop, get_or-take, get_or_past, nil_from_length, append-nil}
 use Rattle.std.proofs.lemmas.Nat.{be_bytes_2, be_bytes_4, be_bytes_8, from_be_bytes-to_be_bytes_2, from_be_bytes-to_be_bytes_4, from_be_bytes-to_be_bytes_8}
-use Rattle.ode_codec.specs.Formats.{◌>>=◌, both, byte_in, ended, fit, holding, int_in, number_in, truth_in, truth_of}
+use Rattle.ode_codec.specs.Formats.{◌>>=◌, both, byte_in, ended, fit, holding, int_in, number_in, some_in, truth_in, truth_of}
 use Rattle.ode_codec.specs.Spelling.{truth}
+use Rattle.ode_value.specs.Records.{stamp_bytes}
 
 abbrev pub IsBytes : List ℕ → Type 0
 IsBytes bytes = (i : ℕ) → get_or bytes i 0 < 256
@@ -143,6 +144,38 @@ format32 = number_format w32 (2 ^ 32) (λ n. refl) (λ bytes len fits. be_bytes_
 pub format64 : IsFormat ℕ (to_be_bytes w64) (number_in w64) (λ n. n < 2 ^ 64)
 format64 = number_format w64 (2 ^ 64) (λ n. refl) (λ bytes len fits. be_bytes_8 bytes _ len fits refl) (λ n lt. from_be_bytes-to_be_bytes_8 n lt)
     (λ bytes fits. omega (arith, fits 0, fits 1, fits 2, fits 3, fits 4, fits 5, fits 6, fits 7))
+
+-- ---- a number above 0, and one that isn't spelled where it is 0
+
+some_by : (b : Bool) (x y : ℕ × List ℕ) → cond b None (Some x) ≡ Some y → (b ≡ false) × (x ≡ y)
+some_by true x y e = absurd cc
+some_by false x y e = (refl, cc)
+
+some_takes : (bytes : List ℕ) (x : ℕ × List ℕ) → IsBytes bytes → some_in bytes ≡ Some x → Takes bytes (to_be_bytes w32 x.0) x.1 × ((0 < x.0) × (x.0 < 2 ^ 32))
+unfolding some_in
+some_takes bytes x fits e =
+    let a = bind_some (number_in w32 bytes) (λ n. cond (n.0 == 0) None (Some n)) x e in
+    let g = some_by (a.0.0 == 0) a.0 x a.2 in
+    let front = format32.takes bytes a.0 fits a.1 in
+    let zero : (a.0.0 == 0) ≡ false = g.0 in
+    let some : 0 < a.0.0 = grind (arith, nat_tests) in
+    subst (λ (y : ℕ × List ℕ). Takes bytes (to_be_bytes w32 y.0) y.1 × ((0 < y.0) × (y.0 < 2 ^ 32))) g.1 (front.0, (some, front.1))
+
+some_again : (n : ℕ) (rest : List ℕ) → (0 < n) × (n < 2 ^ 32) → some_in (to_be_bytes w32 n ++ rest) ≡ Some (n, rest)
+unfolding some_in
+some_again n rest fits =
+    let some : 0 < n = fits.0 in
+    let zero : (n == 0) ≡ false = grind (arith, nat_tests) in
+    let made : ℕ × List ℕ = (n, rest) in
+    ap (λ o. o >>= λ (m : ℕ × List ℕ). cond (m.0 == 0) None (Some m)) (format32.again n rest fits.1)
+    ∙ ap (λ b. cond b None (Some made)) zero
+
+pub some_format : IsFormat ℕ (to_be_bytes w32) some_in (λ n. (0 < n) × (n < 2 ^ 32))
+some_format = record { takes = some_takes; again = some_again }
+
+pub stamp_some : (n : ℕ) → 0 < n → stamp_bytes n ≡ to_be_bytes w32 n
+stamp_some zero some = absurd (omega (arith, some))
+stamp_some (suc n) some = refl
 
 -- ---- one byte
 

@@ -1,28 +1,30 @@
 -- Each record has one spelling, and what is read is spelled so.
-use Rattle.std.proofs.Common.{◌≡◌, ℕ, ℤ, ◌+◌, ◌*◌, ◌/◌, ◌%◌, ◌^◌, ◌<◌, ◌≤◌, Bool, true, false, not, cond, List, ◌++◌, length, Option, Some, None, refl, sym, ap, subst, ◌∙◌, arith}
+use Rattle.std.proofs.Common.{◌≡◌, ℕ, ℤ, ◌+◌, ◌*◌, ◌/◌, ◌%◌, ◌^◌, ◌<◌, ◌≤◌, zero, suc, Bool, true, false, not, cond, List, [], ◌∷◌, ◌++◌, length, Option, Some, None, refl, sym, ap, subst, ◌∙◌, arith}
 use Rattle.std.specs.Prelude.{FitsSigned, pos, nat_lt, nat_le, ◌==◌, ◌&&◌, ◌||◌, position, if◌then◌else◌}
 use Rattle.std.specs.Int.{w64}
 use Rattle.std.specs.Option.{is_none}
 use Rattle.std.specs.Ordering.{int_eq}
 use Rattle.std.proofs.lemmas.Bool.Decides.{Decides-int_eq, nat_tests}
-use Rattle.ode_value.specs.Keys.{key, counters_kind, class_head_kind, class_piece_kind, table_head_kind, table_piece_kind, object_kind, version_kind, activation_kind, entry_kind}
+use Rattle.std.proofs.lemmas.List.{append-nil}
+use Rattle.ode_value.specs.Keys.{key, counters_kind, class_head_kind, class_piece_kind, table_head_kind, table_piece_kind, object_kind, version_kind, activation_kind, entry_kind, added_kind}
 use Rattle.ode_value.specs.Limits.{name_limit, number_limit, transaction_limit, value_limit}
+use Rattle.ode_value.specs.Records.{spelled_value, stamp_bytes}
 use Rattle.ode_value.specs.Text.{IsName, is_name, is_name_byte}
 use Rattle.ode_value.specs.declared.key.Key.{Key}
 use Rattle.ode_value.specs.declared.value.Value.{Value}
-use Rattle.ode_codec.specs.Formats.{◌>>=◌, both, byte_in, ended, fit, holding, int_in, truth_in}
+use Rattle.ode_codec.specs.Formats.{◌>>=◌, both, byte_in, ended, fit, holding, int_in, is_sort, some_in, truth_in}
 use Rattle.ode_codec.specs.Reading
-use Rattle.ode_codec.specs.Reading.{clock_in, is_clock, is_counters, is_next, is_piece, made_counters, name_in, u16_in, u32_in, u64_in}
+use Rattle.ode_codec.specs.Reading.{added_count_in, clock_in, is_clock, is_counters, is_next, is_piece, made_counters, name_in, u16_in, u32_in, u64_in}
 use Rattle.ode_codec.specs.Rules.{HasRanges, IsClock, IsKept, IsKeptCounters, IsNext, IsPiece, IsRecord}
 use Rattle.ode_codec.specs.Spelling.{key_of, spelled, truth, u16, u32, u64, value_of}
-use Rattle.ode_codec.specs.Values.{args_in, fields_in}
+use Rattle.ode_codec.specs.Values.{args_in, fields_in, value_in}
 use Rattle.ode_codec.specs.declared.record.Activation.{Activation}
 use Rattle.ode_codec.specs.declared.record.Counters.{Counters}
 use Rattle.ode_codec.specs.declared.record.Entry.{Entry}
 use Rattle.ode_codec.specs.declared.record.Record.{Record}
 use Rattle.ode_codec.specs.declared.record.Record.TheVariants as of
-use Rattle.ode_codec.proofs.FormatLaws.{IsBytes, IsFormat, bind_some, both_format, fit_again, fit_is, format8, format16, format32, format64, held, int_format, same, spell_byte, spell_int, truth_format, whole_again, whole_takes}
-use Rattle.ode_codec.proofs.ValueLaws.{FitArgs, FitFields, are_kept, args_format, both_true, fields_format, fit_values, in_range, none_there, part_format, spell_args, spell_fields}
+use Rattle.ode_codec.proofs.FormatLaws.{IsBytes, IsFormat, bind_some, both_format, fit_again, fit_is, format8, format16, format32, format64, held, int_format, none_left, same, some_format, spell_byte, spell_int, stamp_some, truth_format, whole_again, whole_takes}
+use Rattle.ode_codec.proofs.ValueLaws.{FitArgs, FitFields, FitsValue, are_kept, args_format, both_true, fields_format, fit_values, in_range, none_there, part_format, spell_args, spell_fields, value_format}
 use Rattle.ode_codec.specs.declared.record.TheConstants.{TABLE_PLACES}
 
 -- the numbers of a key are within their types
@@ -72,35 +74,38 @@ object_again object class last is =
 
 -- ---- versions
 
-abbrev spell_version : ℕ × List Value → List ℕ
+abbrev Versions : Type 0
+Versions = ℕ × (ℕ × List Value)
+
+abbrev spell_version : Versions → List ℕ
 spell_version p = u32 p.0 ++ spell_fields p.1
 
-abbrev FitVersion : ℕ × List Value → Type 0
+abbrev FitVersion : Versions → Type 0
 FitVersion p = (p.0 < 2 ^ 32) × FitFields p.1
 
-version_format : IsFormat (ℕ × List Value) spell_version (both u32_in fields_in) FitVersion
-version_format = both_format ℕ (List Value) u32 spell_fields u32_in fields_in (λ n. n < 2 ^ 32) FitFields format32 fields_format
+version_format : IsFormat Versions spell_version (both u32_in fields_in) FitVersion
+version_format = both_format ℕ (ℕ × List Value) u32 spell_fields u32_in fields_in (λ n. n < 2 ^ 32) FitFields format32 fields_format
 
 version_found : (k : Key) (bytes : List ℕ) (r : Record) → IsKey k → IsBytes bytes → Reading.version_under k bytes ≡ Some r → Spells version_kind k bytes r
 unfolding Reading.version_under key_of value_of IsKept HasRanges
 version_found k bytes r is fits e =
-    let a = bind_some (fit (2 ^ 32) k.b) (λ number. both u32_in fields_in bytes >>= λ f. ended f.1 >>= λ _. Some (of.Version k.a number f.0.0 f.0.1)) r e in
+    let a = bind_some (fit (2 ^ 32) k.b) (λ number. both u32_in fields_in bytes >>= λ f. ended f.1 >>= λ _. Some (of.Version k.a number f.0.0 f.0.1.0 f.0.1.1)) r e in
     let low = fit_is (2 ^ 32) k.b a.0 a.1 in
-    let w = whole_takes (ℕ × List Value) Record spell_version (both u32_in fields_in) FitVersion version_format (λ p. Some (of.Version k.a a.0 p.0 p.1)) bytes r fits a.2 in
-    subst (Spells version_kind k bytes) (same (of.Version k.a a.0 w.0.0 w.0.1) r w.3)
+    let w = whole_takes Versions Record spell_version (both u32_in fields_in) FitVersion version_format (λ p. Some (of.Version k.a a.0 p.0 p.1.0 p.1.1)) bytes r fits a.2 in
+    subst (Spells version_kind k bytes) (same (of.Version k.a a.0 w.0.0 w.0.1.0 w.0.1.1) r w.3)
     (record {
-      rules = record { kept = (w.2.1.0, are_kept w.0.1 w.2.1.1); ranges = (is.a, subst (λ n. n < 2 ^ 32) low.1 low.0, w.2.0, in_range w.0.1 w.2.1.1) };
+      rules = record { kept = (w.2.1.1.0, are_kept w.0.1.1 w.2.1.1.1); ranges = (is.a, subst (λ n. n < 2 ^ 32) low.1 low.0, w.2.0, w.2.1.0, in_range w.0.1.1 w.2.1.1.1) };
       key = ap (key version_kind k.a) low.1;
       value = w.1;
     })
 
-version_again : (object number parent : ℕ) (fields : List Value) → IsRecord (of.Version object number parent fields)
-    → Reading.version_under (key version_kind object number) (spell_version (parent, fields)) ≡ Some (of.Version object number parent fields)
+version_again : (object number parent stamp : ℕ) (fields : List Value) → IsRecord (of.Version object number parent stamp fields)
+    → Reading.version_under (key version_kind object number) (spell_version (parent, (stamp, fields))) ≡ Some (of.Version object number parent stamp fields)
 unfolding Reading.version_under IsKept HasRanges
-version_again object number parent fields is =
-    next_by (fit (2 ^ 32) number) number (λ n. both u32_in fields_in (spell_version (parent, fields)) >>= λ f. ended f.1 >>= λ _. Some (of.Version object n f.0.0 f.0.1)) (fit_again (2 ^ 32) number is.ranges.1)
-    ∙ whole_again (ℕ × List Value) Record spell_version (both u32_in fields_in) FitVersion version_format (λ p. Some (of.Version object number p.0 p.1)) (parent, fields)
-    (is.ranges.2, (is.kept.0, fit_values fields is.ranges.3 is.kept.1))
+version_again object number parent stamp fields is =
+    next_by (fit (2 ^ 32) number) number (λ n. both u32_in fields_in (spell_version (parent, (stamp, fields))) >>= λ f. ended f.1 >>= λ _. Some (of.Version object n f.0.0 f.0.1.0 f.0.1.1)) (fit_again (2 ^ 32) number is.ranges.1)
+    ∙ whole_again Versions Record spell_version (both u32_in fields_in) FitVersion version_format (λ p. Some (of.Version object number p.0 p.1.0 p.1.1)) (parent, (stamp, fields))
+    (is.ranges.2, (is.ranges.3, (is.kept.0, fit_values fields is.ranges.4 is.kept.1)))
 
 -- ---- activations
 
@@ -418,11 +423,29 @@ second_format = both_format ℕ (ℕ × Clocks) u64 (λ p. u64 p.0 ++ spell_cloc
 nexts_format : IsFormat Nexts spell_nexts nexts_in FitNexts
 nexts_format = both_format ℕ (ℕ × (ℕ × Clocks)) u64 (λ p. u64 p.0 ++ (u64 p.1.0 ++ spell_clocks p.1.1)) u64_in (both u64_in (both u64_in clock_in)) (λ n. n < 2 ^ 64) (λ p. (p.0 < 2 ^ 64) × ((p.1.0 < 2 ^ 64) × FitClocks p.1.1)) format64 second_format
 
-abbrev made : Nexts → Counters
-made p = made_counters p.0 p.1.0 p.1.1.0 p.1.1.1
+-- how many fields were added, at the end
+count_takes : (bytes : List ℕ) (n : ℕ) → IsBytes bytes → added_count_in bytes ≡ Some n → (bytes ≡ stamp_bytes n) × (n < 2 ^ 32)
+unfolding added_count_in
+count_takes [] n fits e = let is : 0 ≡ n = same 0 n e in (ap stamp_bytes is, subst (λ m. m < 2 ^ 32) is (omega arith))
+count_takes (b ∷ bytes) n fits e =
+    let a = bind_some (some_in (b ∷ bytes)) (λ m. ended m.1 >>= λ _. Some m.0) n e in
+    let c = bind_some (ended a.0.1) (λ _. Some a.0.0) n a.2 in
+    let front = some_format.takes (b ∷ bytes) a.0 fits a.1 in
+    let is : a.0.0 ≡ n = same a.0.0 n c.2 in
+    (front.0.parts ∙ ap (λ (t : List ℕ). u32 a.0.0 ++ t) (none_left a.0.1 c.0 c.1) ∙ append-nil (u32 a.0.0) ∙ sym (stamp_some a.0.0 front.1.0) ∙ ap stamp_bytes is, subst (λ m. m < 2 ^ 32) is front.1.1)
 
-abbrev checked : Nexts → Option Record
-checked p = holding (is_counters (made p)) >>= λ _. Some (of.Counters (made p))
+count_again : (n : ℕ) → n < 2 ^ 32 → added_count_in (stamp_bytes n) ≡ Some n
+unfolding added_count_in
+count_again zero low = refl
+count_again (suc n) low =
+    ap (λ (o : Option (ℕ × List ℕ)). o >>= λ m. ended m.1 >>= λ _. Some m.0)
+    (ap some_in (sym (append-nil (u32 (suc n)))) ∙ some_format.again (suc n) [] (omega arith, low))
+
+abbrev made : Nexts → ℕ → Counters
+made p added = made_counters p.0 p.1.0 p.1.1.0 p.1.1.1 added
+
+abbrev checked : Nexts → ℕ → Option Record
+checked p added = holding (is_counters (made p added)) >>= λ _. Some (of.Counters (made p added))
 
 next_is : (limit n : ℕ) → is_next limit n ≡ true → IsNext limit n
 next_is limit n h =
@@ -473,28 +496,91 @@ counters_pass c is =
 counters_found : (k : Key) (bytes : List ℕ) (r : Record) → IsKey k → IsBytes bytes → Reading.counters_under k bytes ≡ Some r → Spells counters_kind k bytes r
 unfolding Reading.counters_under key_of value_of IsKept HasRanges
 counters_found k bytes r is fits e =
-    let a = bind_some (holding (k.a == 0 && k.b == 0)) (λ _. nexts_in bytes >>= λ f. ended f.1 >>= λ _. checked f.0) r e in
+    let a = bind_some (holding (k.a == 0 && k.b == 0)) (λ _. nexts_in bytes >>= λ f. added_count_in f.1 >>= λ n. checked f.0 n) r e in
     let zeros = both_true (k.a == 0) (k.b == 0) (held (k.a == 0 && k.b == 0) a.0 a.1) in
-    let w = whole_takes Nexts Record spell_nexts nexts_in FitNexts nexts_format checked bytes r fits a.2 in
-    let c = bind_some (holding (is_counters (made w.0))) (λ _. Some (of.Counters (made w.0))) r w.3 in
-    subst (Spells counters_kind k bytes) (same (of.Counters (made w.0)) r c.2)
+    let b = bind_some (nexts_in bytes) (λ f. added_count_in f.1 >>= λ n. checked f.0 n) r a.2 in
+    let d = bind_some (added_count_in b.0.1) (λ n. checked b.0.0 n) r b.2 in
+    let c = bind_some (holding (is_counters (made b.0.0 d.0))) (λ _. Some (of.Counters (made b.0.0 d.0))) r d.2 in
+    let front = nexts_format.takes bytes b.0 fits b.1 in
+    let tail = count_takes b.0.1 d.0 front.0.fits d.1 in
+    subst (Spells counters_kind k bytes) (same (of.Counters (made b.0.0 d.0)) r c.2)
     (record {
       rules = record {
-        kept = counters_are (made w.0) (held (is_counters (made w.0)) c.0 c.1);
-        ranges = record { numbers = (w.2.0, w.2.1.0, w.2.1.1.0); clock = (w.2.1.1.1.1.0, w.2.1.1.1.1.1.0, w.2.1.1.1.1.1.1) };
+        kept = counters_are (made b.0.0 d.0) (held (is_counters (made b.0.0 d.0)) c.0 c.1);
+        ranges = record { numbers = (front.1.0, front.1.1.0, front.1.1.1.0); clock = (front.1.1.1.1.1.0, front.1.1.1.1.1.1.0, front.1.1.1.1.1.1.1); added = tail.1 };
       };
       key = ap (λ n. key counters_kind n k.b) (is_zero k.a zeros.0) ∙ ap (key counters_kind 0) (is_zero k.b zeros.1);
-      value = w.1;
+      value = front.0.parts ∙ ap (λ (t : List ℕ). spell_nexts b.0.0 ++ t) tail.0;
     })
 
 counters_again : (c : Counters) → IsRecord (of.Counters c)
-    → Reading.counters_under (key counters_kind 0 0) (spell_nexts (c.next_number, (c.next_transaction, (c.next_entry, (c.clock_set, (c.instant, (c.object, c.place))))))) ≡ Some (of.Counters c)
+    → Reading.counters_under (key counters_kind 0 0) (spell_nexts (c.next_number, (c.next_transaction, (c.next_entry, (c.clock_set, (c.instant, (c.object, c.place)))))) ++ stamp_bytes c.added) ≡ Some (of.Counters c)
 unfolding Reading.counters_under IsKept HasRanges
 counters_again c is =
     let p : Nexts = (c.next_number, (c.next_transaction, (c.next_entry, (c.clock_set, (c.instant, (c.object, c.place)))))) in
-    whole_again Nexts Record spell_nexts nexts_in FitNexts nexts_format checked p
-    (is.ranges.numbers.0, (is.ranges.numbers.1, (is.ranges.numbers.2, (tt, (is.ranges.clock.0, (is.ranges.clock.1, is.ranges.clock.2))))))
+    ap (λ (o : Option (Nexts × List ℕ)). o >>= λ f. added_count_in f.1 >>= λ n. checked f.0 n)
+    (nexts_format.again p (stamp_bytes c.added) (is.ranges.numbers.0, (is.ranges.numbers.1, (is.ranges.numbers.2, (tt, (is.ranges.clock.0, (is.ranges.clock.1, is.ranges.clock.2)))))))
+    ∙ next_by (added_count_in (stamp_bytes c.added)) c.added (λ n. checked p n) (count_again c.added is.ranges.added)
     ∙ next_by (holding (is_counters c)) tt (λ _. Some (of.Counters c)) (held_again (is_counters c) (counters_pass c is.kept))
+
+-- ---- added fields
+
+abbrev Adds : Type 0
+Adds = List ℕ × (ℕ × (ℕ × Value))
+
+abbrev spell_adds : Adds → List ℕ
+spell_adds p = spell_name p.0 ++ (spell_byte p.1.0 ++ (u32 p.1.1.0 ++ spelled_value p.1.1.1))
+
+abbrev FitAdds : Adds → Type 0
+FitAdds p = IsName p.0 × ((p.1.0 < 2 ^ 8) × ((p.1.1.0 < 2 ^ 32) × FitsValue p.1.1.1))
+
+abbrev adds_in : List ℕ → Option (Adds × List ℕ)
+adds_in = both name_in (both byte_in (both u32_in value_in))
+
+literal_format : IsFormat (ℕ × Value) (λ p. u32 p.0 ++ spelled_value p.1) (both u32_in value_in) (λ p. (p.0 < 2 ^ 32) × FitsValue p.1)
+literal_format = both_format ℕ Value u32 spelled_value u32_in value_in (λ n. n < 2 ^ 32) FitsValue format32 value_format
+
+sort_format : IsFormat (ℕ × (ℕ × Value)) (λ p. spell_byte p.0 ++ (u32 p.1.0 ++ spelled_value p.1.1)) (both byte_in (both u32_in value_in)) (λ p. (p.0 < 2 ^ 8) × ((p.1.0 < 2 ^ 32) × FitsValue p.1.1))
+sort_format = both_format ℕ (ℕ × Value) spell_byte (λ p. u32 p.0 ++ spelled_value p.1) byte_in (both u32_in value_in) (λ n. n < 2 ^ 8) (λ p. (p.0 < 2 ^ 32) × FitsValue p.1) format8 literal_format
+
+adds_format : IsFormat Adds spell_adds adds_in FitAdds
+adds_format = both_format (List ℕ) (ℕ × (ℕ × Value)) spell_name (λ p. spell_byte p.0 ++ (u32 p.1.0 ++ spelled_value p.1.1)) name_in (both byte_in (both u32_in value_in)) IsName (λ p. (p.0 < 2 ^ 8) × ((p.1.0 < 2 ^ 32) × FitsValue p.1.1)) name_format sort_format
+
+abbrev made_added : ℕ → ℕ → Adds → Record
+made_added class birth p = of.Added class birth p.0 p.1.0 p.1.1.0 p.1.1.1
+
+abbrev kept_added : ℕ → ℕ → Adds → Option Record
+kept_added class birth p = holding (is_sort p.1.0 p.1.1.0) >>= λ _. Some (made_added class birth p)
+
+added_found : (k : Key) (bytes : List ℕ) (r : Record) → IsKey k → IsBytes bytes → Reading.added_under k bytes ≡ Some r → Spells added_kind k bytes r
+unfolding Reading.added_under key_of value_of IsKept HasRanges
+added_found k bytes r is fits e =
+    let a = bind_some (fit (2 ^ 32) k.a) (λ class. fit (2 ^ 32) k.b >>= λ birth. adds_in bytes >>= λ f. ended f.1 >>= λ _. kept_added class birth f.0) r e in
+    let b = bind_some (fit (2 ^ 32) k.b) (λ birth. adds_in bytes >>= λ f. ended f.1 >>= λ _. kept_added a.0 birth f.0) r a.2 in
+    let low = fit_is (2 ^ 32) k.a a.0 a.1 in
+    let short = fit_is (2 ^ 32) k.b b.0 b.1 in
+    let w = whole_takes Adds Record spell_adds adds_in FitAdds adds_format (kept_added a.0 b.0) bytes r fits b.2 in
+    let c = bind_some (holding (is_sort w.0.1.0 w.0.1.1.0)) (λ _. Some (made_added a.0 b.0 w.0)) r w.3 in
+    subst (Spells added_kind k bytes) (same (made_added a.0 b.0 w.0) r c.2)
+    (record {
+      rules = record {
+        kept = (held (is_sort w.0.1.0 w.0.1.1.0) c.0 c.1, w.2.1.1.1.1);
+        ranges = (subst (λ n. n < 2 ^ 32) low.1 low.0, subst (λ n. n < 2 ^ 32) short.1 short.0, w.2.0, w.2.1.0, w.2.1.1.0, w.2.1.1.1.0);
+      };
+      key = ap (λ n. key added_kind n k.b) low.1 ∙ ap (key added_kind a.0) short.1;
+      value = w.1;
+    })
+
+added_again : (class birth : ℕ) (name : List ℕ) (sort refers : ℕ) (literal : Value) → IsRecord (of.Added class birth name sort refers literal)
+    → Reading.added_under (key added_kind class birth) (spell_adds (name, (sort, (refers, literal)))) ≡ Some (of.Added class birth name sort refers literal)
+unfolding Reading.added_under IsKept HasRanges
+added_again class birth name sort refers literal is =
+    let bytes = spell_adds (name, (sort, (refers, literal))) in
+    next_by (fit (2 ^ 32) class) class (λ c. fit (2 ^ 32) birth >>= λ b. adds_in bytes >>= λ f. ended f.1 >>= λ _. kept_added c b f.0) (fit_again (2 ^ 32) class is.ranges.0)
+    ∙ next_by (fit (2 ^ 32) birth) birth (λ b. adds_in bytes >>= λ f. ended f.1 >>= λ _. kept_added class b f.0) (fit_again (2 ^ 32) birth is.ranges.1)
+    ∙ whole_again Adds Record spell_adds adds_in FitAdds adds_format (kept_added class birth) (name, (sort, (refers, literal)))
+    (is.ranges.2, (is.ranges.3, (is.ranges.4, (is.ranges.5, is.kept.1))))
+    ∙ next_by (holding (is_sort sort refers)) tt (λ _. Some (of.Added class birth name sort refers literal)) (held_again (is_sort sort refers) is.kept.0)
 
 -- ---- by kind
 
@@ -524,7 +610,8 @@ pub record_found : (k : Key) (bytes : List ℕ) (r : Record) → IsKey k → IsB
 unfolding Reading.record_under
 record_found k bytes r is fits e =
     let none : Option Record = None in
-    let entries = if k.kind == entry_kind then Reading.entry_under k bytes else none in
+    let adds = if k.kind == added_kind then Reading.added_under k bytes else none in
+    let entries = if k.kind == entry_kind then Reading.entry_under k bytes else adds in
     let activations = if k.kind == activation_kind then Reading.activation_under k bytes else entries in
     let versions = if k.kind == version_kind then Reading.version_under k bytes else activations in
     let objects = if k.kind == object_kind then Reading.object_under k bytes else versions in
@@ -540,8 +627,9 @@ record_found k bytes r is fits e =
     (step r (k.kind == object_kind) (Reading.object_under k bytes) versions (λ h o. found_under object_kind k bytes r h (object_found k bytes r is fits o))
     (step r (k.kind == version_kind) (Reading.version_under k bytes) activations (λ h o. found_under version_kind k bytes r h (version_found k bytes r is fits o))
     (step r (k.kind == activation_kind) (Reading.activation_under k bytes) entries (λ h o. found_under activation_kind k bytes r h (activation_found k bytes r is fits o))
-    (step r (k.kind == entry_kind) (Reading.entry_under k bytes) none (λ h o. found_under entry_kind k bytes r h (entry_found k bytes r is fits o))
-    (λ h. absurd (cc)))))))))) e
+    (step r (k.kind == entry_kind) (Reading.entry_under k bytes) adds (λ h o. found_under entry_kind k bytes r h (entry_found k bytes r is fits o))
+    (step r (k.kind == added_kind) (Reading.added_under k bytes) none (λ h o. found_under added_kind k bytes r h (added_found k bytes r is fits o))
+    (λ h. absurd (cc))))))))))) e
 
 -- each record is read from its spelling
 pub record_again : (r : Record) → IsRecord r → Reading.record_under (key_of r) (value_of r) ≡ Some r
@@ -552,9 +640,10 @@ record_again (of.ClassPiece class piece bytes) is = class_piece_again class piec
 record_again (of.TableHead class trigger states symbols) is = table_head_again class trigger states symbols is
 record_again (of.TablePiece class trigger piece bytes) is = table_piece_again class trigger piece bytes is
 record_again (of.Object object class last) is = object_again object class last is
-record_again (of.Version object number parent fields) is = version_again object number parent fields is
+record_again (of.Version object number parent stamp fields) is = version_again object number parent stamp fields is
 record_again (of.Activation a) is = activation_again a is
 record_again (of.Entry number e) is = entry_again number e is
+record_again (of.Added class birth name sort refers literal) is = added_again class birth name sort refers literal is
 
 -- so no two have one spelling
 pub one_spelling : (r s : Record) → IsRecord r → IsRecord s → spelled r ≡ spelled s → r ≡ s

@@ -1,5 +1,5 @@
 -- Values are read as they are spelled.
-use Rattle.std.proofs.Common.{◌≡◌, ℕ, ℤ, zero, suc, ◌%◌, ◌^◌, ◌<◌, ◌≤◌, Bool, true, false, cond, List, [], ◌∷◌, ◌++◌, length, take, drop, Option, Some, None, refl, sym, ap, subst, ◌∙◌, append_assoc, arith}
+use Rattle.std.proofs.Common.{◌≡◌, ℕ, ℤ, zero, suc, ◌+◌, ◌%◌, ◌^◌, ◌<◌, ◌≤◌, Bool, true, false, cond, List, [], ◌∷◌, ◌++◌, length, take, drop, Option, Some, None, refl, sym, ap, subst, ◌∙◌, append_assoc, arith}
 use Rattle.std.specs.Prelude.{FitsSigned, IfSome, nat_lt, nat_le, ◌==◌, ◌&&◌, position}
 use Rattle.std.specs.Int.{w16, w32, w64, to_be_bytes, cast_unsigned}
 use Rattle.std.specs.List.{AllByRecursion}
@@ -9,16 +9,16 @@ use Rattle.std.proofs.lemmas.Bool.Decides.{nat_tests}
 use Rattle.std.proofs.lemmas.List.{take_at, drop_at, take-append-drop, length-append, length-take}
 use Rattle.std.proofs.lemmas.List.Concat.{flat_map-cons}
 use Rattle.ode_value.specs.Limits.{text_limit}
-use Rattle.ode_value.specs.Records.{spelled_value}
+use Rattle.ode_value.specs.Records.{spelled_value, stamp_bytes, stamped_count}
 use Rattle.ode_value.specs.Text.{IsText, is_bad_byte, is_text}
 use Rattle.ode_value.specs.declared.value.Ref.{Ref}
 use Rattle.ode_value.specs.declared.value.Value.{Value}
 use Rattle.ode_value.specs.declared.value.Value.TheVariants as value
-use Rattle.ode_codec.specs.Formats.{◌>>=◌, byte_in, int_in, number_in, part_of, truth_in}
+use Rattle.ode_codec.specs.Formats.{◌>>=◌, byte_in, int_in, number_in, part_of, some_in, truth_in}
 use Rattle.ode_codec.specs.Rules.{AreInRange, AreKept, InRange, IsKeptValue}
 use Rattle.ode_codec.specs.Spelling.{values}
-use Rattle.ode_codec.specs.Values.{args_in, content_in, fields_in, reference_in, reference_of, text_in, value_in, values_in}
-use Rattle.ode_codec.proofs.FormatLaws.{IsBytes, IsFormat, Takes, bind_some, fits-drop, format8, format16, format32, format64, int_format, same, spell_byte, truth_format}
+use Rattle.ode_codec.specs.Values.{args_in, content_in, fields_in, reference_in, reference_of, stamp_in, text_in, value_in, values_in}
+use Rattle.ode_codec.proofs.FormatLaws.{IsBytes, IsFormat, Takes, bind_some, fits-drop, format8, format16, format32, format64, int_format, same, some_format, spell_byte, stamp_some, truth_format}
 
 -- ---- a part behind its length
 
@@ -226,6 +226,9 @@ value_again (value.Bool b) rest fits = ap (λ x. x >>= λ (t : Bool × List ℕ)
 value_again (value.Text t) rest fits = ap (λ x. x >>= λ (s : List ℕ × List ℕ). Some (value.Text s.0, s.1)) (text_format.again t rest fits.0)
 value_again (value.Reference r) rest fits = ap (λ x. x >>= λ (s : Ref × List ℕ). Some (value.Reference s.0, s.1)) (reference_again r rest fits)
 
+pub value_format : IsFormat Value spelled_value value_in FitsValue
+value_format = record { takes = value_takes; again = value_again }
+
 -- ---- values one behind the other
 
 abbrev pub FitValues : List Value → Type 0
@@ -285,8 +288,92 @@ module _ (spell : ℕ → List ℕ) (count : List ℕ → Option (ℕ × List �
   pub counted_format : IsFormat (List Value) spell_counted counted_in FitCounted
   counted_format = record { takes = counted_takes; again = counted_again }
 
-abbrev pub spell_fields : List Value → List ℕ
-spell_fields vs = to_be_bytes w16 (length vs) ++ values vs
+-- ---- fields behind a stamp
+
+stamped_some : (n count : ℕ) → 0 < n → stamped_count n count ≡ count + 2 ^ 15
+stamped_some zero count some = absurd (omega (arith, some))
+stamped_some (suc n) count some = refl
+
+stamped_low : (n count : ℕ) → count < 2 ^ 15 → stamped_count n count < 2 ^ 16
+stamped_low zero count low = omega arith
+stamped_low (suc n) count low = omega arith
+
+stamped_back : (n count : ℕ) → count < 2 ^ 15 → stamped_count n count % 2 ^ 15 ≡ count
+stamped_back zero count low = omega arith
+stamped_back (suc n) count low = omega arith
+
+abbrev IsStamp : ℕ → List ℕ → ℕ × List ℕ → Type 0
+IsStamp count bytes x = Takes bytes (stamp_bytes x.0) x.1 × (x.0 < 2 ^ 32) × (stamped_count x.0 (count % 2 ^ 15) ≡ count)
+
+stamp_takes : (count : ℕ) (bytes : List ℕ) (x : ℕ × List ℕ) → count < 2 ^ 16 → IsBytes bytes → stamp_in count bytes ≡ Some x → IsStamp count bytes x
+unfolding stamp_in
+stamp_takes count bytes x low fits e = by (nat_lt count (2 ^ 15)) refl e
+  where
+    made : ℕ × List ℕ
+    made = (0, bytes)
+
+    by : (b : Bool) → nat_lt count (2 ^ 15) ≡ b → cond b (Some made) (some_in bytes) ≡ Some x → IsStamp count bytes x
+    by true is h =
+        let small : count < 2 ^ 15 = grind (arith, nat_tests) in
+        let same_count : count % 2 ^ 15 ≡ count = omega arith in
+        subst (IsStamp count bytes) (same made x h) (record { parts = refl; fits = fits }, omega arith, same_count)
+    by false is h =
+        let large : 2 ^ 15 ≤ count = grind (arith, nat_tests) in
+        let front = some_format.takes bytes x fits h in
+        let together : count % 2 ^ 15 + 2 ^ 15 ≡ count = omega arith in
+        (subst (λ (t : List ℕ). Takes bytes t x.1) (sym (stamp_some x.0 front.1.0)) front.0, front.1.1, stamped_some x.0 (count % 2 ^ 15) front.1.0 ∙ together)
+
+stamp_again : (stamp count : ℕ) (rest : List ℕ) → stamp < 2 ^ 32 → count < 2 ^ 15 → stamp_in (stamped_count stamp count) (stamp_bytes stamp ++ rest) ≡ Some (stamp, rest)
+unfolding stamp_in
+stamp_again zero count rest low few =
+    let small : nat_lt count (2 ^ 15) ≡ true = grind (arith, nat_tests) in
+    let made : ℕ × List ℕ = (0, rest) in
+    ap (λ b. cond b (Some made) (some_in rest)) small
+stamp_again (suc n) count rest low few =
+    let large : nat_lt (count + 2 ^ 15) (2 ^ 15) ≡ false = grind (arith, nat_tests) in
+    let bytes : List ℕ = to_be_bytes w32 (suc n) ++ rest in
+    let none : ℕ × List ℕ = (0, bytes) in
+    ap (λ b. cond b (Some none) (some_in bytes)) large ∙ some_format.again (suc n) rest (omega arith, low)
+
+abbrev pub spell_fields : ℕ × List Value → List ℕ
+spell_fields p = to_be_bytes w16 (stamped_count p.0 (length p.1)) ++ (stamp_bytes p.0 ++ values p.1)
+
+abbrev pub FitFields : ℕ × List Value → Type 0
+FitFields p = (p.0 < 2 ^ 32) × ((length p.1 < 2 ^ 15) × FitValues p.1)
+
+fields_take : (bytes : List ℕ) (x : (ℕ × List Value) × List ℕ) → IsBytes bytes → fields_in bytes ≡ Some x → Takes bytes (spell_fields x.0) x.1 × FitFields x.0
+unfolding fields_in
+fields_take bytes x fits e =
+    let a = bind_some (number_in w16 bytes) (λ n. stamp_in n.0 n.1 >>= λ stamp. values_in (n.0 % 2 ^ 15) stamp.1 >>= λ fields. Some ((stamp.0, fields.0), fields.1)) x e in
+    let b = bind_some (stamp_in a.0.0 a.0.1) (λ stamp. values_in (a.0.0 % 2 ^ 15) stamp.1 >>= λ fields. Some ((stamp.0, fields.0), fields.1)) x a.2 in
+    let c = bind_some (values_in (a.0.0 % 2 ^ 15) b.0.1) (λ fields. Some ((b.0.0, fields.0), fields.1)) x b.2 in
+    let count = format16.takes bytes a.0 fits a.1 in
+    let stamp = stamp_takes a.0.0 a.0.1 b.0 count.1 count.0.fits b.1 in
+    let back = values_take (a.0.0 % 2 ^ 15) b.0.1 c.0 stamp.0.fits c.1 in
+    let made : (ℕ × List Value) × List ℕ = ((b.0.0, c.0.0), c.0.1) in
+    let counted_so : stamped_count b.0.0 (length c.0.0) ≡ a.0.0 = ap (stamped_count b.0.0) back.1 ∙ stamp.2 in
+    let few : length c.0.0 < 2 ^ 15 = let is : length c.0.0 ≡ a.0.0 % 2 ^ 15 = back.1 in omega arith in
+    let whole : bytes ≡ spell_fields (b.0.0, c.0.0) ++ c.0.1 =
+    count.0.parts
+    ∙ ap (λ (t : List ℕ). to_be_bytes w16 a.0.0 ++ t) (stamp.0.parts ∙ ap (λ (t : List ℕ). stamp_bytes b.0.0 ++ t) back.0.parts ∙ sym (append_assoc (stamp_bytes b.0.0) (values c.0.0) c.0.1))
+    ∙ sym (append_assoc (to_be_bytes w16 a.0.0) (stamp_bytes b.0.0 ++ values c.0.0) c.0.1)
+    ∙ ap (λ (n : ℕ). (to_be_bytes w16 n ++ (stamp_bytes b.0.0 ++ values c.0.0)) ++ c.0.1) (sym counted_so) in
+    subst (λ (y : (ℕ × List Value) × List ℕ). Takes bytes (spell_fields y.0) y.1 × FitFields y.0) (same made x c.2)
+    (record { parts = whole; fits = back.0.fits }, (stamp.1, (few, back.2)))
+
+fields_again : (p : ℕ × List Value) (rest : List ℕ) → FitFields p → fields_in (spell_fields p ++ rest) ≡ Some (p, rest)
+unfolding fields_in
+fields_again p rest fits =
+    let n : ℕ = stamped_count p.0 (length p.1) in
+    let tail : List ℕ = values p.1 ++ rest in
+    ap fields_in (append_assoc (to_be_bytes w16 n) (stamp_bytes p.0 ++ values p.1) rest ∙ ap (λ (t : List ℕ). to_be_bytes w16 n ++ t) (append_assoc (stamp_bytes p.0) (values p.1) rest))
+    ∙ ap (λ o. o >>= λ (m : ℕ × List ℕ). stamp_in m.0 m.1 >>= λ stamp. values_in (m.0 % 2 ^ 15) stamp.1 >>= λ f. Some ((stamp.0, f.0), f.1)) (format16.again n (stamp_bytes p.0 ++ tail) (stamped_low p.0 (length p.1) fits.1.0))
+    ∙ ap (λ o. o >>= λ (stamp : ℕ × List ℕ). values_in (n % 2 ^ 15) stamp.1 >>= λ f. Some ((stamp.0, f.0), f.1)) (stamp_again p.0 (length p.1) tail fits.0 fits.1.0)
+    ∙ ap (λ (m : ℕ). values_in m tail >>= λ f. Some ((p.0, f.0), f.1)) (stamped_back p.0 (length p.1) fits.1.0)
+    ∙ ap (λ o. o >>= λ (f : List Value × List ℕ). Some ((p.0, f.0), f.1)) (values_again p.1 rest fits.1.1)
+
+pub fields_format : IsFormat (ℕ × List Value) spell_fields fields_in FitFields
+fields_format = record { takes = fields_take; again = fields_again }
 
 -- a count of arguments
 abbrev pub spell_count : ℕ → List ℕ
@@ -306,15 +393,8 @@ format_count = record {
 abbrev pub spell_args : List Value → List ℕ
 spell_args vs = spell_count (length vs) ++ values vs
 
-abbrev pub FitFields : List Value → Type 0
-FitFields vs = (length vs < 2 ^ 16) × FitValues vs
-
 abbrev pub FitArgs : List Value → Type 0
 FitArgs vs = (length vs < 2 ^ 8) × FitValues vs
-
-pub fields_format : IsFormat (List Value) spell_fields fields_in FitFields
-unfolding fields_in
-fields_format = counted_format (to_be_bytes w16) (number_in w16) (2 ^ 16) format16
 
 pub args_format : IsFormat (List Value) spell_args args_in FitArgs
 unfolding args_in

@@ -1,9 +1,10 @@
 -- Reading from the front of bytes: a value and the bytes behind it, or none.
-use Rattle.std.specs.Prelude.{◌≡◌, ℕ, ℤ, List, [], ◌∷◌, Bool, true, false, length, take, drop, Option, Some, None, Result, Ok, Err, nat_lt, ◌==◌, if◌then◌else◌}
-use Rattle.std.specs.Int.{Width, w64, byte_len, cast_signed, from_be_bytes}
+use Rattle.std.specs.Prelude.{◌≡◌, ℕ, ℤ, List, [], ◌∷◌, Bool, true, false, length, take, drop, Option, Some, None, Result, Ok, Err, nat_lt, ◌==◌, ◌&&◌, ◌||◌, if◌then◌else◌}
+use Rattle.std.specs.Int.{Width, w32, w64, byte_len, cast_signed, from_be_bytes}
 use Rattle.ode_codec.specs.declared.outside.OutsideGrammar.{OutsideGrammar}
 use Rattle.ode_codec.specs.declared.outside.Unread.{Unread}
 use Rattle.ode_codec.specs.declared.outside.Unread.TheVariants.{Memory, Outside}
+use Rattle.ode_codec.specs.declared.record.TheConstants.{REFERENCE_SORT}
 
 abbrev pub Reading : Type 0 → Type 0
 Reading X = List ℕ → Option (X × List ℕ)
@@ -43,6 +44,10 @@ byte_in (b ∷ bytes) = Some (b, bytes)
 abbrev pub number_in : Width → List ℕ → Option (ℕ × List ℕ)
 number_in w bytes = if nat_lt (length bytes) (byte_len w) then None else Some (from_be_bytes w (take (byte_len w) bytes), drop (byte_len w) bytes)
 
+-- a number of four bytes above 0
+unfoldable pub some_in : List ℕ → Option (ℕ × List ℕ)
+some_in bytes = number_in w32 bytes >>= λ n. if n.0 == 0 then None else Some n
+
 -- a number with a sign
 abbrev pub int_in : List ℕ → Option (ℤ × List ℕ)
 int_in bytes = number_in w64 bytes >>= λ n. Some (cast_signed w64 n.0, n.1)
@@ -69,6 +74,10 @@ holding b = if b then Some tt else None
 -- where no byte is left
 abbrev pub ended : List ℕ → Option (Unit {0})
 ended bytes = holding (length bytes == 0)
+
+-- a sort as it is stored; of a reference there may be a class
+abbrev pub is_sort : ℕ → ℕ → Bool
+is_sort sort class = sort == REFERENCE_SORT || nat_lt sort REFERENCE_SORT && class == 0
 
 -- a number of a key, where it fits 4 bytes, or 2
 abbrev pub fit : ℕ → ℕ → Option ℕ

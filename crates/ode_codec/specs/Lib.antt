@@ -1,3 +1,4 @@
+pub mod FirstFormat
 pub mod Formats
 pub mod Values
 pub mod Spelling

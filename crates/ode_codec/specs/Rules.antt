@@ -6,6 +6,7 @@ use Rattle.ode_value.specs.Limits.{number_limit, transaction_limit, value_limit}
 use Rattle.ode_value.specs.Text.{IsName, IsText}
 use Rattle.ode_value.specs.declared.value.Value.{Value}
 use Rattle.ode_value.specs.declared.value.Value.TheVariants as value
+use Rattle.ode_codec.specs.Formats.{is_sort}
 use Rattle.ode_codec.specs.declared.record.Activation.{Activation}
 use Rattle.ode_codec.specs.declared.record.Counters.{Counters}
 use Rattle.ode_codec.specs.declared.record.Entry.{Entry}
@@ -45,7 +46,7 @@ IsPiece bytes = (1 ≤ length bytes) × (length bytes ≤ value_limit)
 
 -- the condition of a spelling: its count has room for the fields
 unfoldable pub IsCounted : Record → Type 0
-IsCounted (of.Version object number parent fields) = length fields < 2 ^ 16
+IsCounted (of.Version object number parent stamp fields) = length fields < 2 ^ 15
 IsCounted _ = Unit {0}
 
 -- the condition of reading it again: numbers, lengths, zeros and references
@@ -56,9 +57,10 @@ IsKept (of.ClassPiece class piece bytes) = IsPiece bytes
 IsKept (of.TableHead class trigger states symbols) = Unit {0}
 IsKept (of.TablePiece class trigger piece bytes) = IsPiece bytes
 IsKept (of.Object object class last) = Unit {0}
-IsKept (of.Version object number parent fields) = (length fields < 2 ^ 16) × AreKept fields
+IsKept (of.Version object number parent stamp fields) = (length fields < 2 ^ 15) × AreKept fields
 IsKept (of.Activation a) = (length a.args < 2 ^ 8) × AreKept a.args
 IsKept (of.Entry number e) = (length e.args < 2 ^ 8) × AreKept e.args
+IsKept (of.Added class birth name sort refers literal) = (is_sort sort refers ≡ true) × IsKeptValue literal
 
 -- ---- the ranges of the types, which every value of the program has
 
@@ -74,6 +76,7 @@ AreInRange vs = AllByRecursion InRange vs
 pub record CountersInRange (c : Counters) : Type 0 where
   pub numbers : (c.next_number < 2 ^ 64) × (c.next_transaction < 2 ^ 64) × (c.next_entry < 2 ^ 64)
   pub clock : FitsSigned w64 c.instant × (c.object < 2 ^ 64) × (c.place < 2 ^ 32)
+  pub added : c.added < 2 ^ 32
 
 pub record ActivationInRange (a : Activation) : Type 0 where
   pub key : (a.object < 2 ^ 64) × (a.number < 2 ^ 64)
@@ -92,9 +95,10 @@ HasRanges (of.ClassPiece class piece bytes) = (class < 2 ^ 32) × (piece < 2 ^ 3
 HasRanges (of.TableHead class trigger states symbols) = (class < 2 ^ 32) × (trigger < 2 ^ 16) × (states < 2 ^ 16) × (symbols < 2 ^ 8)
 HasRanges (of.TablePiece class trigger piece bytes) = (class < 2 ^ 32) × (trigger < 2 ^ 16) × (piece < 2 ^ 16)
 HasRanges (of.Object object class last) = (object < 2 ^ 64) × (class < 2 ^ 32) × (last < 2 ^ 32)
-HasRanges (of.Version object number parent fields) = (object < 2 ^ 64) × (number < 2 ^ 32) × (parent < 2 ^ 32) × AreInRange fields
+HasRanges (of.Version object number parent stamp fields) = (object < 2 ^ 64) × (number < 2 ^ 32) × (parent < 2 ^ 32) × (stamp < 2 ^ 32) × AreInRange fields
 HasRanges (of.Activation a) = ActivationInRange a
 HasRanges (of.Entry number e) = (number < 2 ^ 64) × EntryInRange e
+HasRanges (of.Added class birth name sort refers literal) = (class < 2 ^ 32) × (birth < 2 ^ 32) × IsName name × (sort < 2 ^ 8) × (refers < 2 ^ 32) × InRange literal
 
 -- a record that has a spelling
 pub record IsRecord (r : Record) : Type 0 where

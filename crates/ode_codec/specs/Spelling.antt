@@ -2,8 +2,8 @@
 use Rattle.std.specs.Prelude.{ℕ, ◌+◌, ◌*◌, List, ◌++◌, length, cond, Bool}
 use Rattle.std.specs.Int.{w16, w32, w64, to_be_bytes, cast_unsigned}
 use Rattle.std.specs.List.{flat_map}
-use Rattle.ode_value.specs.Keys.{key, counters_kind, class_head_kind, class_piece_kind, table_head_kind, table_piece_kind, object_kind, version_kind, activation_kind, entry_kind}
-use Rattle.ode_value.specs.Records.{byte, counted, spelled_value}
+use Rattle.ode_value.specs.Keys.{key, counters_kind, class_head_kind, class_piece_kind, table_head_kind, table_piece_kind, object_kind, version_kind, activation_kind, entry_kind, added_kind}
+use Rattle.ode_value.specs.Records.{byte, counted, spelled_value, stamp_bytes, version_bytes}
 use Rattle.ode_value.specs.declared.key.Key.{Key}
 use Rattle.ode_value.specs.declared.value.Value.{Value}
 use Rattle.ode_codec.specs.declared.record.Activation.{Activation}
@@ -32,8 +32,11 @@ values vs = flat_map spelled_value vs
 abbrev pub clock_value : Counters → List ℕ
 clock_value c = truth c.clock_set ++ (u64 (cast_unsigned w64 c.instant) ++ (u64 c.object ++ u32 c.place))
 
+abbrev pub nexts_value : Counters → List ℕ
+nexts_value c = u64 c.next_number ++ (u64 c.next_transaction ++ (u64 c.next_entry ++ clock_value c))
+
 abbrev pub counters_value : Counters → List ℕ
-counters_value c = u64 c.next_number ++ (u64 c.next_transaction ++ (u64 c.next_entry ++ clock_value c))
+counters_value c = nexts_value c ++ stamp_bytes c.added
 
 abbrev pub activation_value : Activation → List ℕ
 activation_value a = u32 a.class ++ (u16 a.trigger ++ (u16 a.state ++ (counted a.args ++ values a.args)))
@@ -49,9 +52,10 @@ value_of (of.ClassPiece class piece bytes) = bytes
 value_of (of.TableHead class trigger states symbols) = u16 states ++ byte symbols
 value_of (of.TablePiece class trigger piece bytes) = bytes
 value_of (of.Object object class last) = u32 class ++ u32 last
-value_of (of.Version object number parent fields) = u32 parent ++ (u16 (length fields) ++ values fields)
+value_of (of.Version object number parent stamp fields) = version_bytes parent stamp fields
 value_of (of.Activation a) = activation_value a
 value_of (of.Entry number e) = entry_value e
+value_of (of.Added class birth name sort refers literal) = (byte (length name) ++ name) ++ (byte sort ++ (u32 refers ++ spelled_value literal))
 
 -- its key
 unfoldable pub key_of : Record → Key
@@ -61,9 +65,10 @@ key_of (of.ClassPiece class piece bytes) = key class_piece_kind class piece
 key_of (of.TableHead class trigger states symbols) = key table_head_kind class trigger
 key_of (of.TablePiece class trigger piece bytes) = key table_piece_kind class (trigger * TABLE_PLACES + piece)
 key_of (of.Object object class last) = key object_kind object 0
-key_of (of.Version object number parent fields) = key version_kind object number
+key_of (of.Version object number parent stamp fields) = key version_kind object number
 key_of (of.Activation a) = key activation_kind a.object a.number
 key_of (of.Entry number e) = key entry_kind number 0
+key_of (of.Added class birth name sort refers literal) = key added_kind class birth
 
 abbrev pub spelled : Record → Key × List ℕ
 spelled r = (key_of r, value_of r)

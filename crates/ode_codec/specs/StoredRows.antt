@@ -3,17 +3,23 @@ use Rattle.std.specs.Prelude.{ℕ, ◌+◌, ◌*◌, List, ◌∷◌, ◌++◌, 
 use Rattle.std.specs.Int.{w16, w32, w64, to_be_bytes}
 use Rattle.std.specs.List.{flat_map, range_with_len}
 use Rattle.std.specs.Option.{unwrap_or, option_map_or}
+use Rattle.ode_value.specs.declared.change.Added.{Added}
+use Rattle.ode_value.specs.declared.class.Class.{Class}
+use Rattle.ode_value.specs.declared.statement.Sort.{Sort}
+use Rattle.ode_value.specs.declared.statement.Sort.TheVariants as sort
 use Rattle.ode_value.specs.declared.value.Value.{Value}
+use Rattle.ode_value.specs.Changing.{added_to}
+use Rattle.ode_value.specs.Fields.{fields_of}
 use Rattle.ode_value.specs.Lengths.{piece_count}
 use Rattle.ode_value.specs.Objects.{Activation}
 use Rattle.ode_value.specs.Pasts.{Kept}
 use Rattle.ode_value.specs.PrintedClasses.{decl_text}
-use Rattle.ode_value.specs.Records.{Row, byte, clock_bytes, counted, spelled_value, version_row}
-use Rattle.ode_value.specs.Keys.{key, counters_key, class_head_key, class_piece_key, table_head_kind, table_piece_kind, object_key, activation_key, entry_key}
+use Rattle.ode_value.specs.Records.{Row, byte, clock_bytes, counted, spelled_value, stamp_bytes, version_row}
+use Rattle.ode_value.specs.Keys.{key, counters_key, class_head_key, class_piece_key, table_head_kind, table_piece_kind, object_key, activation_key, added_key, entry_key}
 use Rattle.ode_value.specs.Tables.{Table}
-use Rattle.ode_value.specs.Worlds.{Declared, Entry, Object, Bones, World, kept_at}
+use Rattle.ode_value.specs.Worlds.{Declared, Entry, Object, Bones, World, class_named, kept_at}
 use Rattle.ode_value.specs.Limits.{value_limit}
-use Rattle.ode_codec.specs.declared.record.TheConstants.{TABLE_PLACES}
+use Rattle.ode_codec.specs.declared.record.TheConstants.{BOOL_SORT, INT_SORT, REFERENCE_SORT, TABLE_PLACES, TEXT_SORT}
 
 -- the table of each trigger is known by its class and its place there
 pub record Stored : Type 0 where
@@ -58,7 +64,7 @@ pieces_of bytes = map (piece_of bytes) (range_with_len 0 (piece_count (length by
 
 -- the counters
 abbrev pub counters_row : Bones → Row
-counters_row b = (counters_key, u64 b.next ++ u64 b.transaction ++ u64 b.next_entry ++ clock_bytes b.clock)
+counters_row b = (counters_key, (u64 b.next ++ u64 b.transaction ++ u64 b.next_entry ++ clock_bytes b.clock) ++ stamp_bytes (length b.added))
 
 -- a class's head: its name, its parent, the length of its text, the count of its triggers
 abbrev pub head_row : Declared → Row
@@ -109,9 +115,9 @@ module _ (tables : ℕ → ℕ → Table) where
 abbrev pub object_row : Object → Row
 object_row o = (object_key o.id, u32 o.class ++ u32 o.last)
 
--- the versions of an object
-abbrev pub version_rows : Object → List Row
-version_rows o = map (version_row o.id) o.versions
+-- the versions of an object, by the fields of its class
+abbrev pub version_rows : List Declared → Object → List Row
+version_rows classes o = map (version_row o.id (fields_of classes o.class)) o.versions
 
 -- an activation
 abbrev pub activation_row : ℕ → ℕ → Activation → Row
@@ -135,11 +141,37 @@ activation_rows w o = map (λ (a : Activation). activation_row o.id (state_of w 
 abbrev pub entry_row : ℕ × Entry → Row
 entry_row (number, e) = (entry_key number, u64 e.object ++ u32 e.class ++ u16 e.trigger ++ byte e.generation ++ args_bytes e.args)
 
+-- ---- added fields
+
+-- a sort as a number
+abbrev pub sort_number : Sort → ℕ
+sort_number sort.Int = INT_SORT
+sort_number sort.Bool = BOOL_SORT
+sort_number sort.Text = TEXT_SORT
+sort_number (sort.Reference name) = REFERENCE_SORT
+sort_number sort.Void = REFERENCE_SORT
+
+-- the number of the class that a sort refers to
+abbrev pub referred : List Declared → Sort → ℕ
+referred classes (sort.Reference name) = option_map_or (λ (c : Class). c.number) (class_named name classes) 0
+referred classes _ = 0
+
+-- an added field
+abbrev pub added_row : List Declared → Added → Row
+added_row classes a = (
+  added_key a.class a.birth,
+  byte (length a.name) ++ a.name ++ byte (sort_number a.sort) ++ u32 (referred classes a.sort) ++ spelled_value a.value,
+)
+
+-- those of a class
+abbrev pub added_rows : Bones → Declared → List Row
+added_rows b c = map (added_row b.classes) (added_to c.class.number b.added)
+
 -- all rows, in the order of their keys
 abbrev pub rows : Stored → List Row
 rows s =
     let b = s.world.bones in
     counters_row b ∷ map head_row b.classes ++ flat_map text_rows b.classes
     ++ flat_map (table_heads s.tables) b.classes ++ flat_map (table_rows s.tables) b.classes
-    ++ map object_row b.objects ++ flat_map version_rows b.objects ++ flat_map (activation_rows s.world) b.objects
-    ++ map entry_row b.queue
+    ++ map object_row b.objects ++ flat_map (version_rows b.classes) b.objects ++ flat_map (activation_rows s.world) b.objects
+    ++ map entry_row b.queue ++ flat_map (added_rows b) b.classes

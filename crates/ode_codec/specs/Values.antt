@@ -1,11 +1,11 @@
 -- Reading values.
-use Rattle.std.specs.Prelude.{ℕ, zero, suc, List, [], ◌∷◌, Option, Some, None, ◌==◌, ◌&&◌, if◌then◌else◌}
+use Rattle.std.specs.Prelude.{ℕ, zero, suc, ◌%◌, ◌^◌, List, [], ◌∷◌, Option, Some, None, nat_lt, ◌==◌, if◌then◌else◌}
 use Rattle.std.specs.Int.{w16, w32, w64}
 use Rattle.ode_value.specs.Text.{is_text}
 use Rattle.ode_value.specs.declared.value.Ref.{Ref}
 use Rattle.ode_value.specs.declared.value.Value.{Value}
 use Rattle.ode_value.specs.declared.value.Value.TheVariants as value
-use Rattle.ode_codec.specs.Formats.{◌>>=◌, byte_in, int_in, number_in, part_of, truth_in}
+use Rattle.ode_codec.specs.Formats.{◌>>=◌, byte_in, int_in, number_in, part_of, some_in, truth_in}
 
 unfoldable pub text_in : List ℕ → Option (List ℕ × List ℕ)
 text_in bytes = do
@@ -48,12 +48,19 @@ values_in (suc n) bytes = do
   others ← values_in n first.1
   Some (first.0 ∷ others.0, others.1)
 
--- values behind their count of two bytes, or of one
-unfoldable pub fields_in : List ℕ → Option (List Value × List ℕ)
+-- a stamp behind a count that says so; 0 isn't spelled
+unfoldable pub stamp_in : ℕ → List ℕ → Option (ℕ × List ℕ)
+stamp_in count bytes = if nat_lt count (2 ^ 15) then Some (0, bytes) else some_in bytes
+
+-- values behind their count of two bytes, with their stamp
+unfoldable pub fields_in : List ℕ → Option ((ℕ × List Value) × List ℕ)
 fields_in bytes = do
   n ← number_in w16 bytes
-  values_in n.0 n.1
+  stamp ← stamp_in n.0 n.1
+  fields ← values_in (n.0 % 2 ^ 15) stamp.1
+  Some ((stamp.0, fields.0), fields.1)
 
+-- values behind their count of one byte
 unfoldable pub args_in : List ℕ → Option (List Value × List ℕ)
 args_in bytes = do
   n ← byte_in bytes

@@ -4,18 +4,22 @@ ghost use Rattle.std.specs.Prelude.{◌≡◌, ◌^◌, IfOk, IfSome, List as It
 ghost use Rattle.std.specs.Int.{w16, w32, w64};
 ghost use Rattle.std.specs.Option.{is_some};
 ghost use Rattle.ode_value.specs.Text.{is_name};
-ghost use Rattle.ode_codec.specs.Formats.{Finds, Gives, ended, fit};
+ghost use Rattle.ode_codec.specs.Formats.{Finds, Gives, ended, fit, is_sort};
 ghost use Rattle.ode_codec.specs.Rules.{IsRecord};
 ghost use Rattle.ode_codec.specs.Spelling.{spelled};
-ghost use Rattle.ode_codec.specs.Reading.{activation_under, class_head_under, class_piece_under, clock_in, counters_under};
+ghost use Rattle.ode_codec.specs.Reading.{activation_under, added_count_in, added_under, class_head_under, class_piece_under, clock_in, counters_under};
 ghost use Rattle.ode_codec.specs.Reading.{entry_under, is_clock, is_counters, is_next, is_piece, name_in, object_under, record_under};
 ghost use Rattle.ode_codec.specs.Reading.{table_head_under, table_piece_under, version_under};
 
 use crate::outside::{OutsideGrammar, Unread};
-use crate::passing::{pass_activation, pass_class_head, pass_entry, pass_piece, pass_version};
-use crate::reading::{read_bool, read_i64, read_part, read_u8, read_u16, read_u32, read_u64};
-use crate::record::{Activation, Counters, Entry, Record, TABLE_PLACES};
-use crate::values::{read_args, read_fields};
+use crate::passing::{
+    pass_activation, pass_added, pass_class_head, pass_entry, pass_piece, pass_version,
+};
+use crate::reading::{
+    read_bool, read_i64, read_part, read_some, read_u8, read_u16, read_u32, read_u64,
+};
+use crate::record::{Activation, Counters, Entry, REFERENCE_SORT, Record, TABLE_PLACES};
+use crate::values::{read_args, read_fields, read_value};
 use ode_value::limits::{NUMBER_LIMIT, TRANSACTION_LIMIT, VALUE_LIMIT};
 use ode_value::{Key, List, Name, OdeText, TextError};
 use std::alloc::{AllocError, Global};
@@ -70,6 +74,21 @@ fn is_counters(counters: &Counters) -> bool
         && is_clock(counters)
 }
 
+// How many fields were added, in all that is left; 0 isn't spelled.
+#[tactic(auto, unfolding(crate::specs::Reading::added_count_in))]
+fn read_added_count(bytes: &[u8]) -> Result<u32, OutsideGrammar>
+    ensures { Finds (λ x. x) result (added_count_in bytes.now) }
+{
+    match bytes {
+        [] => Ok(0),
+        [_, ..] => {
+            let (added, rest) = read_some(bytes)?;
+            nothing_left(rest)?;
+            Ok(added)
+        }
+    }
+}
+
 #[tactic(auto, unfolding(crate::specs::Reading::counters_under, crate::specs::Reading::clock_in))]
 fn read_counters(key: Key, bytes: &[u8]) -> Result<Record, OutsideGrammar>
     ensures { Finds (λ x. x) result (counters_under key bytes.now) }
@@ -84,7 +103,7 @@ fn read_counters(key: Key, bytes: &[u8]) -> Result<Record, OutsideGrammar>
     let (instant, rest) = read_i64(rest)?;
     let (object, rest) = read_u64(rest)?;
     let (place, rest) = read_u32(rest)?;
-    nothing_left(rest)?;
+    let added = read_added_count(rest)?;
     let counters = Counters {
         next_number,
         next_transaction,
@@ -93,6 +112,7 @@ fn read_counters(key: Key, bytes: &[u8]) -> Result<Record, OutsideGrammar>
         instant,
         object,
         place,
+        added,
     };
     if is_counters(&counters) {
         Ok(Record::Counters(counters))
@@ -227,12 +247,13 @@ fn read_version(alloc: Global, key: Key, bytes: &[u8]) -> Result<Record, Unread>
 {
     let number = fit_u32(key.b)?;
     let (parent, rest) = read_u32(bytes)?;
-    let (fields, rest) = read_fields(alloc, rest)?;
+    let (stamp, fields, rest) = read_fields(alloc, rest)?;
     nothing_left(rest)?;
     Ok(Record::Version {
         object: key.a,
         number,
         parent,
+        stamp,
         fields,
     })
 }
@@ -281,6 +302,37 @@ fn read_entry(alloc: Global, key: Key, bytes: &[u8]) -> Result<Record, Unread>
     })
 }
 
+// A sort as it is stored; of a reference there may be a class.
+pub(crate) fn is_sort(sort: u8, of: u32) -> bool
+    ensures { result ≡ is_sort sort of }
+{
+    sort == REFERENCE_SORT || sort < REFERENCE_SORT && of == 0
+}
+
+#[tactic(auto, unfolding(crate::specs::Reading::added_under))]
+fn read_added(alloc: Global, key: Key, bytes: &[u8]) -> Result<Record, Unread>
+    ensures { Gives (λ x. x) result (added_under key bytes.now) }
+{
+    let class = fit_u32(key.a)?;
+    let birth = fit_u32(key.b)?;
+    let (name, rest) = read_name(alloc, bytes)?;
+    let (sort, rest) = read_u8(rest)?;
+    let (of, rest) = read_u32(rest)?;
+    let (literal, rest) = read_value(alloc, rest)?;
+    nothing_left(rest)?;
+    if !is_sort(sort, of) {
+        return Err(Unread::Outside);
+    }
+    Ok(Record::Added {
+        class,
+        birth,
+        name,
+        sort,
+        of,
+        literal,
+    })
+}
+
 // An arm for each kind of records.
 macro_rules! by_kind {
     ($key:expr, $other:expr; $($kind:ident => $read:expr),* $(,)?) => {
@@ -305,6 +357,7 @@ fn read_record(alloc: Global, key: Key, bytes: &[u8]) -> Result<Record, Unread>
         VERSION => read_version(alloc, key, bytes),
         ACTIVATION => read_activation(alloc, key, bytes),
         ENTRY => read_entry(alloc, key, bytes),
+        ADDED => read_added(alloc, key, bytes),
     )
 }
 
@@ -342,5 +395,6 @@ pub fn is_record(key: Key, bytes: &[u8]) -> bool
         VERSION => pass_version(key, bytes).is_ok(),
         ACTIVATION => pass_activation(key, bytes).is_ok(),
         ENTRY => pass_entry(key, bytes).is_ok(),
+        ADDED => pass_added(key, bytes).is_ok(),
     )
 }

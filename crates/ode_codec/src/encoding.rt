@@ -3,12 +3,12 @@ ghost use Rattle.std.specs.Prelude.{◌≡◌, ◌++◌, ◌<◌, ◌^◌, Some,
 ghost use Rattle.std.specs.Int.{w16, w64, cast_unsigned, to_be_bytes};
 ghost use Rattle.std.specs.Option.{unwrap_or};
 ghost use Rattle.ode_value.specs.Keys.{key};
-ghost use Rattle.ode_value.specs.Records.{byte, counted, spelled_value};
+ghost use Rattle.ode_value.specs.Records.{byte, counted, spelled_value, stamp_bytes, stamped_count, version_bytes};
 ghost use Rattle.ode_codec.specs.Reading.{record_under};
 ghost use Rattle.ode_codec.specs.Rules.{IsCounted, IsRecord};
-ghost use Rattle.ode_codec.specs.Spelling.{activation_value, clock_value, counters_value, entry_value, key_of, spelled, truth, u16, u32, u64, value_of, values};
+ghost use Rattle.ode_codec.specs.Spelling.{activation_value, clock_value, counters_value, entry_value, nexts_value, key_of, spelled, truth, u16, u32, u64, value_of, values};
 
-use crate::record::{Activation, Counters, Entry, Record, TABLE_PLACES};
+use crate::record::{Activation, Counters, Entry, Record, STAMPED, TABLE_PLACES};
 use ode_host::{put_i64, put_u8, put_u16, put_u32, put_u64};
 use ode_value::{Key, List, Name, Ref, Value};
 use std::alloc::{AllocError, Global};
@@ -76,13 +76,30 @@ fn put_args(out: &mut Vec<u8>, args: &[Value]) -> Result<(), AllocError>
     put_values(out, args)
 }
 
-fn put_counters(out: &mut Vec<u8>, counters: &Counters) -> Result<(), AllocError>
-    ensures { OnOk result (out.new.items ≡ out.old.items ++ counters_value counters.now) }
+fn put_nexts(out: &mut Vec<u8>, counters: &Counters) -> Result<(), AllocError>
+    ensures { OnOk result (out.new.items ≡ out.old.items ++ nexts_value counters.now) }
 {
     put_u64(out, counters.next_number)?;
     put_u64(out, counters.next_transaction)?;
     put_u64(out, counters.next_entry)?;
     put_clock(out, counters)
+}
+
+fn put_counters(out: &mut Vec<u8>, counters: &Counters) -> Result<(), AllocError>
+    ensures { OnOk result (out.new.items ≡ out.old.items ++ counters_value counters.now) }
+{
+    put_nexts(out, counters)?;
+    put_stamp(out, counters.added)
+}
+
+// A stamp, or how many fields were added; 0 isn't spelled.
+fn put_stamp(out: &mut Vec<u8>, stamp: u32) -> Result<(), AllocError>
+    ensures { OnOk result (out.new.items ≡ out.old.items ++ stamp_bytes stamp) }
+{
+    if stamp == 0 {
+        return Ok(());
+    }
+    put_u32(out, stamp)
 }
 
 fn put_clock(out: &mut Vec<u8>, counters: &Counters) -> Result<(), AllocError>
@@ -138,12 +155,26 @@ fn put_object(out: &mut Vec<u8>, class: u32, last: u32) -> Result<(), AllocError
     put_u32(out, last)
 }
 
-fn put_version(out: &mut Vec<u8>, parent: u32, fields: &[Value]) -> Result<(), AllocError>
-    requires { length fields.now < 2 ^ 16 }
-    ensures { OnOk result (out.new.items ≡ out.old.items ++ (u32 parent ++ (u16 (length fields.now) ++ values fields.now))) }
+// How many fields a version has, with whether a stamp follows.
+fn stamped_count(stamp: u32, count: u16) -> u16
+    requires { count < 2 ^ 15 }
+    ensures { result ≡ stamped_count stamp count }
+{
+    if stamp == 0 { count } else { count + STAMPED }
+}
+
+fn put_version(
+    out: &mut Vec<u8>,
+    parent: u32,
+    stamp: u32,
+    fields: &[Value],
+) -> Result<(), AllocError>
+    requires { length fields.now < 2 ^ 15 }
+    ensures { OnOk result (out.new.items ≡ out.old.items ++ version_bytes parent stamp fields.now) }
 {
     put_u32(out, parent)?;
-    put_u16(out, fields.len() as u16)?;
+    put_u16(out, stamped_count(stamp, fields.len() as u16))?;
+    put_stamp(out, stamp)?;
     put_values(out, fields)
 }
 
@@ -171,6 +202,22 @@ fn put_firing(out: &mut Vec<u8>, entry: &Entry) -> Result<(), AllocError>
 {
     put_u8(out, entry.generation)?;
     put_args(out, entry.args.as_slice())
+}
+
+fn put_added(
+    out: &mut Vec<u8>,
+    name: &Name,
+    sort: u8,
+    of: u32,
+    literal: &Value,
+) -> Result<(), AllocError>
+    ensures { OnOk result (out.new.items ≡ out.old.items
+        ++ ((byte (length name.now) ++ name.now) ++ (byte sort ++ (u32 of ++ spelled_value literal.now)))) }
+{
+    put_name(out, name)?;
+    put_u8(out, sort)?;
+    put_u32(out, of)?;
+    put_value(out, literal)
 }
 
 // An arm for each kind of records.
@@ -204,6 +251,7 @@ fn key_of(one: &Record) -> Key
         Record::Version { object, number, .. } => make_key(Key::VERSION, *object, u64::from(*number)),
         Record::Activation(activation) => make_key(Key::ACTIVATION, activation.object, activation.number),
         Record::Entry { number, .. } => make_key(Key::ENTRY, *number, 0),
+        Record::Added { class, birth, .. } => make_key(Key::ADDED, u64::from(*class), u64::from(*birth)),
     )
 }
 
@@ -221,9 +269,10 @@ fn put_record(out: &mut Vec<u8>, one: &Record) -> Result<(), AllocError>
         Record::TableHead { states, symbols, .. } => put_table_head(out, *states, *symbols),
         Record::TablePiece { bytes, .. } => out.extend_from_slice(bytes.as_slice()),
         Record::Object { class, last, .. } => put_object(out, *class, *last),
-        Record::Version { parent, fields, .. } => put_version(out, *parent, fields.as_slice()),
+        Record::Version { parent, stamp, fields, .. } => put_version(out, *parent, *stamp, fields.as_slice()),
         Record::Activation(activation) => put_activation(out, activation),
         Record::Entry { entry, .. } => put_entry(out, entry),
+        Record::Added { name, sort, of, literal, .. } => put_added(out, name, *sort, *of, literal),
     )
 }
 

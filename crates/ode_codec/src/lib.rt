@@ -15,5 +15,9 @@ mod values;
 pub use decoding::{decode, is_record};
 pub use encoding::encode;
 pub use laws::one_spelling;
-pub use record::{Activation, Counters, Entry, Record, TABLE_PLACES};
+pub use passing::is_of_first;
+pub use record::{
+    Activation, BOOL_SORT, Counters, Entry, INT_SORT, REFERENCE_SORT, Record, TABLE_PLACES,
+    TEXT_SORT,
+};
 pub use stored::{fresh_databases_are_counters, held_worlds_are_good, stored_lengths_are_counts};

@@ -1,7 +1,7 @@
 //! Numbers at the front of bytes.
 ghost use Rattle.std.specs.Prelude.{◌≡◌, ◌≤◌, ◌<◌, IfErr, IfOk, drop, take, length};
 ghost use Rattle.std.specs.Int.{w16, w32, w64};
-ghost use Rattle.ode_codec.specs.Formats.{Finds, byte_in, int_in, number_in, truth_in};
+ghost use Rattle.ode_codec.specs.Formats.{Finds, byte_in, int_in, number_in, some_in, truth_in};
 
 use crate::outside::OutsideGrammar;
 use ode_host::{take_i64, take_u16, take_u32, take_u64};
@@ -31,6 +31,18 @@ pub(crate) fn read_u32(bytes: &[u8]) -> Result<(u32, &[u8]), OutsideGrammar>
         None => Err(OutsideGrammar),
         Some(number) => Ok((number, &bytes[4..])),
     }
+}
+
+// A number above 0.
+#[tactic(auto, unfolding(crate::specs::Formats::some_in))]
+pub(crate) fn read_some(bytes: &[u8]) -> Result<(u32, &[u8]), OutsideGrammar>
+    ensures { Finds (λ x. (x.0, x.1.now)) result (some_in bytes.now) }
+{
+    let (number, rest) = read_u32(bytes)?;
+    if number == 0 {
+        return Err(OutsideGrammar);
+    }
+    Ok((number, rest))
 }
 
 pub(crate) fn read_u64(bytes: &[u8]) -> Result<(u64, &[u8]), OutsideGrammar>

@@ -5,8 +5,20 @@ use ode_value::{List, Name, Value};
 /// The places that the pieces of one trigger's table have among those of a class.
 pub const TABLE_PLACES: u32 = 65_536;
 
-/// The next numbers of an object or activation, of a transaction and of an entry; and how far the clock has come: an instant,
-/// an object and a place in its class's list of kinds, all zero where it isn't set.
+/// From this number on the count of a version's fields says that a stamp follows.
+pub const STAMPED: u16 = 32_768;
+
+/// The sorts of added fields as they are stored.
+pub const INT_SORT: u8 = 0;
+
+pub const BOOL_SORT: u8 = 1;
+
+pub const TEXT_SORT: u8 = 2;
+
+pub const REFERENCE_SORT: u8 = 3;
+
+/// The next numbers of an object or activation, of a transaction and of an entry; how far the clock has come: an instant, an object and a
+/// place in its class's list of kinds, all zero where it isn't set; and how many fields were added to classes.
 #[derive(Clone, Copy, Debug, PartialEq, Eq)]
 pub struct Counters {
     pub next_number: u64,
@@ -16,6 +28,7 @@ pub struct Counters {
     pub instant: i64,
     pub object: u64,
     pub place: u32,
+    pub added: u32,
 }
 
 /// An activation of a trigger, which its class and its place there name. The state is that of the trigger's table.
@@ -77,16 +90,26 @@ pub enum Record {
         class: u32,
         last: u32,
     },
-    /// A version: its number, the number of its parent or 0, and its fields.
+    /// A version: its number, the number of its parent or 0, its stamp, and those fields that were there then.
     Version {
         object: u64,
         number: u32,
         parent: u32,
+        stamp: u32,
         fields: List<Value>,
     },
     Activation(Activation),
     Entry {
         number: u64,
         entry: Entry,
+    },
+    /// A field that was added to a class: its name, its sort, of a reference the number of the class or else 0, and its literal.
+    Added {
+        class: u32,
+        birth: u32,
+        name: Name,
+        sort: u8,
+        of: u32,
+        literal: Value,
     },
 }

@@ -5,7 +5,8 @@ ghost use Rattle.ode_codec.specs.Values.{args_in, content_in, fields_in, text_in
 
 use crate::outside::OutsideGrammar;
 use crate::reading::{read_part, read_u8, read_u16};
-use crate::values::read_plain;
+use crate::record::STAMPED;
+use crate::values::{read_plain, read_stamp};
 use ode_value::is_text;
 
 // The text behind its length.
@@ -34,7 +35,7 @@ fn skip_content(tag: u8, bytes: &[u8]) -> Result<&[u8], OutsideGrammar>
 }
 
 #[tactic(auto, unfolding(crate::specs::Values::value_in))]
-fn skip_value(bytes: &[u8]) -> Result<&[u8], OutsideGrammar>
+pub(crate) fn skip_value(bytes: &[u8]) -> Result<&[u8], OutsideGrammar>
     ensures { Finds (λ x. x.now) result (behind (value_in bytes.now)) }
 {
     let (tag, rest) = read_u8(bytes)?;
@@ -51,13 +52,14 @@ fn skip_values(count: u16, bytes: &[u8]) -> Result<&[u8], OutsideGrammar>
     Ok(rest)
 }
 
-/// The values behind their count of two bytes.
+/// The values behind their count of two bytes, with their stamp.
 #[tactic(auto, unfolding(crate::specs::Values::fields_in))]
 pub(crate) fn skip_fields(bytes: &[u8]) -> Result<&[u8], OutsideGrammar>
     ensures { Finds (λ x. x.now) result (behind (fields_in bytes.now)) }
 {
     let (count, rest) = read_u16(bytes)?;
-    skip_values(count, rest)
+    let (_, rest) = read_stamp(count, rest)?;
+    skip_values(count % STAMPED, rest)
 }
 
 /// The values behind their count of one byte.

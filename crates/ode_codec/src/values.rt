@@ -1,10 +1,13 @@
 //! Values at the front of bytes.
 ghost use Rattle.std.specs.Prelude.{◌≢◌};
 ghost use Rattle.ode_codec.specs.Formats.{Finds, Gives};
-ghost use Rattle.ode_codec.specs.Values.{args_in, content_in, fields_in, reference_in, text_in, value_in, values_in};
+ghost use Rattle.ode_codec.specs.Values.{args_in, content_in, fields_in, reference_in, stamp_in, text_in, value_in, values_in};
 
 use crate::outside::{OutsideGrammar, Unread};
-use crate::reading::{read_bool, read_i64, read_part, read_u8, read_u16, read_u32, read_u64};
+use crate::reading::{
+    read_bool, read_i64, read_part, read_some, read_u8, read_u16, read_u32, read_u64,
+};
+use crate::record::STAMPED;
 use ode_value::{List, OdeText, Ref, TextError, Value};
 use std::alloc::Global;
 
@@ -85,7 +88,7 @@ fn read_content(alloc: Global, tag: u8, bytes: &[u8]) -> Result<(Value, &[u8]), 
 }
 
 #[tactic(auto, unfolding(crate::specs::Values::value_in))]
-fn read_value(alloc: Global, bytes: &[u8]) -> Result<(Value, &[u8]), Unread>
+pub(crate) fn read_value(alloc: Global, bytes: &[u8]) -> Result<(Value, &[u8]), Unread>
     ensures { Gives (λ x. (x.0, x.1.now)) result (value_in bytes.now) }
 {
     let (tag, rest) = read_u8(bytes)?;
@@ -106,13 +109,26 @@ fn read_values(alloc: Global, count: u16, bytes: &[u8]) -> Result<(List<Value>, 
     Ok((values, rest))
 }
 
-/// The values behind their count of two bytes.
+/// The stamp behind a count of two bytes that says so.
+#[tactic(auto, unfolding(crate::specs::Values::stamp_in))]
+pub(crate) fn read_stamp(count: u16, bytes: &[u8]) -> Result<(u32, &[u8]), OutsideGrammar>
+    ensures { Finds (λ x. (x.0, x.1.now)) result (stamp_in count bytes.now) }
+{
+    if count < STAMPED {
+        return Ok((0, bytes));
+    }
+    read_some(bytes)
+}
+
+/// The values behind their count of two bytes, with their stamp.
 #[tactic(auto, unfolding(crate::specs::Values::fields_in))]
-pub(crate) fn read_fields(alloc: Global, bytes: &[u8]) -> Result<(List<Value>, &[u8]), Unread>
-    ensures { Gives (λ x. (x.0, x.1.now)) result (fields_in bytes.now) }
+pub(crate) fn read_fields(alloc: Global, bytes: &[u8]) -> Result<(u32, List<Value>, &[u8]), Unread>
+    ensures { Gives (λ x. ((x.0, x.1), x.2.now)) result (fields_in bytes.now) }
 {
     let (count, rest) = read_u16(bytes)?;
-    read_values(alloc, count, rest)
+    let (stamp, rest) = read_stamp(count, rest)?;
+    let (fields, rest) = read_values(alloc, count % STAMPED, rest)?;
+    Ok((stamp, fields, rest))
 }
 
 /// The values behind their count of one byte.

@@ -31,6 +31,8 @@ fn field(alloc: Global, letter: u8) -> Result<Field, AllocError> {
     Ok(Field {
         name: name(alloc, b"f")?,
         sort: sort(letter),
+        birth: 0,
+        literal: None,
     })
 }
 

@@ -42,6 +42,7 @@ fn parts_of(found: &Record) -> Option<Parts> {
             number,
             parent,
             fields,
+            ..
         } => {
             let fit = matches!(fields.as_slice(), [Value::Int(5), Value::Text(_)]);
             Some((*object, *number, *parent, fields.len(), fit))
@@ -96,6 +97,81 @@ const VERSIONS: &[Case] = &[
         false,
     ),
 ];
+
+// A version with a stamp; a stamp of 0, which isn't spelled; a count that says so without one.
+const STAMPS: &[Case] = &[
+    (
+        7,
+        1,
+        1,
+        b"\0\0\0\0\x80\x02\0\0\0\x01\0\0\0\0\0\0\0\0\x05\0\0\0\0\0\0\0\0\x07",
+        true,
+    ),
+    (
+        7,
+        1,
+        1,
+        b"\0\0\0\0\x80\x02\0\0\0\0\0\0\0\0\0\0\0\0\x05\0\0\0\0\0\0\0\0\x07",
+        false,
+    ),
+    (7, 1, 1, b"\0\0\0\0\x80\0", false),
+    (7, 1, 1, b"\0\0\0\0\x80\0\xff\xff\xff\xff", true),
+];
+
+#[test]
+fn versions_with_stamps(rt: HostRuntime) {
+    check_all(&rt, rt.alloc(), STAMPS);
+}
+
+// Counters with added fields, and with none that are spelled.
+const ADDED_COUNTS: &[Case] = &[
+    (
+        1,
+        0,
+        0,
+        b"\0\0\0\0\0\0\0\x01\0\0\0\0\0\0\0\x01\0\0\0\0\0\0\0\x01\0\0\0\0\0\0\0\0\0\0\0\0\0\0\0\0\0\0\0\0\0\0\0\0\x03",
+        true,
+    ),
+    (
+        1,
+        0,
+        0,
+        b"\0\0\0\0\0\0\0\x01\0\0\0\0\0\0\0\x01\0\0\0\0\0\0\0\x01\0\0\0\0\0\0\0\0\0\0\0\0\0\0\0\0\0\0\0\0\0\0\0\0\0",
+        false,
+    ),
+];
+
+#[test]
+fn counters_with_added_fields(rt: HostRuntime) {
+    check_all(&rt, rt.alloc(), ADDED_COUNTS);
+}
+
+// An added field `n` with its sort, the class that it refers to, and its literal.
+const ADDED: &[Case] = &[
+    (10, 1, 1, b"\x01n\0\0\0\0\0\0\0\0\0\0\0\0\0\x07", true),
+    (
+        10,
+        1,
+        1,
+        b"\x01n\x03\0\0\0\x02\x03\0\0\0\0\0\0\0\0\0\0\0\0",
+        true,
+    ),
+    (10, 1, 1, b"\x01n\0\0\0\0\x02\0\0\0\0\0\0\0\0\x07", false),
+    (10, 1, 1, b"\x01n\x04\0\0\0\0\0\0\0\0\0\0\0\0\x07", false),
+    (
+        10,
+        1,
+        MAX_U32 + 1,
+        b"\x01n\0\0\0\0\0\0\0\0\0\0\0\0\0\x07",
+        false,
+    ),
+    (10, 1, 1, b"\x01n\x01\0\0\0\0\0\0\0\0\0\0\0\0\x07\0", false),
+];
+
+#[test]
+fn added_fields(rt: HostRuntime) {
+    check_all(&rt, rt.alloc(), ADDED);
+}
 
 #[test]
 fn a_byte_more_or_less(rt: HostRuntime) {
