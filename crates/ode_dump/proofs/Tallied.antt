@@ -1,12 +1,13 @@
 -- Where the tally of records is taken, every record decodes.
-use Rattle.std.proofs.Common.{◌≡◌, ℕ, [], ◌∷◌, true, Option, Some, None, Ok, Err, refl}
+use Rattle.std.proofs.Common.{◌≡◌, ℕ, [], ◌∷◌, Bool, true, false, Option, Some, None, Ok, Err, refl}
 use Rattle.std.specs.List.{AllByRecursion}
 use Rattle.std.specs.Option.{is_some}
+use Rattle.ode_codec.specs.FirstFormat.{is_of_first}
 use Rattle.ode_codec.specs.Reading.{record_under}
 use Rattle.ode_codec.specs.declared.record.Counters.{Counters}
 use Rattle.ode_codec.specs.declared.record.Record.{Record}
 use Rattle.ode_keep.specs.Entries.{Entries}
-use Rattle.ode_passes.specs.Rules.{Ruled, ◌>>=◌, found, through}
+use Rattle.ode_passes.specs.Rules.{Ruled, ◌>>=◌, found, needs, through}
 use Rattle.ode_passes.specs.Tally.{counted, counters_or, no_tally, tally_in, tallied}
 use Rattle.ode_passes.specs.declared.cause.Cause.TheVariants as cause
 use Rattle.ode_passes.specs.declared.tally.Tally.{Tally}
@@ -21,14 +22,15 @@ Decode es = AllByRecursion (λ (e : Row). is_some (record_under e.0 e.1) ≡ tru
 abbrev more : Tally → Row → Record → Tally
 more t e r = record { total = counted t.total e; counters = counters_or t.counters r }
 
-decode_at : (t : Tally) (e : Row) (es : Entries) (s : Tally) (o : Option Record) → ((u : Tally) → through tallied u es ≡ Ok s → Decode es)
-    → ((found (cause.Record e.0) o >>= λ r. Ok (more t e r)) >>= λ u. through tallied u es) ≡ Ok s → (is_some o ≡ true) × Decode es
-decode_at t e es s None rest ran = absurd (cc (ran))
-decode_at t e es s (Some r) rest ran = (refl, rest (more t e r) ran)
+decode_at : (t : Tally) (e : Row) (es : Entries) (s : Tally) (b : Bool) (o : Option Record) → ((u : Tally) → through tallied u es ≡ Ok s → Decode es)
+    → ((needs (cause.Record e.0) b >>= λ _. found (cause.Record e.0) o >>= λ r. Ok (more t e r)) >>= λ u. through tallied u es) ≡ Ok s → (is_some o ≡ true) × Decode es
+decode_at t e es s false o rest ran = absurd (cc (ran))
+decode_at t e es s true None rest ran = absurd (cc (ran))
+decode_at t e es s true (Some r) rest ran = (refl, rest (more t e r) ran)
 
 decode : (es : Entries) (t s : Tally) → through tallied t es ≡ Ok s → Decode es
 decode [] t s ran = tt
-decode (e ∷ es) t s ran = decode_at t e es s (record_under e.0 e.1) (λ u goes. decode es u s goes) ran
+decode (e ∷ es) t s ran = decode_at t e es s (is_of_first e.0 e.1) (record_under e.0 e.1) (λ u goes. decode es u s goes) ran
 
 decode_all : (entries : Entries) (x : Counters × ℕ) (all_of : Ruled Tally) → through tallied no_tally (all entries) ≡ all_of
     → (all_of >>= λ t. found (cause.Missing counters_key) t.counters >>= λ c. Ok (c, t.total)) ≡ Ok x → AreRecords entries

@@ -24,7 +24,7 @@ account = record { number = 1; name = codes "Account"; parent = None; fields = [
 
 -- counters whose clock is set, or isn't
 abbrev pub counters : Bool → ℤ → Counters
-counters clock_set instant = record { next_number = 3; next_transaction = 4; next_entry = 1; clock_set = clock_set; instant = instant; object = 0; place = 0 }
+counters clock_set instant = record { next_number = 3; next_transaction = 4; next_entry = 1; clock_set = clock_set; instant = instant; object = 0; place = 0; added = 0 }
 
 -- the trigger waits on the object
 abbrev pub waiting : Entry
@@ -37,7 +37,7 @@ records =
     ∷ (key class_head_kind 1 0, of.ClassHead 1 (codes "Account") 0 120 1)
     ∷ (key table_head_kind 1 0, of.TableHead 1 0 2 3)
     ∷ (key object_kind 1 0, of.Object 1 1 1)
-    ∷ (key version_kind 1 1, of.Version 1 1 0 (Int (pos 80) ∷ Text (codes "Ann") ∷ []))
+    ∷ (key version_kind 1 1, of.Version 1 1 0 0 (Int (pos 80) ∷ Text (codes "Ann") ∷ []))
     ∷ (key activation_kind 1 2, of.Activation (record { object = 1; number = 2; class = 1; trigger = 0; state = 1; args = Int (pos 100) ∷ [] }))
     ∷ []
 

@@ -55,7 +55,7 @@ abbrev pub entry_line : List ℕ → ℕ → Entry → List ℕ
 entry_line trigger number e =
     line (codes "entry " ++ digits_of number ++ codes " trigger " ++ trigger ++ codes " on #" ++ digits_of e.object ++ codes " generation " ++ digits_of e.generation ++ values_text e.args)
 
--- a record's line, by the classes; pieces have none, and counters two, the second of which is the clock's
+-- a record's line, by the classes; pieces and added fields have none, and counters two, the second of which is the clock's
 abbrev pub record_line : List Class → Record → List ℕ
 record_line classes (of.Counters c) = counters_line c ++ clock_line c
 record_line classes (of.ClassHead class name parent text_length triggers) = class_line class (class_name classes class)
@@ -63,9 +63,10 @@ record_line classes (of.ClassPiece class piece bytes) = []
 record_line classes (of.TableHead class trigger states symbols) = table_line class trigger states symbols
 record_line classes (of.TablePiece class trigger piece bytes) = []
 record_line classes (of.Object object class last) = object_line object (class_name classes class) last
-record_line classes (of.Version object number parent fields) = version_line object number parent fields
+record_line classes (of.Version object number parent stamp fields) = version_line object number parent fields
 record_line classes (of.Activation a) = activation_line (trigger_name classes a.class a.trigger) a
 record_line classes (of.Entry number e) = entry_line (trigger_name classes e.class e.trigger) number e
+record_line classes (of.Added class birth name sort refers literal) = []
 
 -- the line of the record that a key and a value stand for, if they stand for one
 abbrev pub entry_text : List Class → Row → List ℕ

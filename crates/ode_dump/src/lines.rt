@@ -208,10 +208,11 @@ fn put_record(
             number,
             parent,
             fields,
+            ..
         } => put_version(alloc, text, *object, *number, *parent, fields.as_slice()),
         Record::Activation(activation) => put_activation(alloc, text, classes, activation),
         Record::Entry { number, entry } => put_entry(alloc, text, classes, *number, entry),
-        Record::ClassPiece { .. } | Record::TablePiece { .. } => Ok(()),
+        Record::ClassPiece { .. } | Record::TablePiece { .. } | Record::Added { .. } => Ok(()),
     }
 }
 

@@ -11,7 +11,7 @@ use Rattle.ode_codec.specs.declared.record.Record.TheVariants as of
 use Rattle.ode_value.specs.Keys.{counters_kind}
 use Rattle.ode_value.specs.declared.key.Key.{Key}
 use Rattle.ode_passes.specs.Rules.{◌>>=◌, found}
-use Rattle.ode_passes.specs.Tally.{counters_in, counters_or}
+use Rattle.ode_passes.specs.Tally.{counters_behind, counters_or}
 use Rattle.ode_passes.specs.declared.cause.Cause.{Cause}
 use Rattle.ode_passes.specs.declared.cause.Cause.TheVariants as cause
 
@@ -29,9 +29,10 @@ module _ (before : Option Counters) where
   left k bytes (of.TableHead class trigger states symbols) same other = refl
   left k bytes (of.TablePiece class trigger piece part) same other = refl
   left k bytes (of.Object object class last) same other = refl
-  left k bytes (of.Version object number parent fields) same other = refl
+  left k bytes (of.Version object number parent stamp fields) same other = refl
   left k bytes (of.Activation a) same other = refl
   left k bytes (of.Entry number e) same other = refl
+  left k bytes (of.Added class birth name sort refers literal) same other = refl
 
   stays : (k : Key) (bytes : List ℕ) (read : Option Record) (why : Cause) → ((r : Record) → read ≡ Some r → (k, bytes) ≡ spelled r) → (k.kind == counters_kind) ≡ false
       → is_some read ≡ true → (found why read >>= λ r. Ok (counters_or before r)) ≡ Ok before
@@ -40,5 +41,5 @@ module _ (before : Option Counters) where
 
   -- so where there is such a record, the counters are those before it
   pub other_counters : (k : Key) (bytes : List ℕ) → ((r : Record) → record_under k bytes ≡ Some r → (k, bytes) ≡ spelled r) → (k.kind == counters_kind) ≡ false
-      → is_some (record_under k bytes) ≡ true → counters_in before (k, bytes) ≡ Ok before
+      → is_some (record_under k bytes) ≡ true → counters_behind before (k, bytes) ≡ Ok before
   other_counters k bytes same other some = stays k bytes (record_under k bytes) (cause.Record k) same other some

@@ -1,5 +1,6 @@
 -- What all records come to: each decodes, the counters are there, and how many bytes they take.
 use Rattle.std.specs.Prelude.{ℕ, ◌+◌, ◌-◌, ◌^◌, min, cond, nat_le, ◌==◌, Option, Some, None, Ok}
+use Rattle.ode_codec.specs.FirstFormat.{is_of_first}
 use Rattle.ode_codec.specs.declared.record.Counters.{Counters}
 use Rattle.ode_codec.specs.declared.record.Record.{Record}
 use Rattle.ode_codec.specs.declared.record.Record.TheVariants as of
@@ -22,15 +23,25 @@ abbrev pub counters_or : Option Counters → Record → Option Counters
 counters_or before (of.Counters c) = Some c
 counters_or before _ = before
 
+-- a record has no stamp and is no added field
+abbrev pub is_plain : Row → Ruled (Unit {0})
+is_plain e = needs (cause.Record e.0) (is_of_first e.0 e.1)
+
 -- the counters behind one record more, which decodes
-abbrev pub counters_in : Option Counters → Row → Ruled (Option Counters)
-counters_in before e = do
+abbrev pub counters_behind : Option Counters → Row → Ruled (Option Counters)
+counters_behind before e = do
   r ← record_in e
   Ok (counters_or before r)
+
+abbrev pub counters_in : Option Counters → Row → Ruled (Option Counters)
+counters_in before e = do
+  _ ← is_plain e
+  counters_behind before e
 
 -- one record more
 abbrev pub tallied : Tally → Row → Ruled Tally
 tallied t e = do
+  _ ← is_plain e
   r ← record_in e
   Ok (record { total = counted t.total e; counters = counters_or t.counters r })
 

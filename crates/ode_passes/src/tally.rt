@@ -6,7 +6,7 @@ ghost use Rattle.ode_keep.specs.Entries.{AreBytes, Entries};
 ghost use Rattle.ode_value.specs.Keys.{counters_key};
 ghost use Rattle.ode_passes.specs.Answers.{Answers, Leaves, UnlessFault, is_usable};
 ghost use Rattle.ode_passes.specs.Rules.{found};
-ghost use Rattle.ode_passes.specs.Tally.{counted, counters_in, counters_or, is_light, tally_in};
+ghost use Rattle.ode_passes.specs.Tally.{counted, counters_behind, counters_in, counters_or, is_light, tally_in};
 ghost use Rattle.ode_passes.specs.Walking.{within};
 ghost use Rattle.ode_passes.specs.declared.cause.Cause.TheVariants as cause;
 
@@ -14,7 +14,7 @@ use crate::cause::Cause;
 use crate::error::OpenError;
 use crate::records::record_in;
 use crate::walking::{Pass, walk};
-use ode_codec::{Counters, Record, is_record, one_spelling};
+use ode_codec::{Counters, Record, is_of_first, is_record, one_spelling};
 use ode_host::Host;
 use ode_keep::{KEY_LEN, Keep};
 use ode_value::Key;
@@ -40,13 +40,13 @@ fn counters_or(before: Option<Counters>, row: &Record) -> Option<Counters>
 }
 
 // The counters, where this record has them. Only they are decoded, of the others it is asked whether they are records.
-fn counters_in(
+fn counters_behind(
     before: Option<Counters>,
     alloc: Global,
     key: Key,
     value: &[u8],
 ) -> Result<Option<Counters>, OpenError>
-    ensures meant { Answers (counters_in before (key, value.now)) result }
+    ensures meant { Answers (counters_behind before (key, value.now)) result }
     ensures calm { IsErrOf result OpenError.DiskFault → ⊥ }
 {
     if key.kind == Key::COUNTERS {
@@ -56,6 +56,23 @@ fn counters_in(
     one_spelling();
     if is_record(key, value) {
         Ok(before)
+    } else {
+        Err(OpenError::BadFile(Cause::Record(key)))
+    }
+}
+
+// The same where the record has no stamp and is no added field.
+fn counters_in(
+    before: Option<Counters>,
+    alloc: Global,
+    key: Key,
+    value: &[u8],
+) -> Result<Option<Counters>, OpenError>
+    ensures meant { Answers (counters_in before (key, value.now)) result }
+    ensures calm { IsErrOf result OpenError.DiskFault → ⊥ }
+{
+    if is_of_first(key, value) {
+        counters_behind(before, alloc, key, value)
     } else {
         Err(OpenError::BadFile(Cause::Record(key)))
     }
@@ -98,8 +115,8 @@ fn counters_of(tally: Tally) -> Result<Counters, Cause>
     }
 }
 
-/// The counters, and the bytes of all records but for the queue's entries; or the first record that doesn't decode, or that there are no
-/// counters. All values are bytes. Nothing is written.
+/// The counters, and the bytes of all records but for the queue's entries; or the first record that doesn't decode or has a stamp or an
+/// added field, or that there are no counters. All values are bytes. Nothing is written.
 #[tactic(auto, unfolding(crate::specs::Tally::tally_in))]
 pub fn read_tally<H: Host, K: Keep<H>>(
     alloc: Global,

@@ -7,7 +7,7 @@ use Rattle.ode_codec.specs.Spelling.{spelled}
 use Rattle.ode_codec.specs.declared.record.Record.{Record}
 use Rattle.ode_value.specs.Keys.{counters_kind}
 use Rattle.ode_passes.proofs.Others.{other_counters}
-use Rattle.ode_passes.proofs.tally.counters_in.Goals as goal
+use Rattle.ode_passes.proofs.tally.counters_behind.Goals as goal
 
 pub returns-then-is_record-clause-meant : goal.returns-then-is_record-clause-meant
 returns-then-is_record-clause-meant c =
