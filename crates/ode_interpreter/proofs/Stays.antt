@@ -29,7 +29,7 @@ use Rattle.ode_value.specs.Expressions.{evaluates_sets, stands}
 use Rattle.ode_value.specs.Firings.{Place, arises, with_point, new_point, fired, object_after}
 use Rattle.ode_value.specs.Keys.{object_key, version_key}
 use Rattle.ode_value.specs.Lengths.{version_size}
-use Rattle.ode_value.specs.Making.{derives, makes, spares, switches_on, with_new}
+use Rattle.ode_value.specs.Making.{stamp_now, derives, makes, spares, switches_on, with_new}
 use Rattle.ode_value.specs.Pasts.{Past, numbers}
 use Rattle.ode_value.specs.Posting.{collects, dropped_text, has_room, is_listed, is_touched, joins, posts, touches, with_entry}
 use Rattle.ode_value.specs.Settling.{arises_last, posts_last, posts_last_listed, says}
@@ -323,7 +323,8 @@ module _ {O A : Type 0} (past : Past O A) where
   made class fields x =
       let id = x.now.bones.next in
       let keys : List Key = object_key id ∷ version_key id 1 ∷ [] in
-      leads_on Any (λ (i : ℕ) y. is_touched i y ≡ true) (changes keys (version_size fields) has_number x) put (any (changes keys (version_size fields) has_number x)) (λ _ z _.
+      let size : ℕ = version_size (stamp_now x.now.bones) fields in
+      leads_on Any (λ (i : ℕ) y. is_touched i y ≡ true) (changes keys size has_number x) put (any (changes keys size has_number x)) (λ _ z _.
       leads_on (λ _ y. is_touched id y ≡ true) (λ (i : ℕ) y. is_touched i y ≡ true) (prints (new_line id) (touching id (turned (with_new past class fields) z))) (λ _. gives id)
       (line_still past id (new_line id) (touching id (turned (with_new past class fields) z)) (last_among id z.touched)) (λ _ w h. h)) where
         put : Unit {0} → Act O A ℕ

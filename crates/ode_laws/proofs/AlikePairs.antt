@@ -10,7 +10,7 @@ use Rattle.ode_value.specs.Classes.{Trigger, watch_of}
 use Rattle.ode_value.specs.Denoting.{object_numbered}
 use Rattle.ode_value.specs.Firings.{watch_by, watch_at, Place, grown_past, fired_in}
 use Rattle.ode_value.specs.GoodWorlds.{RiseFrom}
-use Rattle.ode_value.specs.Making.{drawn, object_with, with_activation, with_past}
+use Rattle.ode_value.specs.Making.{drawn, stamp_now, object_with, with_activation, with_past}
 use Rattle.ode_value.specs.Objects.{Activation, Histories, Starts, new_starts}
 use Rattle.ode_value.specs.Pasts.{Kept, Watch, lists, numbers}
 use Rattle.ode_value.specs.Tables.{Table}
@@ -200,15 +200,15 @@ all_with_then P Q id f keeps rest (o ∷ os) all = by_test (o.id == id) (all_wit
   by_test true more = (keeps o all.0, all-then P Q rest os all.1)
   by_test false more = (rest o all.0, more)
 
-pub new_numbered : (b : Bones) (class : ℕ) (fields : List Value) → AreNumbered b → AreNumbered (drawn (record b { objects = b.objects ++ object_with b.next class fields ∷ [] }))
+pub new_numbered : (b : Bones) (class : ℕ) (fields : List Value) → AreNumbered b → AreNumbered (drawn (record b { objects = b.objects ++ object_with (stamp_now b) b.next class fields ∷ [] }))
 new_numbered b class fields n = record {
   classes = n.classes;
   rising =
-      subst (RiseFrom 0) (sym (map-append id_of b.objects (object_with b.next class fields ∷ [])))
+      subst (RiseFrom 0) (sym (map-append id_of b.objects (object_with (stamp_now b) b.next class fields ∷ [])))
       (rise_more 0 b.next (map id_of b.objects) (omega arith) n.rising
       (all-map (λ m. m < b.next) id_of b.objects (all-then (HasNumbers b.next) (λ (o : Object). o.id < b.next) (λ o h. h.drawn) b.objects n.objects)));
   objects =
-      all-append (HasNumbers (b.next + 1)) b.objects (object_with b.next class fields ∷ [])
+      all-append (HasNumbers (b.next + 1)) b.objects (object_with (stamp_now b) b.next class fields ∷ [])
       (all-then (HasNumbers b.next) (HasNumbers (b.next + 1)) (more_numbers b.next (b.next + 1) (omega arith)) b.objects n.objects)
       (record { drawn = omega arith; rising = tt; activations = tt }, tt);
 }
@@ -256,10 +256,10 @@ module _ (tables : ℕ → ℕ → Table) (classes : List Declared) where
   }
 
   pub new_pair : (b : Bones) (class : ℕ) (fields : List Value) (ks : List (ℕ × Kept (Unit {0}) ℕ)) (ls : List (ℕ × Kept Histories Starts)) → Pair b ks ls
-      → Pair (drawn (record b { objects = b.objects ++ object_with b.next class fields ∷ [] }))
+      → Pair (drawn (record b { objects = b.objects ++ object_with (stamp_now b) b.next class fields ∷ [] }))
       (ks ++ (b.next, record { own = tt; activations = [] }) ∷ []) (ls ++ (b.next, record { own = lists.empty; activations = [] }) ∷ [])
   new_pair b class fields ks ls pair = record {
-    rows = rows_more id_of (Object3 tables classes) b.objects ks ls pair.rows (object_with b.next class fields) (record { own = tt; activations = [] }) (record { own = lists.empty; activations = [] }) tt;
+    rows = rows_more id_of (Object3 tables classes) b.objects ks ls pair.rows (object_with (stamp_now b) b.next class fields) (record { own = tt; activations = [] }) (record { own = lists.empty; activations = [] }) tt;
     numbered = new_numbered b class fields pair.numbered;
   }
 

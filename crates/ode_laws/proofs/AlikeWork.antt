@@ -12,7 +12,7 @@ use Rattle.ode_value.specs.Denoting.{object_at, object_numbered}
 use Rattle.ode_value.specs.Firings.{new_point, after_firings, object_after, Place, both_lists, grown_past, with_point, fired_in, fired, arises}
 use Rattle.ode_value.specs.GoodWorlds.{RiseFrom}
 use Rattle.ode_value.specs.Language.{ListWorld, ListTx}
-use Rattle.ode_value.specs.Making.{drawn, derived_from, switched_off, object_with, with_activation, with_past, with_new, with_active}
+use Rattle.ode_value.specs.Making.{drawn, stamp_now, derived_from, switched_off, object_with, with_activation, with_past, with_new, with_active}
 use Rattle.ode_value.specs.Objects.{Activation, Histories, Starts, new_starts}
 use Rattle.ode_value.specs.Pasts.{Past, Kept, lists, numbers}
 use Rattle.ode_value.specs.Posting.{with_deferred, with_entry, entry_of}
@@ -22,7 +22,7 @@ use Rattle.ode_value.specs.Versions.{Version}
 use Rattle.ode_value.specs.Worlds.{Declared, Object, Bones, with_object, kept_at, with_kept}
 use Rattle.ode_codec.specs.Standing.{HasTables}
 use Rattle.ode_laws.specs.Alike.{NumberWorld, NumberTx, StaysIn}
-use Rattle.ode_laws.proofs.Sides.{EndsBy, Same, told, Sides, altered, turned, set_in, dropped_from, removed, off_in}
+use Rattle.ode_laws.proofs.Sides.{EndsBy, Same, told, Sides, altered, turned, stamp_in, set_in, dropped_from, removed, off_in}
 use Rattle.ode_laws.proofs.AlikeRows.{Places, both_places}
 use Rattle.ode_laws.proofs.AlikePairs.{IsGentle, altered_bones, zip_then, gentle_stays, new_stays, with_active_stays, point_stays, Pair, gentle_pair, new_pair, active_pair, point_pair, fired_pair}
 use Rattle.ode_laws.proofs.Numbers.{IsPlaced, triggers_placed}
@@ -38,11 +38,11 @@ leaves_all f ids acts = record {
   same = λ o a. refl;
 }
 
-pub set_gentle : (v : Version) (place : ℕ) (value : Value) → IsGentle (set_in v place value)
-set_gentle v place value = leaves_all (set_in v place value) (λ o. refl) (λ o. refl)
+pub set_gentle : (stamp : ℕ) (v : Version) (place : ℕ) (value : Value) → IsGentle (set_in stamp v place value)
+set_gentle stamp v place value = leaves_all (set_in stamp v place value) (λ o. refl) (λ o. refl)
 
-pub derived_gentle : (v : Version) → IsGentle (derived_from v)
-derived_gentle v = leaves_all (derived_from v) (λ o. refl) (λ o. refl)
+pub derived_gentle : (stamp : ℕ) (v : Version) → IsGentle (derived_from stamp v)
+derived_gentle stamp v = leaves_all (derived_from stamp v) (λ o. refl) (λ o. refl)
 
 pub dropped_gentle : (v : Version) → IsGentle (dropped_from v)
 dropped_gentle v = leaves_all (dropped_from v) (λ o. refl) (λ o. refl)
@@ -209,7 +209,7 @@ module _ (tables : ℕ → ℕ → Table) (classes : List Declared) (mean : AllB
   }
 
   abbrev new_bones : ℕ → List Value → Bones → Bones
-  new_bones class fields b = drawn (record b { objects = b.objects ++ object_with b.next class fields ∷ [] })
+  new_bones class fields b = drawn (record b { objects = b.objects ++ object_with (stamp_now b) b.next class fields ∷ [] })
 
   pub new_work : (class : ℕ) (fields : List Value) (y : NumberTx) (x : ListTx) → Work y x → Work (turned (with_new (numbers tables) class fields) y) (turned (with_new lists class fields) x)
   new_work class fields y x h = record {
@@ -234,7 +234,7 @@ module _ (tables : ℕ → ℕ → Table) (classes : List Declared) (mean : AllB
     hold = record {
       all =
           zip_then (StaysIn x.now) (StaysIn (with_new lists class fields x.now))
-          (new_stays x.now (new_bones class fields x.now.bones) (object_with x.now.bones.next class fields) (x.now.bones.next, record { own = lists.empty; activations = [] }) refl)
+          (new_stays x.now (new_bones class fields x.now.bones) (object_with (stamp_in x) x.now.bones.next class fields) (x.now.bones.next, record { own = lists.empty; activations = [] }) refl)
           w0.bones.objects w0.pasts h.hold.all;
       next = let here : w0.bones.next ≤ x.now.bones.next = h.hold.next in omega arith;
     };
@@ -294,8 +294,8 @@ module _ (tables : ℕ → ℕ → Table) (classes : List Declared) (mean : AllB
     touch = λ n y x id h. again y x h (touching id y) (touching id x) refl refl refl refl (told classes y x h.same (touching id y) (touching id x) refl refl refl refl h.same.origin (ap (λ ids. ids ++ id ∷ []) h.same.touched) h.same.deferred h.same.collected h.same.gathered h.same.text h.same.run h.same.keys);
     defer = λ n y x f h more. again y x h (with_deferred f y) (with_deferred f x) refl refl refl refl (told classes y x h.same (with_deferred f y) (with_deferred f x) refl refl refl refl h.same.origin h.same.touched (ap (λ fs. fs ++ f ∷ []) h.same.deferred) h.same.collected h.same.gathered h.same.text h.same.run h.same.keys);
     collect = λ n y x independent f h room. again y x h (with_entry independent f y) (with_entry independent f x) refl refl refl refl (collect_same y x independent f h.same);
-    set = λ n y x r v place value h is small. altered_work r.object (set_in v place value) (set_gentle v place value) y x h;
-    derive = λ n y x r v o h is there more small. altered_work o.id (derived_from v) (derived_gentle v) y x h;
+    set = λ n y x r v place value h is small. altered_work r.object (set_in (stamp_in x) v place value) (set_gentle (stamp_in x) v place value) y x h;
+    derive = λ n y x r v o h is there more small. altered_work o.id (derived_from (stamp_in x) v) (derived_gentle (stamp_in x) v) y x h;
     drop = λ n y x r v o h is there more. altered_work o.id (dropped_from v) (dropped_gentle v) y x h;
     remove = λ n y x id h. altered_work id removed removed_gentle y x h;
     off = λ n y x id number h. altered_work id (off_in number) (off_gentle number) y x h;

@@ -20,7 +20,7 @@ use Rattle.ode_value.specs.Transactions.{Tx, Firing, touching}
 use Rattle.ode_value.specs.Versions.{Version}
 use Rattle.ode_value.specs.Worlds.{Declared, Object}
 use Rattle.ode_laws.proofs.Each.{all-of}
-use Rattle.ode_laws.proofs.Sides.{EndsBy, Sides, altered, turned, set_in, dropped_from, removed, off_in, same_self}
+use Rattle.ode_laws.proofs.Sides.{EndsBy, Sides, altered, turned, stamp_in, set_in, dropped_from, removed, off_in, same_self}
 
 -- What holds, with how many objects may still be touched in the statement that runs, and what keeps it.
 pub record Keeps {O A : Type 0} (past : Past O A) (Holds : ℕ → Tx O A → Type 0) : Type 0 where
@@ -31,14 +31,15 @@ pub record Keeps {O A : Type 0} (past : Past O A) (Holds : ℕ → Tx O A → Ty
   pub touch : (n : ℕ) (x : Tx O A) (id : ℕ) → Holds (suc n) x → Holds n (touching id x)
   pub defer : (n : ℕ) (x : Tx O A) (f : Firing) → Holds n x → nat_lt (length x.deferred) cascade_limit ≡ true → Holds n (with_deferred f x)
   pub collect : (n : ℕ) (x : Tx O A) (independent : Bool) (f : Firing) → Holds n x → has_room x ≡ true → Holds n (with_entry independent f x)
-  pub set : (n : ℕ) (x : Tx O A) (r : Ref) (v : Version) (place : ℕ) (value : Value) → Holds n x → denoted x.now.bones r ≡ Ok v → nat_le (version_size (slice_set v.fields place value)) value_limit ≡ true → Holds n (altered r.object (set_in v place value) x)
-  pub derive : (n : ℕ) (x : Tx O A) (r : Ref) (v : Version) (o : Object) → Holds n x → denoted x.now.bones r ≡ Ok v → object_at x.now.bones r.object ≡ Some o → nat_lt o.last version_limit ≡ true → nat_le (version_size v.fields) value_limit ≡ true
-      → Holds n (altered o.id (derived_from v) x)
+  pub set : (n : ℕ) (x : Tx O A) (r : Ref) (v : Version) (place : ℕ) (value : Value) → Holds n x → denoted x.now.bones r ≡ Ok v → nat_le (version_size (stamp_in x) (slice_set v.fields place value)) value_limit ≡ true
+      → Holds n (altered r.object (set_in (stamp_in x) v place value) x)
+  pub derive : (n : ℕ) (x : Tx O A) (r : Ref) (v : Version) (o : Object) → Holds n x → denoted x.now.bones r ≡ Ok v → object_at x.now.bones r.object ≡ Some o → nat_lt o.last version_limit ≡ true → nat_le (version_size (stamp_in x) v.fields) value_limit ≡ true
+      → Holds n (altered o.id (derived_from (stamp_in x) v) x)
   pub drop : (n : ℕ) (x : Tx O A) (r : Ref) (v : Version) (o : Object) → Holds n x → denoted x.now.bones r ≡ Ok v → object_at x.now.bones r.object ≡ Some o → nat_lt 1 (length o.versions) ≡ true
       → Holds n (altered o.id (dropped_from v) x)
   pub remove : (n : ℕ) (x : Tx O A) (id : ℕ) → Holds n x → Holds n (altered id removed x)
   pub off : (n : ℕ) (x : Tx O A) (id number : ℕ) → Holds n x → Holds n (altered id (off_in number) x)
-  pub new : (n : ℕ) (x : Tx O A) (class : ℕ) (fields : List Value) → Holds n x → has_number x.now.bones ≡ true → nat_le (version_size fields) value_limit ≡ true → Holds n (turned (with_new past class fields) x)
+  pub new : (n : ℕ) (x : Tx O A) (class : ℕ) (fields : List Value) → Holds n x → has_number x.now.bones ≡ true → nat_le (version_size (stamp_in x) fields) value_limit ≡ true → Holds n (turned (with_new past class fields) x)
   pub active : (n : ℕ) (x : Tx O A) (id : ℕ) (t : Trigger) (args : List Value) → Holds n x → has_number x.now.bones ≡ true → nat_le (values_length args) args_limit ≡ true → Holds n (turned (with_active past id t args) x)
   pub point : (n : ℕ) (x : Tx O A) (id : ℕ) (p : Point) (o : Object) (firings : List Firing) → Holds n x → object_at x.now.bones id ≡ Some o
       → Holds n (altered id (object_after firings) (turned (with_point past (both_lists past) p o) x))
@@ -76,8 +77,8 @@ module _ {O A : Type 0} (past : Past O A) (Holds : ℕ → Tx O A → Type 0) (k
     touch = λ n y x id r. (ap (touching id) r.0, r.1, k.touch n x id r.2);
     defer = λ n y x f r more. (ap (with_deferred f) r.0, r.1, k.defer n x f r.2 more);
     collect = λ n y x independent f r room. (ap (with_entry independent f) r.0, r.1, k.collect n x independent f r.2 room);
-    set = λ n y x r v place value h is small. (ap (altered r.object (set_in v place value)) h.0, h.1, k.set n x r v place value h.2 is small);
-    derive = λ n y x r v o h is there more small. (ap (altered o.id (derived_from v)) h.0, h.1, k.derive n x r v o h.2 is there more small);
+    set = λ n y x r v place value h is small. (ap (altered r.object (set_in (stamp_in x) v place value)) h.0, h.1, k.set n x r v place value h.2 is small);
+    derive = λ n y x r v o h is there more small. (ap (altered o.id (derived_from (stamp_in x) v)) h.0, h.1, k.derive n x r v o h.2 is there more small);
     drop = λ n y x r v o h is there more. (ap (altered o.id (dropped_from v)) h.0, h.1, k.drop n x r v o h.2 is there more);
     remove = λ n y x id r. (ap (altered id removed) r.0, r.1, k.remove n x id r.2);
     off = λ n y x id number r. (ap (altered id (off_in number)) r.0, r.1, k.off n x id number r.2);

@@ -36,7 +36,7 @@ use Rattle.ode_laws.proofs.Rows.{numbered_id, at_numbered}
 use Rattle.ode_laws.proofs.SideCompleting.{completes_alike}
 use Rattle.ode_laws.proofs.SideSettling.{Settlings, posted_related}
 use Rattle.ode_laws.proofs.SideStatements.{commands_alike}
-use Rattle.ode_laws.proofs.Sides.{EndsBy, Same, same_self, altered, turned, set_in, dropped_from, removed, off_in}
+use Rattle.ode_laws.proofs.Sides.{EndsBy, Same, same_self, altered, turned, stamp_in, set_in, dropped_from, removed, off_in}
 
 -- the object of a number changed
 all_with_found : (P : Object → Type 0) (id : ℕ) (f : Object → Object) (o : Object) → P (f o) → (os : List Object) → object_numbered id os ≡ Some o → AllByRecursion P os → AllByRecursion P (with_object id f os)
@@ -144,10 +144,10 @@ module _ {O A : Type 0} where
       touch = λ n x id h. again x (touching id x) h refl refl refl refl;
       defer = λ n x f h more. again x (with_deferred f x) h refl refl refl refl;
       collect = λ n x independent f h room. more_collected x independent f h room;
-      set = λ n x r v place value h is small. same_lasts x r.object (set_in v place value) (λ o. refl) h;
+      set = λ n x r v place value h is small. same_lasts x r.object (set_in (stamp_in x) v place value) (λ o. refl) h;
       derive = λ n x r v o h is there more small.
-          lasts_now x o.id (derived_from v)
-          (all_with_found HasLast o.id (derived_from v) o (derived_last o more) x.now.bones.objects
+          lasts_now x o.id (derived_from (stamp_in x) v)
+          (all_with_found HasLast o.id (derived_from (stamp_in x) v) o (derived_last o more) x.now.bones.objects
           (ap (λ m. object_numbered m x.now.bones.objects) (numbered_id r.object x.now.bones.objects o (at_numbered x.now.bones r.object o there)) ∙ at_numbered x.now.bones r.object o there) h.lasts) h;
       drop = λ n x r v o h is there more. same_lasts x o.id (dropped_from v) (λ q. refl) h;
       remove = λ n x id h. same_lasts x id removed (λ o. refl) h;
@@ -155,7 +155,7 @@ module _ {O A : Type 0} where
       new = λ n x class fields h left small. record {
         first = h.first;
         next = next_more x.now.bones.next h.next left;
-        lasts = all-append HasLast x.now.bones.objects (object_with x.now.bones.next class fields ∷ []) h.lasts (omega arith, tt);
+        lasts = all-append HasLast x.now.bones.objects (object_with (stamp_in x) x.now.bones.next class fields ∷ []) h.lasts (omega arith, tt);
         room = h.room;
         numbers = h.numbers;
         collected = h.collected;

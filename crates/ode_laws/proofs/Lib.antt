@@ -4,6 +4,7 @@ pub mod AlikeSettling
 pub mod AlikeTables
 pub mod AlikeWork
 pub mod Alone
+pub mod BornLaws
 pub mod BoundLaws
 pub mod CountLaws
 pub mod Each

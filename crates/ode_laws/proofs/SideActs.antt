@@ -76,9 +76,13 @@ module _ {O A P B : Type 0} (s : Sides O A P B) where
   bones_same : (n : ℕ) (y : Tx O A) (x : Tx P B) → s.Related n y x → y.now.bones ≡ x.now.bones
   bones_same n y x r = (s.same n y x r).bones
 
+  pub sees_ends : {X Y : Type 0} (n k : ℕ) (f : Bones → X) (next : X → Act O A Y) (other : X → Act P B Y) (y : Tx O A) (x : Tx P B) → s.Related n y x
+      → Ends k (next (f x.now.bones) y) (other (f x.now.bones) x) → Ends k ((sees f >>= next) y) ((sees f >>= other) x)
+  sees_ends n k f next other y x r rest = subst (λ u. Ends k (next u y) (other (f x.now.bones) x)) (sym (ap f (bones_same n y x r))) rest
+
   pub sees_alike : {X Y : Type 0} (n k : ℕ) (f : Bones → X)
       → (next : X → Act O A Y) (other : X → Act P B Y) → ((r : X) → Alike n k (next r) (other r)) → Alike n k (sees f >>= next) (sees f >>= other)
-  sees_alike n k f next other rest y x r = subst (λ u. Ends k (next (f y.now.bones) y) (other u x)) (ap f (bones_same n y x r)) (rest (f y.now.bones) y x r)
+  sees_alike n k f next other rest y x r = sees_ends n k f next other y x r (rest (f x.now.bones) y x r)
 
   -- what is found, with what is known of it
   pub found_ends : {X Y : Type 0} (n k : ℕ) (o p : Option X) → o ≡ p → (next : X → Act O A Y) (other : X → Act P B Y) (y : Tx O A) (x : Tx P B) → s.Related n y x

@@ -20,7 +20,7 @@ use Rattle.ode_value.specs.Firings.{arises, both_lists}
 use Rattle.ode_value.specs.Keys.{object_key, version_key, activation_key}
 use Rattle.ode_value.specs.Lengths.{values_length, version_size}
 use Rattle.ode_value.specs.Limits.{cascade_limit, change_limit, generation_limit, queue_limit, number_limit, args_limit, version_limit}
-use Rattle.ode_value.specs.Making.{with_new, with_active, derived_from, next_version, pinned, sets_field, derives, spares, drops, removes, switches_off, makes, switches_on}
+use Rattle.ode_value.specs.Making.{stamp_now, with_new, with_active, derived_from, next_version, pinned, sets_field, derives, spares, drops, removes, switches_off, makes, switches_on}
 use Rattle.ode_value.specs.Objects.{Activation}
 use Rattle.ode_value.specs.Pasts.{Past}
 use Rattle.ode_value.specs.Posting.{Body, frame_of, fired_text, dropped_text, waiting, enters, runs, with_deferred, defers, has_room, with_entry, collects, by_mode, treats, is_listed, is_touched, joins, posts_listed, posts, touches_first, touches}
@@ -28,8 +28,8 @@ use Rattle.ode_value.specs.Texts.{new_line, version_line, active_line}
 use Rattle.ode_value.specs.Transactions.{Tx, Firing, Origin, generation_of, touching}
 use Rattle.ode_value.specs.Versions.{Version}
 use Rattle.ode_value.specs.Worlds.{Declared, Object, Bones}
-use Rattle.ode_laws.proofs.Sides.{EndsBy, Same, Sides, altered, turned, set_in, dropped_from, removed, off_in}
-use Rattle.ode_laws.proofs.SideActs.{Ends, Alike, lower, then_alike, next_alike, less_alike, done_alike, aborts_alike, reads_alike, sees_alike, finds_ends, computes_ends, needs_ends, needs_alike, cond_alike, when_alike, every_alike, prints_alike, changes_ends, changes_alike, object_alike, version_alike, lives_alike}
+use Rattle.ode_laws.proofs.Sides.{EndsBy, Same, Sides, altered, turned, stamp_in, set_in, dropped_from, removed, off_in}
+use Rattle.ode_laws.proofs.SideActs.{Ends, Alike, lower, then_alike, next_alike, less_alike, done_alike, aborts_alike, reads_alike, sees_ends, sees_alike, finds_ends, computes_ends, needs_ends, needs_alike, cond_alike, when_alike, every_alike, prints_alike, changes_ends, changes_alike, object_alike, version_alike, lives_alike}
 
 abbrev room_in : Origin → ℕ → ℕ → Bones → ℕ → Bool
 room_in origin keys gathered first collected =
@@ -55,34 +55,45 @@ module _ {O A P B : Type 0} (s : Sides O A P B) where
 
   pub field_alike : (n : ℕ) (r : Ref) (place : ℕ) (value : Value) → Alike s n n (sets_field r place value) (sets_field r place value)
   field_alike n r place value y x h =
-      computes_ends s n n (λ b. denoted b r) (set_to) (set_to) y x h (λ v is.
-      changes_ends s n n (version_key r.object v.number ∷ []) (version_size (slice_set v.fields place value)) draws_none (put v) (put v) y x h (λ drawn small held.
-      (refl, s.set n (holding (version_key r.object v.number ∷ []) y) (holding (version_key r.object v.number ∷ []) x) r v place value held is small)))
+      computes_ends s n n (λ b. denoted b r) set_to set_to y x h (λ v is.
+      sees_ends s n n stamp_now (stamped v) (stamped v) y x h
+      (changes_ends s n n (keys_of v) (version_size (stamp_in x) (slice_set v.fields place value)) draws_none (put v (stamp_in x)) (put v (stamp_in x)) y x h (λ drawn small held.
+      (refl, s.set n (holding (keys_of v) y) (holding (keys_of v) x) r v place value held is small))))
     where
-      put : {O A : Type 0} → Version → Deed O A
-      put v = alters_object r.object (set_in v place value)
+      keys_of : Version → List Key
+      keys_of v = version_key r.object v.number ∷ []
+
+      put : {O A : Type 0} → Version → ℕ → Deed O A
+      put v stamp = alters_object r.object (set_in stamp v place value)
+
+      stamped : {O A : Type 0} → Version → ℕ → Deed O A
+      stamped v stamp = changes (keys_of v) (version_size stamp (slice_set v.fields place value)) draws_none >> put v stamp
 
       set_to : {O A : Type 0} → Version → Deed O A
-      set_to v = changes (version_key r.object v.number ∷ []) (version_size (slice_set v.fields place value)) draws_none >> put v
+      set_to v = sees stamp_now >>= stamped v
 
   pub derives_alike : (n : ℕ) (r : Ref) → Alike s n n (derives r) (derives r)
   derives_alike n r y x h =
       computes_ends s n n (λ b. denoted b r) derived derived y x h (λ v is.
       finds_ends s n n (λ b. object_at b r.object) (copied v) (copied v) y x h (λ o there.
-      changes_ends s n n (keys_of o) (version_size v.fields) (λ b. nat_lt o.last version_limit) (put v o) (put v o) y x h (λ drawn small held.
+      sees_ends s n n stamp_now (stamped v o) (stamped v o) y x h
+      (changes_ends s n n (keys_of o) (version_size (stamp_in x) v.fields) (λ b. nat_lt o.last version_limit) (put v o (stamp_in x)) (put v o (stamp_in x)) y x h (λ drawn small held.
       next_alike s n n n (prints (version_line (next_version o))) (prints (version_line (next_version o))) (prints_alike s n (version_line (next_version o)))
       (gives (next_version o)) (gives (next_version o)) (done_alike s n (next_version o))
-      (altered o.id (derived_from v) (holding (keys_of o) y)) (altered o.id (derived_from v) (holding (keys_of o) x))
-      (s.derive n (holding (keys_of o) y) (holding (keys_of o) x) r v o held is there drawn small))))
+      (altered o.id (derived_from (stamp_in x) v) (holding (keys_of o) y)) (altered o.id (derived_from (stamp_in x) v) (holding (keys_of o) x))
+      (s.derive n (holding (keys_of o) y) (holding (keys_of o) x) r v o held is there drawn small)))))
     where
       keys_of : Object → List Key
       keys_of o = object_key o.id ∷ version_key o.id (o.last + 1) ∷ []
 
-      put : {O A : Type 0} → Version → Object → Act O A Ref
-      put v o = alters_object o.id (derived_from v) >> (prints (version_line (next_version o)) >> gives (next_version o))
+      put : {O A : Type 0} → Version → Object → ℕ → Act O A Ref
+      put v o stamp = alters_object o.id (derived_from stamp v) >> (prints (version_line (next_version o)) >> gives (next_version o))
+
+      stamped : {O A : Type 0} → Version → Object → ℕ → Act O A Ref
+      stamped v o stamp = changes (keys_of o) (version_size stamp v.fields) (λ b. nat_lt o.last version_limit) >> put v o stamp
 
       copied : {O A : Type 0} → Version → Object → Act O A Ref
-      copied v o = changes (keys_of o) (version_size v.fields) (λ b. nat_lt o.last version_limit) >> put v o
+      copied v o = sees stamp_now >>= stamped v o
 
       derived : {O A : Type 0} → Version → Act O A Ref
       derived v = object r.object >>= copied v
@@ -137,11 +148,12 @@ module _ {O A P B : Type 0} (s : Sides O A P B) where
   pub makes_alike : (n class : ℕ) (fields : List Value) → Alike s (suc n) n (makes s.past class fields) (makes s.other class fields)
   makes_alike n class fields =
       sees_alike s (suc n) n (λ b. b.next) (making s.past) (making s.other) (λ id y x h.
-      changes_ends s (suc n) n (keys_of id) (version_size fields) has_number (put s.past id) (put s.other id) y x h (λ drawn small held.
+      sees_ends s (suc n) n stamp_now (stamped s.past id) (stamped s.other id) y x h
+      (changes_ends s (suc n) n (keys_of id) (version_size (stamp_in x) fields) has_number (put s.past id) (put s.other id) y x h (λ drawn small held.
       next_alike s n n n (prints (new_line id)) (prints (new_line id)) (prints_alike s n (new_line id)) (gives id) (gives id) (done_alike s n id)
       (touching id (turned (with_new s.past class fields) (holding (keys_of id) y))) (touching id (turned (with_new s.other class fields) (holding (keys_of id) x)))
       (s.touch n (turned (with_new s.past class fields) (holding (keys_of id) y)) (turned (with_new s.other class fields) (holding (keys_of id) x)) id
-      (s.new (suc n) (holding (keys_of id) y) (holding (keys_of id) x) class fields held drawn small))))
+      (s.new (suc n) (holding (keys_of id) y) (holding (keys_of id) x) class fields held drawn small)))))
     where
       keys_of : ℕ → List Key
       keys_of id = object_key id ∷ version_key id 1 ∷ []
@@ -149,8 +161,11 @@ module _ {O A P B : Type 0} (s : Sides O A P B) where
       put : {O A : Type 0} → Past O A → ℕ → Act O A ℕ
       put past id = turns (with_new past class fields) >> (does (touching id) >> (prints (new_line id) >> gives id))
 
+      stamped : {O A : Type 0} → Past O A → ℕ → ℕ → Act O A ℕ
+      stamped past id stamp = changes (keys_of id) (version_size stamp fields) has_number >> put past id
+
       making : {O A : Type 0} → Past O A → ℕ → Act O A ℕ
-      making past id = changes (keys_of id) (version_size fields) has_number >> put past id
+      making past id = sees stamp_now >>= stamped past id
 
   pub switches_on_alike : (n id : ℕ) (t : Trigger) (args : List Value) → s.Known t
       → Alike s n n (switches_on s.past id t args) (switches_on s.other id t args)

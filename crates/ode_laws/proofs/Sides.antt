@@ -13,7 +13,7 @@ use Rattle.ode_value.specs.Denoting.{object_at, denoted}
 use Rattle.ode_value.specs.Firings.{arises, both_lists}
 use Rattle.ode_value.specs.Lengths.{values_length, version_size}
 use Rattle.ode_value.specs.Limits.{budget_limit, output_limit, change_limit, cascade_limit, version_limit, value_limit, args_limit}
-use Rattle.ode_value.specs.Making.{with_fields, without_version, derived_from, switched_off, with_new, with_active}
+use Rattle.ode_value.specs.Making.{stamp_now, with_fields, without_version, derived_from, switched_off, with_new, with_active}
 use Rattle.ode_value.specs.Pasts.{Past}
 use Rattle.ode_value.specs.Posting.{has_room, with_deferred, with_entry}
 use Rattle.ode_value.specs.Transactions.{Tx, Firing, touching, with_bones}
@@ -82,9 +82,13 @@ altered id change = with_bones (λ b. record b { objects = with_object id change
 abbrev pub turned : {O A : Type 0} → (World O A → World O A) → Tx O A → Tx O A
 turned f x = record x { now = f x.now }
 
+-- the stamp of what it makes or sets now
+abbrev pub stamp_in : {O A : Type 0} → Tx O A → ℕ
+stamp_in x = stamp_now x.now.bones
+
 -- the changes of an object
-abbrev pub set_in : Version → ℕ → Value → Object → Object
-set_in v place value o = record o { versions = map (with_fields v.number (slice_set v.fields place value)) o.versions }
+abbrev pub set_in : ℕ → Version → ℕ → Value → Object → Object
+set_in stamp v place value o = record o { versions = map (with_fields stamp v.number (slice_set v.fields place value)) o.versions }
 
 abbrev pub dropped_from : Version → Object → Object
 dropped_from v o = record o { versions = without_version v.number o.versions }
@@ -111,15 +115,15 @@ pub record Sides (O A P B : Type 0) : Type 1 where
   pub touch : (n : ℕ) (y : Tx O A) (x : Tx P B) (id : ℕ) → Related (suc n) y x → Related n (touching id y) (touching id x)
   pub defer : (n : ℕ) (y : Tx O A) (x : Tx P B) (f : Firing) → Related n y x → nat_lt (length x.deferred) cascade_limit ≡ true → Related n (with_deferred f y) (with_deferred f x)
   pub collect : (n : ℕ) (y : Tx O A) (x : Tx P B) (independent : Bool) (f : Firing) → Related n y x → has_room x ≡ true → Related n (with_entry independent f y) (with_entry independent f x)
-  pub set : (n : ℕ) (y : Tx O A) (x : Tx P B) (r : Ref) (v : Version) (place : ℕ) (value : Value) → Related n y x → denoted x.now.bones r ≡ Ok v → nat_le (version_size (slice_set v.fields place value)) value_limit ≡ true
-      → Related n (altered r.object (set_in v place value) y) (altered r.object (set_in v place value) x)
-  pub derive : (n : ℕ) (y : Tx O A) (x : Tx P B) (r : Ref) (v : Version) (o : Object) → Related n y x → denoted x.now.bones r ≡ Ok v → object_at x.now.bones r.object ≡ Some o → nat_lt o.last version_limit ≡ true → nat_le (version_size v.fields) value_limit ≡ true
-      → Related n (altered o.id (derived_from v) y) (altered o.id (derived_from v) x)
+  pub set : (n : ℕ) (y : Tx O A) (x : Tx P B) (r : Ref) (v : Version) (place : ℕ) (value : Value) → Related n y x → denoted x.now.bones r ≡ Ok v → nat_le (version_size (stamp_in x) (slice_set v.fields place value)) value_limit ≡ true
+      → Related n (altered r.object (set_in (stamp_in x) v place value) y) (altered r.object (set_in (stamp_in x) v place value) x)
+  pub derive : (n : ℕ) (y : Tx O A) (x : Tx P B) (r : Ref) (v : Version) (o : Object) → Related n y x → denoted x.now.bones r ≡ Ok v → object_at x.now.bones r.object ≡ Some o → nat_lt o.last version_limit ≡ true → nat_le (version_size (stamp_in x) v.fields) value_limit ≡ true
+      → Related n (altered o.id (derived_from (stamp_in x) v) y) (altered o.id (derived_from (stamp_in x) v) x)
   pub drop : (n : ℕ) (y : Tx O A) (x : Tx P B) (r : Ref) (v : Version) (o : Object) → Related n y x → denoted x.now.bones r ≡ Ok v → object_at x.now.bones r.object ≡ Some o → nat_lt 1 (length o.versions) ≡ true
       → Related n (altered o.id (dropped_from v) y) (altered o.id (dropped_from v) x)
   pub remove : (n : ℕ) (y : Tx O A) (x : Tx P B) (id : ℕ) → Related n y x → Related n (altered id removed y) (altered id removed x)
   pub off : (n : ℕ) (y : Tx O A) (x : Tx P B) (id number : ℕ) → Related n y x → Related n (altered id (off_in number) y) (altered id (off_in number) x)
-  pub new : (n : ℕ) (y : Tx O A) (x : Tx P B) (class : ℕ) (fields : List Value) → Related n y x → has_number x.now.bones ≡ true → nat_le (version_size fields) value_limit ≡ true
+  pub new : (n : ℕ) (y : Tx O A) (x : Tx P B) (class : ℕ) (fields : List Value) → Related n y x → has_number x.now.bones ≡ true → nat_le (version_size (stamp_in x) fields) value_limit ≡ true
       → Related n (turned (with_new past class fields) y) (turned (with_new other class fields) x)
   pub active : (n : ℕ) (y : Tx O A) (x : Tx P B) (id : ℕ) (t : Trigger) (args : List Value) → Related n y x → has_number x.now.bones ≡ true → nat_le (values_length args) args_limit ≡ true → Known t
       → Related n (turned (with_active past id t args) y) (turned (with_active other id t args) x)

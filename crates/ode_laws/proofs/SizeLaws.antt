@@ -32,13 +32,13 @@ use Rattle.ode_laws.proofs.Each.{all-append, all-then, all-map, all-filter}
 use Rattle.ode_laws.proofs.SideCompleting.{completes_alike}
 use Rattle.ode_laws.proofs.SideSettling.{Settlings, posted_related}
 use Rattle.ode_laws.proofs.SideStatements.{commands_alike}
-use Rattle.ode_laws.proofs.Sides.{EndsBy, same_self, altered, turned, set_in, dropped_from, removed, off_in}
+use Rattle.ode_laws.proofs.Sides.{EndsBy, same_self, altered, turned, stamp_in, set_in, dropped_from, removed, off_in}
 
 -- ---- an object
 
-set_short : (number : ℕ) (fields : List Value) → version_size fields ≤ value_limit → (v : Version) → IsShortVersion v → IsShortVersion (with_fields number fields v)
-set_short number fields short v is = by_test (v.number == number) where
-  by_test : (b : Bool) → IsShortVersion (cond b (record v { fields = fields }) v)
+set_short : (stamp number : ℕ) (fields : List Value) → version_size stamp fields ≤ value_limit → (v : Version) → IsShortVersion v → IsShortVersion (with_fields stamp number fields v)
+set_short stamp number fields short v is = by_test (v.number == number) where
+  by_test : (b : Bool) → IsShortVersion (cond b (record v { fields = fields; stamp = stamp }) v)
   by_test true = short
   by_test false = is
 
@@ -76,16 +76,18 @@ module _ {O A : Type 0} (past : Past O A) where
     defer = λ n x f h more. record { first = h.first; now = h.now };
     collect = λ n x independent f h room. record { first = h.first; now = h.now };
     set = λ n x r v place value h is small.
-        with_change x r.object (set_in v place value) (λ o s. record {
+        with_change x r.object (set_in (stamp_in x) v place value) (λ o s. record {
           versions =
-              all-map IsShortVersion (with_fields v.number (slice_set v.fields place value)) o.versions
-              (all-then IsShortVersion (λ w. IsShortVersion (with_fields v.number (slice_set v.fields place value) w))
-              (set_short v.number (slice_set v.fields place value) (leb-true (version_size (slice_set v.fields place value)) value_limit small)) o.versions s.versions);
+              all-map IsShortVersion (with_fields (stamp_in x) v.number (slice_set v.fields place value)) o.versions
+              (all-then IsShortVersion (λ w. IsShortVersion (with_fields (stamp_in x) v.number (slice_set v.fields place value) w))
+              (set_short (stamp_in x) v.number (slice_set v.fields place value) (leb-true (version_size (stamp_in x) (slice_set v.fields place value)) value_limit small)) o.versions s.versions);
           activations = s.activations;
         }) h;
     derive = λ n x r v o h is there more small.
-        with_change x o.id (derived_from v) (λ q s. record {
-          versions = all-append IsShortVersion q.versions (record { number = q.last + 1; parent = Some v.number; fields = v.fields } ∷ []) s.versions (leb-true (version_size v.fields) value_limit small, tt);
+        with_change x o.id (derived_from (stamp_in x) v) (λ q s. record {
+          versions =
+              all-append IsShortVersion q.versions (record { number = q.last + 1; parent = Some v.number; stamp = stamp_in x; fields = v.fields } ∷ []) s.versions
+              (leb-true (version_size (stamp_in x) v.fields) value_limit small, tt);
           activations = s.activations;
         }) h;
     drop = λ n x r v o h is there more.
@@ -99,8 +101,8 @@ module _ {O A : Type 0} (past : Past O A) where
     new = λ n x class fields h left small. record {
       first = h.first;
       now =
-          all-append HasSizes x.now.bones.objects (object_with x.now.bones.next class fields ∷ []) h.now
-          (record { versions = (leb-true (version_size fields) value_limit small, tt); activations = tt }, tt);
+          all-append HasSizes x.now.bones.objects (object_with (stamp_in x) x.now.bones.next class fields ∷ []) h.now
+          (record { versions = (leb-true (version_size (stamp_in x) fields) value_limit small, tt); activations = tt }, tt);
     };
     active = λ n x id t args h left short. record {
       first = h.first;

@@ -1,5 +1,5 @@
 -- A settled transaction leaves a world that isn't too heavy.
-use Rattle.std.proofs.Common.{◌≡◌, ℕ, ◌+◌, ◌≤◌, Bool, true, false, cond, List, [], ◌∷◌, map, ◌==◌, Option, Some, None, refl, sym, ap, ◌∙◌, subst, arith}
+use Rattle.std.proofs.Common.{◌≡◌, ℕ, ◌+◌, ◌≤◌, Bool, true, false, cond, List, [], ◌∷◌, length, map, ◌==◌, Option, Some, None, refl, sym, ap, ◌∙◌, subst, arith}
 use Rattle.std.specs.Prelude.{nat_le}
 use Rattle.std.specs.List.{filter, sum_by}
 use Rattle.std.proofs.lemmas.Bool.{leb-true}
@@ -12,6 +12,7 @@ use Rattle.ode_value.specs.Acts.{Outcome, Done, Aborted, Act, Deed, go_on, ◌>>
 use Rattle.ode_value.specs.Changes.{alters_object}
 use Rattle.ode_value.specs.Completing.{completes, goes_round, tests_all, weighs, rounds}
 use Rattle.ode_value.specs.Denoting.{object_at}
+use Rattle.ode_value.specs.Fields.{fields_of}
 use Rattle.ode_value.specs.Firings.{new_point, after_firings, object_after, Place, both_lists, whole_list, with_point, fired, arises}
 use Rattle.ode_value.specs.Keeping.{is_active, is_there, kept_object, kept_bones, with_last}
 use Rattle.ode_value.specs.Lengths.{counters_length, object_length}
@@ -21,7 +22,7 @@ use Rattle.ode_value.specs.Pasts.{Past}
 use Rattle.ode_value.specs.Posting.{with_entry}
 use Rattle.ode_value.specs.Settling.{settled_world, posted, commit, abort, committed, aborted}
 use Rattle.ode_value.specs.Transactions.{Tx, Firing}
-use Rattle.ode_value.specs.Weights.{class_weight, version_weight, activation_weight, object_weight, weight}
+use Rattle.ode_value.specs.Weights.{added_weight, class_weight, version_weight, activation_weight, object_weight, weight}
 use Rattle.ode_value.specs.Worlds.{Declared, Object, Bones, with_object}
 use Rattle.ode_laws.proofs.SideSettling.{Settlings, posted_related}
 use Rattle.ode_laws.proofs.Sides.{EndsBy, same_self, altered, turned}
@@ -52,31 +53,41 @@ sum_with f id g same (o ∷ os) = by_test (o.id == id) (sum_with f id g same os)
 
 -- ---- weights
 
-after_weight : (firings : List Firing) (o : Object) → object_weight (object_after firings o) ≡ object_weight o
-after_weight firings o = ap (λ n. object_length + sum_by version_weight o.versions + n) (sum_map activation_weight (after_firings firings) (λ a. refl) o.activations)
+after_weight : (classes : List Declared) (firings : List Firing) (o : Object) → object_weight classes (object_after firings o) ≡ object_weight classes o
+after_weight classes firings o =
+    ap (λ n. object_length + sum_by (version_weight (fields_of classes o.class)) o.versions + n) (sum_map activation_weight (after_firings firings) (λ a. refl) o.activations)
 
-kept_weight : (o : Object) → object_weight (kept_object o) ≤ object_weight o
-kept_weight o = let less : sum_by activation_weight (filter is_active o.activations) ≤ sum_by activation_weight o.activations = sum_filter activation_weight is_active o.activations in omega arith
+kept_weight : (classes : List Declared) (o : Object) → object_weight classes (kept_object o) ≤ object_weight classes o
+kept_weight classes o = let less : sum_by activation_weight (filter is_active o.activations) ≤ sum_by activation_weight o.activations = sum_filter activation_weight is_active o.activations in omega arith
 
 pub kept_lighter : (b : Bones) → weight (kept_bones b) ≤ weight b
 unfolding weight
 kept_lighter b =
-    let less : sum_by object_weight (map kept_object (filter is_there b.objects)) ≤ sum_by object_weight (filter is_there b.objects) = sum_less object_weight kept_object kept_weight (filter is_there b.objects) in
-    let fewer : sum_by object_weight (filter is_there b.objects) ≤ sum_by object_weight b.objects = sum_filter object_weight is_there b.objects in
+    let less : sum_by (object_weight b.classes) (map kept_object (filter is_there b.objects)) ≤ sum_by (object_weight b.classes) (filter is_there b.objects) =
+    sum_less (object_weight b.classes) kept_object (kept_weight b.classes) (filter is_there b.objects)
+    in
+    let fewer : sum_by (object_weight b.classes) (filter is_there b.objects) ≤ sum_by (object_weight b.classes) b.objects = sum_filter (object_weight b.classes) is_there b.objects in
     omega arith
 
 after_lighter : (id : ℕ) (firings : List Firing) (b : Bones) → weight (record b { objects = with_object id (object_after firings) b.objects }) ≡ weight b
 unfolding weight
-after_lighter id firings b = ap (λ n. counters_length + sum_by class_weight b.classes + n) (sum_with object_weight id (object_after firings) (after_weight firings) b.objects)
+after_lighter id firings b =
+    ap (λ n. counters_length (length b.added) + sum_by class_weight b.classes + n + sum_by added_weight b.added)
+    (sum_with (object_weight b.classes) id (object_after firings) (after_weight b.classes firings) b.objects)
 
 -- what weighs takes of bones
-same_weight : (b c : Bones) → b.classes ≡ c.classes → b.objects ≡ c.objects → weight b ≡ weight c
+same_weight : (b c : Bones) → b.classes ≡ c.classes → b.added ≡ c.added → b.objects ≡ c.objects → weight b ≡ weight c
 unfolding weight
-same_weight b c classes objects = ap (λ cs. counters_length + sum_by class_weight cs + sum_by object_weight b.objects) classes ∙ ap (λ os. counters_length + sum_by class_weight c.classes + sum_by object_weight os) objects
+same_weight b c classes added objects =
+    ap (λ cs. counters_length (length b.added) + sum_by class_weight cs + sum_by (object_weight cs) b.objects + sum_by added_weight b.added) classes
+    ∙ ap (λ fs. counters_length (length fs) + sum_by class_weight c.classes + sum_by (object_weight c.classes) b.objects + sum_by added_weight fs) added
+    ∙ ap (λ os. counters_length (length c.added) + sum_by class_weight c.classes + sum_by (object_weight c.classes) os + sum_by added_weight c.added) objects
 
 last_lighter : (first now : Bones) → weight (record first { next = now.next; objects = map (with_last now) first.objects }) ≡ weight first
 unfolding weight
-last_lighter first now = ap (λ n. counters_length + sum_by class_weight first.classes + n) (sum_map object_weight (with_last now) (λ o. refl) first.objects)
+last_lighter first now =
+    ap (λ n. counters_length (length first.added) + sum_by class_weight first.classes + n + sum_by added_weight first.added)
+    (sum_map (object_weight first.classes) (with_last now) (λ o. refl) first.objects)
 
 -- ---- settling
 
@@ -117,7 +128,7 @@ module _ {O A : Type 0} (past : Past O A) where
 
   settled_light : (x : Tx O A) → IsLight x → weight (settled_world x).bones ≤ weight_limit
   settled_light x h =
-      let same : weight (settled_world x).bones ≡ weight (kept_bones x.now.bones) = same_weight (settled_world x).bones (kept_bones x.now.bones) refl refl in
+      let same : weight (settled_world x).bones ≡ weight (kept_bones x.now.bones) = same_weight (settled_world x).bones (kept_bones x.now.bones) refl refl refl in
       let less : weight (kept_bones x.now.bones) ≤ weight x.now.bones = kept_lighter x.now.bones in
       let light : weight x.now.bones ≤ weight_limit = h in
       omega arith

@@ -11,7 +11,7 @@ use Rattle.ode_value.specs.Worlds.{Object, Bones}
 
 -- a version's record has a value that is short enough
 abbrev pub IsShortVersion : Version → Type 0
-IsShortVersion v = version_size v.fields ≤ value_limit
+IsShortVersion v = version_size v.stamp v.fields ≤ value_limit
 
 -- an activation's arguments are short enough
 abbrev pub IsShortActivation : Activation → Type 0

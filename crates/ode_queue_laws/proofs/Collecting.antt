@@ -21,7 +21,7 @@ use Rattle.ode_laws.proofs.Each.{all-append, all-filter, all-map}
 use Rattle.ode_laws.proofs.SideActs.{Alike, next_alike}
 use Rattle.ode_laws.proofs.SideCompleting.{completes_alike}
 use Rattle.ode_laws.proofs.SideSettling.{Settlings, posted_related}
-use Rattle.ode_laws.proofs.Sides.{EndsBy, Sides, same_self, altered, turned, set_in, dropped_from, removed, off_in}
+use Rattle.ode_laws.proofs.Sides.{EndsBy, Sides, same_self, altered, turned, stamp_in, set_in, dropped_from, removed, off_in}
 use Rattle.ode_queue_laws.specs.Entries.{AddsEntries}
 
 -- from these bones a transaction of this origin leaves what waits, with new entries of the next generation behind it
@@ -81,8 +81,8 @@ module _ (origin : Origin) (b0 : Bones) where
         touch = λ n x id h. again x (touching id x) h refl refl refl;
         defer = λ n x f h left. again x (with_deferred f x) h refl refl refl;
         collect = λ n x independent f h room. more x independent f h;
-        set = λ n x r v place value h is small. again x (altered r.object (set_in v place value) x) h refl refl refl;
-        derive = λ n x r v o h is there left small. again x (altered o.id (derived_from v) x) h refl refl refl;
+        set = λ n x r v place value h is small. again x (altered r.object (set_in (stamp_in x) v place value) x) h refl refl refl;
+        derive = λ n x r v o h is there left small. again x (altered o.id (derived_from (stamp_in x) v) x) h refl refl refl;
         drop = λ n x r v o h is there left. again x (altered o.id (dropped_from v) x) h refl refl refl;
         remove = λ n x id h. again x (altered id removed x) h refl refl refl;
         off = λ n x id number h. again x (altered id (off_in number) x) h refl refl refl;

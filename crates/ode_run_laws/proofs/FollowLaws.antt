@@ -25,7 +25,7 @@ use Rattle.ode_laws.proofs.Each.{all-append, all-filter}
 use Rattle.ode_laws.proofs.Numbers.{apart}
 use Rattle.ode_run_laws.proofs.OrderlyLaws.{version_of_number, all_same, fields_same, set_versions, derived_versions, dropped_versions, all_with_found}
 use Rattle.ode_laws.proofs.Rows.{numbered_id, at_numbered}
-use Rattle.ode_laws.proofs.Sides.{altered, turned, set_in, dropped_from, removed, off_in}
+use Rattle.ode_laws.proofs.Sides.{altered, turned, stamp_in, set_in, dropped_from, removed, off_in}
 
 if_none : (m : Option Version) (P : Type 0) → P → IfNone m P
 if_none None P p = p
@@ -112,16 +112,16 @@ module _ (b0 : Bones) where
     new_following n x class fields h = record {
       first = h.first;
       next = let less : b0.next ≤ x.now.bones.next = h.next in omega arith;
-      objects = all-append (FollowsObject b0) x.now.bones.objects (object_with x.now.bones.next class fields ∷ []) h.objects (fresh, tt);
+      objects = all-append (FollowsObject b0) x.now.bones.objects (object_with (stamp_in x) x.now.bones.next class fields ∷ []) h.objects (fresh, tt);
       numbered = new_numbered (unclassed x.now.bones) class fields h.numbered;
       versions =
-          all-append HasVersions x.now.bones.objects (object_with x.now.bones.next class fields ∷ []) h.versions
+          all-append HasVersions x.now.bones.objects (object_with (stamp_in x) x.now.bones.next class fields ∷ []) h.versions
           (record { some = omega arith; rising = (omega arith, tt); drawn = (omega arith, tt) }, tt);
     }
       where
-        fresh : FollowsObject b0 (object_with x.now.bones.next class fields)
+        fresh : FollowsObject b0 (object_with (stamp_in x) x.now.bones.next class fields)
         fresh =
-            subst (λ m. MatchOption m ((b0.next ≤ x.now.bones.next) × AreActivations b0.next []) (λ p. StaysObject p (object_with x.now.bones.next class fields) × AllByRecursion (IsOldActivation b0.next p) []))
+            subst (λ m. MatchOption m ((b0.next ≤ x.now.bones.next) × AreActivations b0.next []) (λ p. StaysObject p (object_with (stamp_in x) x.now.bones.next class fields) × AllByRecursion (IsOldActivation b0.next p) []))
             (sym (none_numbered b0.next x.now.bones.next h.next b0.objects numbers)) (h.next, tt)
 
     active_following : (n : ℕ) (x : Tx O A) (id : ℕ) (t : Trigger) (args : List Value) → Following n x → Following n (turned (with_active past id t args) x)
@@ -147,13 +147,14 @@ module _ (b0 : Bones) where
       defer = λ n x f h more. record { first = h.first; next = h.next; objects = h.objects; numbered = h.numbered; versions = h.versions };
       collect = λ n x independent f h room. record { first = h.first; next = h.next; objects = h.objects; numbered = h.numbered; versions = h.versions };
       set = λ n x r v place value h is small.
-          gentle_following n x r.object (set_in v place value) (set_gentle v place value) (λ o. refl) (λ o. omega arith)
-          (λ o P new all. all_same version_of_number (with_fields v.number (slice_set v.fields place value)) (fields_same v.number (slice_set v.fields place value)) P o.versions all)
-          (all_with HasVersions r.object (set_in v place value) (set_versions v place value) x.now.bones.objects h.versions) h;
+          gentle_following n x r.object (set_in (stamp_in x) v place value) (set_gentle (stamp_in x) v place value) (λ o. refl) (λ o. omega arith)
+          (λ o P new all. all_same version_of_number (with_fields (stamp_in x) v.number (slice_set v.fields place value))
+          (fields_same (stamp_in x) v.number (slice_set v.fields place value)) P o.versions all)
+          (all_with HasVersions r.object (set_in (stamp_in x) v place value) (set_versions (stamp_in x) v place value) x.now.bones.objects h.versions) h;
       derive = λ n x r v o h is there more small.
-          gentle_following n x o.id (derived_from v) (derived_gentle v) (λ q. refl) (λ q. omega arith)
-          (λ q. lift_append q (record { number = q.last + 1; parent = Some v.number; fields = v.fields }) (omega arith))
-          (all_with HasVersions o.id (derived_from v) (derived_versions v) x.now.bones.objects h.versions) h;
+          gentle_following n x o.id (derived_from (stamp_in x) v) (derived_gentle (stamp_in x) v) (λ q. refl) (λ q. omega arith)
+          (λ q. lift_append q (record { number = q.last + 1; parent = Some v.number; stamp = stamp_in x; fields = v.fields }) (omega arith))
+          (all_with HasVersions o.id (derived_from (stamp_in x) v) (derived_versions (stamp_in x) v) x.now.bones.objects h.versions) h;
       drop = λ n x r v o h is there more.
           gentle_following n x o.id (dropped_from v) (dropped_gentle v) (λ q. refl) (λ q. omega arith)
           (λ q P new all. all-filter (λ (w : Version). P w.number) (λ (w : Version). not (w.number == v.number)) q.versions all)

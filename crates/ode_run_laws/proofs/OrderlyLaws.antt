@@ -27,9 +27,9 @@ pub all_same : {X : Type 0} (number : X → ℕ) (e : X → X) → ((x : X) → 
 all_same number e same P [] all = tt
 all_same number e same P (x ∷ xs) all = (subst P (sym (same x)) all.0, all_same number e same P xs all.1)
 
-pub fields_same : (number : ℕ) (fields : List Value) (v : Version) → (with_fields number fields v).number ≡ v.number
-fields_same number fields v = by_test (v.number == number) where
-  by_test : (b : Bool) → (cond b (record v { fields = fields }) v).number ≡ v.number
+pub fields_same : (stamp number : ℕ) (fields : List Value) (v : Version) → (with_fields stamp number fields v).number ≡ v.number
+fields_same stamp number fields v = by_test (v.number == number) where
+  by_test : (b : Bool) → (cond b (record v { fields = fields; stamp = stamp }) v).number ≡ v.number
   by_test true = refl
   by_test false = refl
 
@@ -37,16 +37,20 @@ mapped_some : {X : Type 0} (e : X → X) (xs : List X) → 0 < length xs → 0 <
 mapped_some e [] less = less
 mapped_some e (x ∷ xs) less = omega arith
 
-pub set_versions : (v : Version) (place : ℕ) (value : Value) (o : Object) → HasVersions o → HasVersions (set_in v place value o)
-set_versions v place value o h = record {
-  some = mapped_some (with_fields v.number (slice_set v.fields place value)) o.versions h.some;
-  rising = subst (RiseFrom 0) (sym (numbers_same version_of_number (with_fields v.number (slice_set v.fields place value)) (fields_same v.number (slice_set v.fields place value)) o.versions)) h.rising;
-  drawn = all_same version_of_number (with_fields v.number (slice_set v.fields place value)) (fields_same v.number (slice_set v.fields place value)) (λ n. n ≤ o.last) o.versions h.drawn;
+pub set_versions : (stamp : ℕ) (v : Version) (place : ℕ) (value : Value) (o : Object) → HasVersions o → HasVersions (set_in stamp v place value o)
+set_versions stamp v place value o h = record {
+  some = mapped_some (with_fields stamp v.number (slice_set v.fields place value)) o.versions h.some;
+  rising =
+      subst (RiseFrom 0)
+      (sym (numbers_same version_of_number (with_fields stamp v.number (slice_set v.fields place value)) (fields_same stamp v.number (slice_set v.fields place value)) o.versions)) h.rising;
+  drawn =
+      all_same version_of_number (with_fields stamp v.number (slice_set v.fields place value)) (fields_same stamp v.number (slice_set v.fields place value)) (λ n. n ≤ o.last) o.versions
+      h.drawn;
 }
 
-pub derived_versions : (v : Version) (o : Object) → HasVersions o → HasVersions (derived_from v o)
-derived_versions v o h =
-    let new : Version = record { number = o.last + 1; parent = Some v.number; fields = v.fields } in
+pub derived_versions : (stamp : ℕ) (v : Version) (o : Object) → HasVersions o → HasVersions (derived_from stamp v o)
+derived_versions stamp v o h =
+    let new : Version = record { number = o.last + 1; parent = Some v.number; stamp = stamp; fields = v.fields } in
     record {
       some = omega (arith, length-append o.versions (new ∷ []));
       rising =
