@@ -1,5 +1,6 @@
 pub mod Accepted
 pub mod Along
+pub mod FieldLaws
 pub mod Lines
 pub mod Listing
 pub mod Lists

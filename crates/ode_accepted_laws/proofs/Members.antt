@@ -173,7 +173,7 @@ module _ (known : List Class) (d : ClassDecl) where
 
     field_goes : (c e : Class) → Goes c e → (name : List ℕ) (s : Sort) (k n : Class) → declares known d c (member.Field name s) ≡ Ok k → with_member e (member.Field name s) ≡ n → Goes k n
     field_goes c e goes name s k n h is =
-        let g : Field = record { name = name; sort = s } in
+        let g : Field = record { name = name; sort = s; birth = 0; literal = None } in
         let new = is_none (field_named c.fields name) in
         let made = with_member c (member.Field name s) in
         let p = bind-ok (knows_value known d name s) (λ _. needs (Duplicate name) new >> Ok made) k h in

@@ -18,6 +18,7 @@ use Rattle.ode_types.proofs.KeptStatements.{typed_statement}
 use Rattle.ode_sound_laws.specs.Sound.{checked_classes}
 use Rattle.ode_accepted_laws.specs.Languages.{AreAccepted, HasSoundRules, HasStaticRules}
 use Rattle.ode_accepted_laws.proofs.Accepted.{accepted_sound}
+use Rattle.ode_accepted_laws.proofs.FieldLaws.{class_declared}
 use Rattle.ode_accepted_laws.proofs.Listing.{kinds_few}
 
 -- a number is left for a class that is checked
@@ -60,4 +61,5 @@ module _ (l : Language) (rules : HasStaticRules l) where
     accepted = λ cs all. accepted_sound cs (all_checked [] cs all);
     kinds = λ cs all. kinds_few l rules [] cs tt all;
     numbered = number_is;
+    fields = λ cs d c all h. class_declared cs d c all (ap (λ f. f cs d) (sym rules.class_of) ∙ h);
   }

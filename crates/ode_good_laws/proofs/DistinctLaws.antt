@@ -15,7 +15,7 @@ use Rattle.ode_value.specs.Firings.{new_point, object_after, Place, both_lists, 
 use Rattle.ode_value.specs.GoodWorlds.{IsObject, IsActivation, IsGood, drawn_numbers}
 use Rattle.ode_value.specs.Keeping.{kept_bones, with_last}
 use Rattle.ode_value.specs.Language.{Language, ListWorld}
-use Rattle.ode_value.specs.Making.{derived_from, object_with, with_activation}
+use Rattle.ode_value.specs.Making.{stamp_now, derived_from, object_with, with_activation}
 use Rattle.ode_value.specs.Objects.{Activation}
 use Rattle.ode_value.specs.Pasts.{Past}
 use Rattle.ode_value.specs.Posting.{with_deferred, with_entry}
@@ -27,7 +27,7 @@ use Rattle.ode_laws.proofs.AlikePairs.{IsGentle}
 use Rattle.ode_laws.proofs.AlikeWork.{set_gentle, derived_gentle, dropped_gentle, removed_gentle, off_gentle, after_gentle}
 use Rattle.ode_laws.proofs.Each.{all-append, all-then, all-map}
 use Rattle.ode_laws.proofs.SideSettling.{Settlings, posted_related}
-use Rattle.ode_laws.proofs.Sides.{EndsBy, same_self, altered, turned, set_in, dropped_from, removed, off_in}
+use Rattle.ode_laws.proofs.Sides.{EndsBy, same_self, altered, turned, stamp_in, set_in, dropped_from, removed, off_in}
 use Rattle.ode_good_laws.specs.Distinct.{numbers_of, AreDistinct, HasDistinct}
 use Rattle.ode_good_laws.proofs.Distincts.{all-numbers, same_numbers, map_numbers, more_numbers, inserted, with_last_one, kept_all, kept_distinct}
 
@@ -50,9 +50,9 @@ same_distinct b c same more h = record {
 kept_apart : (b : Bones) → AreDistinct b → AreDistinct (kept_bones b)
 kept_apart b h = record { distinct = kept_distinct b.objects h.distinct; drawn = kept_all (λ n. n < b.next) b.objects h.drawn }
 
-new_distinct : (b : Bones) (class : ℕ) (fields : List Value) → AreDistinct b → AreDistinct (record b { next = b.next + 1; objects = b.objects ++ object_with b.next class fields ∷ [] })
+new_distinct : (b : Bones) (class : ℕ) (fields : List Value) → AreDistinct b → AreDistinct (record b { next = b.next + 1; objects = b.objects ++ object_with (stamp_now b) b.next class fields ∷ [] })
 new_distinct b class fields h =
-    let numbers : numbers_of (b.objects ++ object_with b.next class fields ∷ []) ≡ numbers_of b.objects ++ b.next ∷ [] = more_numbers b.objects (object_with b.next class fields ∷ []) in
+    let numbers : numbers_of (b.objects ++ object_with (stamp_now b) b.next class fields ∷ []) ≡ numbers_of b.objects ++ b.next ∷ [] = more_numbers b.objects (object_with (stamp_now b) b.next class fields ∷ []) in
     record {
       distinct = subst (IsDistinct nat_eq) (sym numbers) (with_last_one b.next (numbers_of b.objects) h.distinct h.drawn);
       drawn = subst (AllByRecursion (λ n. n < b.next + 1)) (sym numbers)
@@ -82,10 +82,11 @@ module _ {O A : Type 0} where
   begun_distinct origin w h = record { first = h; now = h; next = omega arith }
 
   module _ (past : Past O A) (w0 : World O A) (origin0 : Origin) where
-    -- a transaction from a world, of an origin
+    -- a transaction from a world, of an origin; it adds no field
     pub record Within (x : Tx O A) : Type 0 where
       pub first : x.first ≡ w0
       pub origin : x.origin ≡ origin0
+      pub added : x.now.bones.added ≡ w0.bones.added
       pub distinct : HasDistinct x
 
     abbrev pub Withins : ℕ → Tx O A → Type 0
@@ -96,6 +97,7 @@ module _ {O A : Type 0} where
     again x y h first origin now = record {
       first = first ∙ h.first;
       origin = origin ∙ h.origin;
+      added = ap (λ (w : World O A). w.bones.added) now ∙ h.added;
       distinct = record {
         first = subst (λ w. AreDistinct w.bones) (sym first) h.distinct.first;
         now = subst (λ w. AreDistinct w.bones) (sym now) h.distinct.now;
@@ -104,7 +106,7 @@ module _ {O A : Type 0} where
     }
 
     gentle_within : (x : Tx O A) (id : ℕ) (f : Object → Object) → IsGentle f → Within x → Within (altered id f x)
-    gentle_within x id f g h = record { first = h.first; origin = h.origin; distinct = gentle_distinct x id f g h.distinct }
+    gentle_within x id f g h = record { first = h.first; origin = h.origin; added = h.added; distinct = gentle_distinct x id f g h.distinct }
 
     pub within_keeps : Keeps past Withins
     within_keeps = record {
@@ -115,24 +117,26 @@ module _ {O A : Type 0} where
       touch = λ n x id h. again x (touching id x) h refl refl refl;
       defer = λ n x f h more. again x (with_deferred f x) h refl refl refl;
       collect = λ n x independent f h room. again x (with_entry independent f x) h refl refl refl;
-      set = λ n x r v place value h is small. gentle_within x r.object (set_in v place value) (set_gentle v place value) h;
-      derive = λ n x r v o h is there more small. gentle_within x o.id (derived_from v) (derived_gentle v) h;
+      set = λ n x r v place value h is small. gentle_within x r.object (set_in (stamp_in x) v place value) (set_gentle (stamp_in x) v place value) h;
+      derive = λ n x r v o h is there more small. gentle_within x o.id (derived_from (stamp_in x) v) (derived_gentle (stamp_in x) v) h;
       drop = λ n x r v o h is there more. gentle_within x o.id (dropped_from v) (dropped_gentle v) h;
       remove = λ n x id h. gentle_within x id removed removed_gentle h;
       off = λ n x id number h. gentle_within x id (off_in number) (off_gentle number) h;
       new = λ n x class fields h left small. record {
         first = h.first;
         origin = h.origin;
+        added = h.added;
         distinct = record { first = h.distinct.first; now = new_distinct x.now.bones class fields h.distinct.now; next = let one : x.first.bones.next ≤ x.now.bones.next = h.distinct.next in omega arith };
       };
       active = λ n x id t args h left short. record {
         first = h.first;
         origin = h.origin;
+        added = h.added;
         distinct = record { first = h.distinct.first; now = active_distinct x.now.bones id t args h.distinct.now; next = let one : x.first.bones.next ≤ x.now.bones.next = h.distinct.next in omega arith };
       };
       point = λ n x id p o firings h there.
           gentle_within (turned (with_point past (both_lists past) p o) x) id (object_after firings) (after_gentle firings)
-          (record { first = h.first; origin = h.origin; distinct = record { first = h.distinct.first; now = h.distinct.now; next = h.distinct.next } });
+          (record { first = h.first; origin = h.origin; added = h.added; distinct = record { first = h.distinct.first; now = h.distinct.now; next = h.distinct.next } });
     }
 
     -- ---- settling
@@ -154,7 +158,7 @@ module _ {O A : Type 0} where
           is,
           gentle_within (turned (with_point past place (new_point kind [] o) o) x) id (object_after (fired past place o (with_point past place (new_point kind [] o) o x.now)))
               (after_gentle (fired past place o (with_point past place (new_point kind [] o) o x.now)))
-              (record { first = h.first; origin = h.origin; distinct = record { first = h.distinct.first; now = h.distinct.now; next = h.distinct.next } }),
+              (record { first = h.first; origin = h.origin; added = h.added; distinct = record { first = h.distinct.first; now = h.distinct.now; next = h.distinct.next } }),
         ),
       )
       by_found None = (refl, (refl, is, h))
@@ -176,9 +180,10 @@ module _ {O A : Type 0} where
     last_still : (place : Place O A) (kind : Kind) (cs : List Declared) (x : Tx O A) → x.now.bones.classes ≡ cs → Within x → Still cs (posted past place kind x) (posted past place kind x)
     last_still place kind cs x is h = posted_related (lasting place cs) kind x x (refl, is, h)
 
-    -- what is left: the first world's classes, the next number for a transaction, the clock where the origin leaves it
+    -- what is left: the first world's classes and added fields, the next number for a transaction, the clock where the origin leaves it
     pub record Leaves (b : Bones) : Type 0 where
       pub classes : b.classes ≡ w0.bones.classes
+      pub added : b.added ≡ w0.bones.added
       pub transaction : b.transaction ≡ w0.bones.transaction + 1
       pub clock : b.clock ≡ clock_after origin0 w0.bones.clock
       pub distinct : AreDistinct b
@@ -188,6 +193,7 @@ module _ {O A : Type 0} where
         let k = kept_apart x.now.bones h.distinct.now in
         record {
           classes = is;
+          added = h.added;
           transaction = ap (λ (w : World O A). w.bones.transaction + 1) h.first;
           clock = ap (λ (w : World O A). clock_after x.origin w.bones.clock) h.first ∙ ap (λ o. clock_after o w0.bones.clock) h.origin;
           distinct = record { distinct = k.distinct; drawn = k.drawn };
@@ -196,7 +202,7 @@ module _ {O A : Type 0} where
     pub commit_leaves : (x : Tx O A) → x.now.bones.classes ≡ w0.bones.classes → Within x → Leaves (commit past x).0.bones
     commit_leaves x is h =
         let last = last_still (both_lists past) TCommit w0.bones.classes (committed past x) is
-        (record { first = h.first; origin = h.origin; distinct = record { first = h.distinct.first; now = kept_apart x.now.bones h.distinct.now; next = h.distinct.next } }) in
+        (record { first = h.first; origin = h.origin; added = h.added; distinct = record { first = h.distinct.first; now = kept_apart x.now.bones h.distinct.now; next = h.distinct.next } }) in
         settled_leaves (posted past (both_lists past) TCommit (committed past x)) last.1 last.2
 
     pub abort_leaves : (reason : Reason) (x : Tx O A) → Within x → Leaves (abort past reason x).0.bones
@@ -204,6 +210,7 @@ module _ {O A : Type 0} where
         let last = last_still (whole_list past) TAbort w0.bones.classes (aborted past x) (ap (λ (w : World O A). w.bones.classes) h.first) (record {
           first = h.first;
           origin = h.origin;
+          added = ap (λ (w : World O A). w.bones.added) h.first;
           distinct = record {
             first = h.distinct.first;
             now = same_distinct x.first.bones (record x.first.bones { next = x.now.bones.next; objects = map (with_last x.now.bones) x.first.bones.objects }) (map_numbers (with_last x.now.bones) (λ o. refl) x.first.bones.objects) h.distinct.next h.distinct.first;

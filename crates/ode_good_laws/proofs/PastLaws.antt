@@ -32,7 +32,7 @@ use Rattle.ode_laws.proofs.Each.{all-then, all-map}
 use Rattle.ode_laws.proofs.KeptRows.{IsKept, all_kept, any_on, kept_numbered}
 use Rattle.ode_laws.proofs.Rows.{id_of, find_rising, kept-append, kept-with}
 use Rattle.ode_laws.proofs.SideSettling.{Settlings, posted_related}
-use Rattle.ode_laws.proofs.Sides.{EndsBy, same_self, altered, turned, set_in, dropped_from, removed, off_in}
+use Rattle.ode_laws.proofs.Sides.{EndsBy, same_self, altered, turned, stamp_in, set_in, dropped_from, removed, off_in}
 
 abbrev Row : Type 0
 Row = ℕ × Kept Histories Starts
@@ -280,7 +280,7 @@ new_pasts x class fields h = record {
   first_numbered = h.first_numbered;
   numbered = new_numbered x.now.bones class fields h.numbered;
   first = h.first;
-  now = zip_end IsPast x.now.bones.objects x.now.pasts (object_with x.now.bones.next class fields) (x.now.bones.next, record { own = lists.empty; activations = [] }) h.now (record { number = refl; starts = tt });
+  now = zip_end IsPast x.now.bones.objects x.now.pasts (object_with (stamp_in x) x.now.bones.next class fields) (x.now.bones.next, record { own = lists.empty; activations = [] }) h.now (record { number = refl; starts = tt });
   longer = all-then (HasLonger x.now.pasts) (HasLonger (x.now.pasts ++ (x.now.bones.next, record { own = lists.empty; activations = [] }) ∷ [])) (longer_more x.now.pasts (x.now.bones.next, record { own = lists.empty; activations = [] })) x.first.pasts h.longer;
 }
 
@@ -315,8 +315,8 @@ pasts_keep = record {
   touch = λ n x id h. again x (touching id x) h refl refl;
   defer = λ n x f h more. again x (with_deferred f x) h refl refl;
   collect = λ n x independent f h room. again x (with_entry independent f x) h refl refl;
-  set = λ n x r v place value h is small. gentle_pasts x r.object (set_in v place value) (set_gentle v place value) h;
-  derive = λ n x r v o h is there more small. gentle_pasts x o.id (derived_from v) (derived_gentle v) h;
+  set = λ n x r v place value h is small. gentle_pasts x r.object (set_in (stamp_in x) v place value) (set_gentle (stamp_in x) v place value) h;
+  derive = λ n x r v o h is there more small. gentle_pasts x o.id (derived_from (stamp_in x) v) (derived_gentle (stamp_in x) v) h;
   drop = λ n x r v o h is there more. gentle_pasts x o.id (dropped_from v) (dropped_gentle v) h;
   remove = λ n x id h. gentle_pasts x id removed removed_gentle h;
   off = λ n x id number h. gentle_pasts x id (off_in number) (off_gentle number) h;

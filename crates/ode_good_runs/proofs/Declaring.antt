@@ -28,6 +28,7 @@ use Rattle.ode_value.specs.Worlds.{Declared, Bones, class_numbered}
 use Rattle.ode_machine.specs.Refusals.{classes_in, declared_in}
 use Rattle.ode_machine.specs.Works.{declares}
 use Rattle.ode_accepted_laws.specs.Languages.{AreAccepted, HasSoundRules}
+use Rattle.ode_laws.proofs.BornLaws.{classes_declared}
 use Rattle.ode_laws.proofs.Numbers.{apart}
 use Rattle.ode_run_laws.proofs.AlikeClasses.{more_classes, declared, printable, completes_weighs}
 use Rattle.ode_sound_laws.specs.Sound.{AreSound, checked_classes}
@@ -103,8 +104,8 @@ module _ (l : Language) (rules : HasSoundRules l) where
       ok_same k c records.2
 
   -- a class that was read and is declared is one behind those of a world
-  pub declared_is : ReadsWell l → (piece : List ℕ) (d : ClassDecl) → l.statement_of piece ≡ Ok (statement.Class d) → (b : Bones) (c : Declared) → declared_in l b d ≡ Ok c → IsClass l b.classes c
-  declared_is reads piece d read b c e = by_check (l.class_of (classes_in b) d) refl e where
+  pub declared_is : ReadsWell l → (piece : List ℕ) (d : ClassDecl) → l.statement_of piece ≡ Ok (statement.Class d) → (b : Bones) (c : Declared) → AreClasses l [] b.classes → declared_in l b d ≡ Ok c → IsClass l b.classes c
+  declared_is reads piece d read b c all e = by_check (l.class_of (classes_in b) d) refl e where
     is : (k : Class) → l.class_of (classes_in b) d ≡ Ok k → limits_class (record { class = k; tree = d }) ≡ Ok (record { class = k; tree = d }) → IsClass l b.classes (record { class = k; tree = d })
     is k checked limits =
         let number = rules.numbered (classes_in b) d k checked in
@@ -114,6 +115,7 @@ module _ (l : Language) (rules : HasSoundRules l) where
           text = reads.again piece d read;
           checked = checked;
           limits = limits;
+          fields = rules.fields (classes_in b) d k (classes_declared l [] b.classes all) checked;
         }
 
     by_check : (r : Result Class CheckError) → l.class_of (classes_in b) d ≡ r → then_answer (checks r) (λ k. limits_class (record { class = k; tree = d })) ≡ Ok c → IsClass l b.classes c
@@ -146,6 +148,7 @@ module _ (l : Language) (rules : HasSoundRules l) where
 
     first : IsFirst with_class
     first = record {
+      added = old.added;
       typed = class_added w.bones c old.typed adds;
       ordered = record { numbered = old.ordered.numbered; versions = old.ordered.versions; live = old.ordered.live };
       numbered = record { classes = rise_zero 1 (map (λ (d : Declared). d.class.number) (w.bones.classes ++ c ∷ [])) (numbers_rise l [] (w.bones.classes ++ c ∷ []) classes); rising = old.numbered.rising; objects = old.numbered.objects };

@@ -1,5 +1,5 @@
 -- A fresh database is a good world.
-use Rattle.std.proofs.Common.{[], arith}
+use Rattle.std.proofs.Common.{[], arith, refl}
 use Rattle.std.specs.Prelude.{nat_eq}
 use Rattle.std.specs.List.{IsDistinct}
 use Rattle.ode_value.specs.GoodWorlds.{IsGood}
@@ -18,6 +18,7 @@ unfolding weight
 fresh_good l = record {
   bones = record {
     classes = tt;
+    added = refl;
     rising = tt;
     objects = tt;
     numbers = no_numbers;

@@ -43,8 +43,9 @@ use Rattle.ode_good_laws.proofs.DistinctLaws.{Withins, begun_distinct, good_dist
 use Rattle.ode_good_laws.proofs.GoodAgain.{HasKept, KeepsAll, settled_again}
 use Rattle.ode_good_laws.proofs.PastLaws.{Pastings, begun_pasts, pasts_keep}
 
--- a world that a transaction may begin in, whatever its classes and its weight are
+-- a world that a transaction may begin in, whatever its classes and its weight are; no field was added
 pub record IsFirst (w : ListWorld) : Type 0 where
+  pub added : w.bones.added ≡ []
   pub typed : IsTypedWorld w.bones
   pub ordered : IsOrdered w.bones
   pub numbered : AreNumbered w.bones
@@ -54,6 +55,7 @@ pub record IsFirst (w : ListWorld) : Type 0 where
 
 pub well_first : (l : Language) (w : ListWorld) → IsWell l w → IsFirst w
 well_first l w h = record {
+  added = h.good.bones.added;
   typed = good_typed l w h.good h.sound h.ones;
   ordered = good_ordered l w h.good;
   numbered = good_numbered l w h.good;
@@ -89,7 +91,7 @@ module _ (w : ListWorld) (first : IsFirst w) where
     typed = begun_typed Script w first.typed;
     kept = record {
       classes = refl;
-      within = record { first = refl; origin = refl; distinct = begun_distinct Script w first.distinct };
+      within = record { first = refl; origin = refl; added = refl; distinct = begun_distinct Script w first.distinct };
       counts = begun_counted Script w first.counted;
       pasts = begun_pasts Script w first.numbered first.pasts;
     };
@@ -152,7 +154,7 @@ module _ (w : ListWorld) (first : IsFirst w) where
   module _ (l : Language) (classes : AreClasses l [] w.bones.classes) (left : w.bones.transaction < transaction_limit) (clock : IfSome w.bones.clock IsPosition) where
     pub settles_well : (p : Outcome Histories Starts (Unit {0})) → Goes p → IsLight p → IsWell l (settle lists p).0
     settles_well p goes light =
-        settled_again w Script l classes left clock p (all_of p goes light) (settle_follows lists w.bones first.ordered w.bones.classes p (held_of p goes)).ordered
+        settled_again w Script l classes first.added left clock p (all_of p goes light) (settle_follows lists w.bones first.ordered w.bones.classes p (held_of p goes)).ordered
         (settle_typed lists p (typed_of p goes))
 
     -- its commit, from a world that is light itself

@@ -74,16 +74,16 @@ unfolding weight
 texts_light b = let less = texts_weight b.classes in omega (arith, less)
 
 -- each object is part of it
-objects_weight : (os : List Object) → length os ≤ sum_by object_weight os
-objects_weight [] = omega arith
-objects_weight (o ∷ os) =
-    let whole : sum_by object_weight (o ∷ os) ≡ object_weight o + sum_by object_weight os = sum_by-cons object_weight o os in
-    let some : 1 ≤ object_weight o = omega arith in
-    omega (arith, whole, some, objects_weight os)
+objects_weight : (classes : List Declared) (os : List Object) → length os ≤ sum_by (object_weight classes) os
+objects_weight classes [] = omega arith
+objects_weight classes (o ∷ os) =
+    let whole : sum_by (object_weight classes) (o ∷ os) ≡ object_weight classes o + sum_by (object_weight classes) os = sum_by-cons (object_weight classes) o os in
+    let some : 1 ≤ object_weight classes o = omega arith in
+    omega (arith, whole, some, objects_weight classes os)
 
 objects_light : (b : Bones) → length b.objects ≤ weight b
 unfolding weight
-objects_light b = let less = objects_weight b.objects in omega (arith, less)
+objects_light b = let less = objects_weight b.classes b.objects in omega (arith, less)
 
 module _ (l : Language) (rules : HasSoundRules l) (reads : ReadsWell l) where
   abbrev AllWell : Settlings → Type 0
@@ -294,7 +294,7 @@ module _ (l : Language) (rules : HasSoundRules l) (reads : ReadsWell l) where
 
   class_steps : (s : Session) → IsFine s → HasRoom s.world → (piece : List ℕ) (d : ClassDecl) → l.statement_of piece ≡ Ok (statement.Class d) → (a : Answer Declared) → declared_in l s.world.bones d ≡ a
       → AnswersWell (then_answer a (λ c. Ok (does_class s.world c)))
-  class_steps s fine left piece d read (Ok c) e = step_well (transaction lists Script (declares c) s.world) (class_well l rules s.world fine.world left c (declared_is l rules reads piece d read s.world.bones c e))
+  class_steps s fine left piece d read (Ok c) e = step_well (transaction lists Script (declares c) s.world) (class_well l rules s.world fine.world left c (declared_is l rules reads piece d read s.world.bones c fine.world.good.bones.classes e))
   class_steps s fine left piece d read (Err refusal) e = tt
 
   carried_well : (s : Session) → IsFine s → (piece : List ℕ) (t : Statement) → l.statement_of piece ≡ Ok t → IsPlaced s t → AnswersWell (carried l s t)

@@ -1,5 +1,5 @@
 -- What fits a world fits one that follows it.
-use Rattle.std.proofs.Common.{◌≡◌, ℕ, ◌<◌, ◌≤◌, Bool, true, false, cond, List, [], ◌∷◌, map, ◌==◌, Option, Some, None, refl, sym, ap, ◌∙◌, subst, arith}
+use Rattle.std.proofs.Common.{◌≡◌, ℕ, ◌<◌, ◌≤◌, Bool, true, false, cond, List, [], ◌∷◌, length, map, ◌==◌, Option, Some, None, refl, sym, ap, ◌∙◌, subst, arith}
 use Rattle.std.specs.Prelude.{IsTrue, slice_get}
 use Rattle.std.specs.Option.{IsSomeAnd, option_map, option_and_then}
 use Rattle.ode_value.specs.declared.binding.Param.{Param}
@@ -74,11 +74,12 @@ of_live b r o e = by_test (r.object == 0) refl e where
 -- ---- worlds that follow
 
 pub follows_itself : (b : Bones) → Follows b b
-follows_itself b = record { classes = refl; next = omega arith; objects = λ id less o e. record { before = o; found = e; class = refl; last = omega arith } }
+follows_itself b = record { classes = refl; added = refl; next = omega arith; objects = λ id less o e. record { before = o; found = e; class = refl; last = omega arith } }
 
 pub follows_on : (b c d : Bones) → Follows b c → Follows c d → Follows b d
 follows_on b c d f g = record {
   classes = g.classes ∙ f.classes;
+  added = g.added ∙ f.added;
   next = let one : b.next ≤ c.next = f.next in let two : c.next ≤ d.next = g.next in omega arith;
   objects = λ id less o e.
       let one : b.next ≤ c.next = f.next in
@@ -164,7 +165,7 @@ module _ (b c : Bones) (f : Follows b c) where
   }
 
   version_follows : (class : Class) (last : ℕ) (v : Version) → FitsVersion b class last v → FitsVersion c class last v
-  version_follows class last v h = record { some = h.some; number = h.number; parent = h.parent; fields = fields_follow class.fields v.fields h.fields }
+  version_follows class last v h = record { some = h.some; number = h.number; parent = h.parent; stamp = subst (λ fs. v.stamp ≤ length fs) (sym f.added) h.stamp; fields = fields_follow class.fields v.fields h.fields }
 
   pub object_follows : (o : Object) → FitsWorld b o → FitsWorld c o
   object_follows o h = record {

@@ -1,5 +1,5 @@
 -- Worlds of one transaction, one behind the other: what is there stays, and keeps its class. What small changes leave fits.
-use Rattle.std.proofs.Common.{◌≡◌, ℕ, ◌+◌, ◌<◌, ◌≤◌, ◌^◌, Bool, true, false, cond, not, List, [], ◌∷◌, ◌++◌, map, ◌==◌, Option, Some, None, refl, sym, ap, ◌∙◌, subst, arith}
+use Rattle.std.proofs.Common.{◌≡◌, ℕ, ◌+◌, ◌<◌, ◌≤◌, ◌^◌, Bool, true, false, cond, not, List, [], ◌∷◌, ◌++◌, length, map, ◌==◌, Option, Some, None, refl, sym, ap, ◌∙◌, subst, arith}
 use Rattle.std.specs.Prelude.{slice_set, nat_lt}
 use Rattle.std.specs.List.{AllByRecursion}
 use Rattle.std.proofs.lemmas.Bool.{eqb-true, ltb-true}
@@ -13,7 +13,7 @@ use Rattle.ode_value.specs.Firings.{after_firings, object_after}
 use Rattle.ode_value.specs.Fitting.{FitFields, FitTrigger, HaveTrigger, trigger_in}
 use Rattle.ode_value.specs.GoodWorlds.{IsNext, RiseFrom}
 use Rattle.ode_value.specs.Limits.{number_limit, version_limit}
-use Rattle.ode_value.specs.Making.{with_fields, switched_off, derived_from, object_with, with_activation, drawn}
+use Rattle.ode_value.specs.Making.{stamp_now, with_fields, switched_off, derived_from, object_with, with_activation, drawn}
 use Rattle.ode_value.specs.Objects.{Activation}
 use Rattle.ode_value.specs.Transactions.{Firing}
 use Rattle.ode_value.specs.Versions.{Version}
@@ -74,6 +74,7 @@ pub mild_grows : (b : Bones) (id : ℕ) (f : Object → Object) → IsMild f →
 mild_grows b id f mild = record {
   follows = record {
     classes = refl;
+    added = refl;
     next = omega arith;
     objects = λ n less o e. let was = with_before n id f mild b.objects o e in record { before = was.0; found = was.1; class = was.2; last = was.3 };
   };
@@ -159,40 +160,45 @@ after_fits firings c o h = record {
   activations = all-map (HasTrigger c o.class) (after_firings firings) o.activations h.activations;
 }
 
-pub set_mild : (v : Version) (place : ℕ) (value : Value) → IsMild (set_in v place value)
-set_mild v place value = record { id = λ o. refl; class = λ o. refl; last = λ o. omega arith }
+-- what is made or set now has a stamp of the world behind it too
+pub stamp_follows : (b c : Bones) → Follows b c → stamp_now b ≤ length c.added
+stamp_follows b c f = subst (λ fs. length b.added ≤ length fs) (sym f.added) (omega arith)
 
-pub set_fits : (c : Bones) (o : Object) (v : Version) (place : ℕ) (value : Value) → (h : FitsWorld c o) → FitFields (all_alive c) h.class.fields (slice_set v.fields place value) → FitsWorld c (set_in v place value o)
-set_fits c o v place value h fits = record {
+pub set_mild : (stamp : ℕ) (v : Version) (place : ℕ) (value : Value) → IsMild (set_in stamp v place value)
+set_mild stamp v place value = record { id = λ o. refl; class = λ o. refl; last = λ o. omega arith }
+
+pub set_fits : (c : Bones) (o : Object) (stamp : ℕ) (v : Version) (place : ℕ) (value : Value) → (h : FitsWorld c o) → stamp ≤ length c.added → FitFields (all_alive c) h.class.fields (slice_set v.fields place value)
+    → FitsWorld c (set_in stamp v place value o)
+set_fits c o stamp v place value h now fits = record {
   number = h.number;
   class = h.class;
   known = h.known;
   last = h.last;
-  versions = all-map (FitsVersion c h.class o.last) (with_fields v.number (slice_set v.fields place value)) o.versions
-      (all-then (FitsVersion c h.class o.last) (λ w. FitsVersion c h.class o.last (with_fields v.number (slice_set v.fields place value) w)) (λ w is. by_test w is (w.number == v.number)) o.versions h.versions);
+  versions = all-map (FitsVersion c h.class o.last) (with_fields stamp v.number (slice_set v.fields place value)) o.versions
+      (all-then (FitsVersion c h.class o.last) (λ w. FitsVersion c h.class o.last (with_fields stamp v.number (slice_set v.fields place value) w)) (λ w is. by_test w is (w.number == v.number)) o.versions h.versions);
   activations = h.activations;
 }
   where
-    by_test : (w : Version) → FitsVersion c h.class o.last w → (t : Bool) → FitsVersion c h.class o.last (cond t (record w { fields = slice_set v.fields place value }) w)
-    by_test w is true = record { some = is.some; number = is.number; parent = is.parent; fields = fits }
+    by_test : (w : Version) → FitsVersion c h.class o.last w → (t : Bool) → FitsVersion c h.class o.last (cond t (record w { fields = slice_set v.fields place value; stamp = stamp }) w)
+    by_test w is true = record { some = is.some; number = is.number; parent = is.parent; stamp = now; fields = fits }
     by_test w is false = is
 
-pub derived_mild : (v : Version) → IsMild (derived_from v)
-derived_mild v = record { id = λ o. refl; class = λ o. refl; last = λ o. omega arith }
+pub derived_mild : (stamp : ℕ) (v : Version) → IsMild (derived_from stamp v)
+derived_mild stamp v = record { id = λ o. refl; class = λ o. refl; last = λ o. omega arith }
 
 later_version : (c : Bones) (class : Class) (last : ℕ) (v : Version) → FitsVersion c class last v → FitsVersion c class (last + 1) v
-later_version c class last v is = record { some = is.some; number = let less : v.number ≤ last = is.number in omega arith; parent = is.parent; fields = is.fields }
+later_version c class last v is = record { some = is.some; number = let less : v.number ≤ last = is.number in omega arith; parent = is.parent; stamp = is.stamp; fields = is.fields }
 
-pub derived_fits : (c : Bones) (o : Object) (v : Version) → (h : FitsWorld c o) → FitsVersion c h.class o.last v → o.last + 1 < 2 ^ 32 → FitsWorld c (derived_from v o)
-derived_fits c o v h is last =
-    let new : Version = record { number = o.last + 1; parent = Some v.number; fields = v.fields } in
+pub derived_fits : (c : Bones) (o : Object) (stamp : ℕ) (v : Version) → (h : FitsWorld c o) → stamp ≤ length c.added → FitsVersion c h.class o.last v → o.last + 1 < 2 ^ 32 → FitsWorld c (derived_from stamp v o)
+derived_fits c o stamp v h now is last =
+    let new : Version = record { number = o.last + 1; parent = Some v.number; stamp = stamp; fields = v.fields } in
     record {
       number = h.number;
       class = h.class;
       known = h.known;
       last = last;
       versions = all-append (FitsVersion c h.class (o.last + 1)) o.versions (new ∷ []) (all-then (FitsVersion c h.class o.last) (FitsVersion c h.class (o.last + 1)) (later_version c h.class o.last) o.versions h.versions)
-          (record { some = omega arith; number = omega arith; parent = (is.some, let less : v.number ≤ o.last = is.number in omega arith); fields = is.fields }, tt);
+          (record { some = omega arith; number = omega arith; parent = (is.some, let less : v.number ≤ o.last = is.number in omega arith); stamp = now; fields = is.fields }, tt);
       activations = h.activations;
     }
 
@@ -216,7 +222,7 @@ dropped_fits v c o h = record {
 -- ---- a new object, and a new activation
 
 abbrev pub new_bones : ℕ → List Value → Bones → Bones
-new_bones class fields b = drawn (record b { objects = b.objects ++ object_with b.next class fields ∷ [] })
+new_bones class fields b = drawn (record b { objects = b.objects ++ object_with (stamp_now b) b.next class fields ∷ [] })
 
 numbered_before : (n : ℕ) (os : List Object) (new q : Object) → (new.id == n) ≡ false → object_numbered n (os ++ new ∷ []) ≡ Some q → object_numbered n os ≡ Some q
 numbered_before n [] new q other e = absurd (none_there (new.id == n) other e) where
@@ -238,10 +244,11 @@ pub new_grows : (b : Bones) (class : ℕ) (fields : List Value) → Grows b (new
 new_grows b class fields = record {
   follows = record {
     classes = refl;
+    added = refl;
     next = omega arith;
-    objects = λ n less o e. record { before = o; found = numbered_before n b.objects (object_with b.next class fields) o (apart b.next n less) e; class = refl; last = omega arith };
+    objects = λ n less o e. record { before = o; found = numbered_before n b.objects (object_with (stamp_now b) b.next class fields) o (apart b.next n less) e; class = refl; last = omega arith };
   };
-  stays = λ n o e. record { after = o; found = numbered-append n b.objects (object_with b.next class fields ∷ []) o e; class = refl; last = omega arith };
+  stays = λ n o e. record { after = o; found = numbered-append n b.objects (object_with (stamp_now b) b.next class fields ∷ []) o e; class = refl; last = omega arith };
 }
 
 next_more : (next : ℕ) → IsNext number_limit next → nat_lt next number_limit ≡ true → IsNext number_limit (next + 1)
@@ -254,16 +261,16 @@ new_fit b c fields known fits left fit =
     record {
       next = next_more b.next fit.next left;
       rising =
-          subst (RiseFrom 0) (sym (map-append id_of b.objects (object_with b.next c.number fields ∷ [])))
+          subst (RiseFrom 0) (sym (map-append id_of b.objects (object_with (stamp_now b) b.next c.number fields ∷ [])))
           (rise_more 0 b.next (map id_of b.objects) (omega arith) fit.rising
           (all-map (λ m. m < b.next) id_of b.objects (all-then (FitsWorld b) (λ (o : Object). o.id < b.next) (λ o h. h.number) b.objects fit.objects)));
-      objects = all-append (FitsWorld d) b.objects (object_with b.next c.number fields ∷ []) (same_fit b d follows fit.objects) (
+      objects = all-append (FitsWorld d) b.objects (object_with (stamp_now b) b.next c.number fields ∷ []) (same_fit b d follows fit.objects) (
         record {
           number = omega arith;
           class = c;
           known = known;
           last = omega arith;
-          versions = (record { some = omega arith; number = omega arith; parent = tt; fields = fields_follow b d follows c.fields fields fits }, tt);
+          versions = (record { some = omega arith; number = omega arith; parent = tt; stamp = stamp_follows b d follows; fields = fields_follow b d follows c.fields fields fits }, tt);
           activations = tt;
         },
         tt,
@@ -280,7 +287,7 @@ pub active_grows : (b : Bones) (id : ℕ) (t : Trigger) (args : List Value) → 
 active_grows b id t args =
     let g = mild_grows b id (with_activation t args b.next) (active_mild t args b.next) in
     record {
-      follows = record { classes = refl; next = omega arith; objects = λ n less o e. let was = g.follows.objects n less o e in record { before = was.before; found = was.found; class = was.class; last = was.last } };
+      follows = record { classes = refl; added = refl; next = omega arith; objects = λ n less o e. let was = g.follows.objects n less o e in record { before = was.before; found = was.found; class = was.class; last = was.last } };
       stays = λ n o e. let still = g.stays n o e in record { after = still.after; found = still.found; class = still.class; last = still.last };
     }
 

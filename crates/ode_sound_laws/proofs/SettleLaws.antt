@@ -72,6 +72,7 @@ map_found f same id (o ∷ os) q e = by_test (o.id == id) (ap (λ n. cond (n == 
 kept_follows : (b : Bones) → RiseFrom 0 (map id_of b.objects) → Follows b (kept_bones b)
 kept_follows b rise = record {
   classes = refl;
+  added = refl;
   next = omega arith;
   objects = λ id less q e.
       let it = map_found kept_object (λ o. refl) id (filter is_there b.objects) q e in
@@ -122,10 +123,11 @@ kept_whole os =
           (all-passing (λ (a : Activation). Unit {0}) is_active o.activations (all-of (λ (a : Activation). Unit {0}) (λ a. tt) o.activations));
     }) (filter is_there os) (all-passing (λ (o : Object). Unit {0}) is_there os (all-of (λ (o : Object). Unit {0}) (λ o. tt) os)))
 
--- bones with the same classes, objects and next number
-same_follows : (b c : Bones) → c.classes ≡ b.classes → c.objects ≡ b.objects → c.next ≡ b.next → Follows b c
-same_follows b c classes objects next = record {
+-- bones with the same classes, added fields, objects and next number
+same_follows : (b c : Bones) → c.classes ≡ b.classes → c.added ≡ b.added → c.objects ≡ b.objects → c.next ≡ b.next → Follows b c
+same_follows b c classes added objects next = record {
   classes = classes;
+  added = added;
   next = omega arith;
   objects = λ id less o e. record { before = o; found = ap (object_numbered id) (sym objects) ∙ e; class = refl; last = omega arith };
 }
@@ -141,7 +143,7 @@ later_last c o last less low h = record {
   class = h.class;
   known = h.known;
   last = low;
-  versions = all-then (FitsVersion c h.class o.last) (FitsVersion c h.class last) (λ v is. record { some = is.some; number = let one : v.number ≤ o.last = is.number in omega arith; parent = is.parent; fields = is.fields }) o.versions h.versions;
+  versions = all-then (FitsVersion c h.class o.last) (FitsVersion c h.class last) (λ v is. record { some = is.some; number = let one : v.number ≤ o.last = is.number in omega arith; parent = is.parent; stamp = is.stamp; fields = is.fields }) o.versions h.versions;
   activations = h.activations;
 }
 
@@ -269,7 +271,7 @@ module _ {O A : Type 0} where
       let k = kept_bones x.now.bones in
       let s = settled_bones x k in
       let kept = kept_follows x.now.bones h.now.rising in
-      let same : Follows k s = same_follows k s refl refl refl in
+      let same : Follows k s = same_follows k s refl refl refl refl in
       let all : Follows x.now.bones s = follows_on x.now.bones k s kept same in
       let fit = kept_fit x.now.bones h.now in
       record {
@@ -305,6 +307,7 @@ module _ {O A : Type 0} where
     back_first : (x : Tx O A) → IsTyped x → Follows x.first.bones (back_bones x)
     back_first x h = record {
       classes = refl;
+      added = refl;
       next = h.grows.follows.next;
       objects = λ id less q e.
           let it = map_found (with_last x.now.bones) (λ o. refl) id x.first.bones.objects q e in
@@ -323,6 +326,7 @@ module _ {O A : Type 0} where
     back_now : (x : Tx O A) → IsTyped x → Follows x.now.bones (back_bones x)
     back_now x h = record {
       classes = sym h.grows.follows.classes;
+      added = sym h.grows.follows.added;
       next = omega arith;
       objects = λ id less q e.
           let it = map_found (with_last x.now.bones) (λ o. refl) id x.first.bones.objects q e in

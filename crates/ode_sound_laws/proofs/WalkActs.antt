@@ -10,14 +10,14 @@ use Rattle.ode_value.specs.declared.reason.Reason.{Reason}
 use Rattle.ode_value.specs.declared.reason.Reason.TheVariants as reason
 use Rattle.ode_value.specs.declared.value.Ref.{Ref}
 use Rattle.ode_value.specs.declared.value.Value.{Value}
-use Rattle.ode_value.specs.Acts.{Outcome, Done, Aborted, Act, Deed, go_on, ◌>>◌, needs, does, when, each, found, valued, prints, counts, with_line, with_statement}
+use Rattle.ode_value.specs.Acts.{Outcome, Done, Aborted, Act, Deed, go_on, ◌>>=◌, ◌>>◌, needs, does, when, each, found, valued, sees, prints, counts, with_line, with_statement}
 use Rattle.ode_value.specs.Changes.{key_count, holding, draws_none, changes, alters_object, version_keys, activation_keys}
 use Rattle.ode_value.specs.Denoting.{object_at, denoted}
 use Rattle.ode_value.specs.Fitting.{FitsRef, FitsSort}
 use Rattle.ode_value.specs.Keys.{object_key, version_key, activation_key}
 use Rattle.ode_value.specs.Lengths.{version_size}
 use Rattle.ode_value.specs.Limits.{budget_limit, output_limit, change_limit, value_limit}
-use Rattle.ode_value.specs.Making.{pinned, sets_field, spares, drops, removes, switches_off}
+use Rattle.ode_value.specs.Making.{stamp_now, pinned, sets_field, spares, drops, removes, switches_off}
 use Rattle.ode_value.specs.Objects.{Activation}
 use Rattle.ode_value.specs.Transactions.{Tx, Collected}
 use Rattle.ode_value.specs.Worlds.{Object, Bones, class_numbered}
@@ -31,7 +31,7 @@ use Rattle.ode_sound_laws.specs.Sound.{AreSound, IsKnown}
 use Rattle.ode_sound_laws.proofs.Basics.{same_some}
 use Rattle.ode_sound_laws.proofs.ExprLaws.{denotes_fit, version_all}
 use Rattle.ode_sound_laws.proofs.FitLaws.{sort_follows, entry_follows, firing_follows}
-use Rattle.ode_sound_laws.proofs.GrowLaws.{grows_itself, grows_on, IsMild, mild_grows, altered_fit, changed_fit, removed_mild, removed_fits, off_mild, off_fits, set_mild, set_fits, dropped_mild, dropped_fits}
+use Rattle.ode_sound_laws.proofs.GrowLaws.{grows_itself, grows_on, IsMild, mild_grows, altered_fit, changed_fit, removed_mild, removed_fits, off_mild, off_fits, stamp_follows, set_mild, set_fits, dropped_mild, dropped_fits}
 
 -- nothing is said of the answer
 abbrev pub Any : (X : Type 0) → Bones → X → Type 0
@@ -169,16 +169,19 @@ module _ {O A : Type 0} where
       → FitsSort (all_alive x.now.bones) f.sort v → Ends x.now.bones (Any (Unit {0})) (sets_field r place v x)
   field_ends r place v c f x h known fits at is =
       valued_ends x.now.bones (Any (Unit {0})) (denoted x.now.bones r) x h
-      (λ w. changes (version_key r.object w.number ∷ []) (version_size (slice_set w.fields place v)) draws_none >> alters_object r.object (set_in w place v)) (λ w e.
-      changes_ends x.now.bones (Any (Unit {0})) (version_key r.object w.number ∷ []) (version_size (slice_set w.fields place v)) draws_none x h (alters_object r.object (set_in w place v)) (λ drawn held.
+      (λ w. sees stamp_now >>= λ stamp. changes (version_key r.object w.number ∷ []) (version_size stamp (slice_set w.fields place v)) draws_none >> alters_object r.object (set_in stamp w place v)) (λ w e.
+      changes_ends x.now.bones (Any (Unit {0})) (version_key r.object w.number ∷ []) (version_size now (slice_set w.fields place v)) draws_none x h (alters_object r.object (set_in now w place v)) (λ drawn held.
       let d = denotes_fit x.now.bones h.sound h.now c.name r fits w e in
-      let done = alters_found r.object (set_in w place v) (set_mild w place v) (holding (version_key r.object w.number ∷ []) x) held
-      (changed_fit x.now.bones r.object (set_in w place v) (set_mild w place v) d.object d.found (λ b follows o.
+      let done = alters_found r.object (set_in now w place v) (set_mild now w place v) (holding (version_key r.object w.number ∷ []) x) held
+      (changed_fit x.now.bones r.object (set_in now w place v) (set_mild now w place v) d.object d.found (λ b follows o.
       let known_class : class_numbered d.object.class x.now.bones.classes ≡ Some o.class = ap (class_numbered d.object.class) (sym follows.classes) ∙ o.known in
       let field : slice_get o.class.fields place ≡ Some f = h.sound.fields d.object.class c o.class known d.is known_class place f at in
       let version : FitsVersion b o.class d.object.last w = version_all (FitsVersion b o.class d.object.last) r.version d.object.versions o.versions w d.of in
-      set_fits b d.object w place v o (zip_set (λ (g : Field). FitsSort (all_alive b) g.sort) o.class.fields w.fields version.fields place f v field (sort_follows x.now.bones b follows f.sort v is))) h.now) in
+      set_fits b d.object now w place v o (stamp_follows x.now.bones b follows) (zip_set (λ (g : Field). FitsSort (all_alive b) g.sort) o.class.fields w.fields version.fields place f v field (sort_follows x.now.bones b follows f.sort v is))) h.now) in
       (done.0, done.1, tt)))
+    where
+      now : ℕ
+      now = stamp_now x.now.bones
 
   -- an object that is removed; an activation that goes off; a version that is dropped
   pub removes_ends : (id : ℕ) (x : Tx O A) → IsTyped x → Ends x.now.bones (Any (Unit {0})) (removes id x)

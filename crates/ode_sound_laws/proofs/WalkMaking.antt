@@ -10,7 +10,7 @@ use Rattle.ode_value.specs.declared.key.Key.{Key}
 use Rattle.ode_value.specs.declared.reason.Reason.TheVariants as reason
 use Rattle.ode_value.specs.declared.value.Ref.{Ref}
 use Rattle.ode_value.specs.declared.value.Value.{Value}
-use Rattle.ode_value.specs.Acts.{Act, ◌>>=◌, ◌>>◌, gives, does, turns, prints}
+use Rattle.ode_value.specs.Acts.{Act, ◌>>=◌, ◌>>◌, gives, does, sees, turns, prints}
 use Rattle.ode_value.specs.Changes.{holding, has_number, changes, object, alters_object}
 use Rattle.ode_value.specs.Classes.{Trigger, is_a}
 use Rattle.ode_value.specs.Denoting.{object_numbered, object_at, object_of, denoted}
@@ -18,7 +18,7 @@ use Rattle.ode_value.specs.Fitting.{FitsObject, FitsRef, FitsSort, FitFields}
 use Rattle.ode_value.specs.Keys.{object_key, version_key, activation_key}
 use Rattle.ode_value.specs.Lengths.{values_length, version_size}
 use Rattle.ode_value.specs.Limits.{version_limit, args_limit}
-use Rattle.ode_value.specs.Making.{with_new, with_active, derived_from, next_version, derives, makes, switches_on, object_with}
+use Rattle.ode_value.specs.Making.{stamp_now, with_new, with_active, derived_from, next_version, derives, makes, switches_on, object_with}
 use Rattle.ode_value.specs.Pasts.{Past}
 use Rattle.ode_value.specs.Statements.{generic}
 use Rattle.ode_value.specs.Texts.{new_line, version_line, active_line}
@@ -37,7 +37,7 @@ use Rattle.ode_sound_laws.specs.Sound.{AreSound, IsKnown, IsSoundTrigger}
 use Rattle.ode_sound_laws.proofs.Basics.{if_some_from, found_same}
 use Rattle.ode_sound_laws.proofs.ExprLaws.{denotes_fit, version_all}
 use Rattle.ode_sound_laws.proofs.FitLaws.{of_alive, ref_follows}
-use Rattle.ode_sound_laws.proofs.GrowLaws.{IsMild, changed_fit, derived_mild, derived_fits, derived_last, new_bones, new_grows, new_fit, active_bones, active_grows, active_fit}
+use Rattle.ode_sound_laws.proofs.GrowLaws.{IsMild, changed_fit, stamp_follows, derived_mild, derived_fits, derived_last, new_bones, new_grows, new_fit, active_bones, active_grows, active_fit}
 use Rattle.ode_sound_laws.proofs.WalkActs.{Any, typed_now, Ends, ends_from, ends_then, ends_done, found_ends, valued_ends, needs_ends, changes_ends, prints_ends, alters_found}
 
 -- what a change leaves at its number
@@ -102,23 +102,26 @@ module _ {O A : Type 0} where
   derives_ends class r x h fits =
       valued_ends x.now.bones (FitsIn class) (denoted x.now.bones r) x h derived (λ v e.
       found_ends x.now.bones (FitsIn class) (object_at x.now.bones r.object) x h (copied v) (λ o there.
-      changes_ends x.now.bones (FitsIn class) (keys_of o) (version_size v.fields) (λ b. nat_lt o.last version_limit) x h (put v o) (λ more held.
+      changes_ends x.now.bones (FitsIn class) (keys_of o) (version_size now v.fields) (λ b. nat_lt o.last version_limit) x h (put now v o) (λ more held.
       made v o e there more held)))
     where
+      now : ℕ
+      now = stamp_now x.now.bones
+
       keys_of : Object → List Key
       keys_of o = object_key o.id ∷ version_key o.id (o.last + 1) ∷ []
 
-      put : Version → Object → Act O A Ref
-      put v o = alters_object o.id (derived_from v) >> (prints (version_line (next_version o)) >> gives (next_version o))
+      put : ℕ → Version → Object → Act O A Ref
+      put stamp v o = alters_object o.id (derived_from stamp v) >> (prints (version_line (next_version o)) >> gives (next_version o))
 
       copied : Version → Object → Act O A Ref
-      copied v o = changes (keys_of o) (version_size v.fields) (λ b. nat_lt o.last version_limit) >> put v o
+      copied v o = sees stamp_now >>= λ stamp. changes (keys_of o) (version_size stamp v.fields) (λ b. nat_lt o.last version_limit) >> put stamp v o
 
       derived : Version → Act O A Ref
       derived v = object r.object >>= copied v
 
       made : (v : Version) (o : Object) → denoted x.now.bones r ≡ Ok v → object_at x.now.bones r.object ≡ Some o → nat_lt o.last version_limit ≡ true → IsTyped (holding (keys_of o) x)
-          → Ends x.now.bones (FitsIn class) (put v o (holding (keys_of o) x))
+          → Ends x.now.bones (FitsIn class) (put now v o (holding (keys_of o) x))
       made v o e there more held =
           let d = denotes_fit x.now.bones h.sound h.now class r fits v e in
           let same : d.object ≡ o = found_same (object_at x.now.bones r.object) d.object o d.at there in
@@ -126,18 +129,18 @@ module _ {O A : Type 0} where
           let found : object_numbered o.id x.now.bones.objects ≡ Some o = ap (λ n. object_numbered n x.now.bones.objects) number ∙ at_numbered x.now.bones r.object o there in
           let of = subst (λ (p : Object). version_of r.version p.versions ≡ Some v) same d.of in
           let is : is_a x.now.bones.classes o.class class ≡ true = subst (λ (p : Object). is_a x.now.bones.classes p.class class ≡ true) same d.is in
-          let c = altered_bones o.id (derived_from v) x.now.bones in
+          let c = altered_bones o.id (derived_from now v) x.now.bones in
           let last : o.last + 1 < 2 ^ 32 = derived_last o more in
-          let done = alters_found o.id (derived_from v) (derived_mild v) (holding (keys_of o) x) held
-          (changed_fit x.now.bones o.id (derived_from v) (derived_mild v) o found (λ b follows g.
-          derived_fits b o v g (version_all (FitsVersion b g.class o.last) r.version o.versions g.versions v of) last) h.now) in
+          let done = alters_found o.id (derived_from now v) (derived_mild now v) (holding (keys_of o) x) held
+          (changed_fit x.now.bones o.id (derived_from now v) (derived_mild now v) o found (λ b follows g.
+          derived_fits b o now v g (stamp_follows x.now.bones b follows) (version_all (FitsVersion b g.class o.last) r.version o.versions g.versions v of) last) h.now) in
           let ref : FitsRef (all_alive c) class (next_version o) = record {
             is = record { object = subst (λ n. n < 2 ^ 64) (sym number) fits.is.object; version = (not_zero o.id (ap (λ n. n == 0) number ∙ d.some), omega arith, last) };
             drawn = subst (λ n. n < x.now.bones.next) (sym number) fits.drawn;
-            object = reference_fits c class (next_version o) (derived_from v o) (altered_at x.now.bones o.id (derived_from v) (derived_mild v) o found) (record { fits = is; version = omega arith });
+            object = reference_fits c class (next_version o) (derived_from now v o) (altered_at x.now.bones o.id (derived_from now v) (derived_mild now v) o found) (record { fits = is; version = omega arith });
           } in
-          ends_from x.now.bones c done.1 (FitsIn class) ((prints (version_line (next_version o)) >> gives (next_version o)) (altered o.id (derived_from v) (holding (keys_of o) x)))
-          (ends_then c (Any (Unit {0})) (FitsIn class) (prints (version_line (next_version o)) (altered o.id (derived_from v) (holding (keys_of o) x))) (prints_ends (version_line (next_version o)) (altered o.id (derived_from v) (holding (keys_of o) x)) done.0)
+          ends_from x.now.bones c done.1 (FitsIn class) ((prints (version_line (next_version o)) >> gives (next_version o)) (altered o.id (derived_from now v) (holding (keys_of o) x)))
+          (ends_then c (Any (Unit {0})) (FitsIn class) (prints (version_line (next_version o)) (altered o.id (derived_from now v) (holding (keys_of o) x))) (prints_ends (version_line (next_version o)) (altered o.id (derived_from now v) (holding (keys_of o) x)) done.0)
           (λ u. gives (next_version o)) (λ u y typed grows is. ends_done (FitsIn class) (next_version o) y typed (ref_follows c y.now.bones grows.follows class (next_version o) ref)))
 
   module _ (past : Past O A) where
@@ -145,7 +148,7 @@ module _ {O A : Type 0} where
     pub makes_ends : (c : Class) (fields : List Value) (x : Tx O A) → IsTyped x → IsKnown x.now.bones.classes c → FitFields (all_alive x.now.bones) c.fields fields
         → Ends x.now.bones (IsNew c) (makes past c.number fields x)
     makes_ends c fields x h known fits =
-        changes_ends x.now.bones (IsNew c) (made_keys x.now.bones.next) (version_size fields) has_number x h put (λ left held.
+        changes_ends x.now.bones (IsNew c) (made_keys x.now.bones.next) (version_size (stamp_now x.now.bones) fields) has_number x h put (λ left held.
         let fit = new_fit x.now.bones c fields known.numbered fits left h.now in
         let grows = new_grows x.now.bones c.number fields in
         let made : Tx O A = touching x.now.bones.next (turned (with_new past c.number fields) (holding (made_keys x.now.bones.next) x)) in
@@ -165,8 +168,8 @@ module _ {O A : Type 0} where
         is_new = record {
           some = let first : 1 ≤ x.now.bones.next = h.now.next.some in omega arith;
           drawn = omega arith;
-          object = object_with x.now.bones.next c.number fields;
-          found = none_of x.now.bones.next x.now.bones.objects (object_with x.now.bones.next c.number fields)
+          object = object_with (stamp_now x.now.bones) x.now.bones.next c.number fields;
+          found = none_of x.now.bones.next x.now.bones.objects (object_with (stamp_now x.now.bones) x.now.bones.next c.number fields)
               (all-then (FitsWorld x.now.bones) (λ (o : Object). o.id < x.now.bones.next) (λ o g. g.number) x.now.bones.objects h.now.objects) refl;
           class = refl;
         }

@@ -51,7 +51,7 @@ some_class None is = absurd (cc)
 
 module _ (b : Bones) (live : all_alive b ≡ b) where
   version_fits : (c : Class) (last : ℕ) (v : Version) → 0 < v.number → IsVersion b c last v → FitsVersion b c last v
-  version_fits c last v some is = record { some = some; number = is.number; parent = is.parent; fields = subst (λ d. FitFields d c.fields v.fields) (sym live) is.fields }
+  version_fits c last v some is = record { some = some; number = is.number; parent = is.parent; stamp = is.stamp; fields = subst (λ d. FitFields d c.fields v.fields) (sym live) is.fields }
 
   object_fits : (o : Object) → IsObject b o → AllByRecursion (λ (v : Version). 0 < v.number) o.versions → FitsWorld b o
   object_fits o is some =

@@ -1,5 +1,5 @@
 -- Values, frames, objects, firings and entries that fit a world, whether its objects were removed or not.
-use Rattle.std.specs.Prelude.{◌≡◌, ◌<◌, ◌≤◌, ◌^◌, ℕ, List, map, true, Option, Some, None, slice_get}
+use Rattle.std.specs.Prelude.{◌≡◌, ◌<◌, ◌≤◌, ◌^◌, ℕ, List, map, length, true, Option, Some, None, slice_get}
 use Rattle.std.specs.List.{AllByRecursion}
 use Rattle.std.specs.Option.{IfSome, IsSomeAnd}
 use Rattle.ode_value.specs.declared.class.Class.{Class}
@@ -60,11 +60,12 @@ pub record FitsFrame (b : Bones) (at : Setting) (frame : Frame) : Type 0 where
   pub slots : FitSlots b at.slots frame.locals
   pub literals : AllByRecursion (FitsLiteral b) at.literals
 
--- a version: a drawn number from 1, an earlier parent, fields that fit
+-- a version: a drawn number from 1, an earlier parent, a stamp, fields that fit
 pub record FitsVersion (b : Bones) (c : Class) (last : ℕ) (v : Version) : Type 0 where
   pub some : 0 < v.number
   pub number : v.number ≤ last
   pub parent : IfSome v.parent (λ p. (0 < p) × (p < v.number))
+  pub stamp : v.stamp ≤ length b.added
   pub fields : FitFields (all_alive b) c.fields v.fields
 
 -- an object of a known class, with versions and activations that fit

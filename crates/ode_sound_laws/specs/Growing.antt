@@ -1,4 +1,4 @@
--- Worlds that follow one another: no object changes its class, and no number falls.
+-- Worlds that follow one another: no object changes its class, no field is added, and no number falls.
 use Rattle.std.specs.Prelude.{◌≡◌, ◌<◌, ◌≤◌, ℕ, Some}
 use Rattle.ode_value.specs.Denoting.{object_numbered}
 use Rattle.ode_value.specs.Worlds.{Object, Bones}
@@ -13,6 +13,7 @@ pub record WasThere (b : Bones) (id : ℕ) (o : Object) : Type 0 where
 -- bones behind others: what has an earlier number was there
 pub record Follows (b c : Bones) : Type 0 where
   pub classes : c.classes ≡ b.classes
+  pub added : c.added ≡ b.added
   pub next : b.next ≤ c.next
   pub objects : (id : ℕ) → id < b.next → (o : Object) → object_numbered id c.objects ≡ Some o → WasThere b id o
 

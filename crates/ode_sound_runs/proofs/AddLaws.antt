@@ -96,6 +96,7 @@ module _ (b : Bones) (fit : AreFit b) (c : Declared) (adds : AddsSoundly b.class
     some = h.some;
     number = h.number;
     parent = h.parent;
+    stamp = h.stamp;
     fields = zip_then (λ (g : Field). FitsSort (all_alive b) g.sort) (λ (g : Field). FitsSort (all_alive d) g.sort) (λ g v fits. sort_more g.sort v fits) class.fields v.fields h.fields;
   }
 

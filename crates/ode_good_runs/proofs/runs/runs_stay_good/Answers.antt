@@ -13,4 +13,4 @@ pub returns-clause-run : goal.returns-clause-run
 returns-clause-run c l rules reads w good ones script = run_well l rules reads w (well_of l rules w good ones) script
 
 pub returns-clause-declared : goal.returns-clause-declared
-returns-clause-declared c l rules reads w good ones left piece d read k e = class_well l rules w (well_of l rules w good ones) left k (declared_is l rules reads piece d read w.bones k e)
+returns-clause-declared c l rules reads w good ones left piece d read k e = class_well l rules w (well_of l rules w good ones) left k (declared_is l rules reads piece d read w.bones k good.bones.classes e)
