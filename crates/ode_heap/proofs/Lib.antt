@@ -5,6 +5,7 @@ mod OneKind
 mod Sections
 mod Reading
 mod Numbered
+mod Literals
 mod Stored
 mod StoredVersions
 mod StoredQueue

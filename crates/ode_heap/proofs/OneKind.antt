@@ -49,7 +49,7 @@ module _ (kind : ℕ) (rest : Key → Bool) where
   found_of_kind [] = refl
   found_of_kind (e ∷ es) = find_step e es (found_of_kind es) (e.0.kind == kind) refl
 
--- ---- records in nine kinds
+-- ---- records in ten kinds
 
 abbrev pub AreOfKind : ℕ → List Row → Type 0
 AreOfKind kind es = AllByRecursion (λ (e : Row). e.0.kind ≡ kind) es
@@ -88,36 +88,41 @@ module _ (X : Type 0) where
   flat_map_of_kind f kind each [] = tt
   flat_map_of_kind f kind each (x ∷ xs) = joined kind (f x) (flat_map f xs) (each x) (flat_map_of_kind f kind each xs)
 
--- nine lists behind one another
-module _ (c : Row) (r2 r3 r4 r5 r6 r7 r8 r9 : List Row) (k1 : c.0.kind ≡ 1) (k2 : AreOfKind 2 r2) (k3 : AreOfKind 3 r3) (k4 : AreOfKind 4 r4) (k5 : AreOfKind 5 r5)
-    (k6 : AreOfKind 6 r6) (k7 : AreOfKind 7 r7) (k8 : AreOfKind 8 r8) (k9 : AreOfKind 9 r9) where
-  abbrev pub nine : List Row
-  nine = c ∷ (r2 ++ (r3 ++ (r4 ++ (r5 ++ (r6 ++ (r7 ++ (r8 ++ r9)))))))
+-- ten lists behind one another
+module _ (c : Row) (r2 r3 r4 r5 r6 r7 r8 r9 r10 : List Row) (k1 : c.0.kind ≡ 1) (k2 : AreOfKind 2 r2) (k3 : AreOfKind 3 r3) (k4 : AreOfKind 4 r4) (k5 : AreOfKind 5 r5)
+    (k6 : AreOfKind 6 r6) (k7 : AreOfKind 7 r7) (k8 : AreOfKind 8 r8) (k9 : AreOfKind 9 r9) (k10 : AreOfKind 10 r10) where
+  abbrev pub ten : List Row
+  ten = c ∷ (r2 ++ (r3 ++ (r4 ++ (r5 ++ (r6 ++ (r7 ++ (r8 ++ (r9 ++ r10))))))))
 
   behind : (kind : ℕ) (es : List Row) → (1 == kind) ≡ false → rows_of kind (c ∷ es) ≡ rows_of kind es
   behind kind es apart = ap (λ b. cond b (c ∷ rows_of kind es) (rows_of kind es)) (ap (λ n. n == kind) k1 ∙ apart)
 
   to_objects : (kind : ℕ) → (1 == kind) ≡ false → (2 == kind) ≡ false → (3 == kind) ≡ false → (4 == kind) ≡ false → (5 == kind) ≡ false
-      → rows_of kind nine ≡ rows_of kind (r6 ++ (r7 ++ (r8 ++ r9)))
+      → rows_of kind ten ≡ rows_of kind (r6 ++ (r7 ++ (r8 ++ (r9 ++ r10))))
   to_objects kind a1 a2 a3 a4 a5 =
       behind kind _ a1 ∙ passed kind 2 r2 _ a2 k2 ∙ passed kind 3 r3 _ a3 k3 ∙ passed kind 4 r4 _ a4 k4 ∙ passed kind 5 r5 _ a5 k5
 
-  pub first_kind : rows_of 1 nine ≡ c ∷ []
+  pub first_kind : rows_of 1 ten ≡ c ∷ []
   first_kind =
-      ap (λ b. cond b (c ∷ rows_of 1 (r2 ++ (r3 ++ (r4 ++ (r5 ++ (r6 ++ (r7 ++ (r8 ++ r9)))))))) (rows_of 1 (r2 ++ (r3 ++ (r4 ++ (r5 ++ (r6 ++ (r7 ++ (r8 ++ r9)))))))))
-      (ap (λ n. n == 1) k1)
-      ∙ ap (λ (more : List Row). c ∷ more)
+      let more : List Row = r2 ++ (r3 ++ (r4 ++ (r5 ++ (r6 ++ (r7 ++ (r8 ++ (r9 ++ r10))))))) in
+      ap (λ b. cond b (c ∷ rows_of 1 more) (rows_of 1 more)) (ap (λ n. n == 1) k1)
+      ∙ ap (λ (rest : List Row). c ∷ rest)
       (passed 1 2 r2 _ refl k2 ∙ passed 1 3 r3 _ refl k3 ∙ passed 1 4 r4 _ refl k4 ∙ passed 1 5 r5 _ refl k5 ∙ passed 1 6 r6 _ refl k6 ∙ passed 1 7 r7 _ refl k7
-      ∙ passed 1 8 r8 _ refl k8 ∙ none_of 1 9 r9 refl k9)
+      ∙ passed 1 8 r8 _ refl k8 ∙ passed 1 9 r9 _ refl k9 ∙ none_of 1 10 r10 refl k10)
 
-  pub sixth_kind : rows_of 6 nine ≡ r6
-  sixth_kind = to_objects 6 refl refl refl refl refl ∙ kept 6 r6 _ k6 (passed 6 7 r7 _ refl k7 ∙ passed 6 8 r8 _ refl k8 ∙ none_of 6 9 r9 refl k9)
+  pub sixth_kind : rows_of 6 ten ≡ r6
+  sixth_kind =
+      to_objects 6 refl refl refl refl refl
+      ∙ kept 6 r6 _ k6 (passed 6 7 r7 _ refl k7 ∙ passed 6 8 r8 _ refl k8 ∙ passed 6 9 r9 _ refl k9 ∙ none_of 6 10 r10 refl k10)
 
-  pub seventh_kind : rows_of 7 nine ≡ r7
-  seventh_kind = to_objects 7 refl refl refl refl refl ∙ passed 7 6 r6 _ refl k6 ∙ kept 7 r7 _ k7 (passed 7 8 r8 _ refl k8 ∙ none_of 7 9 r9 refl k9)
+  pub seventh_kind : rows_of 7 ten ≡ r7
+  seventh_kind =
+      to_objects 7 refl refl refl refl refl ∙ passed 7 6 r6 _ refl k6 ∙ kept 7 r7 _ k7 (passed 7 8 r8 _ refl k8 ∙ passed 7 9 r9 _ refl k9 ∙ none_of 7 10 r10 refl k10)
 
-  pub eighth_kind : rows_of 8 nine ≡ r8
-  eighth_kind = to_objects 8 refl refl refl refl refl ∙ passed 8 6 r6 _ refl k6 ∙ passed 8 7 r7 _ refl k7 ∙ kept 8 r8 _ k8 (none_of 8 9 r9 refl k9)
+  pub eighth_kind : rows_of 8 ten ≡ r8
+  eighth_kind =
+      to_objects 8 refl refl refl refl refl ∙ passed 8 6 r6 _ refl k6 ∙ passed 8 7 r7 _ refl k7 ∙ kept 8 r8 _ k8 (passed 8 9 r9 _ refl k9 ∙ none_of 8 10 r10 refl k10)
 
-  pub ninth_kind : rows_of 9 nine ≡ r9
-  ninth_kind = to_objects 9 refl refl refl refl refl ∙ passed 9 6 r6 _ refl k6 ∙ passed 9 7 r7 _ refl k7 ∙ passed 9 8 r8 _ refl k8 ∙ all_of 9 r9 k9
+  pub ninth_kind : rows_of 9 ten ≡ r9
+  ninth_kind =
+      to_objects 9 refl refl refl refl refl ∙ passed 9 6 r6 _ refl k6 ∙ passed 9 7 r7 _ refl k7 ∙ passed 9 8 r8 _ refl k8 ∙ kept 9 r9 _ k9 (none_of 9 10 r10 refl k10)

@@ -1,5 +1,5 @@
 -- What a heap gives of the objects of a stored database.
-use Rattle.std.proofs.Common.{◌≡◌, ℕ, ◌<◌, ◌^◌, List, [], ◌∷◌, map, Bool, true, false, cond, Option, Some, None, refl, sym, ap, subst, ◌∙◌, append_assoc, arith}
+use Rattle.std.proofs.Common.{◌≡◌, ℕ, ◌<◌, ◌^◌, List, [], ◌∷◌, map, Bool, true, false, cond, Option, Some, None, refl, sym, ap, subst, ◌∙◌, arith}
 use Rattle.std.specs.Prelude.{◌==◌}
 use Rattle.std.specs.BTreeMap.{is_at}
 use Rattle.std.specs.List.{AllByRecursion}
@@ -12,15 +12,17 @@ use Rattle.ode_codec.specs.declared.record.Record.{Record}
 use Rattle.ode_codec.specs.declared.record.Record.TheVariants as of
 use Rattle.ode_keep.specs.Entries.{Entries, value_under}
 use Rattle.ode_value.specs.Denoting.{object_numbered}
+use Rattle.ode_value.specs.Fields.{fields_of}
 use Rattle.ode_value.specs.Keys.{key_cmp, object_key, version_key, version_kind}
 use Rattle.ode_value.specs.Records.{version_row}
 use Rattle.ode_value.specs.Versions.{Version}
 use Rattle.ode_value.specs.Worlds.{Object}
+use Rattle.ode_value.specs.declared.class.Field.{Field}
 use Rattle.ode_versions.specs.Versions.{listed}
 use Rattle.ode_versions.specs.declared.list.Version as short
 use Rattle.ode_heap.specs.Answers.{Found, ◌>>=◌}
 use Rattle.ode_heap.specs.Answers.{There}
-use Rattle.ode_heap.specs.Answering.{IsReadable, IsReadableObject, IsReadableVersion, head_of_object, object_of}
+use Rattle.ode_heap.specs.Answering.{IsReadable, IsReadableObject, IsReadableVersion, head_of_object, object_of, version_record}
 use Rattle.ode_heap.specs.Looking.{as_version, decoded, looked_up, parent_of}
 use Rattle.ode_heap.specs.Objects.{head_of, object_in, versions_in, with_versions}
 use Rattle.ode_heap.specs.Walking.{block, collected, is_from, taken}
@@ -31,13 +33,13 @@ use Rattle.ode_heap.proofs.Sections.{objects_alone, versions_alone}
 
 -- ---- versions
 
-pub version_keyed : (id : ℕ) (v : Version) → version_key id v.number ≡ key_of (of.Version id v.number (unwrap_or v.parent 0) v.fields)
+pub version_keyed : (id : ℕ) (fields : List Field) (v : Version) → version_key id v.number ≡ key_of (version_record id fields v)
 unfolding key_of
-version_keyed id v = refl
+version_keyed id fields v = refl
 
-pub version_spelled : (id : ℕ) (v : Version) → (version_row id v).1 ≡ value_of (of.Version id v.number (unwrap_or v.parent 0) v.fields)
+pub version_spelled : (id : ℕ) (fields : List Field) (v : Version) → (version_row id fields v).1 ≡ value_of (version_record id fields v)
 unfolding value_of
-version_spelled id v = simp append_assoc
+version_spelled id fields v = refl
 
 parent_again : (parent : Option ℕ) → IfSome parent (λ p. 0 < p) → parent_of (unwrap_or parent 0) ≡ parent
 parent_again None some = refl
@@ -45,41 +47,48 @@ parent_again (Some p) some =
     let not_0 : (p == 0) ≡ false = grind (arith, nat_tests) in
     ap (λ b. cond b None (Some p)) not_0
 
-low_number : (id : ℕ) (v : Version) → IsReadableVersion id v → v.number < 2 ^ 32
+low_number : (id : ℕ) (fields : List Field) (v : Version) → IsReadableVersion id fields v → v.number < 2 ^ 32
 unfolding HasRanges
-low_number id v is = is.spells.ranges.1
+low_number id fields v is = is.spells.ranges.1
 
 in_block : (id n : ℕ) → n < 2 ^ 32 → is_from version_kind id 0 (version_key id n) ≡ true
 in_block id n low = grind (arith, nat_tests)
 
-version_taken : Again → (id : ℕ) (v : Version) → IsReadableVersion id v → taken as_version (version_key id v.number) (version_row id v).1 ≡ There (listed v)
-version_taken again id v is =
+version_taken : Again → (id : ℕ) (fields : List Field) (v : Version) → IsReadableVersion id fields v
+    → taken as_version (version_key id v.number) (version_row id fields v).1 ≡ There (listed v)
+version_taken again id fields v is =
     ap (λ (f : Found Record). f >>= as_version (version_key id v.number))
-    (reads again (of.Version id v.number (unwrap_or v.parent 0) v.fields) (version_key id v.number) (version_row id v).1 is.spells (version_keyed id v) (version_spelled id v))
+    (reads again (version_record id fields v) (version_key id v.number) (version_row id fields v).1 is.spells (version_keyed id fields v) (version_spelled id fields v))
     ∙ ap (λ (p : Option ℕ). There (record { number = v.number; parent = p })) (parent_again v.parent is.parent)
 
-each_version : Again → (id : ℕ) (vs : List Version) → AllByRecursion (IsReadableVersion id) vs
-    → AllByRecursion (λ v. (is_from version_kind id 0 (version_row id v).0 ≡ true) × (taken as_version (version_row id v).0 (version_row id v).1 ≡ There (listed v))) vs
-each_version again id [] all = tt
-each_version again id (v ∷ vs) all = ((in_block id v.number (low_number id v all.0), version_taken again id v all.0), each_version again id vs all.1)
+-- the record of a version lies in the block of an object, and is what is listed
+abbrev IsTaken : ℕ → ℕ → List Field → Version → Type 0
+IsTaken block id fields v =
+    (is_from version_kind block 0 (version_row id fields v).0 ≡ true) × (taken as_version (version_row id fields v).0 (version_row id fields v).1 ≡ There (listed v))
 
-apart_versions : (id : ℕ) (o : Object) (v : Version) → (o.id == id) ≡ false → is_from version_kind id 0 (version_row o.id v).0 ≡ false
-apart_versions id o v apart = grind (arith, nat_tests)
+each_version : Again → (id : ℕ) (fields : List Field) (vs : List Version) → AllByRecursion (IsReadableVersion id fields) vs → AllByRecursion (IsTaken id id fields) vs
+each_version again id fields [] all = tt
+each_version again id fields (v ∷ vs) all =
+    ((in_block id v.number (low_number id fields v all.0), version_taken again id fields v all.0), each_version again id fields vs all.1)
+
+apart_versions : (id : ℕ) (o : Object) (fields : List Field) (v : Version) → (o.id == id) ≡ false → is_from version_kind id 0 (version_row o.id fields v).0 ≡ false
+apart_versions id o fields v apart = grind (arith, nat_tests)
+
+abbrev own_fields : Stored → Object → List Field
+own_fields s o = fields_of s.world.bones.classes o.class
 
 pub versions_read : Again → (s : Stored) (id : ℕ) → IsReadable s → versions_in (rows s) id ≡ There (option_map_or (λ (o : Object). map listed o.versions) (object_of s id) [])
 unfolding block
 versions_read again s id is =
     collected_of_kind short.Version (taken as_version) version_kind id 0 (rows s)
     ∙ ap (collected (is_from version_kind id 0) (taken as_version)) (versions_alone s)
-    ∙ one_object short.Version (taken as_version) version_kind id Version (λ (o : Object). o.versions) (λ (o : Object) v. version_row o.id v) (λ o v. listed v) (apart_versions id)
-    s.world.bones.objects 0 is.rising (each_object s.world.bones.objects is.objects)
+    ∙ one_object short.Version (taken as_version) version_kind id Version (λ (o : Object). o.versions) (λ (o : Object) v. version_row o.id (own_fields s o) v) (λ o v. listed v)
+    (λ o v. apart_versions id o (own_fields s o) v) s.world.bones.objects 0 is.rising (each_object s.world.bones.objects is.objects)
   where
-    each_object : (os : List Object) → AllByRecursion (IsReadableObject s.world) os
-        → AllByRecursion (λ (o : Object). o.id ≡ id → AllByRecursion (λ v. (is_from version_kind id 0 (version_row o.id v).0 ≡ true) × (taken as_version (version_row o.id v).0 (version_row o.id v).1 ≡ There (listed v))) o.versions) os
+    each_object : (os : List Object) → AllByRecursion (IsReadableObject s.world) os → AllByRecursion (λ (o : Object). o.id ≡ id → AllByRecursion (IsTaken id o.id (own_fields s o)) o.versions) os
     each_object [] all = tt
     each_object (o ∷ os) all = (
-      λ same. subst (λ (i : ℕ). AllByRecursion (λ v. (is_from version_kind i 0 (version_row o.id v).0 ≡ true) × (taken as_version (version_row o.id v).0 (version_row o.id v).1 ≡ There (listed v))) o.versions)
-          same (each_version again o.id o.versions all.0.versions),
+      λ same. subst (λ (i : ℕ). AllByRecursion (IsTaken i o.id (own_fields s o)) o.versions) same (each_version again o.id (own_fields s o) o.versions all.0.versions),
       each_object os all.1,
     )
 

@@ -1,8 +1,8 @@
 -- What there is in records, in the order of their keys.
-use Rattle.std.specs.Prelude.{ℕ, List, [], ◌∷◌, Bool, cond, true, false, nat_le, ◌==◌, ◌&&◌, Option, Some, None}
-use Rattle.std.specs.List.{find}
+use Rattle.std.specs.Prelude.{ℕ, List, [], ◌∷◌, length, fold, Bool, cond, true, false, nat_le, nat_lt, ◌==◌, ◌&&◌, ◌||◌, Option, Some, None}
+use Rattle.std.specs.List.{enumerate_from, find, insert}
 use Rattle.std.specs.Map.{keys_of}
-use Rattle.std.specs.Option.{option_map}
+use Rattle.std.specs.Option.{option_map, option_map_or}
 use Rattle.ode_codec.specs.Reading.{record_under}
 use Rattle.ode_codec.specs.declared.record.Counters.{Counters}
 use Rattle.ode_codec.specs.declared.record.Entry.{Entry}
@@ -10,8 +10,11 @@ use Rattle.ode_codec.specs.declared.record.Record.{Record}
 use Rattle.ode_codec.specs.declared.record.Record.TheVariants as of
 use Rattle.ode_heap.specs.Answers.{Found, ◌>>=◌}
 use Rattle.ode_heap.specs.Answers.{There, Broken}
+use Rattle.ode_heap.specs.declared.fields.Stamped.{Stamped}
 use Rattle.ode_versions.specs.declared.list.Version.{Version}
 use Rattle.ode_keep.specs.Entries.{Entries, least_from, value_under}
+use Rattle.ode_value.specs.Fields.{is_born}
+use Rattle.ode_value.specs.Lengths.{record_length}
 use Rattle.ode_value.specs.Keys.{counters_key, entry_kind, object_kind, version_key}
 use Rattle.ode_value.specs.declared.class.Class.{Class}
 use Rattle.ode_value.specs.declared.class.Field.{Field}
@@ -62,7 +65,7 @@ abbrev pub parent_of : ℕ → Option ℕ
 parent_of n = cond (n == 0) None (Some n)
 
 abbrev pub as_version : Key → Record → Found Version
-as_version k (of.Version object number parent fields) = There (record { number = number; parent = parent_of parent })
+as_version k (of.Version object number parent stamp fields) = There (record { number = number; parent = parent_of parent })
 as_version k _ = Broken k
 
 -- the values have the sorts, one for each
@@ -78,14 +81,34 @@ fit_fields [] [] = true
 fit_fields (f ∷ fs) (v ∷ vs) = has_sort f.sort v && fit_fields fs vs
 fit_fields _ _ = false
 
-abbrev pub fields_of : Key → List Field → Option Record → Found (Option (List Value))
+-- a field that came later than a stamp has its literal at its place
+abbrev pub literal_put : ℕ → List Value → ℕ × Field → List Value
+literal_put stamp values (place, f) = cond (is_born stamp f || nat_lt (length values) place) values (option_map_or (insert values place) f.literal values)
+
+-- so have all such fields, in order
+unfoldable pub with_literals : ℕ → List Field → List Value → List Value
+with_literals stamp fields values = fold (literal_put stamp) values (enumerate_from 0 fields)
+
+-- the values of all fields, with the stamp
+abbrev pub stamped : Key → ℕ → List Field → List Value → Found (Option Stamped)
+stamped k stamp fields values = cond (fit_fields fields values) (There (Some (record { stamp = stamp; fields = values }))) (Broken k)
+
+abbrev pub fields_of : Key → List Field → Option Record → Found (Option Stamped)
 fields_of k fields None = There None
-fields_of k fields (Some (of.Version object number parent values)) = cond (fit_fields fields values) (There (Some values)) (Broken k)
+fields_of k fields (Some (of.Version object number parent stamp values)) = stamped k stamp fields (with_literals stamp fields values)
 fields_of k fields _ = Broken k
 
--- the fields of a version of an object of this class, if there is that version
-unfoldable pub version_in : Entries → ℕ → ℕ → Class → Found (Option (List Value))
-version_in entries id number class = looked_up entries (version_key id number) >>= fields_of (version_key id number) class.fields
+-- the stamp and the fields of a version of an object of this class, if there is that version
+unfoldable pub stamped_in : Entries → ℕ → ℕ → Class → Found (Option Stamped)
+stamped_in entries id number class = looked_up entries (version_key id number) >>= fields_of (version_key id number) class.fields
+
+-- the fields alone
+abbrev pub version_in : Entries → ℕ → ℕ → Class → Found (Option (List Value))
+version_in entries id number class = stamped_in entries id number class >>= λ found. There (option_map (λ (s : Stamped). s.fields) found)
+
+-- the bytes of its record, if there is that version
+abbrev pub bytes_in : Entries → ℕ → ℕ → Option ℕ
+bytes_in entries id number = option_map (λ bytes. record_length (length bytes)) (value_under entries (version_key id number))
 
 -- ---- what comes next
 

@@ -7,7 +7,7 @@ ghost use Rattle.ode_keep.specs.Entries.{Entries, applied, record_bytes};
 ghost use Rattle.ode_keep.specs.Keeping.{LeavesOldOrNew};
 ghost use Rattle.ode_heap.specs.Activations.{activations_in};
 ghost use Rattle.ode_heap.specs.Answers.{Answers, OnDamaged, There, UnlessFault, is_usable};
-ghost use Rattle.ode_heap.specs.Looking.{counters_in, entry_from, object_from, version_in};
+ghost use Rattle.ode_heap.specs.Looking.{bytes_in, counters_in, entry_from, object_from, stamped_in, version_in};
 ghost use Rattle.ode_heap.specs.Objects.{IsOfObject, object_in};
 ghost use Rattle.ode_heap.specs.Queue.{queued_in};
 ghost use Rattle.ode_heap.specs.Staging.{OnRefusal, OnTooLarge, first_key};
@@ -16,7 +16,7 @@ ghost use Rattle.ode_value.specs.Keys.{activation_kind, counters_key, entry_kind
 use crate::activations::read_activations;
 use crate::counters::read_counters;
 use crate::error::{HeapError, at_key};
-use crate::fields::read_version;
+use crate::fields::{Stamped, count_bytes, read_stamped, read_version};
 use crate::object::{ObjectHead, read_object, read_object_from};
 use crate::queue::{count_entries, read_entry_from};
 use crate::staging::first_key;
@@ -128,6 +128,52 @@ impl<K> Heap<K> {
         ensures at { OnDamaged result (λ k. k ≡ version_key id number) }
     {
         read_version(alloc, &mut self.keeper, host, id, number, class)
+    }
+
+    /// The fields of a version of an object of this class with its stamp, if there is that version.
+    pub fn load_stamped<H: Host>(
+        &mut self,
+        alloc: Global,
+        host: &mut H,
+        id: u64,
+        number: u32,
+        class: &Class,
+    ) -> Result<Option<Stamped>, HeapError>
+    where
+        K: Keep<H>,
+        requires live { IsTrue (K.live self.old) }
+        ensures value { (entries : Entries) → K.holds self.old (H.view host.old) entries → Answers result (stamped_in entries id number class.now) }
+        ensures holds { UnlessFault result ((entries : Entries) → K.holds self.old (H.view host.old) entries
+            → K.holds self.new (H.view host.new) entries) }
+        ensures looks { Looks (H.view host.old) (H.view host.new) }
+        ensures usable { K.live self.new ≡ is_usable result }
+        ensures cause { RoseIf (IsErrOf result HeapError.DiskFault) (H.view host.old).disk_faults (H.view host.new).disk_faults }
+        ensures too_large { OnTooLarge result (λ _. ⊥) }
+        ensures at { OnDamaged result (λ k. k ≡ version_key id number) }
+    {
+        read_stamped(alloc, &mut self.keeper, host, id, number, class)
+    }
+
+    /// The bytes of the record of a version, if there is that version.
+    pub fn version_bytes<H: Host>(
+        &mut self,
+        host: &mut H,
+        id: u64,
+        number: u32,
+    ) -> Result<Option<u64>, HeapError>
+    where
+        K: Keep<H>,
+        requires live { IsTrue (K.live self.old) }
+        ensures value { (entries : Entries) → K.holds self.old (H.view host.old) entries → Answers result (There (bytes_in entries id number)) }
+        ensures holds { UnlessFault result ((entries : Entries) → K.holds self.old (H.view host.old) entries
+            → K.holds self.new (H.view host.new) entries) }
+        ensures looks { Looks (H.view host.old) (H.view host.new) }
+        ensures usable { K.live self.new ≡ is_usable result }
+        ensures cause { RoseIf (IsErrOf result HeapError.DiskFault) (H.view host.old).disk_faults (H.view host.new).disk_faults }
+        ensures too_large { OnTooLarge result (λ _. ⊥) }
+        ensures at { OnDamaged result (λ k. k ≡ version_key id number) }
+    {
+        count_bytes(&mut self.keeper, host, id, number)
     }
 
     /// The activations of an object, in the order of their numbers. Its own records are read and no others.

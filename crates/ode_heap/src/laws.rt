@@ -1,12 +1,12 @@
 //! What a heap gives of a stored database: laws of the definitions, each carried by the contract of a function that does nothing.
 ghost use Rattle.std.specs.Prelude.{◌≡◌, ℕ, List as Items, length, map, true};
 ghost use Rattle.std.specs.List.{AllZip};
-ghost use Rattle.std.specs.Option.{IfSome, option_map};
+ghost use Rattle.std.specs.Option.{option_map};
 ghost use Rattle.ode_codec.specs.StoredRows.{Stored, rows};
 ghost use Rattle.ode_heap.specs.Activations.{activations_in, fit_params, own_activations};
-ghost use Rattle.ode_heap.specs.Answering.{IsReadable, activations_of, class_of, counters_of, fields_in, head_of_object, next_entry, next_object, object_of};
+ghost use Rattle.ode_heap.specs.Answering.{IsOfClass, IsReadable, activations_of, class_of, counters_of, fields_in, head_of_object, next_entry, next_object, object_of, stamped_of, version_of};
 ghost use Rattle.ode_heap.specs.Answers.{There};
-ghost use Rattle.ode_heap.specs.Looking.{counters_in, entry_from, fit_fields, object_from, version_in};
+ghost use Rattle.ode_heap.specs.Looking.{counters_in, entry_from, fit_fields, object_from, stamped_in, version_in};
 ghost use Rattle.ode_heap.specs.Objects.{object_in, own_records};
 ghost use Rattle.ode_heap.specs.Queue.{queued_in};
 ghost use Rattle.ode_keep.specs.Entries.{Entries};
@@ -24,8 +24,9 @@ use ode_codec::one_spelling;
 pub fn stored_databases_answer()
     ensures counters { (s : Stored) → IsReadable s → counters_in (rows s) ≡ There (counters_of s.world.bones) }
     ensures object { (s : Stored) (id : ℕ) → IsReadable s → object_in (rows s) id ≡ There (option_map head_of_object (object_of s id)) }
-    ensures version { (s : Stored) (id number : ℕ) (class : Class) → IsReadable s
-        → IfSome (fields_in s id number) (λ vs. fit_fields class.fields vs ≡ true)
+    ensures stamped { (s : Stored) (id number : ℕ) (class : Class) → IsReadable s → IsOfClass s id number class
+        → stamped_in (rows s) id number class ≡ There (option_map stamped_of (version_of s id number)) }
+    ensures version { (s : Stored) (id number : ℕ) (class : Class) → IsReadable s → IsOfClass s id number class
         → version_in (rows s) id number class ≡ There (fields_in s id number) }
     ensures activations { (s : Stored) (id : ℕ) → IsReadable s
         → activations_in (rows s) id (map class_of s.world.bones.classes) ≡ There (activations_of s id) }

@@ -14,6 +14,7 @@ mod queue;
 mod staging;
 
 pub use error::HeapError;
+pub use fields::Stamped;
 pub use heap::Heap;
 pub use laws::{
     objects_are_read_from_their_own_records, stored_databases_answer,

@@ -1,11 +1,11 @@
 -- What is stored of a world that is held can be read.
-use Rattle.std.proofs.Common.{◌≡◌, ℕ, ◌<◌, ◌≤◌, ◌^◌, true, List, [], map, length, Option, Some, None, refl, sym, subst, arith, rules}
+use Rattle.std.proofs.Common.{◌≡◌, ℕ, ◌<◌, ◌≤◌, ◌^◌, true, List, [], map, length, Option, Some, None, refl, sym, ap, subst, arith, rules}
 use Rattle.std.specs.Prelude.{IsSome, FitsSigned, pos}
 use Rattle.std.specs.Int.{w64}
 use Rattle.std.specs.List.{AllByRecursion, AllZip}
 use Rattle.std.specs.Option.{IfSome, is_some, option_map_or, unwrap_or}
 use Rattle.std.proofs.lemmas.Slice.Zip.{AllZip-long}
-use Rattle.ode_codec.specs.Rules.{IsClock, IsKept, IsRecord, HasRanges}
+use Rattle.ode_codec.specs.Rules.{HasRanges, InRange, IsClock, IsKept, IsKeptValue, IsRecord}
 use Rattle.ode_codec.specs.Standing.{ArePasts, HasTables}
 use Rattle.ode_codec.specs.StoredRows.{Stored}
 use Rattle.ode_codec.specs.declared.record.Record.TheVariants as of
@@ -14,11 +14,12 @@ use Rattle.ode_heap.specs.Answering.{IsReadable, IsReadableActivation, IsReadabl
 use Rattle.ode_heap_laws.specs.Few.{HasFewParts, HoldsCounted}
 use Rattle.ode_heap_laws.proofs.Classes.{IsSmall, IsSmallTrigger, IsTriggerOf, all_small, at_is, each_small, fits_class, numbered_class, trigger_found}
 use Rattle.ode_heap_laws.proofs.States.{state_low}
-use Rattle.ode_heap_laws.proofs.Values.{are_in_range, are_kept}
+use Rattle.ode_heap_laws.proofs.Values.{are_in_range, are_kept, born_all, born_few}
 use Rattle.ode_laws.proofs.Each.{all-find, all-then}
 use Rattle.ode_laws.proofs.GoodNumbers.{good_numbered}
 use Rattle.ode_laws.proofs.Numbers.{all-at, all-triggers}
 use Rattle.ode_value.specs.Classes.{Trigger, own_triggers, trigger_at, triggers_of}
+use Rattle.ode_value.specs.Fields.{born_values, fields_of}
 use Rattle.ode_value.specs.Firings.{is_of}
 use Rattle.ode_value.specs.Fitting.{FitTrigger, FitsSort, HaveTrigger, trigger_in}
 use Rattle.ode_value.specs.GoodWorlds.{AreBones, IsActivation, IsEntry, IsObject, IsPosition, IsVersion, RiseFrom}
@@ -30,6 +31,7 @@ use Rattle.ode_value.specs.Records.{Row}
 use Rattle.ode_value.specs.Versions.{Version}
 use Rattle.ode_value.specs.Worlds.{Bones, Declared, Entry, Object, Position, class_numbered}
 use Rattle.ode_value.specs.declared.binding.Param.{Param}
+use Rattle.ode_value.specs.declared.change.Added.{Added}
 use Rattle.ode_value.specs.declared.class.Class.{Class}
 use Rattle.ode_value.specs.declared.class.Field.{Field}
 use Rattle.ode_value.specs.declared.value.Value.{Value}
@@ -52,6 +54,10 @@ clock_place : (clock : Option Position) → IfSome clock IsPosition → option_m
 clock_place None is = omega arith
 clock_place (Some p) is = is.place
 
+-- no field was added
+few_added : (added : List Added) → added ≡ [] → length added < 2 ^ 32
+few_added added none = let is : length added ≡ 0 = ap (λ (fs : List Added). length fs) none in omega arith
+
 counters_read : (l : Language) (b : Bones) → AreBones l b → IsRecord (of.Counters (counters_of b))
 unfolding IsKept HasRanges
 counters_read l b are =
@@ -68,6 +74,7 @@ counters_read l b are =
       ranges = record {
         numbers = (omega arith, omega arith, omega arith);
         clock = (clock_fits b.clock are.clock, clock_object b.clock are.clock, clock_place b.clock are.clock);
+        added = few_added b.added are.added;
       };
     }
 
@@ -81,16 +88,25 @@ parent_some : (parent : Option ℕ) (n : ℕ) → IfSome parent (λ p. (0 < p) �
 parent_some None n is = tt
 parent_some (Some p) n is = is.0
 
-version_read : (b : Bones) (c : Class) (id last : ℕ) (v : Version) → id < 2 ^ 64 → last < 2 ^ 32 → length c.fields < 2 ^ 16 → IsVersion b c last v → IsReadableVersion id v
+version_read : (b : Bones) (c : Class) (id last : ℕ) (v : Version) → id < 2 ^ 64 → last < 2 ^ 32 → length b.added < 2 ^ 32 → length c.fields < 2 ^ 15 → IsVersion b c last v
+    → IsReadableVersion id c.fields v
 unfolding IsKept HasRanges
-version_read b c id last v low fits few is =
+version_read b c id last v low fits changes few is =
     let long : length v.fields ≡ length c.fields = AllZip-long (λ (f : Field). FitsSort b f.sort) c.fields v.fields is.fields in
     let upto : v.number ≤ last = is.number in
     let number : v.number < 2 ^ 32 = omega arith in
+    let stamp : v.stamp ≤ length b.added = is.stamp in
+    let born : length (born_values v.stamp c.fields v.fields) ≤ length v.fields = born_few v.stamp c.fields v.fields in
     record {
       spells = record {
-        kept = (omega arith, are_kept b Field (λ f. f.sort) c.fields v.fields is.fields);
-        ranges = (low, number, parent_low v.parent v.number number is.parent, are_in_range b Field (λ f. f.sort) c.fields v.fields is.fields);
+        kept = (omega arith, born_all IsKeptValue v.stamp c.fields v.fields (are_kept b Field (λ f. f.sort) c.fields v.fields is.fields));
+        ranges = (
+          low,
+          number,
+          parent_low v.parent v.number number is.parent,
+          omega arith,
+          born_all InRange v.stamp c.fields v.fields (are_in_range b Field (λ f. f.sort) c.fields v.fields is.fields),
+        );
       };
       parent = parent_some v.parent v.number is.parent;
     }
@@ -152,7 +168,8 @@ module _ (l : Language) (s : Stored) (past : List (ℕ × Kept Histories Starts)
   unfolding IsKept HasRanges
   object_by o is None at some versions = absurd (cc)
   object_by o is (Some c) at some versions =
-      let fields = (numbered_class (λ c. length c.fields < 2 ^ 16) b.classes (all-then HasFewParts (λ d. length d.class.fields < 2 ^ 16) (λ d parts. parts.fields) b.classes few) o.class c at).0 in
+      let few_fields = (numbered_class (λ c. length c.fields < 2 ^ 15) b.classes (all-then HasFewParts (λ d. length d.class.fields < 2 ^ 15) (λ d parts. parts.fields) b.classes few) o.class c at).0 in
+      let fields : fields_of b.classes o.class ≡ c.fields = ap (λ (f : Option Class). option_map_or (λ (d : Class). d.fields) f []) at in
       let class = numbered_class (λ c. c.number < 2 ^ 32) b.classes (all-then IsSmall (λ d. d.class.number < 2 ^ 32) (λ d small. small.number) b.classes smalls) o.class c at in
       let number_low : c.number < 2 ^ 32 = class.0 in
       let number_is : c.number ≡ o.class = class.1 in
@@ -161,7 +178,8 @@ module _ (l : Language) (s : Stored) (past : List (ℕ × Kept Histories Starts)
       let id : o.id < 2 ^ 64 = omega arith in
       record {
         spells = record { kept = tt; ranges = (id, omega arith, is.last) };
-        versions = all-then (IsVersion b c o.last) (IsReadableVersion o.id) (λ v here. version_read b c o.id o.last v id is.last fields here) o.versions versions;
+        versions = subst (λ (fs : List Field). AllByRecursion (IsReadableVersion o.id fs) o.versions) (sym fields)
+            (all-then (IsVersion b c o.last) (IsReadableVersion o.id c.fields) (λ v here. version_read b c o.id o.last v id is.last (few_added b.added are.added) few_fields here) o.versions versions);
         rising = is.rising;
         activations = all-then (IsActivation b o.class) (IsReadableActivation s.world o.id)
             (λ a here. activation_by o.id o.class a id here.number (trigger_in b.classes o.class a) refl here.trigger) o.activations is.activations;

@@ -1,10 +1,12 @@
 -- Values that fit are kept by a spelling, and within the ranges of their types.
-use Rattle.std.proofs.Common.{ℕ, ◌<◌, ◌^◌, List, [], ◌∷◌, Option, Some, None}
+use Rattle.std.proofs.Common.{ℕ, ◌<◌, ◌≤◌, ◌^◌, List, [], ◌∷◌, length, Bool, true, false, cond, Option, Some, None, arith}
 use Rattle.std.specs.Option.{IfSome}
-use Rattle.std.specs.List.{AllZip}
+use Rattle.std.specs.List.{AllByRecursion, AllZip}
 use Rattle.ode_codec.specs.Rules.{AreInRange, AreKept, InRange, IsKeptValue}
+use Rattle.ode_value.specs.Fields.{born_values, is_born}
 use Rattle.ode_value.specs.Fitting.{FitsSort}
 use Rattle.ode_value.specs.Worlds.{Bones}
+use Rattle.ode_value.specs.declared.class.Field.{Field}
 use Rattle.ode_value.specs.declared.statement.Sort.{Sort}
 use Rattle.ode_value.specs.declared.statement.Sort.TheVariants as sort
 use Rattle.ode_value.specs.declared.value.Value.{Value}
@@ -53,3 +55,25 @@ module _ (b : Bones) (X : Type 0) (sort_of : X → Sort) where
   are_in_range [] (v ∷ vs) all = absurd all
   are_in_range (x ∷ xs) [] all = absurd all
   are_in_range (x ∷ xs) (v ∷ vs) all = ((both b (sort_of x) v all.0).1, are_in_range xs vs all.1)
+
+-- ---- the values that a record has
+
+-- what holds of all values holds of those that were there
+pub born_all : (P : Value → Type 0) (stamp : ℕ) (fs : List Field) (vs : List Value) → AllByRecursion P vs → AllByRecursion P (born_values stamp fs vs)
+born_all P stamp [] vs all = tt
+born_all P stamp (f ∷ fs) [] all = tt
+born_all P stamp (f ∷ fs) (v ∷ vs) all = by_test (is_born stamp f) (born_all P stamp fs vs all.1)
+  where
+    by_test : (b : Bool) → AllByRecursion P (born_values stamp fs vs) → AllByRecursion P (cond b (v ∷ born_values stamp fs vs) (born_values stamp fs vs))
+    by_test true more = (all.0, more)
+    by_test false more = more
+
+-- and they are no more
+pub born_few : (stamp : ℕ) (fs : List Field) (vs : List Value) → length (born_values stamp fs vs) ≤ length vs
+born_few stamp [] vs = omega arith
+born_few stamp (f ∷ fs) [] = omega arith
+born_few stamp (f ∷ fs) (v ∷ vs) = by_test (is_born stamp f) (born_few stamp fs vs)
+  where
+    by_test : (b : Bool) → length (born_values stamp fs vs) ≤ length vs → length (cond b (v ∷ born_values stamp fs vs) (born_values stamp fs vs)) ≤ length (v ∷ vs)
+    by_test true more = omega arith
+    by_test false more = omega arith

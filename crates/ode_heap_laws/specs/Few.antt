@@ -11,9 +11,9 @@ use Rattle.ode_value.specs.declared.member.TriggerDecl.{TriggerDecl}
 abbrev pub HasFewParams : TriggerDecl → Type 0
 HasFewParams t = length t.params < 2 ^ 8
 
--- a class's fields are counted in two bytes
+-- a class's fields are counted in two bytes, but for a bit
 pub record HasFewParts (d : Declared) : Type 0 where
-  pub fields : length d.class.fields < 2 ^ 16
+  pub fields : length d.class.fields < 2 ^ 15
   pub params : AllByRecursion HasFewParams d.class.triggers
 
 -- records hold a world whose classes have parts that a record can count

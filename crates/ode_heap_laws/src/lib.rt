@@ -5,9 +5,9 @@ ghost use Rattle.std.specs.Prelude.{◌≡◌, ℕ, List as Items, Some, length,
 ghost use Rattle.std.specs.List.{find};
 ghost use Rattle.std.specs.Option.{option_map};
 ghost use Rattle.ode_heap.specs.Activations.{activations_in};
-ghost use Rattle.ode_heap.specs.Answering.{IsReadable, activations_of, class_of, counters_of, entry_of, head_of_object};
+ghost use Rattle.ode_heap.specs.Answering.{IsReadable, activations_of, class_of, counters_of, entry_of, head_of_object, stamped_of};
 ghost use Rattle.ode_heap.specs.Answers.{There};
-ghost use Rattle.ode_heap.specs.Looking.{counters_in, entry_from, object_from, version_in};
+ghost use Rattle.ode_heap.specs.Looking.{counters_in, entry_from, object_from, stamped_in, version_in};
 ghost use Rattle.ode_heap.specs.Objects.{object_in};
 ghost use Rattle.ode_heap.specs.Queue.{queued_in};
 ghost use Rattle.ode_heap_laws.specs.Few.{HoldsCounted};
@@ -29,12 +29,15 @@ pub fn held_worlds_can_be_read()
 }
 
 /// From the records that hold such a world a heap's functions give what the world has: its counters, its objects with their versions,
-/// the fields of each version, the activations with the state numbers that stand for their views, and the entries.
+/// the fields of each version with its stamp, the activations with the state numbers that stand for their views, and the entries.
 pub fn heaps_show_held_worlds()
     ensures counters { (l : Language) (records : Items Row) (w : ListWorld) → HoldsCounted l records w
         → counters_in records ≡ There (counters_of w.bones) }
     ensures object { (l : Language) (records : Items Row) (w : ListWorld) (id : ℕ) → HoldsCounted l records w
         → object_in records id ≡ There (option_map head_of_object (object_numbered id w.bones.objects)) }
+    ensures stamped { (l : Language) (records : Items Row) (w : ListWorld) (id number : ℕ) (o : Object) (class : Class) → HoldsCounted l records w
+        → object_numbered id w.bones.objects ≡ Some o → class_numbered o.class w.bones.classes ≡ Some class
+        → stamped_in records id number class ≡ There (option_map stamped_of (version_numbered number o.versions)) }
     ensures version { (l : Language) (records : Items Row) (w : ListWorld) (id number : ℕ) (o : Object) (class : Class) → HoldsCounted l records w
         → object_numbered id w.bones.objects ≡ Some o → class_numbered o.class w.bones.classes ≡ Some class
         → version_in records id number class ≡ There (option_map (λ (v : Version). v.fields) (version_numbered number o.versions)) }

@@ -7,11 +7,12 @@ use Rattle.std.specs.Option.{option_map, option_map_or}
 use Rattle.ode_codec.specs.StoredRows.{Stored, state_of}
 use Rattle.ode_codec.specs.declared.record.Activation as stored
 use Rattle.ode_heap.specs.Activations.{activations_in}
-use Rattle.ode_heap.specs.Answering.{IsReadable, IsReadableActivation, IsReadableObject, activations_of, activations_with_states, class_of, head_of_object}
+use Rattle.ode_heap.specs.Answering.{IsReadable, IsReadableActivation, IsReadableObject, activations_of, activations_with_states, class_of, head_of_object, stamped_of}
 use Rattle.ode_heap.specs.Answers.{Found, ◌>>=◌}
 use Rattle.ode_heap.specs.Answers.{There}
-use Rattle.ode_heap.specs.Looking.{version_in}
+use Rattle.ode_heap.specs.Looking.{stamped_in}
 use Rattle.ode_heap.specs.Objects.{object_in}
+use Rattle.ode_heap.specs.declared.fields.Stamped.{Stamped}
 use Rattle.ode_heap.specs.declared.object.ObjectHead.{ObjectHead}
 use Rattle.ode_heap_laws.proofs.Classes.{same_numbered}
 use Rattle.ode_heap_laws.specs.Few.{HoldsCounted}
@@ -42,7 +43,6 @@ use Rattle.ode_value.specs.Pasts.{Kept}
 use Rattle.ode_value.specs.Versions.{Version, version_numbered}
 use Rattle.ode_value.specs.Worlds.{Bones, Object, class_numbered, kept_at}
 use Rattle.ode_value.specs.declared.class.Class.{Class}
-use Rattle.ode_value.specs.declared.value.Value.{Value}
 use Rattle.ode_versions.specs.Versions.{listed}
 
 abbrev NumberKept : Type 0
@@ -50,8 +50,8 @@ NumberKept = Kept (Unit {0}) ℕ
 
 module _ (l : Language) (records : Entries) (w : ListWorld) (held : HoldsCounted l records w) (readable : IsReadable held.world.stored)
     (object_shown : (id : ℕ) → object_in records id ≡ There (option_map head_of_object (object_numbered id w.bones.objects)))
-    (version_shown : (id number : ℕ) (o : Object) (class : Class) → object_numbered id w.bones.objects ≡ Some o → class_numbered o.class w.bones.classes ≡ Some class
-    → version_in records id number class ≡ There (option_map (λ (v : Version). v.fields) (version_numbered number o.versions)))
+    (stamped_shown : (id number : ℕ) (o : Object) (class : Class) → object_numbered id w.bones.objects ≡ Some o → class_numbered o.class w.bones.classes ≡ Some class
+    → stamped_in records id number class ≡ There (option_map stamped_of (version_numbered number o.versions)))
     (activations_shown : (id : ℕ) → activations_in records id (map class_of w.bones.classes) ≡ There (activations_of held.world.stored id)) where
   abbrev s : Stored
   s = held.world.stored
@@ -93,8 +93,8 @@ module _ (l : Language) (records : Entries) (w : ListWorld) (held : HoldsCounted
         versions_read records o.id class [] o.versions
         (all-then (λ v. version_numbered v.number o.versions ≡ Some v) (IsFoundIn records o.id class)
         (λ v found.
-        ap (λ (f : Found (Option (List Value))). f >>= there_at (version_key o.id v.number))
-        (version_shown o.id v.number o class at its ∙ ap (λ (u : Option Version). There (option_map (λ (x : Version). x.fields) u)) found))
+        ap (λ (f : Found (Option Stamped)). f >>= there_at (version_key o.id v.number))
+        (stamped_shown o.id v.number o class at its ∙ ap (λ (u : Option Version). There (option_map stamped_of u)) found))
         o.versions (numbered_each o.versions good.rising))
 
     abbrev parts : Found Class → Found (Option whole.Object)

@@ -3,13 +3,14 @@ use Rattle.std.proofs.Common.{◌≡◌, ◌==◌, ◌≤◌, ℕ, List, [], ◌
 use Rattle.std.proofs.lemmas.Bool.Decides.{nat_tests}
 use Rattle.std.specs.Prelude.{nat_le}
 use Rattle.std.specs.List.{AllByRecursion, find}
-use Rattle.ode_heap.specs.Answering.{with_state}
+use Rattle.ode_heap.specs.Answering.{stamped_of, with_state}
 use Rattle.ode_heap.specs.Answers.{Found, ◌>>=◌}
 use Rattle.ode_heap.specs.Answers.{There, Broken}
+use Rattle.ode_heap.specs.declared.fields.Stamped.{Stamped}
 use Rattle.ode_keep.specs.Entries.{Entries}
 use Rattle.ode_laws.proofs.Rows.{find_rising}
 use Rattle.ode_laws.specs.Alike.{NumberWorld}
-use Rattle.ode_objects.specs.Loading.{active_read, actives_from, fields_in, version_read, versions_from}
+use Rattle.ode_objects.specs.Loading.{active_read, actives_from, stamped_fields, version_read, versions_from}
 use Rattle.ode_objects.specs.Values.{are_args}
 use Rattle.ode_objects.specs.declared.object.Active.{Active}
 use Rattle.ode_objects.specs.declared.object.Version as objects
@@ -30,17 +31,17 @@ use Rattle.ode_versions.specs.Versions.{listed}
 -- ---- versions
 
 abbrev pub read_version : Version → objects.Version
-read_version v = version_read (listed v) v.fields
+read_version v = version_read (listed v) (stamped_of v)
 
--- its fields are found by its number
+-- its fields and its stamp are found by its number
 abbrev pub IsFoundIn : Entries → ℕ → Class → Version → Type 0
-IsFoundIn base id class v = fields_in base id v.number class ≡ There v.fields
+IsFoundIn base id class v = stamped_fields base id v.number class ≡ There (stamped_of v)
 
 pub versions_read : (base : Entries) (id : ℕ) (class : Class) (done : List objects.Version) (vs : List Version) → AllByRecursion (IsFoundIn base id class) vs
     → versions_from base id class done (map listed vs) ≡ There (done ++ map read_version vs)
 versions_read base id class done [] all = ap (λ (us : List objects.Version). There us) (sym (append-nil done))
 versions_read base id class done (v ∷ vs) all =
-    ap (λ (f : Found (List Value)). f >>= λ fields. versions_from base id class (done ++ version_read (listed v) fields ∷ []) (map listed vs)) all.0
+    ap (λ (f : Found Stamped). f >>= λ s. versions_from base id class (done ++ version_read (listed v) s ∷ []) (map listed vs)) all.0
     ∙ versions_read base id class (done ++ read_version v ∷ []) vs all.1
     ∙ ap (λ (us : List objects.Version). There us) (append_assoc done (read_version v ∷ []) (map read_version vs))
 

@@ -94,3 +94,6 @@ versions-preserved-in-Some-checked_add-4 g c = record {
       ∙ ap (λ (n : ℕ). with_front (c.versions.versions ++ x ∷ []) (block as_version version_kind c.args.id n entries)) next_is
       ∙ on;
 }
+
+pub returns-in_default-checked_add-clause-looks : goal.returns-in_default-checked_add-clause-looks
+returns-in_default-checked_add-clause-looks g c = looks_joined _ _ _ c.versions.invariant.looks c.in_ok-key.ensures.looks
