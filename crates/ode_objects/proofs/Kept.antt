@@ -1,5 +1,5 @@
 -- Values that a record has room for are few.
-use Rattle.std.proofs.Common.{◌≡◌, ◌<◌, ◌≤◌, ◌^◌, List, [], ◌∷◌, Bool, true, false, length, refl, arith}
+use Rattle.std.proofs.Common.{◌≡◌, ◌<◌, ◌≤◌, ◌+◌, ◌-◌, ◌^◌, ℕ, List, [], ◌∷◌, Bool, true, false, length, refl, arith}
 use Rattle.std.proofs.lemmas.Bool.Decides.{nat_tests}
 use Rattle.std.proofs.lemmas.List.Sums.{sum_by-cons}
 use Rattle.std.specs.Prelude.{◌&&◌, nat_le}
@@ -27,18 +27,22 @@ pub few_values : (vs : List Value) → length vs ≤ values_length vs
 few_values [] = omega arith
 few_values (v ∷ vs) = omega (arith, sum_by-cons value_length v vs, one_byte v, few_values vs)
 
+-- behind a head there is room where there is for both
+pub room_behind : (head limit n : ℕ) → head ≤ limit → nat_le n (limit - head) ≡ nat_le (head + n) limit
+room_behind head limit n fits = grind (arith, nat_tests)
+
 -- there is room by how long they are
-pub fields_room : (vs : List Value) → are_fields vs ≡ nat_le (version_size vs) value_limit
+pub fields_room : (stamp : ℕ) (vs : List Value) → are_fields stamp vs ≡ nat_le (version_size stamp vs) value_limit
 unfolding are_fields
-fields_room vs = refl
+fields_room stamp vs = refl
 
 pub args_room : (vs : List Value) → are_args vs ≡ nat_le (values_length vs) args_limit
 unfolding are_args
 args_room vs = refl
 
 -- of fields
-pub fields_counted : (vs : List Value) → are_fields vs ≡ true → length vs < 2 ^ 16
+pub fields_counted : (stamp : ℕ) (vs : List Value) → are_fields stamp vs ≡ true → length vs < 2 ^ 15
 unfolding are_fields value_limit
-fields_counted vs short =
-    let le : version_size vs ≤ value_limit = grind (arith, nat_tests) in
+fields_counted stamp vs short =
+    let le : version_size stamp vs ≤ value_limit = grind (arith, nat_tests) in
     omega (arith, few_values vs, le)

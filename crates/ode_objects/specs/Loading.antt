@@ -4,10 +4,11 @@ use Rattle.ode_codec.specs.declared.record.Activation.{Activation}
 use Rattle.ode_heap.specs.Activations.{activations_in}
 use Rattle.ode_heap.specs.Answers.{Found, ◌>>=◌}
 use Rattle.ode_heap.specs.Answers.{There, Broken}
-use Rattle.ode_heap.specs.Looking.{version_in}
+use Rattle.ode_heap.specs.Looking.{stamped_in, version_in}
 use Rattle.ode_heap.specs.Objects.{object_in}
 use Rattle.ode_heap.specs.declared.error.HeapError.{HeapError}
 use Rattle.ode_heap.specs.declared.error.HeapError.TheVariants.{Memory, DiskFault, TooLarge, Damaged}
+use Rattle.ode_heap.specs.declared.fields.Stamped.{Stamped}
 use Rattle.ode_heap.specs.declared.object.ObjectHead.{ObjectHead}
 use Rattle.ode_keep.specs.Entries.{Entries}
 use Rattle.ode_objects.specs.Values.{are_args}
@@ -42,13 +43,17 @@ class_in classes id number = there_at (object_key id) (class_numbered classes nu
 abbrev pub fields_in : Entries → ℕ → ℕ → Class → Found (List Value)
 fields_in base id number class = version_in base id number class >>= there_at (version_key id number)
 
-abbrev pub version_read : Listed → List Value → Version
-version_read v fields = record { number = v.number; parent = v.parent; fields = Read fields }
+-- and with its stamp
+abbrev pub stamped_fields : Entries → ℕ → ℕ → Class → Found Stamped
+stamped_fields base id number class = stamped_in base id number class >>= there_at (version_key id number)
+
+abbrev pub version_read : Listed → Stamped → Version
+version_read v s = record { number = v.number; parent = v.parent; fields = Read s.stamp s.fields }
 
 -- the versions of a list behind these, with their fields
 abbrev pub versions_from : Entries → ℕ → Class → List Version → List Listed → Found (List Version)
 versions_from base id class done [] = There done
-versions_from base id class done (v ∷ vs) = fields_in base id v.number class >>= λ fields. versions_from base id class (done ++ version_read v fields ∷ []) vs
+versions_from base id class done (v ∷ vs) = stamped_fields base id v.number class >>= λ s. versions_from base id class (done ++ version_read v s ∷ []) vs
 
 -- an activation, which is on
 abbrev pub active_read : Activation → Active

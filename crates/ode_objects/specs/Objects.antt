@@ -24,8 +24,12 @@ without_at (Some at) xs = remove xs at
 -- ---- versions
 
 abbrev pub values_of : Fields → List Value
-values_of (Read values) = values
-values_of (Written values) = values
+values_of (Read stamp values) = values
+values_of (Written kept) = kept.1
+
+abbrev pub stamp_of : Fields → ℕ
+stamp_of (Read stamp values) = stamp
+stamp_of (Written kept) = kept.0
 
 abbrev pub is_numbered : ℕ → Version → Bool
 is_numbered number v = v.number == number
@@ -54,17 +58,17 @@ parent_of None = None
 parent_of (Some v) = v.parent
 
 -- the version of this number at a place has these fields
-abbrev pub written_at : Option ℕ → ℕ → List Value → List Version → List Version
+abbrev pub written_at : Option ℕ → ℕ → ℕ × List Value → List Version → List Version
 written_at None number fields versions = versions
 written_at (Some at) number fields versions =
     slice_set versions at (record { number = number; parent = parent_of (slice_get versions at); fields = Written fields })
 
 -- the first of a number has
-abbrev pub written : ℕ → List Value → Object → Object
+abbrev pub written : ℕ → ℕ × List Value → Object → Object
 written number fields o = record o { versions = written_at (position (is_numbered number) o.versions) number fields o.versions }
 
 -- a new version, derived from one of this number, with these fields
-abbrev pub derived : ℕ → List Value → Object → Object
+abbrev pub derived : ℕ → ℕ × List Value → Object → Object
 derived from fields o = record o {
   last = o.last + 1;
   versions = o.versions ++ record { number = o.last + 1; parent = Some from; fields = Written fields } ∷ [];
@@ -116,7 +120,7 @@ abbrev pub dead : Object → Object
 dead o = record o { live = false }
 
 -- a new object with its first version
-abbrev pub made : ℕ → List Value → Object
+abbrev pub made : ℕ → ℕ × List Value → Object
 made class fields = record {
   class = class;
   live = true;

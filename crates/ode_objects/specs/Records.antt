@@ -34,8 +34,8 @@ object_record id o = Is (of.Object id o.class o.last)
 
 -- fields that were written; those that were read stay
 abbrev pub fields_record : ℕ → Version → Fields → Becomes
-fields_record id v (Written fields) = Is (of.Version id v.number (unwrap_or v.parent 0) fields)
-fields_record id v (Read fields) = Stays
+fields_record id v (Written kept) = Is (of.Version id v.number (unwrap_or v.parent 0) kept.0 kept.1)
+fields_record id v (Read stamp values) = Stays
 
 abbrev pub version_record : ℕ → Option Version → Becomes
 version_record id None = Goes

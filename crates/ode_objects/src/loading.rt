@@ -5,13 +5,13 @@ ghost use Rattle.ode_heap.specs.Answers.{Answers, UnlessFault, is_usable};
 ghost use Rattle.ode_host.specs.Causes.{RoseIf};
 ghost use Rattle.ode_host.specs.Host.{Looks};
 ghost use Rattle.ode_keep.specs.Entries.{Entries};
-ghost use Rattle.ode_objects.specs.Loading.{Gives, active_of, actives_from, actives_in, class_in, fields_in, versions_from, whole_in, with_parts};
+ghost use Rattle.ode_objects.specs.Loading.{Gives, active_of, actives_from, actives_in, class_in, fields_in, stamped_fields, version_read, versions_from, whole_in, with_parts};
 
 use crate::keys::{activation_key, object_key, version_key};
 use crate::object::{Active, Fields, Object, Version};
 use crate::values::KeptArgs;
 use ode_codec::Activation;
-use ode_heap::{Heap, HeapError, ObjectHead};
+use ode_heap::{Heap, HeapError, ObjectHead, Stamped};
 use ode_host::Host;
 use ode_keep::Keep;
 use ode_types::Classes;
@@ -57,6 +57,44 @@ pub fn load_fields<H: Host, K: Keep<H>>(
     }
 }
 
+// The fields of a version that the object has, with its stamp.
+fn load_stamped<H: Host, K: Keep<H>>(
+    alloc: Global,
+    heap: &mut Heap<K>,
+    host: &mut H,
+    id: u64,
+    number: u32,
+    class: &Class,
+) -> Result<Stamped, HeapError>
+    requires live { IsTrue (K.live heap.old) }
+    ensures value { (base : Entries) → K.holds heap.old (H.view host.old) base → Answers result (stamped_fields base id number class.now) }
+    ensures holds { UnlessFault result ((base : Entries) → K.holds heap.old (H.view host.old) base → K.holds heap.new (H.view host.new) base) }
+    ensures looks { Looks (H.view host.old) (H.view host.new) }
+    ensures usable { K.live heap.new ≡ is_usable result }
+    ensures cause { RoseIf (IsErrOf result HeapError.DiskFault) (H.view host.old).disk_faults (H.view host.new).disk_faults }
+{
+    match heap.load_stamped(alloc, host, id, number, class)? {
+        Some(found) => Ok(found),
+        None => Err(HeapError::Damaged {
+            key: version_key(id, u64::from(number)),
+        }),
+    }
+}
+
+// A version as it was read.
+fn version_read(version: &Listed, found: Stamped) -> Version
+    ensures { result ≡ version_read version.now found }
+{
+    Version {
+        number: version.number,
+        parent: version.parent,
+        fields: Fields::Read {
+            stamp: found.stamp,
+            values: found.fields,
+        },
+    }
+}
+
 fn load_versions<H: Host, K: Keep<H>>(
     alloc: Global,
     heap: &mut Heap<K>,
@@ -74,12 +112,8 @@ fn load_versions<H: Host, K: Keep<H>>(
 {
     let mut versions = List::new(alloc);
     for version in listed {
-        let fields = load_fields(alloc, heap, host, id, version.number, class)?;
-        versions.push(Version {
-            number: version.number,
-            parent: version.parent,
-            fields: Fields::Read(fields),
-        })?;
+        let found = load_stamped(alloc, heap, host, id, version.number, class)?;
+        versions.push(version_read(version, found))?;
     }
     Ok(versions)
 }

@@ -2,7 +2,7 @@
 ghost use Rattle.std.specs.Prelude.{◌≡◌, ◌+◌, IfOk};
 ghost use Rattle.std.specs.Option.{option_copied};
 ghost use Rattle.std.specs.List.{find, list_any};
-ghost use Rattle.ode_objects.specs.Objects.{has_number, head_of, is_numbered, is_on, made, new_active, values_of, version_of};
+ghost use Rattle.ode_objects.specs.Objects.{has_number, head_of, is_numbered, is_on, made, new_active, stamp_of, values_of, version_of};
 
 use crate::values::{KeptArgs, KeptFields};
 use ode_heap::ObjectHead;
@@ -11,10 +11,10 @@ use ode_value::{Copied, List, Value};
 use ode_versions::{Version as Listed, VersionList};
 use std::alloc::{AllocError, Global};
 
-/// The fields of a version: as they were read, or as they were written, which a record can hold.
+/// All fields of a version with its stamp: as they were read, or as they were written, which a record can hold.
 #[derive(Drop)]
 pub enum Fields {
-    Read(List<Value>),
+    Read { stamp: u32, values: List<Value> },
     Written(KeptFields),
 }
 
@@ -55,8 +55,18 @@ impl Fields {
         ensures { result.now ≡ values_of self.now }
     {
         match self {
-            Fields::Read(values) => values,
+            Fields::Read { values, .. } => values,
             Fields::Written(short) => short.values(),
+        }
+    }
+
+    /// The stamp.
+    pub fn stamp(&self) -> u32
+        ensures { result ≡ stamp_of self.now }
+    {
+        match self {
+            Fields::Read { stamp, .. } => *stamp,
+            Fields::Written(short) => short.stamp(),
         }
     }
 }
@@ -64,7 +74,10 @@ impl Fields {
 impl Copied for Fields {
     fn copy_in(&self, alloc: Global) -> Result<Fields, AllocError> {
         match self {
-            Fields::Read(values) => Ok(Fields::Read(values.copy(alloc)?)),
+            Fields::Read { stamp, values } => Ok(Fields::Read {
+                stamp: *stamp,
+                values: values.copy(alloc)?,
+            }),
             Fields::Written(short) => Ok(Fields::Written(short.copy(alloc)?)),
         }
     }

@@ -36,11 +36,12 @@ fn version_record(alloc: Global, id: u64, version: &Version) -> Result<Becomes, 
     ensures kept { IfOk result IsKeptChange }
 {
     match &version.fields {
-        Fields::Read(_) => Ok(Becomes::Stays),
+        Fields::Read { .. } => Ok(Becomes::Stays),
         Fields::Written(fields) => Ok(Becomes::Is(Record::Version {
             object: id,
             number: version.number,
             parent: version.parent.unwrap_or(0),
+            stamp: fields.stamp(),
             fields: fields.values().copy(alloc)?,
         })),
     }

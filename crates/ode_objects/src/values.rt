@@ -2,17 +2,17 @@
 ghost use Rattle.std.specs.Prelude.{◌≡◌, cond, true, Some, None, IfOk};
 ghost use Rattle.ode_objects.specs.Values.{are_args, are_fields};
 
-use crate::lengths::{VERSION_HEAD, fit};
+use crate::lengths::{fit, version_head};
 use ode_value::limits::{ARGS_LIMIT, VALUE_LIMIT};
 use ode_value::{List, Value};
 use std::alloc::{AllocError, Global};
 use std::marker::Model;
 
-#[tactic(auto, unfolding(crate::specs::Values::are_fields, ode_value::specs::Limits::value_limit))]
-fn are_fields(values: &[Value]) -> bool
-    ensures { result ≡ are_fields values.now }
+#[tactic(auto, using(crate::proofs::Kept::room_behind), unfolding(crate::specs::Values::are_fields, ode_value::specs::Limits::value_limit))]
+fn are_fields(stamp: u32, values: &[Value]) -> bool
+    ensures { result ≡ are_fields stamp values.now }
 {
-    fit(values, VALUE_LIMIT - VERSION_HEAD)
+    fit(values, VALUE_LIMIT - version_head(stamp))
 }
 
 #[tactic(auto, unfolding(crate::specs::Values::are_args, ode_value::specs::Limits::args_limit))]
@@ -22,45 +22,53 @@ fn are_args(values: &[Value]) -> bool
     fit(values, ARGS_LIMIT)
 }
 
-/// Fields of a version that a record has room for.
+/// All fields of a version, with its stamp, that a record has room for. Contracts see both.
 #[derive(Drop)]
 pub struct KeptFields {
+    stamp: u32,
     values: List<Value>,
 }
 
 impl Model for KeptFields {
-    ghost use Rattle.std.specs.Prelude.{◌≡◌, true};
+    ghost use Rattle.std.specs.Prelude.{◌≡◌, ℕ, true};
     ghost use Rattle.ode_objects.specs.Values.{are_fields};
     ghost use Rattle.std.specs.Prelude.{List as Items};
     ghost use Rattle.ode_value.specs.declared.value.Value.{Value as Plain};
     ghost use Rattle.ode_value.specs.contracts.value.Value as value;
-    ghost use Rattle.std.specs.Coded.{coded_list};
+    ghost use Rattle.std.specs.Coded.{coded_list, coded_ℕ, coded×};
 
-    ghost Value = { Items Plain };
+    ghost Value = { ℕ × Items Plain };
 
-    ghost coded = { coded_list value.the_row.coded };
+    ghost coded = { coded× coded_ℕ (coded_list value.the_row.coded) };
 
-    ghost view = { λ s. s.values };
+    ghost view = { λ s. (s.stamp, s.values) };
 
-    ghost invariant = { λ s. are_fields s.values ≡ true };
+    ghost invariant = { λ s. are_fields s.stamp s.values ≡ true };
 }
 
 impl KeptFields {
     /// These fields, where a record has room for them.
-    pub fn new(values: List<Value>) -> Option<KeptFields>
-        ensures { result ≡ cond (are_fields values) (Some values) None }
+    pub fn new(stamp: u32, values: List<Value>) -> Option<KeptFields>
+        ensures { result ≡ cond (are_fields stamp values) (Some (stamp, values)) None }
     {
-        if are_fields(values.as_slice()) {
-            Some(KeptFields { values })
+        if are_fields(stamp, values.as_slice()) {
+            Some(KeptFields { stamp, values })
         } else {
             None
         }
     }
 
+    /// The stamp.
+    pub fn stamp(&self) -> u32
+        ensures { result ≡ self.now.0 }
+    {
+        self.stamp
+    }
+
     /// The fields.
     pub fn values(&self) -> &List<Value>
-        ensures value { result.now ≡ self.now }
-        ensures short { are_fields self.now ≡ true }
+        ensures value { result.now ≡ self.now.1 }
+        ensures short { are_fields self.now.0 self.now.1 ≡ true }
     {
         &self.values
     }
@@ -70,6 +78,7 @@ impl KeptFields {
         ensures { IfOk result (λ copy. copy ≡ self.now) }
     {
         Ok(KeptFields {
+            stamp: self.stamp,
             values: self.values.copy(alloc)?,
         })
     }

@@ -80,18 +80,23 @@ put_new id (Some t) objects = insert_entry nat_cmp objects id t
 abbrev pub denoted_in : Ref → Object → Answer Version
 denoted_in r o = or_else (NoVersion r) (version_of r.version o.versions)
 
--- the fields of a version with a value in a slot, if it has the slot, where a record can hold them
-unfoldable pub fields_with : ℕ → Value → Version → Answer (List Value)
-fields_with slot value v =
-    let fields = slice_set (values_of v.fields) slot value in
-    needs TooLong (are_fields fields) >>= λ _. Ok fields
+-- fields with a stamp, and with that of what is made or set now, where a record can hold them
+abbrev pub kept_as : ℕ → List Value → Answer (ℕ × List Value)
+kept_as stamp fields = needs TooLong (are_fields stamp fields) >>= λ _. Ok (stamp, fields)
+
+abbrev pub kept_now : Layer → List Value → Answer (ℕ × List Value)
+kept_now x = kept_as x.first.added
+
+-- the fields of a version with a value in a slot, if it has the slot
+unfoldable pub fields_with : ℕ → Value → Version → Layer → Answer (ℕ × List Value)
+fields_with slot value v x = kept_now x (slice_set (values_of v.fields) slot value)
 
 -- a field of the version that a reference denotes is set
 unfoldable pub write_with : Option Tracked → Ref → ℕ → Value → Layer → Answer (Unit {0} × Layer)
 write_with new r slot value x = do
   o ← live new r.object x
   v ← denoted_in r o
-  fields ← fields_with slot value v
+  fields ← fields_with slot value v x
   keys ← holding (version_key r.object v.number ∷ []) x
   Ok (tt, with_now r.object new (written v.number fields o) keys x)
 
@@ -109,10 +114,10 @@ unfoldable pub derive_with : Option Tracked → Ref → Layer → Answer (Ref ×
 derive_with new r x = do
   o ← live new r.object x
   v ← denoted_in r o
-  _ ← needs TooLong (are_fields (values_of v.fields))
+  fields ← kept_now x (values_of v.fields)
   keys ← holding (object_key r.object ∷ version_key r.object (o.last + 1) ∷ []) x
   _ ← needs NoNumber (nat_lt o.last version_limit)
-  Ok (new_version r o, with_now r.object new (derived v.number (values_of v.fields) o) keys x)
+  Ok (new_version r o, with_now r.object new (derived v.number fields o) keys x)
 
 unfoldable pub derive : List Class → Entries → Ref → Layer → Answer (Ref × Layer)
 derive classes base r x = do
@@ -157,15 +162,15 @@ abbrev pub next_number : Layer → Answer ℕ
 next_number x = cond (nat_lt x.next number_limit) (Ok x.next) (Err NoNumber)
 
 -- a new object with its first version, which counts as touched
-abbrev pub created : ℕ → List Value → List Key → Layer → Layer
+abbrev pub created : ℕ → ℕ × List Value → List Key → Layer → Layer
 created class fields keys x = touching x.next (record (with_now x.next None (made class fields) keys x) { next = x.next + 1 })
 
 unfoldable pub create : ℕ → List Value → Layer → Answer (ℕ × Layer)
 create class fields x = do
-  _ ← needs TooLong (are_fields fields)
+  kept ← kept_now x fields
   keys ← holding (object_key x.next ∷ version_key x.next 1 ∷ []) x
   id ← next_number x
-  Ok (id, created class fields keys x)
+  Ok (id, created class kept keys x)
 
 -- an object is removed
 unfoldable pub remove_with : Option Tracked → ℕ → Layer → Answer (Unit {0} × Layer)

@@ -1,5 +1,5 @@
 -- What is collected for the queue, and how much the records grow.
-use Rattle.std.specs.Prelude.{ℕ, ℤ, pos, ◌+◌, ◌-◌, ◌^◌, ◌-ℤ◌, [], ◌∷◌, ◌++◌, length, Bool, true, false, cond, min, nat_le, nat_lt, ◌&&◌}
+use Rattle.std.specs.Prelude.{ℕ, ℤ, pos, ◌+◌, ◌-◌, ◌^◌, ◌-ℤ◌, List, [], ◌∷◌, ◌++◌, length, Bool, true, false, cond, min, nat_le, nat_lt, ◌&&◌}
 use Rattle.std.specs.List.{sum_by}
 use Rattle.std.specs.Map.{values_of}
 use Rattle.ode_codec.specs.declared.record.Entry.{Entry}
@@ -7,6 +7,7 @@ use Rattle.ode_overlay.specs.Layers.{Layer, generation_of, key_count}
 use Rattle.ode_objects.specs.Values.{are_args}
 use Rattle.ode_objects.specs.Weights.{weight_after, weight_before}
 use Rattle.ode_overlay.specs.declared.overlay.Collected.{Collected}
+use Rattle.ode_value.specs.declared.class.Class.{Class}
 use Rattle.ode_value.specs.Limits.{change_limit, generation_limit, number_limit, queue_limit}
 
 -- ---- the queue
@@ -32,19 +33,19 @@ collect e independent x = cond (has_room x && are_args e.args) (true, with_entry
 -- ---- the weight
 
 -- what the records of changed objects took, and take
-abbrev pub bytes_before : Layer → ℕ
-bytes_before x = sum_by weight_before (values_of x.objects)
+abbrev pub bytes_before : List Class → Layer → ℕ
+bytes_before classes x = sum_by (weight_before classes) (values_of x.objects)
 
-abbrev pub bytes_after : Layer → ℕ
-bytes_after x = sum_by weight_after (values_of x.objects)
+abbrev pub bytes_after : List Class → Layer → ℕ
+bytes_after classes x = sum_by (weight_after classes) (values_of x.objects)
 
-abbrev pub growth : Layer → ℤ
-growth x = pos (bytes_after x) -ℤ pos (bytes_before x)
+abbrev pub growth : List Class → Layer → ℤ
+growth classes x = pos (bytes_after classes x) -ℤ pos (bytes_before classes x)
 
 -- a sum, or the greatest number of 63 bits
 abbrev pub within : ℕ → ℕ
 within n = min (2 ^ 63 - 1) n
 
 -- the growth that is told
-abbrev pub growth_told : Layer → ℤ
-growth_told x = pos (within (bytes_after x)) -ℤ pos (within (bytes_before x))
+abbrev pub growth_told : List Class → Layer → ℤ
+growth_told classes x = pos (within (bytes_after classes x)) -ℤ pos (within (bytes_before classes x))

@@ -6,13 +6,12 @@ ghost use Rattle.ode_keep.specs.Entries.{Entries};
 ghost use Rattle.ode_overlay.specs.Answers.{◌>>=◌ as bind, Answers, Gives, Leaves, UnlessFault, from_records, is_usable};
 ghost use Rattle.ode_objects.specs.Objects.{activation_keys, dead, derived, values_of, without, written};
 ghost use Rattle.ode_objects.specs.Tracked.{read_object};
-ghost use Rattle.ode_objects.specs.Values.{are_fields};
 ghost use Rattle.std.specs.Option.{option_map};
 ghost use Rattle.ode_overlay.specs.Layers.{holding, key_count, touching};
-ghost use Rattle.ode_overlay.specs.declared.error.OverlayError.TheVariants.{NoNumber, TooLong};
+ghost use Rattle.ode_overlay.specs.declared.error.OverlayError.TheVariants.{NoNumber};
 ghost use Rattle.ode_value.specs.Keys.{object_key, version_key};
 ghost use Rattle.ode_value.specs.Limits.{change_limit, number_limit, version_limit};
-ghost use Rattle.ode_overlay.specs.Changing.{create, created, denoted_in, derive, derive_with, drop_version, drop_with, fields_with, fresh, live, needs, next_drawn, next_number, remove, remove_with, touch, touch_first, touch_with, touched_with, with_now, write, write_with};
+ghost use Rattle.ode_overlay.specs.Changing.{create, created, denoted_in, derive, derive_with, drop_version, drop_with, fresh, kept_as, live, needs, next_drawn, next_number, remove, remove_with, touch, touch_first, touch_with, touched_with, with_now, write, write_with};
 
 use crate::error::OverlayError;
 use crate::overlay::{Change, Overlay, put_new, put_now};
@@ -60,19 +59,19 @@ fn denoted(of: Ref, object: &Object) -> Result<&Version, OverlayError>
 }
 
 // The fields of a version with a value in a slot, where a record can hold them.
-#[tactic(auto, unfolding(crate::specs::Changing::fields_with))]
 fn fields_with(
     alloc: Global,
+    stamp: u32,
     slot: u16,
     value: Value,
     version: &Version,
 ) -> Result<KeptFields, OverlayError>
-    ensures value { Answers result (fields_with slot value version.now) }
+    ensures value { Answers result (kept_as stamp (slice_set (values_of version.now.fields) slot value)) }
     ensures usable { is_usable result ≡ true }
     ensures calm { IsErrOf result OverlayError.DiskFault → ⊥ }
 {
     let fields = with_value(alloc, slot, value, version.fields.values())?;
-    match KeptFields::new(fields) {
+    match KeptFields::new(stamp, fields) {
         Some(fields) => Ok(fields),
         None => Err(OverlayError::TooLong),
     }
@@ -89,12 +88,12 @@ fn as_read(found: Option<Object>) -> Option<Tracked>
 }
 
 // The fields of a version again, where a record can hold them.
-fn kept_fields(alloc: Global, version: &Version) -> Result<KeptFields, OverlayError>
-    ensures value { Answers result (bind (needs TooLong (are_fields (values_of version.now.fields))) (λ _. Ok (values_of version.now.fields))) }
+fn kept_fields(alloc: Global, stamp: u32, version: &Version) -> Result<KeptFields, OverlayError>
+    ensures value { Answers result (kept_as stamp (values_of version.now.fields)) }
     ensures usable { is_usable result ≡ true }
     ensures calm { IsErrOf result OverlayError.DiskFault → ⊥ }
 {
-    match KeptFields::new(version.fields.values().copy(alloc)?) {
+    match KeptFields::new(stamp, version.fields.values().copy(alloc)?) {
         Some(fields) => Ok(fields),
         None => Err(OverlayError::TooLong),
     }
@@ -163,7 +162,7 @@ impl Overlay {
     }
 
     // What becomes of an object where a field is set.
-    #[tactic(auto, unfolding(crate::specs::Changing::write_with))]
+    #[tactic(auto, unfolding(crate::specs::Changing::fields_with, crate::specs::Changing::write_with))]
     fn written(
         &self,
         new: &Option<Tracked>,
@@ -178,7 +177,7 @@ impl Overlay {
     {
         let object = self.live(new, of.object)?;
         let version = denoted(of, object)?;
-        let fields = fields_with(self.alloc, slot, value, version)?;
+        let fields = fields_with(self.alloc, self.first.added, slot, value, version)?;
         let number = version.number;
         let now = written_in(self.alloc, object, number, fields);
         self.change(&[version_key(of.object, u64::from(number))], now)
@@ -254,7 +253,7 @@ impl Overlay {
     {
         let object = self.live(new, of.object)?;
         let version = denoted(of, object)?;
-        let fields = kept_fields(self.alloc, version)?;
+        let fields = kept_fields(self.alloc, self.first.added, version)?;
         let keys = self.derive_keys(of.object, object)?;
         match derived_in(self.alloc, object, version.number, fields) {
             Ok(object) => Ok(Change { object, keys }),
@@ -509,7 +508,7 @@ impl Overlay {
         ensures acts { Leaves result self.new (create class fields self.old) }
         ensures err { OnErr result (self.new ≡ self.old) }
     {
-        let Some(fields) = KeptFields::new(fields) else {
+        let Some(fields) = KeptFields::new(self.first.added, fields) else {
             return Err(OverlayError::TooLong);
         };
         self.create_kept(class, fields)

@@ -95,23 +95,23 @@ impl Overlay {
     }
 
     // What the records of changed objects take, or the greatest number.
-    fn bytes_after(&self) -> u64
-        ensures { result ≡ capped (bytes_after self.now) }
+    fn bytes_after(&self, classes: &Classes) -> u64
+        ensures { result ≡ capped (bytes_after classes.now self.now) }
     {
         let mut bytes: u64 = 0;
         for (_, tracked) in &self.objects {
-            bytes = bytes.saturating_add(tracked.weight_after());
+            bytes = bytes.saturating_add(tracked.weight_after(classes));
         }
         bytes
     }
 
     // What they took when the transaction began.
-    fn bytes_before(&self) -> u64
-        ensures { result ≡ capped (bytes_before self.now) }
+    fn bytes_before(&self, classes: &Classes) -> u64
+        ensures { result ≡ capped (bytes_before classes.now self.now) }
     {
         let mut bytes: u64 = 0;
         for (_, tracked) in &self.objects {
-            bytes = bytes.saturating_add(tracked.weight_before());
+            bytes = bytes.saturating_add(tracked.weight_before(classes));
         }
         bytes
     }
@@ -120,14 +120,14 @@ impl Overlay {
     /// others.
     pub fn grown<H: Host, K: Keep<H>>(
         &self,
-        _classes: &Classes,
+        classes: &Classes,
         _heap: &mut Heap<K>,
         _host: &mut H,
     ) -> Result<i64, OverlayError>
-        ensures grows { result ≡ Ok (growth_told self.now) }
+        ensures grows { result ≡ Ok (growth_told classes.now self.now) }
         ensures heap { _heap.new ≡ _heap.old }
         ensures host { _host.new ≡ _host.old }
     {
-        Ok(within(self.bytes_after()) - within(self.bytes_before()))
+        Ok(within(self.bytes_after(classes)) - within(self.bytes_before(classes)))
     }
 }

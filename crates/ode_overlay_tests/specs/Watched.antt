@@ -33,7 +33,7 @@ watched = record {
   number = 1;
   name = codes "P";
   parent = None;
-  fields = record { name = codes "n"; sort = sort.Int } ∷ [];
+  fields = record { name = codes "n"; sort = sort.Int; birth = 0; literal = None } ∷ [];
   methods = [];
   constraints = [];
   kinds = [];

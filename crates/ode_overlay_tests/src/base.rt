@@ -106,6 +106,8 @@ fn fields(alloc: Global) -> Result<List<Field>, AllocError>
     fields.push(Field {
         name,
         sort: Sort::Int,
+        birth: 0,
+        literal: None,
     })?;
     Ok(fields)
 }

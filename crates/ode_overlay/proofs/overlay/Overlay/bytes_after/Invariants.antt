@@ -7,6 +7,6 @@ use Rattle.ode_overlay.proofs.overlay.Overlay.bytes_after.Given as goal
 
 abbrev pub invariant-loop-tracked : goal.invariant-loop-tracked
 invariant-loop-tracked l = record {
-  rest : capped (l.bytes + sum_by weight_after (values_of l.tracked-iterator)) ≡ capped (bytes_after l.self);
+  rest : capped (l.bytes + sum_by (weight_after l.classes) (values_of l.tracked-iterator)) ≡ capped (bytes_after l.classes l.self);
   fits : l.bytes < 2 ^ 64;
 }
