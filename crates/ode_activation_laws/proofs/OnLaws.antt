@@ -83,6 +83,7 @@ module _ (tables : ℕ → ℕ → Table) (t : Trigger) (args : List Value) (x :
         counters = stands.counters;
         queued = stands.queued;
         next = ap (λ n. n + 1) stands.next;
+        added = stands.added;
         tracked = tracked_now x y id new o (activated active o) g h then_y.now stands at (λ q. refl) (becomes o) (kept_too o) refl refl;
         others = others_now x y id new o (activated active o) g h then_y.now stands at (λ q. refl) (becomes o) (kept_too o) refl refl;
         touched = stands.touched;

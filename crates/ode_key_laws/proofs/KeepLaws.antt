@@ -22,14 +22,14 @@ use Rattle.ode_laws.specs.Alike.{NumberTx, NumberWorld}
 use Rattle.ode_objects.specs.Loading.{whole_in}
 use Rattle.ode_objects.specs.Objects.{activated, activation_keys, dead, derived, is_on, made, new_active, object_keys, switched_off, values_of, with_states, without, written}
 use Rattle.ode_objects.specs.Tracked.{as_first, changed_to, made_object, read_object}
-use Rattle.ode_objects.specs.Values.{are_args, are_fields}
+use Rattle.ode_objects.specs.Values.{are_args}
 use Rattle.ode_objects.specs.declared.object.Active.{Active}
 use Rattle.ode_objects.specs.declared.object.Object.{Object}
 use Rattle.ode_objects.specs.declared.tracked.First.{First}
 use Rattle.ode_objects.specs.declared.tracked.First.TheVariants.{Same, Other, Absent}
 use Rattle.ode_objects.specs.declared.tracked.Tracked.{Tracked}
 use Rattle.ode_overlay.specs.Answers.{◌>>=◌, from_records}
-use Rattle.ode_overlay.specs.Changing.{activate, activate_with, create, created, deactivate, deactivate_with, denoted_in, derive, derive_with, drop_version, drop_with, fields_with, fresh, fresh_at, needs, next_drawn, now_tracked, object_of, put_acts, put_new, put_of, put_with, remove, remove_with, switch_off, touch, touch_first, touch_with, touched_with, with_now, write, write_with}
+use Rattle.ode_overlay.specs.Changing.{activate, activate_with, create, created, deactivate, deactivate_with, denoted_in, derive, derive_with, drop_version, drop_with, fields_with, fresh, fresh_at, kept_now, needs, next_drawn, now_tracked, object_of, put_acts, put_new, put_of, put_with, remove, remove_with, switch_off, touch, touch_first, touch_with, touched_with, with_now, write, write_with}
 use Rattle.ode_overlay.specs.Layers.{Layer, begun, is_touched, tracked_at}
 use Rattle.ode_overlay.specs.Reading.{not_null}
 use Rattle.ode_overlay.specs.Settling.{collect, has_room, with_entry}
@@ -194,16 +194,16 @@ module _ (classes : List Class) (base : Entries) (x : Layer) (y : NumberTx) (r :
   unfolding write write_with
   write_holds slot value =
       bound Q (not_null r) _ (λ _. read_bound Q (fresh classes base r.object x) of _ read.read (live_bound Q r.object (object_of of r.object x) _
-      (λ t is. bound Q (denoted_in r t.current) _ (λ v. bound Q (fields_with slot value v) _
+      (λ t is. bound Q (denoted_in r t.current) _ (λ v. bound Q (fields_with slot value v x) _
       (λ fields. held_bound Q x (version_key r.object v.number ∷ []) _ (puts t is (written v.number fields t.current) (version_key r.object v.number ∷ []) refl))))))
 
   pub derive_holds : StillHoldsKeys y.first (derive classes base r x)
   unfolding derive derive_with
   derive_holds =
       bound Q (not_null r) _ (λ _. read_bound Q (fresh classes base r.object x) of _ read.read (live_bound Q r.object (object_of of r.object x) _
-      (λ t is. bound Q (denoted_in r t.current) _ (λ v. bound Q (needs TooLong (are_fields (values_of v.fields))) _
-      (λ _. held_bound Q x (object_key r.object ∷ version_key r.object (t.current.last + 1) ∷ []) _ (bound Q (needs NoNumber (nat_lt t.current.last version_limit)) _
-      (λ _. puts t is (derived v.number (values_of v.fields) t.current) (object_key r.object ∷ version_key r.object (t.current.last + 1) ∷ []) refl)))))))
+      (λ t is. bound Q (denoted_in r t.current) _ (λ v. bound Q (kept_now x (values_of v.fields)) _
+      (λ fields. held_bound Q x (object_key r.object ∷ version_key r.object (t.current.last + 1) ∷ []) _ (bound Q (needs NoNumber (nat_lt t.current.last version_limit)) _
+      (λ _. puts t is (derived v.number fields t.current) (object_key r.object ∷ version_key r.object (t.current.last + 1) ∷ []) refl)))))))
 
   pub drop_holds : StillHoldsKeys y.first (drop_version classes base r x)
   unfolding drop_version drop_with
@@ -222,23 +222,24 @@ module _ (class : ℕ) (fields : List Value) (x : Layer) (y : NumberTx) (stands 
   abbrev made_keys : List Key
   made_keys = object_key x.next ∷ version_key x.next 1 ∷ []
 
-  abbrev made_x : Layer
-  made_x = created class fields (fold with_key x.keys made_keys) x
+  -- with these fields and a stamp
+  abbrev made_x : ℕ × List Value → Layer
+  made_x stamped = created class stamped (fold with_key x.keys made_keys) x
 
-  made_holds : HoldsKeys y.first made_x
-  made_holds =
-      then_holds y.first x made_x x.next (made_object (made class fields)) made_keys holds refl
-      (λ n. lookup_put nat_cmp_total x.next (now_tracked (made class fields) (tracked_at x.next x)) n x.objects
-      ∙ ap (λ (f : Option Tracked). cond (is_at (nat_cmp x.next) n) (Some (now_tracked (made class fields) f)) (tracked_at n x)) (not_tracked (tracked_at x.next x) refl))
+  made_holds : (stamped : ℕ × List Value) → HoldsKeys y.first (made_x stamped)
+  made_holds stamped =
+      then_holds y.first x (made_x stamped) x.next (made_object (made class stamped)) made_keys holds refl
+      (λ n. lookup_put nat_cmp_total x.next (now_tracked (made class stamped) (tracked_at x.next x)) n x.objects
+      ∙ ap (λ (f : Option Tracked). cond (is_at (nat_cmp x.next) n) (Some (now_tracked (made class stamped) f)) (tracked_at n x)) (not_tracked (tracked_at x.next x) refl))
       (λ n at. touched_others x.touched x.next n at (is_touched x.next x)) (λ touched. tt) (λ o other. absurd (cc other))
 
   pub create_holds : StillHoldsKeys y.first (create class fields x)
   unfolding create
   create_holds =
-      bound (HoldsKeys y.first) (needs TooLong (are_fields fields)) _ (λ _. held_bound (HoldsKeys y.first) x made_keys _ (by_number (nat_lt x.next number_limit))) where
-        by_number : (b : Bool) → StillHoldsKeys y.first (cond b (Ok x.next) (Err NoNumber) >>= λ id. Ok (id, created class fields (fold with_key x.keys made_keys) x))
-        by_number true = made_holds
-        by_number false = tt
+      bound (HoldsKeys y.first) (kept_now x fields) _ (λ stamped. held_bound (HoldsKeys y.first) x made_keys _ (by_number stamped (nat_lt x.next number_limit))) where
+        by_number : (stamped : ℕ × List Value) (b : Bool) → StillHoldsKeys y.first (cond b (Ok x.next) (Err NoNumber) >>= λ id. Ok (id, made_x stamped))
+        by_number stamped true = made_holds stamped
+        by_number stamped false = tt
 
 -- ---- at the start, and where a firing is collected
 

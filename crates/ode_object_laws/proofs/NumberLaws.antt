@@ -84,7 +84,7 @@ pub numbers_kept : IsKept HasNumbers AnyTaking
 numbers_kept = record {
   later = later_numbers;
   set = λ next id n fields o fit has. record { drawn = has.drawn; rising = has.rising; activations = has.activations };
-  version = λ next id v o fit has. record { drawn = has.drawn; rising = has.rising; activations = has.activations };
+  version = λ next id stamp v o fit has. record { drawn = has.drawn; rising = has.rising; activations = has.activations };
   dropped = λ next id n o more has. record { drawn = has.drawn; rising = has.rising; activations = has.activations };
   removed = λ next id o has. record { drawn = has.drawn; rising = has.rising; activations = has.activations };
   active = λ next id class trigger args o may has. active_numbers next id class trigger args o has;

@@ -59,7 +59,7 @@ module _ (classes : List Declared) where
   triggers_kept = record {
     later = λ low next o up has. has;
     set = λ next id n fields o fit has. has;
-    version = λ next id v o fit has. has;
+    version = λ next id stamp v o fit has. has;
     dropped = λ next id n o more has. has;
     removed = λ next id o has. has;
     active = λ next id class trigger args o takes has. more_had o.class class trigger next args o.activations takes has;

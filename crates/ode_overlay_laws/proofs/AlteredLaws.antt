@@ -110,6 +110,7 @@ module _ (x : Layer) (y : NumberTx) (id : ℕ) (new : Option Tracked) (was o : O
     counters = stands.counters;
     queued = stands.queued;
     next = stands.next;
+    added = stands.added;
     tracked = λ n t is. tracked_in n t (is_at (nat_cmp id) n) refl (sym (found n) ∙ is);
     others = λ n is. others_in n (is_at (nat_cmp id) n) refl (sym (found n) ∙ is);
     touched = stands.touched;

@@ -22,6 +22,7 @@ begun_law origin w = record {
   counters = refl;
   queued = refl;
   next = refl;
+  added = refl;
   tracked = λ id t is. absurd (cc is);
   others = λ id none. record { object = refl; kept = refl };
   touched = refl;

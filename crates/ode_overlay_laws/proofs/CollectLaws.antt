@@ -72,6 +72,7 @@ module _ (x : Layer) (y : NumberTx) (stands : Stands x y) where
     counters = stands.counters;
     queued = stands.queued;
     next = stands.next;
+    added = stands.added;
     tracked = stands.tracked;
     others = stands.others;
     touched = stands.touched;

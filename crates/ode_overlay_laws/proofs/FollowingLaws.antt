@@ -3,12 +3,15 @@ use Rattle.std.proofs.Common.{◌≡◌, ℕ, List, ◌∷◌, ◌++◌, Bool, t
 use Rattle.std.specs.Prelude.{◌&&◌, nat_le, is_some}
 use Rattle.std.specs.List.{AllByRecursion, fold}
 use Rattle.std.specs.Option.{option_and_then}
+use Rattle.ode_codec.specs.declared.record.Counters.{Counters}
 use Rattle.ode_laws.specs.Alike.{NumberTx}
 use Rattle.ode_objects.specs.declared.object.Object.{Object}
 use Rattle.ode_objects.specs.declared.tracked.Tracked.{Tracked}
 use Rattle.ode_overlay.specs.Answers.{Answer, ◌>>=◌}
+use Rattle.ode_overlay.specs.Changing as calls
 use Rattle.ode_overlay.specs.Changing.{live_of}
 use Rattle.ode_overlay.specs.Layers.{Layer, few, holding, key_count}
+use Rattle.ode_overlay.specs.declared.error.OverlayError.{OverlayError}
 use Rattle.ode_overlay.specs.declared.error.OverlayError.TheVariants.{NoObject, TooManyChanges}
 use Rattle.ode_overlay_laws.proofs.AlteredLaws.{Has}
 use Rattle.ode_overlay_laws.proofs.KeySets.{IsPart, all_between, counted_between}
@@ -20,6 +23,7 @@ use Rattle.ode_value.specs.Changes.{changes, draws_none, is_live, with_key}
 use Rattle.ode_value.specs.Denoting.{if_live, object_at}
 use Rattle.ode_value.specs.Keys.{counters_key}
 use Rattle.ode_value.specs.Limits.{change_limit, value_limit}
+use Rattle.ode_value.specs.Making.{stamp_now}
 use Rattle.ode_value.specs.Worlds as worlds
 use Rattle.ode_value.specs.declared.key.Key.{Key}
 use Rattle.ode_value.specs.declared.reason.Reason.TheVariants as reason
@@ -52,6 +56,17 @@ follows_live {R} {S} y id go act rest (Some t) has next = by_live t.current.live
 pub finds_object : {R : Type 0} (y : NumberTx) (id : ℕ) (q : worlds.Object) (next : worlds.Object → Act (Unit {0}) ℕ R) → object_at y.now.bones id ≡ Some q
     → go_on (machine.object id y) next ≡ next q y
 finds_object y id q next is = ap (λ (r : Option worlds.Object). go_on (found r y) next) is
+
+-- ---- fields that are kept
+
+-- the stamp of what is made or set now is that of the overlay's counters
+pub stamps_same : (x : Layer) (y : NumberTx) → Stands x y → stamp_now y.now.bones ≡ x.first.added
+stamps_same x y stands = ap length stands.added ∙ sym (ap (λ (c : Counters). c.added) stands.counters)
+
+-- what a test asks for comes first
+pub asks_first : {A B : Type 0} (why : OverlayError) (b : Bool) (a : A) (next : A → Answer B) → (calls.needs why b >>= λ _. Ok a) >>= next ≡ calls.needs why b >>= λ _. next a
+asks_first why true a next = refl
+asks_first why false a next = refl
 
 -- ---- keys that are held
 

@@ -22,9 +22,9 @@ use Rattle.ode_overlay.specs.Changing.{create, created, next_number, now_tracked
 use Rattle.ode_overlay.specs.Layers.{Layer, few, holding, key_count, tracked_at}
 use Rattle.ode_overlay.specs.declared.error.OverlayError.TheVariants.{TooLong, TooManyChanges}
 use Rattle.ode_overlay_laws.proofs.AlteredLaws.{at_same, now_current}
-use Rattle.ode_overlay_laws.proofs.FollowingLaws.{as_well, counts_same, tested}
+use Rattle.ode_overlay_laws.proofs.FollowingLaws.{as_well, asks_first, counts_same, stamps_same, tested}
 use Rattle.ode_overlay_laws.proofs.KeySets.{IsPart, all_between, object_part, version_part}
-use Rattle.ode_overlay_laws.specs.Following.{Follows, IsNewNumber}
+use Rattle.ode_overlay_laws.specs.Following.{Follows, IsNewNumber, tells_new}
 use Rattle.ode_overlay_laws.specs.Standing.{IsAsAtFirst, IsIn, Stands, kept_as, object_as}
 use Rattle.ode_value.specs.Acts.{Act, Outcome, Done, Aborted, ◌>>◌, does, gives, go_on, needs, prints, turns}
 use Rattle.ode_value.specs.Changes as machine
@@ -33,7 +33,7 @@ use Rattle.ode_value.specs.Denoting.{object_numbered}
 use Rattle.ode_value.specs.Keys.{object_key, version_key}
 use Rattle.ode_value.specs.Lengths.{version_size}
 use Rattle.ode_value.specs.Limits.{change_limit, number_limit, value_limit}
-use Rattle.ode_value.specs.Making.{makes, object_with, with_new}
+use Rattle.ode_value.specs.Making.{makes, object_with, stamp_now, with_new}
 use Rattle.ode_value.specs.Pasts.{numbers}
 use Rattle.ode_value.specs.Tables.{Table}
 use Rattle.ode_value.specs.Texts.{new_line}
@@ -118,17 +118,21 @@ module _ (tables : ℕ → ℕ → Table) (class : ℕ) (fields : List Value) (x
   abbrev ks : List Key
   ks = object_key id ∷ version_key id 1 ∷ []
 
+  -- the fields, with the stamp of what is made now
+  abbrev stamped : ℕ × List Value
+  stamped = (x.first.added, fields)
+
   abbrev then_x : Layer
-  then_x = created class fields (fold with_key x.keys ks) x
+  then_x = created class stamped (fold with_key x.keys ks) x
 
   abbrev then_y : NumberTx
   then_y = touching id (record (machine.holding ks y) { now = with_new (numbers tables) class fields y.now })
 
   abbrev tracked_then : Tracked
-  tracked_then = now_tracked (made class fields) (tracked_at id x)
+  tracked_then = now_tracked (made class stamped) (tracked_at id x)
 
   abbrev new_object : worlds.Object
-  new_object = object_with y.now.bones.next class fields
+  new_object = object_with (stamp_now y.now.bones) y.now.bones.next class fields
 
   is_new : (new_object.id == id) ≡ true
   is_new = ap (λ n. n == id) stands.next ∙ eq-eqb id id refl
@@ -139,16 +143,18 @@ module _ (tables : ℕ → ℕ → Table) (class : ℕ) (fields : List Value) (x
     turned : (a b : ℕ) → is_at (nat_cmp a) b ≡ false → (a == b) ≡ false
     turned a b apart = grind (arith, nat_tests)
 
-  here : IsIn then_y.now id (made class fields)
+  here : IsIn then_y.now id (made class stamped)
   here = record {
-    object = numbered_push id y.now.bones.objects new_object is_new fresh.object ∙ ap (λ n. Some (object_with n class fields)) stands.next;
+    object =
+        numbered_push id y.now.bones.objects new_object is_new fresh.object ∙ ap (λ n. Some (object_with (stamp_now y.now.bones) n class fields)) stands.next
+        ∙ ap (λ s. Some (object_with s id class fields)) (stamps_same x y stands);
     kept = kept_push id y.now.pasts (y.now.bones.next, record { own = tt; activations = [] }) is_new fresh.kept;
   }
 
   tracked_in : (n : ℕ) (t : Tracked) (b : Bool) → is_at (nat_cmp id) n ≡ b → cond b (Some tracked_then) (tracked_at n x) ≡ Some t → IsIn then_y.now n t.current
   tracked_in n t true is e =
       let one : tracked_then ≡ t = cc in
-      let current : made class fields ≡ t.current = sym (now_current (made class fields) (tracked_at id x)) ∙ ap (λ (u : Tracked). u.current) one in
+      let current : made class stamped ≡ t.current = sym (now_current (made class stamped) (tracked_at id x)) ∙ ap (λ (u : Tracked). u.current) one in
       subst (λ m. IsIn then_y.now m t.current) (sym (at_same id n is)) (subst (λ (c : Object). IsIn then_y.now id c) current here)
   tracked_in n t false is e =
       let there = stands.tracked n t e in
@@ -172,6 +178,7 @@ module _ (tables : ℕ → ℕ → Table) (class : ℕ) (fields : List Value) (x
     counters = stands.counters;
     queued = stands.queued;
     next = ap (λ n. n + 1) stands.next;
+    added = stands.added;
     tracked = λ n t is. tracked_in n t (is_at (nat_cmp id) n) refl (sym (lookup_put nat_cmp_total id tracked_then n x.objects) ∙ is);
     others = λ n is. others_in n (is_at (nat_cmp id) n) refl (sym (lookup_put nat_cmp_total id tracked_then n x.objects) ∙ is);
     touched = ap (λ (ns : List ℕ). ns ++ id ∷ []) stands.touched ∙ sym (ap (λ b. cond b x.touched (x.touched ++ id ∷ [])) fresh.touched);
@@ -184,12 +191,18 @@ module _ (tables : ℕ → ℕ → Table) (class : ℕ) (fields : List Value) (x
   abbrev act_at : ℕ → Act (Unit {0}) ℕ ℕ
   act_at n = turns (with_new (numbers tables) class fields) >> (does (touching n) >> (prints (new_line n) >> gives n))
 
-  abbrev made_at : ℕ → Outcome (Unit {0}) ℕ ℕ
-  made_at n = go_on (changes (object_key n ∷ version_key n 1 ∷ []) (version_size fields) has_number y) (λ _. act_at n)
+  abbrev made_at : ℕ → ℕ → Outcome (Unit {0}) ℕ ℕ
+  made_at stamp n = go_on (changes (object_key n ∷ version_key n 1 ∷ []) (version_size stamp fields) has_number y) (λ _. act_at n)
 
-  pub made_law : Follows y (λ n. prints (new_line n) >> gives n) (create class fields x) (makes (numbers tables) class fields y)
+  abbrev rest : ℕ × List Value → List Key → ℕ → Answer (ℕ × Layer)
+  rest fields keys n = Ok (n, created class fields keys x)
+
+  pub made_law : Follows y tells_new (create class fields x) (makes (numbers tables) class fields y)
   unfolding create
   made_law =
-      as_well y (λ n. prints (new_line n) >> gives n) (create class fields x) (makes (numbers tables) class fields y) (made_at id) (ap made_at stands.next)
-      (follows_drawing x y ks stands (object_part id, (version_part id 1, tt)) (version_size fields) (are_fields fields) (λ n. prints (new_line n) >> gives n)
-      (λ keys n. Ok (n, created class fields keys x)) (act_at id) (fields_room fields) (then_y, (made_stands, (record { first = refl; bones = refl; deferred = refl; text = refl; run = refl }, refl))))
+      subst (λ (answer : Answer (ℕ × Layer)). Follows y tells_new answer (makes (numbers tables) class fields y))
+      (sym (asks_first TooLong (are_fields x.first.added fields) stamped (λ kept. holding ks x >>= λ keys. next_number x >>= rest kept keys)))
+      (as_well y tells_new (calls.needs TooLong (are_fields x.first.added fields) >>= λ _. holding ks x >>= λ keys. next_number x >>= rest stamped keys) (makes (numbers tables) class fields y)
+      (made_at x.first.added id) (ap (λ n. made_at (stamp_now y.now.bones) n) stands.next ∙ ap (λ s. made_at s id) (stamps_same x y stands))
+      (follows_drawing x y ks stands (object_part id, (version_part id 1, tt)) (version_size x.first.added fields) (are_fields x.first.added fields) tells_new (rest stamped) (act_at id) (fields_room x.first.added fields)
+      (then_y, (made_stands, (record { first = refl; bones = refl; deferred = refl; text = refl; run = refl }, refl)))))

@@ -71,6 +71,7 @@ module _ (x : Layer) (y : NumberTx) (id : ℕ) (new : Option Tracked) (stands : 
     counters = stands.counters;
     queued = stands.queued;
     next = stands.next;
+    added = stands.added;
     tracked = tracked_in new fresh;
     others = others_in new;
     touched = ap (λ (ns : List ℕ). ns ++ id ∷ []) stands.touched ∙ sym (ap (λ b. cond b x.touched (x.touched ++ id ∷ [])) not_yet);

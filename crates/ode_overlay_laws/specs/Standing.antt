@@ -2,7 +2,7 @@
 use Rattle.std.specs.Prelude.{◌≡◌, ℕ, ◌-◌, ◌^◌, List, [], ◌∷◌, ◌++◌, map, length, Option, Some, None}
 use Rattle.ode_heap.specs.Answering.{counters_of}
 use Rattle.ode_laws.specs.Alike.{NumberTx, NumberWorld}
-use Rattle.ode_objects.specs.Objects.{values_of}
+use Rattle.ode_objects.specs.Objects.{stamp_of, values_of}
 use Rattle.ode_objects.specs.declared.object.Active.{Active}
 use Rattle.ode_objects.specs.declared.object.Object.{Object}
 use Rattle.ode_objects.specs.declared.object.Version.{Version}
@@ -26,7 +26,7 @@ use Rattle.ode_value.specs.declared.key.Key.{Key}
 -- ---- its parts, as the machine has them
 
 abbrev pub version_as : Version → versions.Version
-version_as v = record { number = v.number; parent = v.parent; fields = values_of v.fields }
+version_as v = record { number = v.number; parent = v.parent; stamp = stamp_of v.fields; fields = values_of v.fields }
 
 abbrev pub active_as : Active → objects.Activation
 active_as a = record { number = a.number; class = a.class; trigger = a.trigger; args = a.args; on = a.on }
@@ -74,13 +74,14 @@ pub record IsAsAtFirst (now first : NumberWorld) (id : ℕ) : Type 0 where
   pub object : object_numbered id now.bones.objects ≡ object_numbered id first.bones.objects
   pub kept : kept_at id now.pasts ≡ kept_at id first.pasts
 
--- The counters and the queue are the first world's. The world now has the tracked objects as they are now, and the others as at first.
--- All else is the same; the keys stand between those that a transaction begins with.
+-- The counters and the queue are the first world's. The world now has no more added fields, the tracked objects as they are now, and the
+-- others as at first. All else is the same; the keys stand between those that a transaction begins with.
 pub record Stands (x : Layer) (y : NumberTx) : Type 0 where
   pub origin : y.origin ≡ origin_as x.origin
   pub counters : x.first ≡ counters_of y.first.bones
   pub queued : x.queued ≡ length (waiting y.origin y.first.bones.queue)
   pub next : y.now.bones.next ≡ x.next
+  pub added : y.now.bones.added ≡ y.first.bones.added
   pub tracked : (id : ℕ) (t : Tracked) → tracked_at id x ≡ Some t → IsIn y.now id t.current
   pub others : (id : ℕ) → tracked_at id x ≡ None → IsAsAtFirst y.now y.first id
   pub touched : y.touched ≡ x.touched

@@ -107,6 +107,7 @@ module _ (by : ℕ → ℕ → Table) (place : Place (Unit {0}) ℕ) (kind : Kin
         counters = stands.counters;
         queued = stands.queued;
         next = stands.next;
+        added = stands.added;
         tracked = tracked_now x y id None t.current (with_states behind t.current) (object_after firings) grow (end_by firings).now stands at (λ q. refl) becomes kept refl refl;
         others = others_now x y id None t.current (with_states behind t.current) (object_after firings) grow (end_by firings).now stands at (λ q. refl) becomes kept refl refl;
         touched = stands.touched;

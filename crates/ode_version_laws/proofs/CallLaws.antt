@@ -8,7 +8,7 @@ use Rattle.ode_objects.specs.declared.object.Object.{Object}
 use Rattle.ode_objects.specs.declared.object.Version.{Version}
 use Rattle.ode_objects.specs.declared.tracked.Tracked.{Tracked}
 use Rattle.ode_overlay.specs.Answers.{Answer, ◌>>=◌}
-use Rattle.ode_overlay.specs.Changing.{activate, activate_with, create, created, deactivate, deactivate_with, denoted_in, derive, derive_with, drop_version, drop_with, fields_with, fresh, live_of, needs, next_drawn, next_number, object_of, put_acts, put_of, put_with, remove, remove_with, switch_off, touch, touch_first, touch_with, touched_with, with_now, write, write_with}
+use Rattle.ode_overlay.specs.Changing.{activate, activate_with, create, created, deactivate, deactivate_with, denoted_in, derive, derive_with, drop_version, drop_with, fields_with, fresh, kept_now, live_of, needs, next_drawn, next_number, object_of, put_acts, put_of, put_with, remove, remove_with, switch_off, touch, touch_first, touch_with, touched_with, with_now, write, write_with}
 use Rattle.ode_overlay.specs.Layers.{Layer, holding, is_touched}
 use Rattle.ode_overlay.specs.Reading.{not_null}
 use Rattle.ode_overlay.specs.declared.error.OverlayError.{OverlayError}
@@ -44,13 +44,19 @@ module _ {R : Type 0} (P : Layer → Type 0) where
     by_live false = tt
 
   -- fields that a record can hold
-  fields_bound : (slot : ℕ) (value : Value) (v : Version) (next : List Value → Answer (R × Layer)) → ((fields : List Value) → are_fields fields ≡ true → IfDone P (next fields))
-      → IfDone P (fields_with slot value v >>= next)
+  kept_bound : (x : Layer) (fields : List Value) (next : ℕ × List Value → Answer (R × Layer)) → (are_fields x.first.added fields ≡ true → IfDone P (next (x.first.added, fields)))
+      → IfDone P (kept_now x fields >>= next)
+  kept_bound x fields next each = by_fit (are_fields x.first.added fields) refl where
+    by_fit : (b : Bool) → are_fields x.first.added fields ≡ b → IfDone P ((needs TooLong b >>= λ _. Ok (x.first.added, fields)) >>= next)
+    by_fit true fit = each fit
+    by_fit false fit = tt
+
+  fields_bound : (slot : ℕ) (value : Value) (v : Version) (x : Layer) (next : ℕ × List Value → Answer (R × Layer))
+      → ((fields : ℕ × List Value) → are_fields fields.0 fields.1 ≡ true → IfDone P (next fields)) → IfDone P (fields_with slot value v x >>= next)
   unfolding fields_with
-  fields_bound slot value v next each = by_fit (slice_set (values_of v.fields) slot value) (are_fields (slice_set (values_of v.fields) slot value)) refl where
-    by_fit : (fields : List Value) (b : Bool) → are_fields fields ≡ b → IfDone P ((needs TooLong b >>= λ _. Ok fields) >>= next)
-    by_fit fields true fit = each fields fit
-    by_fit fields false fit = tt
+  fields_bound slot value v x next each =
+      let fields = slice_set (values_of v.fields) slot value in
+      kept_bound x fields next (each (x.first.added, fields))
 
   number_bound : (x : Layer) (next : ℕ → Answer (R × Layer)) → IfDone P (next x.next) → IfDone P (next_number x >>= next)
   number_bound x next leaves = by_test (nat_lt x.next number_limit) where
@@ -73,18 +79,19 @@ module _ (P : Layer → Type 0) (classes : List Class) (base : Entries) (x : Lay
   Puts id new t o = (keys : List Key) → object_of new id x ≡ Some t → P (with_now id new o keys x)
 
   pub write_leaves : (r : Ref) (slot : ℕ) (value : Value) (new : Option Tracked) → Reads r.object new
-      → ((t : Tracked) (v : Version) (fields : List Value) → are_fields fields ≡ true → Puts r.object new t (written v.number fields t.current)) → IfDone P (write classes base r slot value x)
+      → ((t : Tracked) (v : Version) (fields : ℕ × List Value) → are_fields fields.0 fields.1 ≡ true → Puts r.object new t (written v.number fields t.current)) → IfDone P (write classes base r slot value x)
   unfolding write write_with
   write_leaves r slot value new read put =
       bound P (not_null r) _ (λ _. read_bound P (fresh classes base r.object x) new _ read (live_bound P r.object (object_of new r.object x) _
-      (λ t is. bound P (denoted_in r t.current) _ (λ v. fields_bound P slot value v _ (λ fields fit. bound P (holding (version_key r.object v.number ∷ []) x) _ (λ keys. put t v fields fit keys is))))))
+      (λ t is. bound P (denoted_in r t.current) _ (λ v. fields_bound P slot value v x _ (λ fields fit. bound P (holding (version_key r.object v.number ∷ []) x) _ (λ keys. put t v fields fit keys is))))))
 
-  pub derive_leaves : (r : Ref) (new : Option Tracked) → Reads r.object new → ((t : Tracked) (v : Version) → are_fields (values_of v.fields) ≡ true → Puts r.object new t (derived v.number (values_of v.fields) t.current))
+  pub derive_leaves : (r : Ref) (new : Option Tracked) → Reads r.object new
+      → ((t : Tracked) (v : Version) → are_fields x.first.added (values_of v.fields) ≡ true → Puts r.object new t (derived v.number (x.first.added, values_of v.fields) t.current))
       → IfDone P (derive classes base r x)
   unfolding derive derive_with
   derive_leaves r new read put =
       bound P (not_null r) _ (λ _. read_bound P (fresh classes base r.object x) new _ read (live_bound P r.object (object_of new r.object x) _
-      (λ t is. bound P (denoted_in r t.current) _ (λ v. asked P TooLong (are_fields (values_of v.fields)) _
+      (λ t is. bound P (denoted_in r t.current) _ (λ v. kept_bound P x (values_of v.fields) _
       (λ fit. bound P (holding (object_key r.object ∷ version_key r.object (t.current.last + 1) ∷ []) x) _ (λ keys. bound P (needs NoNumber (nat_lt t.current.last version_limit)) _ (λ _. put t v fit keys is)))))))
 
   pub drop_leaves : (r : Ref) (new : Option Tracked) → Reads r.object new → ((t : Tracked) (v : Version) → nat_lt 1 (length t.current.versions) ≡ true → Puts r.object new t (without v.number t.current))
@@ -129,7 +136,8 @@ module _ (P : Layer → Type 0) (classes : List Class) (base : Entries) (x : Lay
     by_found None is = stays
     by_found (Some t) is = bound P (holding (activation_keys id t.current.activations) x) _ (λ keys. put t keys is)
 
-pub create_leaves : (P : Layer → Type 0) (class : ℕ) (fields : List Value) (x : Layer) → (are_fields fields ≡ true → (keys : List Key) → P (created class fields keys x)) → IfDone P (create class fields x)
+pub create_leaves : (P : Layer → Type 0) (class : ℕ) (fields : List Value) (x : Layer) → (are_fields x.first.added fields ≡ true → (keys : List Key) → P (created class (x.first.added, fields) keys x))
+    → IfDone P (create class fields x)
 unfolding create
 create_leaves P class fields x put =
-    asked P TooLong (are_fields fields) _ (λ fit. bound P (holding (object_key x.next ∷ version_key x.next 1 ∷ []) x) _ (λ keys. number_bound P x _ (put fit keys)))
+    kept_bound P x fields _ (λ fit. bound P (holding (object_key x.next ∷ version_key x.next 1 ∷ []) x) _ (λ keys. number_bound P x _ (put fit keys)))

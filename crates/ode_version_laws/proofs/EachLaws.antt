@@ -55,14 +55,14 @@ GoesOn P y x = (z : NumberTx) → Stands x z → Continues y z → Each P z.now.
 -- It holds where the next number is a later one, and behind each change of an object.
 pub record IsKept (P : Holding) (May : Taking) : Type 0 where
   pub later : (low next : ℕ) (o : worlds.Object) → low ≤ next → P low o → P next o
-  pub set : (next id n : ℕ) (fields : List Value) (o : Object) → are_fields fields ≡ true → Own P next id o → Own P next id (written n fields o)
-  pub version : (next id : ℕ) (v : Version) (o : Object) → are_fields (values_of v.fields) ≡ true → Own P next id o → Own P next id (derived v.number (values_of v.fields) o)
+  pub set : (next id n : ℕ) (fields : ℕ × List Value) (o : Object) → are_fields fields.0 fields.1 ≡ true → Own P next id o → Own P next id (written n fields o)
+  pub version : (next id stamp : ℕ) (v : Version) (o : Object) → are_fields stamp (values_of v.fields) ≡ true → Own P next id o → Own P next id (derived v.number (stamp, values_of v.fields) o)
   pub dropped : (next id n : ℕ) (o : Object) → nat_lt 1 (length o.versions) ≡ true → Own P next id o → Own P next id (without n o)
   pub removed : (next id : ℕ) (o : Object) → Own P next id o → Own P next id (dead o)
   pub active : (next id class trigger : ℕ) (args : List Value) (o : Object) → May (object_as id o) class trigger → Own P next id o → Own P (next + 1) id (activated (new_active next class trigger args) o)
   pub off : (next id number : ℕ) (o : Object) → Own P next id o → Own P next id (switched_off number o)
   pub states : (next id : ℕ) (rs : List Running) (o : Object) → Own P next id o → Own P next id (with_states rs o)
-  pub new : (next class : ℕ) (fields : List Value) → are_fields fields ≡ true → Own P (next + 1) next (made class fields)
+  pub new : (next class : ℕ) (fields : ℕ × List Value) → are_fields fields.0 fields.1 ≡ true → Own P (next + 1) next (made class fields)
 
 module _ (P : Holding) {May : Taking} (kept : IsKept P May) where
   module _ (x : Layer) (y : NumberTx) (stands : Stands x y) (each : Each P y.now.bones) where
@@ -152,8 +152,8 @@ module _ (P : Holding) {May : Taking} (kept : IsKept P May) where
   pub derive_each : (classes : List Class) (base : Entries) (x : Layer) (y : NumberTx) (r : Ref) → Stands x y → Each P y.now.bones → IsRead classes base x y r.object → IfDone (GoesOn P y) (derive classes base r x)
   derive_each classes base x y r stands each found =
       derive_leaves (GoesOn P y) classes base x r found.object found.read (λ t v fit keys is.
-      put_own x y stands each r.object found.object (derived v.number (values_of v.fields) t.current) (with_now r.object found.object (derived v.number (values_of v.fields) t.current) keys x) (le_refl x.next)
-      (kept.version x.next r.object v t.current fit (was_own x y stands each r.object found.object found.is t is)) refl)
+      put_own x y stands each r.object found.object (derived v.number (x.first.added, values_of v.fields) t.current) (with_now r.object found.object (derived v.number (x.first.added, values_of v.fields) t.current) keys x) (le_refl x.next)
+      (kept.version x.next r.object x.first.added v t.current fit (was_own x y stands each r.object found.object found.is t is)) refl)
 
   pub drop_each : (classes : List Class) (base : Entries) (x : Layer) (y : NumberTx) (r : Ref) → Stands x y → Each P y.now.bones → IsRead classes base x y r.object → IfDone (GoesOn P y) (drop_version classes base r x)
   drop_each classes base x y r stands each found =
@@ -189,7 +189,8 @@ module _ (P : Holding) {May : Taking} (kept : IsKept P May) where
 
   pub create_each : (class : ℕ) (fields : List Value) (x : Layer) (y : NumberTx) → Stands x y → Each P y.now.bones → IfDone (GoesOn P y) (create class fields x)
   create_each class fields x y stands each =
-      create_leaves (GoesOn P y) class fields x (λ fit keys. put_own x y stands each x.next None (made class fields) (created class fields keys x) (omega arith) (kept.new x.next class fields fit) refl)
+      let stamped : ℕ × List Value = (x.first.added, fields) in
+      create_leaves (GoesOn P y) class fields x (λ fit keys. put_own x y stands each x.next None (made class stamped) (created class stamped keys x) (omega arith) (kept.new x.next class stamped fit) refl)
 
 -- what follows of a layer follows where a call is done
 pub done_then : {R : Type 0} (P Q : Layer → Type 0) → ((x : Layer) → P x → Q x) → (answer : Answer (R × Layer)) → IfDone P answer → IfDone Q answer

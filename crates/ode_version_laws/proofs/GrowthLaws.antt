@@ -1,5 +1,5 @@
 -- The growth that an overlay tells is that of the world.
-use Rattle.std.proofs.Common.{◌≡◌, ◌+◌, ◌<◌, ◌≤◌, ◌==◌, ℕ, List, [], ◌∷◌, Bool, true, false, cond, find, map, sum_by, pos, ◌-ℤ◌, Option, Some, None, refl, sym, ap, ◌∙◌, le_of_eq, arith}
+use Rattle.std.proofs.Common.{◌≡◌, ◌+◌, ◌<◌, ◌≤◌, ◌==◌, ℕ, List, [], ◌∷◌, Bool, true, false, cond, find, length, map, sum_by, pos, ◌-ℤ◌, Option, Some, None, refl, sym, ap, ◌∙◌, le_of_eq, arith}
 use Rattle.std.proofs.lemmas.Bool.Decides.{nat_tests}
 use Rattle.std.proofs.lemmas.Int.{ints}
 use Rattle.std.proofs.lemmas.List.Sums.{sum_by-cons}
@@ -10,6 +10,7 @@ use Rattle.std.specs.Map.{keys_of, lookup, values_of}
 use Rattle.std.specs.Option.{option_map, option_map_or}
 use Rattle.std.specs.Ordering.{nat_cmp}
 use Rattle.std.specs.declared.cmp.Ordering.TheVariants.{Less}
+use Rattle.ode_heap.specs.Answering.{class_of}
 use Rattle.ode_laws.proofs.Each.{all-then}
 use Rattle.ode_laws.proofs.Rows.{numbered_find}
 use Rattle.ode_laws.specs.Alike.{NumberTx}
@@ -26,9 +27,11 @@ use Rattle.ode_value.specs.Denoting.{object_numbered}
 use Rattle.ode_value.specs.GoodWorlds.{RiseFrom}
 use Rattle.ode_value.specs.Keeping.{kept_bones}
 use Rattle.ode_value.specs.Lengths.{counters_length}
-use Rattle.ode_value.specs.Weights.{class_weight, object_weight, weight}
+use Rattle.ode_value.specs.Weights.{added_weight, class_weight, object_weight, weight}
 use Rattle.ode_value.specs.Worlds as worlds
 use Rattle.ode_value.specs.Worlds.{Declared}
+use Rattle.ode_value.specs.declared.change.Added.{Added}
+use Rattle.ode_value.specs.declared.class.Class.{Class}
 use Rattle.ode_version_laws.proofs.SumLaws.{all_numbered, total, total_most, total_of, total_same, total_sum, weight_at}
 use Rattle.ode_version_laws.proofs.TrackedMaps.{all_found}
 use Rattle.ode_version_laws.proofs.WeightLaws.{all_kept, kept_weight, object_weighs, settled_weighs}
@@ -80,8 +83,8 @@ all_above (n ∷ ns) = (omega arith, all_above ns)
 balanced : (a b c d : ℕ) → c ≡ b → d ≡ a → a + c ≡ b + d
 balanced a b c d first now = omega arith
 
-weighed : (a b c k l s t u : ℕ) → a + s ≡ b + t → k ≡ l → u ≡ t → a + (c + l + s) ≡ b + (c + k + u)
-weighed a b c k l s t u objects classes kept = omega arith
+weighed : (a b c k s t u m : ℕ) → a + s ≡ b + t → u ≡ t → a + (c + k + s + m) ≡ b + (c + k + u + m)
+weighed a b c k s t u m objects kept = omega arith
 
 differs : (a b c d : ℕ) → a + d ≡ b + c → pos a -ℤ pos b ≡ pos c -ℤ pos d
 differs a b c d same = omega (arith, ints)
@@ -92,6 +95,28 @@ key o = o.id
 module _ (x : Layer) (y : NumberTx) (stands : Stands x y) (remembers : Remembers x.objects y.first) (settled : AreSettled y.first) (numbered : GoesOnNumbered y) where
   abbrev n : ℕ
   n = y.now.bones.next
+
+  -- by the first world's classes
+  abbrev declared : List Declared
+  declared = y.first.bones.classes
+
+  abbrev classes : List Class
+  classes = map class_of declared
+
+  abbrev first_weight : worlds.Object → ℕ
+  first_weight = object_weight declared
+
+  abbrev now_weight : worlds.Object → ℕ
+  now_weight = kept_weight declared
+
+  abbrev own_weight : Object → ℕ
+  own_weight = seen.object_weight classes
+
+  abbrev weight_after : Tracked → ℕ
+  weight_after = seen.weight_after classes
+
+  abbrev weight_before : Tracked → ℕ
+  weight_before = seen.weight_before classes
 
   abbrev weighs : (Tracked → ℕ) → Option Tracked → ℕ
   weighs w f = option_map_or w f 0
@@ -105,31 +130,31 @@ module _ (x : Layer) (y : NumberTx) (stands : Stands x y) (remembers : Remembers
   abbrev now_at : ℕ → Option worlds.Object
   now_at id = object_numbered id y.now.bones.objects
 
-  settled_weight : (id : ℕ) (o : worlds.Object) → first_at id ≡ Some o → kept_weight o ≡ object_weight o
-  settled_weight id o is = settled_weighs o (settled id o is).live (settled id o is).on
+  settled_weight : (id : ℕ) (o : worlds.Object) → first_at id ≡ Some o → now_weight o ≡ first_weight o
+  settled_weight id o is = settled_weighs declared o (settled id o is).live (settled id o is).on
 
   -- of one that is tracked
-  first_weighs : (id : ℕ) (o : Object) → IsIn y.first id o → weighs_by object_weight (first_at id) ≡ seen.object_weight o
-  first_weighs id o at = ap (weighs_by object_weight) at.object ∙ sym (settled_weight id (object_as id o) at.object) ∙ object_weighs id o
+  first_weighs : (id : ℕ) (o : Object) → IsIn y.first id o → weighs_by first_weight (first_at id) ≡ own_weight o
+  first_weighs id o at = ap (weighs_by first_weight) at.object ∙ sym (settled_weight id (object_as id o) at.object) ∙ object_weighs declared id o
 
-  now_weighs : (id : ℕ) (o : Object) → IsIn y.now id o → weighs_by kept_weight (now_at id) ≡ seen.object_weight o
-  now_weighs id o at = ap (weighs_by kept_weight) at.object ∙ object_weighs id o
+  now_weighs : (id : ℕ) (o : Object) → IsIn y.now id o → weighs_by now_weight (now_at id) ≡ own_weight o
+  now_weighs id o at = ap (weighs_by now_weight) at.object ∙ object_weighs declared id o
 
   tracked_weighs : (id : ℕ) (now : Object) (f : First) → IsIn y.now id now → WasFirst y.first id now f
-      → seen.changed_weight now f + weighs_by object_weight (first_at id) ≡ seen.first_weight f + weighs_by kept_weight (now_at id)
+      → seen.changed_weight classes now f + weighs_by first_weight (first_at id) ≡ seen.first_weight classes f + weighs_by now_weight (now_at id)
   tracked_weighs id now Same at was = ap (λ (w : ℕ). 0 + w) (first_weighs id now was ∙ sym (now_weighs id now at))
   tracked_weighs id now (Other o) at was =
-      balanced (seen.object_weight now) (seen.object_weight o) (weighs_by object_weight (first_at id)) (weighs_by kept_weight (now_at id)) (first_weighs id o was.is) (now_weighs id now at)
+      balanced (own_weight now) (own_weight o) (weighs_by first_weight (first_at id)) (weighs_by now_weight (now_at id)) (first_weighs id o was.is) (now_weighs id now at)
   tracked_weighs id now Absent at was =
-      balanced (seen.object_weight now) 0 (weighs_by object_weight (first_at id)) (weighs_by kept_weight (now_at id)) (ap (weighs_by object_weight) was.object) (now_weighs id now at)
+      balanced (own_weight now) 0 (weighs_by first_weight (first_at id)) (weighs_by now_weight (now_at id)) (ap (weighs_by first_weight) was.object) (now_weighs id now at)
 
   -- of one that isn't
-  other_weighs : (id : ℕ) (f : Option worlds.Object) → first_at id ≡ f → now_at id ≡ f → weighs_by object_weight (first_at id) ≡ weighs_by kept_weight (now_at id)
-  other_weighs id None first now = ap (weighs_by object_weight) first ∙ sym (ap (weighs_by kept_weight) now)
-  other_weighs id (Some o) first now = ap (weighs_by object_weight) first ∙ sym (settled_weight id o first) ∙ sym (ap (weighs_by kept_weight) now)
+  other_weighs : (id : ℕ) (f : Option worlds.Object) → first_at id ≡ f → now_at id ≡ f → weighs_by first_weight (first_at id) ≡ weighs_by now_weight (now_at id)
+  other_weighs id None first now = ap (weighs_by first_weight) first ∙ sym (ap (weighs_by now_weight) now)
+  other_weighs id (Some o) first now = ap (weighs_by first_weight) first ∙ sym (settled_weight id o first) ∙ sym (ap (weighs_by now_weight) now)
 
   each_weighs : (id : ℕ) (f : Option Tracked) → tracked_at id x ≡ f
-      → weighs seen.weight_after f + weighs_by object_weight (first_at id) ≡ weighs seen.weight_before f + weighs_by kept_weight (now_at id)
+      → weighs weight_after f + weighs_by first_weight (first_at id) ≡ weighs weight_before f + weighs_by now_weight (now_at id)
   each_weighs id None is = ap (λ (w : ℕ). 0 + w) (other_weighs id (first_at id) refl (stands.others id is).object)
   each_weighs id (Some t) is = tracked_weighs id t.current t.first (stands.tracked id t is) (remembers.first id t is)
 
@@ -158,48 +183,61 @@ module _ (x : Layer) (y : NumberTx) (stands : Stands x y) (remembers : Remembers
       total_of key w n 0 os rise below
       ∙ total_same n (weight_at key w os) (λ id. weighs_by w (object_numbered id os)) (λ id less. ap (weighs_by w) (sym (numbered_find id os)))
 
-  first_total : sum_by object_weight y.first.bones.objects ≡ total n (λ id. weighs_by object_weight (first_at id))
+  first_total : sum_by first_weight y.first.bones.objects ≡ total n (λ id. weighs_by first_weight (first_at id))
   first_total =
-      world_total object_weight y.first.bones.objects numbered.first.rising
+      world_total first_weight y.first.bones.objects numbered.first.rising
       (all-then (HasNumbers y.first.bones.next) (λ (o : worlds.Object). key o < n) (λ o has. let less : o.id < y.first.bones.next = has.drawn in omega (arith, less, numbered.next)) y.first.bones.objects numbered.first.objects)
 
-  now_total : sum_by kept_weight y.now.bones.objects ≡ total n (λ id. weighs_by kept_weight (now_at id))
-  now_total = world_total kept_weight y.now.bones.objects numbered.now.rising (all-then (HasNumbers n) (λ (o : worlds.Object). key o < n) (λ o has. has.drawn) y.now.bones.objects numbered.now.objects)
+  now_total : sum_by now_weight y.now.bones.objects ≡ total n (λ id. weighs_by now_weight (now_at id))
+  now_total = world_total now_weight y.now.bones.objects numbered.now.rising (all-then (HasNumbers n) (λ (o : worlds.Object). key o < n) (λ o has. has.drawn) y.now.bones.objects numbered.now.objects)
 
-  grown : bytes_after x + sum_by object_weight y.first.bones.objects ≡ bytes_before x + sum_by kept_weight y.now.bones.objects
+  grown : bytes_after classes x + sum_by first_weight y.first.bones.objects ≡ bytes_before classes x + sum_by now_weight y.now.bones.objects
   grown =
-      let each = total_same n (λ id. weighs seen.weight_after (tracked_at id x) + weighs_by object_weight (first_at id)) (λ id. weighs seen.weight_before (tracked_at id x) + weighs_by kept_weight (now_at id))
+      let each = total_same n (λ id. weighs weight_after (tracked_at id x) + weighs_by first_weight (first_at id)) (λ id. weighs weight_before (tracked_at id x) + weighs_by now_weight (now_at id))
       (λ id less. each_weighs id (tracked_at id x) refl)
       in
-      let left = total_sum n (λ id. weighs seen.weight_after (tracked_at id x)) (λ id. weighs_by object_weight (first_at id)) in
-      let right = total_sum n (λ id. weighs seen.weight_before (tracked_at id x)) (λ id. weighs_by kept_weight (now_at id)) in
-      ap (λ (a : ℕ). a + sum_by object_weight y.first.bones.objects) (tracked_total seen.weight_after)
-      ∙ ap (λ (b : ℕ). total n (λ id. weighs seen.weight_after (tracked_at id x)) + b) first_total
+      let left = total_sum n (λ id. weighs weight_after (tracked_at id x)) (λ id. weighs_by first_weight (first_at id)) in
+      let right = total_sum n (λ id. weighs weight_before (tracked_at id x)) (λ id. weighs_by now_weight (now_at id)) in
+      ap (λ (a : ℕ). a + sum_by first_weight y.first.bones.objects) (tracked_total weight_after)
+      ∙ ap (λ (b : ℕ). total n (λ id. weighs weight_after (tracked_at id x)) + b) first_total
       ∙ sym left ∙ each ∙ right
-      ∙ sym (ap (λ (a : ℕ). a + sum_by kept_weight y.now.bones.objects) (tracked_total seen.weight_before)
-      ∙ ap (λ (b : ℕ). total n (λ id. weighs seen.weight_before (tracked_at id x)) + b) now_total)
+      ∙ sym (ap (λ (a : ℕ). a + sum_by now_weight y.now.bones.objects) (tracked_total weight_before)
+      ∙ ap (λ (b : ℕ). total n (λ id. weighs weight_before (tracked_at id x)) + b) now_total)
 
-  pub grows_law : growth x ≡ pos (weight (kept_bones y.now.bones)) -ℤ pos (weight y.first.bones)
+  -- with the first world's added fields and classes
+  abbrev weight_with : List worlds.Object → List Added → List Declared → ℕ
+  weight_with os added ds = counters_length (length added) + sum_by class_weight ds + sum_by (object_weight ds) os + sum_by added_weight added
+
+  same_weight : weight (kept_bones y.now.bones) ≡ weight_with (kept_bones y.now.bones).objects y.first.bones.added declared
+  unfolding weight
+  same_weight =
+      let os = (kept_bones y.now.bones).objects in
+      ap (λ (added : List Added). weight_with os added y.now.bones.classes) stands.added ∙ ap (λ (ds : List Declared). weight_with os y.first.bones.added ds) numbered.classes
+
+  pub grows_law : growth classes x ≡ pos (weight (kept_bones y.now.bones)) -ℤ pos (weight y.first.bones)
   unfolding weight
   grows_law =
-      differs (bytes_after x) (bytes_before x) (weight (kept_bones y.now.bones)) (weight y.first.bones)
-      (weighed (bytes_after x) (bytes_before x) counters_length (sum_by class_weight y.now.bones.classes) (sum_by class_weight y.first.bones.classes) (sum_by object_weight y.first.bones.objects)
-      (sum_by kept_weight y.now.bones.objects) (sum_by object_weight (kept_bones y.now.bones).objects) grown (ap (λ (cs : List Declared). sum_by class_weight cs) numbered.classes) (all_kept y.now.bones.objects))
+      let os = (kept_bones y.now.bones).objects in
+      let added = y.first.bones.added in
+      differs (bytes_after classes x) (bytes_before classes x) (weight_with os added declared) (weight y.first.bones)
+      (weighed (bytes_after classes x) (bytes_before classes x) (counters_length (length added)) (sum_by class_weight declared) (sum_by first_weight y.first.bones.objects)
+      (sum_by now_weight y.now.bones.objects) (sum_by first_weight os) (sum_by added_weight added) grown (all_kept declared y.now.bones.objects))
+      ∙ sym (ap (λ (m : ℕ). pos m -ℤ pos (weight y.first.bones)) same_weight)
 
   -- ---- what changed objects took is part of the first world
 
-  first_part : (id : ℕ) (now : Object) (f : First) → WasFirst y.first id now f → seen.first_weight f ≤ weighs_by object_weight (first_at id)
+  first_part : (id : ℕ) (now : Object) (f : First) → WasFirst y.first id now f → seen.first_weight classes f ≤ weighs_by first_weight (first_at id)
   first_part id now Same was = omega arith
   first_part id now (Other o) was = le_of_eq (sym (first_weighs id o was.is))
   first_part id now Absent was = omega arith
 
-  each_part : (id : ℕ) (f : Option Tracked) → tracked_at id x ≡ f → weighs seen.weight_before f ≤ weighs_by object_weight (first_at id)
+  each_part : (id : ℕ) (f : Option Tracked) → tracked_at id x ≡ f → weighs weight_before f ≤ weighs_by first_weight (first_at id)
   each_part id None is = omega arith
   each_part id (Some t) is = first_part id t.current t.first (remembers.first id t is)
 
-  pub before_law : bytes_before x ≤ weight y.first.bones
+  pub before_law : bytes_before classes x ≤ weight y.first.bones
   unfolding weight
   before_law =
-      let part = total_most n (λ id. weighs seen.weight_before (tracked_at id x)) (λ id. weighs_by object_weight (first_at id)) (λ id. each_part id (tracked_at id x) refl) in
-      let before = tracked_total seen.weight_before in
+      let part = total_most n (λ id. weighs weight_before (tracked_at id x)) (λ id. weighs_by first_weight (first_at id)) (λ id. each_part id (tracked_at id x) refl) in
+      let before = tracked_total weight_before in
       omega (arith, part, before, first_total)

@@ -35,31 +35,33 @@ use Rattle.ode_version_laws.specs.Leaving.{IfDone, StillHaveVersions}
 abbrev number_of : versions.Version → ℕ
 number_of v = v.number
 
-numbers_same : (n : ℕ) (fields : List Value) (vs : List versions.Version) → map number_of (map (with_fields n fields) vs) ≡ map number_of vs
-numbers_same n fields [] = refl
-numbers_same n fields (v ∷ vs) = ap (λ (m : ℕ). m ∷ map number_of (map (with_fields n fields) vs)) (same (v.number == n)) ∙ ap (λ (ns : List ℕ). v.number ∷ ns) (numbers_same n fields vs) where
-  same : (b : Bool) → (cond b (record v { fields = fields }) v).number ≡ v.number
-  same true = refl
-  same false = refl
+numbers_same : (stamp n : ℕ) (fields : List Value) (vs : List versions.Version) → map number_of (map (with_fields stamp n fields) vs) ≡ map number_of vs
+numbers_same stamp n fields [] = refl
+numbers_same stamp n fields (v ∷ vs) =
+    ap (λ (m : ℕ). m ∷ map number_of (map (with_fields stamp n fields) vs)) (same (v.number == n)) ∙ ap (λ (ns : List ℕ). v.number ∷ ns) (numbers_same stamp n fields vs)
+  where
+    same : (b : Bool) → (cond b (record v { fields = fields; stamp = stamp }) v).number ≡ v.number
+    same true = refl
+    same false = refl
 
-below_same : (n last : ℕ) (fields : List Value) (vs : List versions.Version) → AllByRecursion (λ (v : versions.Version). v.number ≤ last) vs
-    → AllByRecursion (λ (v : versions.Version). v.number ≤ last) (map (with_fields n fields) vs)
-below_same n last fields [] below = tt
-below_same n last fields (v ∷ vs) below = (same (v.number == n), below_same n last fields vs below.1) where
-  same : (b : Bool) → (cond b (record v { fields = fields }) v).number ≤ last
+below_same : (stamp n last : ℕ) (fields : List Value) (vs : List versions.Version) → AllByRecursion (λ (v : versions.Version). v.number ≤ last) vs
+    → AllByRecursion (λ (v : versions.Version). v.number ≤ last) (map (with_fields stamp n fields) vs)
+below_same stamp n last fields [] below = tt
+below_same stamp n last fields (v ∷ vs) below = (same (v.number == n), below_same stamp n last fields vs below.1) where
+  same : (b : Bool) → (cond b (record v { fields = fields; stamp = stamp }) v).number ≤ last
   same true = below.0
   same false = below.0
 
-set_has : (n : ℕ) (fields : List Value) (o : worlds.Object) → HasVersions o → HasVersions (record o { versions = map (with_fields n fields) o.versions })
-set_has n fields o has = record {
-  some = subst (λ (m : ℕ). 0 < m) (sym (length-map o.versions (with_fields n fields))) has.some;
-  rising = subst (RiseFrom 0) (sym (numbers_same n fields o.versions)) has.rising;
-  last = below_same n o.last fields o.versions has.last;
+set_has : (stamp n : ℕ) (fields : List Value) (o : worlds.Object) → HasVersions o → HasVersions (record o { versions = map (with_fields stamp n fields) o.versions })
+set_has stamp n fields o has = record {
+  some = subst (λ (m : ℕ). 0 < m) (sym (length-map o.versions (with_fields stamp n fields))) has.some;
+  rising = subst (RiseFrom 0) (sym (numbers_same stamp n fields o.versions)) has.rising;
+  last = below_same stamp n o.last fields o.versions has.last;
 }
 
-derived_has : (v : versions.Version) (o : worlds.Object) → HasVersions o → HasVersions (derived_from v o)
-derived_has v o has =
-    let new : versions.Version = record { number = o.last + 1; parent = Some v.number; fields = v.fields } in
+derived_has : (stamp : ℕ) (v : versions.Version) (o : worlds.Object) → HasVersions o → HasVersions (derived_from stamp v o)
+derived_has stamp v o has =
+    let new : versions.Version = record { number = o.last + 1; parent = Some v.number; stamp = stamp; fields = v.fields } in
     record {
       some = omega (arith, length-append o.versions (new ∷ []));
       rising =
@@ -94,19 +96,19 @@ dropped_has n o more has = record {
 abbrev Own : ℕ → Object → Type 0
 Own id o = HasVersions (object_as id o)
 
-written_has : (id n : ℕ) (fields : List Value) (o : Object) → Own id o → Own id (written n fields o)
+written_has : (id n : ℕ) (fields : ℕ × List Value) (o : Object) → Own id o → Own id (written n fields o)
 written_has id n fields o has =
-    subst HasVersions (ap (λ (vs : List versions.Version). record (object_as id o) { versions = vs }) (written_same n 0 fields o.versions has.rising)) (set_has n fields (object_as id o) has)
+    subst HasVersions (ap (λ (vs : List versions.Version). record (object_as id o) { versions = vs }) (written_same n 0 fields o.versions has.rising)) (set_has fields.0 n fields.1 (object_as id o) has)
 
-derived_own : (id : ℕ) (v : Version) (o : Object) → Own id o → Own id (derived v.number (values_of v.fields) o)
-derived_own id v o has = subst HasVersions (derived_same id v o) (derived_has (version_as v) (object_as id o) has)
+derived_own : (id stamp : ℕ) (v : Version) (o : Object) → Own id o → Own id (derived v.number (stamp, values_of v.fields) o)
+derived_own id stamp v o has = subst HasVersions (derived_same id stamp v o) (derived_has stamp (version_as v) (object_as id o) has)
 
 without_has : (id n : ℕ) (o : Object) → nat_lt 1 (length o.versions) ≡ true → Own id o → Own id (without n o)
 without_has id n o more has =
     subst HasVersions (ap (λ (vs : List versions.Version). record (object_as id o) { versions = vs }) (without_same n 0 o.versions has.rising))
     (dropped_has n (object_as id o) (ap (λ (m : ℕ). nat_lt 1 m) (length-map o.versions version_as) ∙ more) has)
 
-made_has : (id class : ℕ) (fields : List Value) → Own id (made class fields)
+made_has : (id class : ℕ) (fields : ℕ × List Value) → Own id (made class fields)
 made_has id class fields = record { some = omega arith; rising = (omega arith, tt); last = (omega arith, tt) }
 
 -- ---- the same of all objects
@@ -115,7 +117,7 @@ versions_kept : IsKept (λ next. HasVersions) AnyTaking
 versions_kept = record {
   later = λ low next o up has. has;
   set = λ next id n fields o fit has. written_has id n fields o has;
-  version = λ next id v o fit has. derived_own id v o has;
+  version = λ next id stamp v o fit has. derived_own id stamp v o has;
   dropped = λ next id n o more has. without_has id n o more has;
   removed = λ next id o has. record { some = has.some; rising = has.rising; last = has.last };
   active = λ next id class trigger args o may has. record { some = has.some; rising = has.rising; last = has.last };

@@ -67,7 +67,7 @@ write_keeps classes base x y r slot value stands remembers found =
 
 pub derive_keeps : (classes : List Class) (base : Entries) (x : Layer) (y : NumberTx) (r : Ref) → Stands x y → Remembers x.objects y.first → IsRead classes base x y r.object → StillRemembers y.first (derive classes base r x)
 derive_keeps classes base x y r stands remembers found =
-    derive_leaves (λ (x : Layer). Remembers x.objects y.first) classes base x r found.object found.read (λ t v fit keys is. put classes base x y r.object stands remembers found t is (derived v.number (values_of v.fields) t.current) (omega arith) keys)
+    derive_leaves (λ (x : Layer). Remembers x.objects y.first) classes base x r found.object found.read (λ t v fit keys is. put classes base x y r.object stands remembers found t is (derived v.number (x.first.added, values_of v.fields) t.current) (omega arith) keys)
 
 pub drop_keeps : (classes : List Class) (base : Entries) (x : Layer) (y : NumberTx) (r : Ref) → Stands x y → Remembers x.objects y.first → IsRead classes base x y r.object → StillRemembers y.first (drop_version classes base r x)
 drop_keeps classes base x y r stands remembers found =
@@ -95,11 +95,11 @@ put_keeps classes base x y id rs stands remembers found =
 
 pub create_keeps : (class : ℕ) (fields : List Value) (x : Layer) (y : NumberTx) → Stands x y → Remembers x.objects y.first → IsNewNumber x y x.next → StillRemembers y.first (create class fields x)
 create_keeps class fields x y stands remembers new =
-    create_leaves (λ (x : Layer). Remembers x.objects y.first) class fields x (λ fit keys. remembers_changed y.first x.objects x.next remembers None (made class fields) (new_known (tracked_at x.next x) refl) (new_falls (tracked_at x.next x) refl)) where
+    create_leaves (λ (x : Layer). Remembers x.objects y.first) class fields x (λ fit keys. remembers_changed y.first x.objects x.next remembers None (made class (x.first.added, fields)) (new_known (tracked_at x.next x) refl) (new_falls (tracked_at x.next x) refl)) where
       new_known : (f : Option Tracked) → tracked_at x.next x ≡ f → IsKnown y.first x.next f
       new_known None is = let same = stands.others x.next is in record { object = sym same.object ∙ new.object; kept = sym same.kept ∙ new.kept }
       new_known (Some t) is = remembers.first x.next t is
 
-      new_falls : (f : Option Tracked) → tracked_at x.next x ≡ f → NeverFalls f (made class fields)
+      new_falls : (f : Option Tracked) → tracked_at x.next x ≡ f → NeverFalls f (made class (x.first.added, fields))
       new_falls None is = tt
       new_falls (Some t) is = let there = (stands.tracked x.next t is).object in absurd (cc (there, new.object))

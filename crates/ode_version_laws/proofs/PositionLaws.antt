@@ -45,39 +45,44 @@ module _ {X : Type 0} (p : X → Bool) (x : X) (xs : List X) where
 abbrev numbers_of : List versions.Version → List ℕ
 numbers_of vs = map (λ (v : versions.Version). v.number) vs
 
+-- a version, with these fields and this stamp where a test is true
+abbrev set_where : Bool → ℕ × List Value → Version → versions.Version
+set_where b fields v = cond b (record (version_as v) { fields = fields.1; stamp = fields.0 }) (version_as v)
+
 -- a number that is below one
 other : (n m : ℕ) → n < m → (m == n) ≡ false
 other n m less = grind (arith, nat_tests)
 
-none_changed : (n low : ℕ) (fields : List Value) (vs : List Version) → n < low → RiseFrom low (numbers_of (map version_as vs)) → map (with_fields n fields) (map version_as vs) ≡ map version_as vs
+none_changed : (n low : ℕ) (fields : ℕ × List Value) (vs : List Version) → n < low → RiseFrom low (numbers_of (map version_as vs))
+    → map (with_fields fields.0 n fields.1) (map version_as vs) ≡ map version_as vs
 none_changed n low fields [] less rise = refl
 none_changed n low fields (v ∷ vs) less rise =
     let from : low ≤ v.number = rise.0 in
     let off : (v.number == n) ≡ false = other n v.number (omega arith) in
-    ap (λ (b : Bool). cond b (record (version_as v) { fields = fields }) (version_as v) ∷ map (with_fields n fields) (map version_as vs)) off
+    ap (λ (b : Bool). set_where b fields v ∷ map (with_fields fields.0 n fields.1) (map version_as vs)) off
     ∙ ap (λ (ws : List versions.Version). version_as v ∷ ws) (none_changed n (v.number + 1) fields vs (omega arith) rise.1)
 
 -- a place behind the first one
-written_later : (n : ℕ) (fields : List Value) (v : Version) (vs : List Version) (at : Option ℕ) → written_at (option_map (λ (i : ℕ). suc i) at) n fields (v ∷ vs) ≡ v ∷ written_at at n fields vs
+written_later : (n : ℕ) (fields : ℕ × List Value) (v : Version) (vs : List Version) (at : Option ℕ) → written_at (option_map (λ (i : ℕ). suc i) at) n fields (v ∷ vs) ≡ v ∷ written_at at n fields vs
 written_later n fields v vs None = refl
 written_later n fields v vs (Some i) = refl
 
-pub written_same : (n low : ℕ) (fields : List Value) (vs : List Version) → RiseFrom low (numbers_of (map version_as vs))
-    → map (with_fields n fields) (map version_as vs) ≡ map version_as (written_at (position (is_numbered n) vs) n fields vs)
+pub written_same : (n low : ℕ) (fields : ℕ × List Value) (vs : List Version) → RiseFrom low (numbers_of (map version_as vs))
+    → map (with_fields fields.0 n fields.1) (map version_as vs) ≡ map version_as (written_at (position (is_numbered n) vs) n fields vs)
 written_same n low fields [] rise = refl
 written_same n low fields (v ∷ vs) rise =
     by_test (v.number == n) refl (written_same n (v.number + 1) fields vs rise.1) ∙ sym (ap (λ (at : Option ℕ). map version_as (written_at at n fields (v ∷ vs))) (position_step (is_numbered n) v vs (v.number == n) refl))
   where
-    by_test : (b : Bool) → (v.number == n) ≡ b → map (with_fields n fields) (map version_as vs) ≡ map version_as (written_at (position (is_numbered n) vs) n fields vs)
-        → cond (v.number == n) (record (version_as v) { fields = fields }) (version_as v) ∷ map (with_fields n fields) (map version_as vs)
+    by_test : (b : Bool) → (v.number == n) ≡ b → map (with_fields fields.0 n fields.1) (map version_as vs) ≡ map version_as (written_at (position (is_numbered n) vs) n fields vs)
+        → set_where (v.number == n) fields v ∷ map (with_fields fields.0 n fields.1) (map version_as vs)
         ≡ map version_as (written_at (cond b (Some 0) (option_map (λ (i : ℕ). suc i) (position (is_numbered n) vs))) n fields (v ∷ vs))
     by_test true is rest =
         let same : v.number ≡ n = eqb-true v.number n is in
-        ap (λ (b : Bool). cond b (record (version_as v) { fields = fields }) (version_as v) ∷ map (with_fields n fields) (map version_as vs)) is
-        ∙ ap (λ (m : ℕ). record { number = m; parent = v.parent; fields = fields } ∷ map (with_fields n fields) (map version_as vs)) same
-        ∙ ap (λ (ws : List versions.Version). record { number = n; parent = v.parent; fields = fields } ∷ ws) (none_changed n (v.number + 1) fields vs (omega arith) rise.1)
+        ap (λ (b : Bool). set_where b fields v ∷ map (with_fields fields.0 n fields.1) (map version_as vs)) is
+        ∙ ap (λ (m : ℕ). record { number = m; parent = v.parent; stamp = fields.0; fields = fields.1 } ∷ map (with_fields fields.0 n fields.1) (map version_as vs)) same
+        ∙ ap (λ (ws : List versions.Version). record { number = n; parent = v.parent; stamp = fields.0; fields = fields.1 } ∷ ws) (none_changed n (v.number + 1) fields vs (omega arith) rise.1)
     by_test false is rest =
-        ap (λ (b : Bool). cond b (record (version_as v) { fields = fields }) (version_as v) ∷ map (with_fields n fields) (map version_as vs)) is
+        ap (λ (b : Bool). set_where b fields v ∷ map (with_fields fields.0 n fields.1) (map version_as vs)) is
         ∙ ap (λ (ws : List versions.Version). version_as v ∷ ws) rest
         ∙ sym (ap (map version_as) (written_later n fields v vs (position (is_numbered n) vs)))
 

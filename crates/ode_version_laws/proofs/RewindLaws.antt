@@ -144,6 +144,7 @@ module _ (tables : ℕ → ℕ → Table) (x : Layer) (y : NumberTx) (stands : S
     counters = stands.counters;
     queued = stands.queued;
     next = stands.next;
+    added = refl;
     tracked = λ id t is. tracked_then id (tracked_at id x) refl t (sym (rewound_at classes id x.objects remembers.rising) ∙ is);
     others = λ id is. others_then id (tracked_at id x) refl (sym (rewound_at classes id x.objects remembers.rising) ∙ is);
     touched = stands.touched;

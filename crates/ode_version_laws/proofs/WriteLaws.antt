@@ -1,5 +1,5 @@
 -- Fields of versions are set, in the overlay and in the machine.
-use Rattle.std.proofs.Common.{◌≡◌, ℕ, List, [], ◌∷◌, Bool, true, false, map, Option, Some, Ok, Err, refl, sym, ap, subst, ◌∙◌}
+use Rattle.std.proofs.Common.{◌≡◌, ℕ, List, [], ◌∷◌, true, map, Option, Some, Ok, Err, refl, sym, ap, subst, ◌∙◌}
 use Rattle.std.specs.List.{slice_set}
 use Rattle.ode_keep.specs.Entries.{Entries}
 use Rattle.ode_laws.specs.Alike.{NumberTx}
@@ -17,6 +17,7 @@ use Rattle.ode_overlay.specs.Reading.{not_null}
 use Rattle.ode_overlay.specs.declared.error.OverlayError.{OverlayError}
 use Rattle.ode_overlay.specs.declared.error.OverlayError.TheVariants.{TooLong}
 use Rattle.ode_overlay_laws.proofs.AlteredLaws.{altered, altered_stands, has_found}
+use Rattle.ode_overlay_laws.proofs.FollowingLaws.{as_well, asks_first, stamps_same}
 use Rattle.ode_overlay_laws.proofs.KeySets.{version_part}
 use Rattle.ode_overlay_laws.specs.Following.{Follows, reason_as}
 use Rattle.ode_overlay_laws.specs.Standing.{IsIn, Stands, object_as, version_as}
@@ -25,7 +26,7 @@ use Rattle.ode_value.specs.Changes.{alters_object, changes, draws_none}
 use Rattle.ode_value.specs.Denoting.{denoted}
 use Rattle.ode_value.specs.Keys.{version_key}
 use Rattle.ode_value.specs.Lengths.{version_size}
-use Rattle.ode_value.specs.Making.{sets_field, with_fields}
+use Rattle.ode_value.specs.Making.{sets_field, stamp_now, with_fields}
 use Rattle.ode_value.specs.Versions as versions
 use Rattle.ode_value.specs.Worlds as worlds
 use Rattle.ode_value.specs.declared.class.Class.{Class}
@@ -38,20 +39,17 @@ use Rattle.ode_version_laws.proofs.SpacedLaws.{altered_continues, answers_well, 
 use Rattle.ode_version_laws.proofs.VersionLaws.{on_denoted}
 use Rattle.ode_version_laws.specs.Denoting.{HasVersionsAt, IsRead}
 
--- what a test asks for comes first
-asks_first : {A B : Type 0} (why : OverlayError) (b : Bool) (a : A) (next : A → Answer B) → (calls.needs why b >>= λ _. Ok a) >>= next ≡ calls.needs why b >>= λ _. next a
-asks_first why true a next = refl
-asks_first why false a next = refl
-
 -- the fields of a version, where a record can hold them
-fields_set : (slot : ℕ) (value : Value) (v : Version)
-    → fields_with slot value v ≡ calls.needs TooLong (are_fields (slice_set (values_of v.fields) slot value)) >>= λ _. Ok (slice_set (values_of v.fields) slot value)
+fields_set : (slot : ℕ) (value : Value) (v : Version) (x : Layer) → fields_with slot value v x ≡ calls.kept_now x (slice_set (values_of v.fields) slot value)
 unfolding fields_with
-fields_set slot value v = refl
+fields_set slot value v x = refl
 
 module _ (x : Layer) (y : NumberTx) (r : Ref) (slot : ℕ) (value : Value) (new : Option Tracked) (stands : Stands x y) (has : HasVersionsAt y r.object) where
   abbrev id : ℕ
   id = r.object
+
+  abbrev stamp : ℕ
+  stamp = x.first.added
 
   abbrev keys_by : ℕ → List Key
   keys_by number = version_key id number ∷ []
@@ -59,17 +57,20 @@ module _ (x : Layer) (y : NumberTx) (r : Ref) (slot : ℕ) (value : Value) (new 
   abbrev set : List Value → List Value
   set fields = slice_set fields slot value
 
-  abbrev held_by : Object → Version → List Value → Answer (Unit {0} × Layer)
+  abbrev held_by : Object → Version → ℕ × List Value → Answer (Unit {0} × Layer)
   held_by o v fields = holding (keys_by v.number) x >>= λ keys. Ok (tt, with_now id new (written v.number fields o) keys x)
 
   abbrev rest : Object → Version → Answer (Unit {0} × Layer)
-  rest o v = fields_with slot value v >>= held_by o v
+  rest o v = fields_with slot value v x >>= held_by o v
 
-  abbrev changed : ℕ → List Value → worlds.Object → worlds.Object
-  changed number fields q = record q { versions = map (with_fields number fields) q.versions }
+  abbrev changed : ℕ → ℕ → List Value → worlds.Object → worlds.Object
+  changed stamp number fields q = record q { versions = map (with_fields stamp number fields) q.versions }
+
+  abbrev acts_by : ℕ → versions.Version → Act (Unit {0}) ℕ (Unit {0})
+  acts_by stamp v = changes (keys_by v.number) (version_size stamp (set v.fields)) draws_none >> alters_object id (changed stamp v.number (set v.fields))
 
   abbrev acts : versions.Version → Act (Unit {0}) ℕ (Unit {0})
-  acts v = changes (keys_by v.number) (version_size (set v.fields)) draws_none >> alters_object id (changed v.number (set v.fields))
+  acts v z = acts_by (stamp_now z.now.bones) v z
 
   abbrev Is : Answer (Unit {0} × Layer) → Outcome (Unit {0}) ℕ (Unit {0}) → Type 0
   Is = Follows y gives
@@ -82,17 +83,18 @@ module _ (x : Layer) (y : NumberTx) (r : Ref) (slot : ℕ) (value : Value) (new 
   sets t v is at denotes =
       let o = t.current in
       let fields = set (values_of v.fields) in
-      answers_well y gives (rest o v) (calls.needs TooLong (are_fields fields) >>= λ _. held_by o v fields) (acts (version_as v) y)
-      (ap (λ (a : Answer (List Value)). a >>= held_by o v) (fields_set slot value v) ∙ asks_first TooLong (are_fields fields) fields (held_by o v))
-      (follows_spaced x y (keys_by v.number) stands (version_part id v.number, tt) (version_size fields) (are_fields fields) true gives
-      (λ keys. Ok (tt, with_now id new (written v.number fields o) keys x)) (alters_object id (changed v.number fields)) (fields_room fields) (
-        altered id (changed v.number fields) (keys_by v.number) y,
+      as_well y gives (rest o v) (acts (version_as v) y) (acts_by stamp (version_as v) y) (ap (λ (s : ℕ). acts_by s (version_as v) y) (stamps_same x y stands))
+      (answers_well y gives (rest o v) (calls.needs TooLong (are_fields stamp fields) >>= λ _. held_by o v (stamp, fields)) (acts_by stamp (version_as v) y)
+      (ap (λ (a : Answer (ℕ × List Value)). a >>= held_by o v) (fields_set slot value v x) ∙ asks_first TooLong (are_fields stamp fields) (stamp, fields) (held_by o v))
+      (follows_spaced x y (keys_by v.number) stands (version_part id v.number, tt) (version_size stamp fields) (are_fields stamp fields) true gives
+      (λ keys. Ok (tt, with_now id new (written v.number (stamp, fields) o) keys x)) (alters_object id (changed stamp v.number fields)) (fields_room stamp fields) (
+        altered id (changed stamp v.number fields) (keys_by v.number) y,
         (
-          altered_stands x y id new o (written v.number fields o) (changed v.number fields) (keys_by v.number) stands at (version_part id v.number, tt)
-              (λ q. refl) (ap (λ (vs : List versions.Version). record (object_as id o) { versions = vs }) (written_same v.number 0 fields o.versions (has (object_as id o) at.object).rising)) refl,
-          (altered_continues y id (changed v.number fields) (keys_by v.number), refl),
+          altered_stands x y id new o (written v.number (stamp, fields) o) (changed stamp v.number fields) (keys_by v.number) stands at (version_part id v.number, tt)
+              (λ q. refl) (ap (λ (vs : List versions.Version). record (object_as id o) { versions = vs }) (written_same v.number 0 (stamp, fields) o.versions (has (object_as id o) at.object).rising)) refl,
+          (altered_continues y id (changed stamp v.number fields) (keys_by v.number), refl),
         ),
-      ))
+      )))
 
   next : (t : Tracked) (v : Version) → object_of new id x ≡ Some t → IsIn y.now id t.current → t.current.live ≡ true → denoted y.now.bones r ≡ Ok (version_as v)
       → Is (rest t.current v) (acts (version_as v) y)

@@ -20,7 +20,7 @@ use Rattle.ode_value.specs.Changes.{activation_keys, changes, draws_none, object
 use Rattle.ode_value.specs.Classes.{Trigger, trigger_named}
 use Rattle.ode_value.specs.Firings.{arises, both_lists, grown_past}
 use Rattle.ode_value.specs.GoodWorlds.{RiseFrom}
-use Rattle.ode_value.specs.Making.{makes, derives, drops, object_with, removes, sets_field, switches_on, with_new, with_past}
+use Rattle.ode_value.specs.Making.{makes, derives, drops, object_with, removes, sets_field, stamp_now, switches_on, with_new, with_past}
 use Rattle.ode_value.specs.Objects.{Activation}
 use Rattle.ode_value.specs.Pasts.{Kept, numbers}
 use Rattle.ode_value.specs.Posting.{joins}
@@ -64,7 +64,7 @@ altered_ordered y id f same h = record {
 module _ (tables : ℕ → ℕ → Table) where
   made_ordered : (w : NumberWorld) (class : ℕ) (fields : List Value) → IsOrdered w → IsOrdered (with_new (numbers tables) class fields w)
   made_ordered w class fields h =
-      let new = object_with w.bones.next class fields in
+      let new = object_with (stamp_now w.bones) w.bones.next class fields in
       let row : Row = (w.bones.next, record { own = tt; activations = [] }) in
       record {
         rising =

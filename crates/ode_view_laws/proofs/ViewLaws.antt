@@ -108,6 +108,7 @@ module _ (classes : List Declared) (first : NumberWorld) (x : Layer) (beside : B
     counters = over.counters;
     queued = over.queued;
     next = refl;
+    added = refl;
     tracked = λ id t is. record {
       object = object_now x.objects first.bones.objects id ∙ ap (found_object id (object_numbered id first.bones.objects)) is;
       kept = kept_now x.objects first.pasts id ∙ ap (λ (o : Option Tracked). option_map_or (λ (u : Tracked). Some (kept_as u.current)) o (kept_at id first.pasts)) is;
