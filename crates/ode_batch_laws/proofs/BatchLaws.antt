@@ -22,7 +22,7 @@ use Rattle.ode_value.specs.Worlds.{Declared}
 use Rattle.ode_value.specs.declared.key.Key.{Key}
 
 pub batch_holds : (l : Language) (base : Entries) (changes : Changes) (v w : ListWorld) (x : Layer) (y : NumberTx) (held : HoldsWorld l base v) → HasRisingKeys base
-    → y.first ≡ held.stored.world → Stands x y → AreNumbered y.now.bones → y.now.bones.classes ≡ y.first.bones.classes → IsFormed base x
+    → y.first ≡ held.stored.world → Stands x y → AreNumbered y.now.bones → y.now.bones.classes ≡ y.first.bones.classes → IsFormed held.stored.world.bones.classes base x
     → ((q : Key) → value_under (applied changes base) q ≡ stands_after x base q)
     → StandsAs held.stored.tables (settled_world y) w → IsGood l w → (after : HoldsWorld l (applied changes base) w) × (after.stored.tables ≡ held.stored.tables)
 batch_holds l base changes v w x y held rising first stands numbered classes formed made left good =
@@ -36,7 +36,7 @@ batch_holds l base changes v w x y held rising first stands numbered classes for
       record {
         stored = after;
         rows = same_map (applied changes base) (rows after) (applied_rising changes base rising) rises
-            (λ q. made q ∙ settled_held l base v x y held first stands numbered classes formed q);
+            (λ q. made q ∙ settled_held l base v x y held first stands numbered classes bones formed q);
         stands = left;
         good = good;
       },

@@ -97,7 +97,7 @@ rewound_numbered next first now most numbered = record {
 -- ---- both ends
 
 module _ (l : Language) (base : Entries) (changes : Changes) (v : ListWorld) (x : Layer) (y : NumberTx) (t : ListTx) (held : HoldsWorld l base v) (rising : HasRisingKeys base)
-    (first : y.first ≡ held.stored.world) (runs : RunsAs held.stored.tables y t) (formed : IsFormed base x) (made : (q : Key) → value_under (applied changes base) q ≡ stands_after x base q) where
+    (first : y.first ≡ held.stored.world) (runs : RunsAs held.stored.tables y t) (formed : IsFormed held.stored.world.bones.classes base x) (made : (q : Key) → value_under (applied changes base) q ≡ stands_after x base q) where
   abbrev tables : ℕ → ℕ → Table
   tables = held.stored.tables
 

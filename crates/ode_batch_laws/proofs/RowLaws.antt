@@ -1,14 +1,16 @@
 -- The records of a stored database stand in rising order of their keys.
-use Rattle.std.proofs.Common.{◌≡◌, ℕ, ◌<◌, ◌≤◌, List, ◌∷◌, ◌++◌, map, sym, subst, arith}
+use Rattle.std.proofs.Common.{◌≡◌, ℕ, ◌<◌, ◌≤◌, List, [], ◌∷◌, ◌++◌, map, refl, sym, ap, subst, ◌∙◌, append-nil, arith}
 use Rattle.std.proofs.lemmas.Bool.Decides.{nat_tests}
 use Rattle.std.specs.List.{AllByRecursion, flat_map}
 use Rattle.std.specs.declared.cmp.Ordering.TheVariants.{Less}
 use Rattle.ode_batch_laws.proofs.ClimbLaws.{AllBefore, AreBelow, AreFrom, Climb, all_before, all_flat, all_map, climb_flat, climb_front, climb_join, climb_map, climb_rises, rising_climbs}
-use Rattle.ode_codec.specs.StoredRows.{Stored, activation_row, activation_rows, counters_row, entry_row, head_row, object_row, pieces_of, places_of, rows, state_of, table_bytes, table_head, table_heads, table_pieces, table_row, table_rows, text_row, text_rows, version_rows}
+use Rattle.ode_codec.specs.StoredRows.{Stored, activation_row, activation_rows, added_row, counters_row, entry_row, head_row, object_row, pieces_of, places_of, rows, state_of, table_bytes, table_head, table_heads, table_pieces, table_row, table_rows, text_row, text_rows, version_rows}
 use Rattle.ode_keep.specs.Entries.{HasRisingKeys}
 use Rattle.ode_laws.proofs.Each.{all-append, all-then}
 use Rattle.ode_laws.proofs.Rows.{id_of}
-use Rattle.ode_settling_laws.proofs.KindLaws.{class_rows, five}
+use Rattle.ode_settling_laws.proofs.KindLaws.{class_rows, six}
+use Rattle.ode_value.specs.Changing.{added_to}
+use Rattle.ode_value.specs.Fields.{fields_of}
 use Rattle.ode_value.specs.GoodWorlds.{AreBones, IsObject}
 use Rattle.ode_value.specs.Keys.{activation_key, entry_key, key_cmp, object_key, version_key}
 use Rattle.ode_value.specs.Language.{Language}
@@ -18,6 +20,7 @@ use Rattle.ode_value.specs.Records.{Row, version_row}
 use Rattle.ode_value.specs.Tables.{Table}
 use Rattle.ode_value.specs.Versions.{Version}
 use Rattle.ode_value.specs.Worlds.{Bones, Declared, Entry, Object}
+use Rattle.ode_value.specs.declared.change.Added.{Added}
 
 -- ---- the kinds of classes' records
 
@@ -60,7 +63,7 @@ abbrev objects_of : Bones → List Row
 objects_of b = map object_row b.objects
 
 abbrev versions_of : Bones → List Row
-versions_of b = flat_map version_rows b.objects
+versions_of b = flat_map (version_rows b.classes) b.objects
 
 abbrev activations_of : Stored → List Row
 activations_of s = flat_map (activation_rows s.world) s.world.bones.objects
@@ -68,17 +71,29 @@ activations_of s = flat_map (activation_rows s.world) s.world.bones.objects
 abbrev entries_of : Bones → List Row
 entries_of b = map entry_row b.queue
 
-grouped : (s : Stored) → rows s ≡ counters_row s.world.bones ∷ (class_rows s.tables s.world.bones.classes ++ (objects_of s.world.bones ++ (versions_of s.world.bones ++ (activations_of s ++ entries_of s.world.bones))))
+-- those of fields that were added to these classes
+abbrev added_of : List Declared → List Added → List Row
+added_of classes added = flat_map (λ (c : Declared). map (added_row classes) (added_to c.class.number added)) classes
+
+abbrev last_of : Bones → List Row
+last_of b = entries_of b ++ added_of b.classes b.added
+
+grouped : (s : Stored) → rows s ≡ counters_row s.world.bones ∷ (class_rows s.tables s.world.bones.classes ++ (objects_of s.world.bones ++ (versions_of s.world.bones ++ (activations_of s ++ last_of s.world.bones))))
 grouped s =
     let b = s.world.bones in
-    five (counters_row b) (map head_row b.classes) (flat_map text_rows b.classes) (flat_map (table_heads s.tables) b.classes) (flat_map (table_rows s.tables) b.classes)
-    (objects_of b) (versions_of b) (activations_of s) (entries_of b)
+    six (counters_row b) (map head_row b.classes) (flat_map text_rows b.classes) (flat_map (table_heads s.tables) b.classes) (flat_map (table_rows s.tables) b.classes)
+    (objects_of b) (versions_of b) (activations_of s) (entries_of b) (added_of b.classes b.added)
+
+-- no field was added
+none_added : (classes cs : List Declared) → flat_map (λ (c : Declared). map (added_row classes) (added_to c.class.number [])) cs ≡ []
+none_added classes [] = refl
+none_added classes (c ∷ cs) = none_added classes cs
 
 -- the counters and the classes of one whose records rise
 pub front_climbs : (s : Stored) → HasRisingKeys (rows s) → Climb (counters_row s.world.bones ∷ class_rows s.tables s.world.bones.classes)
 front_climbs s rising =
     climb_front (counters_row s.world.bones ∷ class_rows s.tables s.world.bones.classes)
-    (objects_of s.world.bones ++ (versions_of s.world.bones ++ (activations_of s ++ entries_of s.world.bones))) (subst Climb (grouped s) (rising_climbs (rows s) rising))
+    (objects_of s.world.bones ++ (versions_of s.world.bones ++ (activations_of s ++ last_of s.world.bones))) (subst Climb (grouped s) (rising_climbs (rows s) rising))
 
 module _ (l : Language) (s : Stored) (good : AreBones l s.world.bones) where
   abbrev b : Bones
@@ -87,16 +102,20 @@ module _ (l : Language) (s : Stored) (good : AreBones l s.world.bones) where
   objects_climb : Climb (objects_of b)
   objects_climb = climb_map id_of object_row (λ o p less. objects_less o.id p.id less) 0 b.objects good.rising
 
-  versions_before : (o p : Object) → o.id < p.id → AllBefore (version_rows o) (version_rows p)
+  -- a version of an object
+  abbrev its_row : Object → Version → Row
+  its_row o v = version_row o.id (fields_of b.classes o.class) v
+
+  versions_before : (o p : Object) → o.id < p.id → AllBefore (version_rows b.classes o) (version_rows b.classes p)
   versions_before o p less =
-      all_map (λ (e : Row). AllByRecursion (λ (f : Row). key_cmp e.0 f.0 ≡ Less) (version_rows p)) (version_row o.id)
-      (λ v. all_map (λ (f : Row). key_cmp (version_key o.id v.number) f.0 ≡ Less) (version_row p.id) (λ u. versions_across o.id p.id v.number u.number less) p.versions) o.versions
+      all_map (λ (e : Row). AllByRecursion (λ (f : Row). key_cmp e.0 f.0 ≡ Less) (version_rows b.classes p)) (its_row o)
+      (λ v. all_map (λ (f : Row). key_cmp (version_key o.id v.number) f.0 ≡ Less) (its_row p) (λ u. versions_across o.id p.id v.number u.number less) p.versions) o.versions
 
   versions_climb : Climb (versions_of b)
   versions_climb =
-      climb_flat id_of version_rows versions_before 0 b.objects
-      (all-then (IsObject b) (λ (o : Object). Climb (version_rows o))
-      (λ o is. climb_map (λ (v : Version). v.number) (version_row o.id) (λ v u less. versions_less o.id v.number u.number less) 0 o.versions is.rising) b.objects good.objects) good.rising
+      climb_flat id_of (version_rows b.classes) versions_before 0 b.objects
+      (all-then (IsObject b) (λ (o : Object). Climb (version_rows b.classes o))
+      (λ o is. climb_map (λ (v : Version). v.number) (its_row o) (λ v u less. versions_less o.id v.number u.number less) 0 o.versions is.rising) b.objects good.objects) good.rising
 
   abbrev active_row : Object → Activation → Row
   active_row o a = activation_row o.id (state_of s.world o.id a.number) a
@@ -125,9 +144,9 @@ module _ (l : Language) (s : Stored) (good : AreBones l s.world.bones) where
 
   versions_kind : AreBelow 8 (versions_of b) × AreFrom 7 (versions_of b) × AreFrom 6 (versions_of b)
   versions_kind = (
-    all_flat (λ (e : Row). e.0.kind < 8) version_rows (λ (o : Object). all_map (λ (e : Row). e.0.kind < 8) (version_row o.id) (λ v. omega arith) o.versions) b.objects,
-    all_flat (λ (e : Row). 7 ≤ e.0.kind) version_rows (λ (o : Object). all_map (λ (e : Row). 7 ≤ e.0.kind) (version_row o.id) (λ v. omega arith) o.versions) b.objects,
-    all_flat (λ (e : Row). 6 ≤ e.0.kind) version_rows (λ (o : Object). all_map (λ (e : Row). 6 ≤ e.0.kind) (version_row o.id) (λ v. omega arith) o.versions) b.objects,
+    all_flat (λ (e : Row). e.0.kind < 8) (version_rows b.classes) (λ (o : Object). all_map (λ (e : Row). e.0.kind < 8) (its_row o) (λ v. omega arith) o.versions) b.objects,
+    all_flat (λ (e : Row). 7 ≤ e.0.kind) (version_rows b.classes) (λ (o : Object). all_map (λ (e : Row). 7 ≤ e.0.kind) (its_row o) (λ v. omega arith) o.versions) b.objects,
+    all_flat (λ (e : Row). 6 ≤ e.0.kind) (version_rows b.classes) (λ (o : Object). all_map (λ (e : Row). 6 ≤ e.0.kind) (its_row o) (λ v. omega arith) o.versions) b.objects,
   )
 
   activations_from : (k : ℕ) → k ≤ 8 → AreFrom k (activations_of s)
@@ -167,10 +186,14 @@ module _ (l : Language) (s : Stored) (good : AreBones l s.world.bones) where
   things_from =
       all-append (λ (e : Row). 6 ≤ e.0.kind) (objects_of b) (versions_of b ++ (activations_of s ++ entries_of b)) objects_kind.1 (parts_from 6 (omega arith) versions_kind.2)
 
+  -- nothing stands behind the entries
+  last_is : last_of b ≡ entries_of b
+  last_is = ap (λ (added : List Added). entries_of b ++ added_of b.classes added) good.added ∙ ap (λ (es : List Row). entries_of b ++ es) (none_added b.classes b.classes) ∙ append-nil (entries_of b)
+
   -- behind counters and classes that rise
   pub rows_rise : Climb (counters_row b ∷ class_rows s.tables b.classes) → HasRisingKeys (rows s)
   rows_rise front =
       climb_rises (rows s)
-      (subst Climb (sym (grouped s))
+      (subst Climb (sym (grouped s ∙ ap (λ (es : List Row). counters_row b ∷ (class_rows s.tables b.classes ++ (objects_of b ++ (versions_of b ++ (activations_of s ++ es))))) last_is))
       (climb_join (counters_row b ∷ class_rows s.tables b.classes) things front things_climb
       (all_before 6 (counters_row b ∷ class_rows s.tables b.classes) things (omega arith, low_classes s.tables b.classes) things_from)))

@@ -27,7 +27,7 @@ use ode_laws::transactions_settle_alike;
 /// lists of points, then the records behind the overlay's batch hold that one, by the same tables.
 pub fn batches_hold_worlds()
     ensures { (l : Language) (base : Entries) (changes : Changes) (v w : ListWorld) (x : Layer) (y : NumberTx) (held : HoldsWorld l base v) → HasRisingKeys base
-        → y.first ≡ held.stored.world → Stands x y → AreNumbered y.now.bones → y.now.bones.classes ≡ y.first.bones.classes → IsFormed base x
+        → y.first ≡ held.stored.world → Stands x y → AreNumbered y.now.bones → y.now.bones.classes ≡ y.first.bones.classes → IsFormed held.stored.world.bones.classes base x
         → ((q : Key) → value_under (applied changes base) q ≡ stands_after x base q)
         → StandsAs held.stored.tables (settled_world y) w → IsGood l w → (after : HoldsWorld l (applied changes base) w) × (after.stored.tables ≡ held.stored.tables) }
 {}
@@ -38,12 +38,12 @@ pub fn batches_hold_worlds()
 pub fn transactions_hold_worlds()
     ensures commit { (l : Language) (base : Entries) (changes : Changes) (v : ListWorld) (x : Layer) (y : NumberTx) (t : ListTx) (held : HoldsWorld l base v) → HasRisingKeys base
         → y.first ≡ held.stored.world → RunsAs held.stored.tables y t
-        → Stands x (posted (numbers held.stored.tables) (both_lists (numbers held.stored.tables)) TCommit y) → IsFormed base x
+        → Stands x (posted (numbers held.stored.tables) (both_lists (numbers held.stored.tables)) TCommit y) → IsFormed held.stored.world.bones.classes base x
         → ((q : Key) → value_under (applied changes base) q ≡ stands_after x base q)
         → IsGood l (commit lists t).0 → (after : HoldsWorld l (applied changes base) (commit lists t).0) × (after.stored.tables ≡ held.stored.tables) }
     ensures abort { (l : Language) (base : Entries) (changes : Changes) (v : ListWorld) (x : Layer) (reason : Reason) (y : NumberTx) (t : ListTx) (held : HoldsWorld l base v) → HasRisingKeys base
         → y.first ≡ held.stored.world → RunsAs held.stored.tables y t
-        → Stands x (posted (numbers held.stored.tables) (whole_list (numbers held.stored.tables)) TAbort (aborted (numbers held.stored.tables) y)) → IsFormed base x
+        → Stands x (posted (numbers held.stored.tables) (whole_list (numbers held.stored.tables)) TAbort (aborted (numbers held.stored.tables) y)) → IsFormed held.stored.world.bones.classes base x
         → ((q : Key) → value_under (applied changes base) q ≡ stands_after x base q)
         → IsGood l (abort lists reason t).0 → (after : HoldsWorld l (applied changes base) (abort lists reason t).0) × (after.stored.tables ≡ held.stored.tables) }
 {

@@ -23,6 +23,7 @@ use Rattle.ode_settling_laws.specs.Formed.{IsFormed, IsOwn, value_in}
 use Rattle.ode_types.specs.declared.running.Running.{Running}
 use Rattle.ode_value.specs.Changes.{with_key}
 use Rattle.ode_value.specs.Keys.{activation_key}
+use Rattle.ode_value.specs.Worlds.{Declared}
 use Rattle.ode_value.specs.declared.key.Key.{Key}
 use Rattle.ode_value.specs.declared.value.Value.{Value}
 
@@ -51,28 +52,28 @@ found_taken n (r ∷ rs) (a ∷ acts) none = by_test (a.number == n) refl none (
   by_test true is e more = absurd (cc)
   by_test false is e more = more e
 
-module _ (base : Entries) (x : Layer) (id : ℕ) (new : Option Tracked) (formed : IsFormed base x) (read : IsStored base id new) where
+module _ (classes : List Declared) (base : Entries) (x : Layer) (id : ℕ) (new : Option Tracked) (formed : IsFormed classes base x) (read : IsStored classes base id new) where
   -- only activations change, and the keys of these are held
   module _ (t : Tracked) (found : object_of new id x ≡ Some t) (acts : List Active) (ks : List Key)
       (others : (n : ℕ) → is_among (activation_key id n) ks ≡ false → find (has_number n) acts ≡ find (has_number n) t.current.activations) where
     abbrev now : Object
     now = record t.current { activations = acts }
 
-    unheld : (q : Key) → IsOwn q → q.a ≡ id → is_among q ks ≡ false → after_by x q now (value_under base q) ≡ value_in q now
+    unheld : (q : Key) → IsOwn q → q.a ≡ id → is_among q ks ≡ false → after_by x q now (value_under base q) ≡ value_in classes q now
     unheld q own at out =
-        let same : (object_becomes q now ≡ object_becomes q t.current) × (value_in q now ≡ value_in q t.current) =
-        by_form (λ k. is_among k ks ≡ false → (object_becomes k now ≡ object_becomes k t.current) × (value_in k now ≡ value_in k t.current)) id
-        (λ is. same_object id now t.current refl refl refl) (λ n is. same_version id n now t.current refl refl) (λ n is. same_active id n now t.current refl (others n is)) q own at out in
+        let same : (object_becomes q now ≡ object_becomes q t.current) × (value_in classes q now ≡ value_in classes q t.current) =
+        by_form (λ k. is_among k ks ≡ false → (object_becomes k now ≡ object_becomes k t.current) × (value_in classes k now ≡ value_in classes k t.current)) id
+        (λ is. same_object classes id now t.current refl refl refl) (λ n is. same_version classes id n now t.current refl refl refl) (λ n is. same_active classes id n now t.current refl (others n is)) q own at out in
         ap (λ b. cond (is_among q x.keys) (value_after b (value_under base q)) (value_under base q)) same.0
-        ∙ was_formed base x id new formed read t found q own at ∙ sym same.1
+        ∙ was_formed classes base x id new formed read t found q own at ∙ sym same.1
 
   -- ---- one key
 
   abbrev one_key : ℕ → List Key
   one_key number = activation_key id number ∷ []
 
-  held_one : (o : Object) (number : ℕ) (q : Key) → IsOwn q → q.a ≡ id → is_among q (one_key number) ≡ true → value_after (object_becomes q o) (value_under base q) ≡ value_in q o
-  held_one o number q own at among = held_actives base id o (new_active number 0 0 [] ∷ []) q own at among
+  held_one : (o : Object) (number : ℕ) (q : Key) → IsOwn q → q.a ≡ id → is_among q (one_key number) ≡ true → value_after (object_becomes q o) (value_under base q) ≡ value_in classes q o
+  held_one o number q own at among = held_actives classes base id o (new_active number 0 0 [] ∷ []) q own at among
 
   other_number : (number n : ℕ) → is_among (activation_key id n) (one_key number) ≡ false → (number == n) ≡ false
   other_number number n out = sym (active_at id n number (number == n) refl) ∙ first_out _ _ out
@@ -80,63 +81,63 @@ module _ (base : Entries) (x : Layer) (id : ℕ) (new : Option Tracked) (formed 
   -- ---- on
 
   activated_so : (class trigger : ℕ) (args : List Value) (t : Tracked) → object_of new id x ≡ Some t
-      → IsFormed base (next_drawn (with_now id new (activated (new_active x.next class trigger args) t.current) (fold with_key x.keys (one_key x.next)) x))
+      → IsFormed classes base (next_drawn (with_now id new (activated (new_active x.next class trigger args) t.current) (fold with_key x.keys (one_key x.next)) x))
   activated_so class trigger args t found =
       let a = new_active x.next class trigger args in
       let o = activated a t.current in
       let keys = fold with_key x.keys (one_key x.next) in
-      formed_then base x (next_drawn (with_now id new o keys x)) id o (one_key x.next) formed (own_active id x.next, tt) refl
+      formed_then classes base x (next_drawn (with_now id new o keys x)) id o (one_key x.next) formed (own_active id x.next, tt) refl
       (put_here x id new o keys) (put_others x id new o keys)
       (unheld t found (t.current.activations ++ a ∷ []) (one_key x.next) (λ n out. found_pushed n t.current.activations a (other_number x.next n out)))
       (held_one o x.next)
 
-  pub activate_stays : (class trigger : ℕ) (args : List Value) → StaysFormed base (activate_with new id class trigger args x)
+  pub activate_stays : (class trigger : ℕ) (args : List Value) → StaysFormed classes base (activate_with new id class trigger args x)
   unfolding activate_with
   activate_stays class trigger args =
-      by_live base id (object_of new id x)
+      by_live classes base id (object_of new id x)
       (λ o. needs TooLong (are_args args) >>= λ _. holding (one_key x.next) x >>= λ keys. next_number x >>= λ number. Ok (number, next_drawn (with_now id new (activated (new_active number class trigger args) o) keys x)))
       (λ t found is_live.
-      by_need base TooLong (are_args args) (λ _. holding (one_key x.next) x >>= λ keys. next_number x >>= λ number. Ok (number, next_drawn (with_now id new (activated (new_active number class trigger args) t.current) keys x)))
-      (by_few base x (one_key x.next) (λ keys. next_number x >>= λ number. Ok (number, next_drawn (with_now id new (activated (new_active number class trigger args) t.current) keys x)))
-      (by_number base x (λ number. Ok (number, next_drawn (with_now id new (activated (new_active number class trigger args) t.current) (fold with_key x.keys (one_key x.next)) x)))
+      by_need classes base TooLong (are_args args) (λ _. holding (one_key x.next) x >>= λ keys. next_number x >>= λ number. Ok (number, next_drawn (with_now id new (activated (new_active number class trigger args) t.current) keys x)))
+      (by_few classes base x (one_key x.next) (λ keys. next_number x >>= λ number. Ok (number, next_drawn (with_now id new (activated (new_active number class trigger args) t.current) keys x)))
+      (by_number classes base x (λ number. Ok (number, next_drawn (with_now id new (activated (new_active number class trigger args) t.current) (fold with_key x.keys (one_key x.next)) x)))
       (activated_so class trigger args t found))))
 
   -- ---- off
 
-  off_so : (number : ℕ) (t : Tracked) → object_of new id x ≡ Some t → IsFormed base (with_now id new (switched_off number t.current) (fold with_key x.keys (one_key number)) x)
+  off_so : (number : ℕ) (t : Tracked) → object_of new id x ≡ Some t → IsFormed classes base (with_now id new (switched_off number t.current) (fold with_key x.keys (one_key number)) x)
   off_so number t found =
       let o = switched_off number t.current in
       let keys = fold with_key x.keys (one_key number) in
-      formed_then base x (with_now id new o keys x) id o (one_key number) formed (own_active id number, tt) refl
+      formed_then classes base x (with_now id new o keys x) id o (one_key number) formed (own_active id number, tt) refl
       (put_here x id new o keys) (put_others x id new o keys)
       (unheld t found (map (turned_off number) t.current.activations) (one_key number) (λ n out. found_turned n number t.current.activations (other_number number n out)))
       (held_one o number)
 
-  pub deactivate_stays : (number : ℕ) → StaysFormed base (deactivate_with new id number x)
+  pub deactivate_stays : (number : ℕ) → StaysFormed classes base (deactivate_with new id number x)
   unfolding deactivate_with
   deactivate_stays number =
-      by_live base id (object_of new id x) (λ o. cond (list_any (is_on number) o.activations) (switch_off new id number o x) (Ok (tt, x)))
+      by_live classes base id (object_of new id x) (λ o. cond (list_any (is_on number) o.activations) (switch_off new id number o x) (Ok (tt, x)))
       (λ t found is_live. by_on t found (list_any (is_on number) t.current.activations)) where
-        by_on : (t : Tracked) → object_of new id x ≡ Some t → (b : Bool) → StaysFormed base (cond b (switch_off new id number t.current x) (Ok (tt, x)))
-        by_on t found true = by_few base x (one_key number) (λ keys. Ok (tt, with_now id new (switched_off number t.current) keys x)) (off_so number t found)
+        by_on : (t : Tracked) → object_of new id x ≡ Some t → (b : Bool) → StaysFormed classes base (cond b (switch_off new id number t.current x) (Ok (tt, x)))
+        by_on t found true = by_few classes base x (one_key number) (λ keys. Ok (tt, with_now id new (switched_off number t.current) keys x)) (off_so number t found)
         by_on t found false = formed
 
   -- ---- states
 
   put_so : (rs : List Running) (t : Tracked) → object_of new id x ≡ Some t
-      → IsFormed base (with_now id new (with_states rs t.current) (fold with_key x.keys (activation_keys id t.current.activations)) x)
+      → IsFormed classes base (with_now id new (with_states rs t.current) (fold with_key x.keys (activation_keys id t.current.activations)) x)
   put_so rs t found =
       let o = with_states rs t.current in
       let keys = fold with_key x.keys (activation_keys id t.current.activations) in
-      formed_then base x (with_now id new o keys x) id o (activation_keys id t.current.activations) formed (own_actives id t.current.activations) refl
+      formed_then classes base x (with_now id new o keys x) id o (activation_keys id t.current.activations) formed (own_actives id t.current.activations) refl
       (put_here x id new o keys) (put_others x id new o keys)
       (unheld t found (taken_over rs t.current.activations) (activation_keys id t.current.activations)
       (λ n out. let none = none_active id n t.current.activations out in found_taken n rs t.current.activations none ∙ sym none))
-      (held_actives base id o t.current.activations)
+      (held_actives classes base id o t.current.activations)
 
-  pub put_stays : (rs : List Running) → StaysFormed base (put_with new id rs x)
+  pub put_stays : (rs : List Running) → StaysFormed classes base (put_with new id rs x)
   unfolding put_with
   put_stays rs = by_object (object_of new id x) refl where
-    by_object : (f : Option Tracked) → object_of new id x ≡ f → StaysFormed base (put_of new id rs f x)
+    by_object : (f : Option Tracked) → object_of new id x ≡ f → StaysFormed classes base (put_of new id rs f x)
     by_object None is = formed
-    by_object (Some t) is = by_few base x (activation_keys id t.current.activations) (λ keys. Ok (tt, with_now id new (with_states rs t.current) keys x)) (put_so rs t is)
+    by_object (Some t) is = by_few classes base x (activation_keys id t.current.activations) (λ keys. Ok (tt, with_now id new (with_states rs t.current) keys x)) (put_so rs t is)

@@ -17,6 +17,7 @@ ghost use Rattle.ode_overlay.specs.declared.origin.Origin.{Origin};
 ghost use Rattle.ode_settling_laws.specs.Formed.{IsFormed};
 ghost use Rattle.ode_types.specs.declared.running.Running.{Running};
 ghost use Rattle.ode_value.specs.Language.{Language, ListWorld};
+ghost use Rattle.ode_value.specs.Worlds.{Declared};
 ghost use Rattle.ode_value.specs.declared.value.Value.{Value};
 
 use ode_heap_laws::{heaps_show_held_worlds, held_worlds_can_be_read};
@@ -24,7 +25,7 @@ use ode_heap_laws::{heaps_show_held_worlds, held_worlds_can_be_read};
 /// What an overlay reads of an object from records that hold a world stands under the object's keys.
 pub fn objects_are_read_as_stored()
     ensures { (l : Language) (records : Entries) (w : ListWorld) (x : Layer) (id : ℕ) (new : Option Tracked) → HoldsCounted l records w
-        → fresh (map class_of w.bones.classes) records id x ≡ Ok new → IsStored records id new }
+        → fresh (map class_of w.bones.classes) records id x ≡ Ok new → IsStored w.bones.classes records id new }
 {
     held_worlds_can_be_read();
     heaps_show_held_worlds();
@@ -32,18 +33,18 @@ pub fn objects_are_read_as_stored()
 
 /// An overlay begins so, over any records.
 pub fn overlays_begin_formed()
-    ensures { (base : Entries) (counters : Counters) (queued : ℕ) (origin : Origin) → IsFormed base (begun counters queued origin) }
+    ensures { (classes : Items Declared) (base : Entries) (counters : Counters) (queued : ℕ) (origin : Origin) → IsFormed classes base (begun counters queued origin) }
 {}
 
 /// Touching, making and removing objects, and switching activations on and off or giving them states, leave it so, where what was read of
 /// an object stands under its keys and nothing stands under those of a new number. So does collecting a firing.
 pub fn changes_stay_formed()
-    ensures touch { (base : Entries) (x : Layer) (id : ℕ) (new : Option Tracked) → IsFormed base x → IsStored base id new → StaysFormed base (touch_with new id x) }
-    ensures make { (base : Entries) (x : Layer) (class : ℕ) (fields : Items Value) → IsFormed base x → IsUnused base x.next → StaysFormed base (create class fields x) }
-    ensures remove { (base : Entries) (x : Layer) (id : ℕ) (new : Option Tracked) → IsFormed base x → IsStored base id new → StaysFormed base (remove_with new id x) }
-    ensures activate { (base : Entries) (x : Layer) (id class trigger : ℕ) (args : Items Value) (new : Option Tracked) → IsFormed base x → IsStored base id new
-        → StaysFormed base (activate_with new id class trigger args x) }
-    ensures deactivate { (base : Entries) (x : Layer) (id number : ℕ) (new : Option Tracked) → IsFormed base x → IsStored base id new → StaysFormed base (deactivate_with new id number x) }
-    ensures put { (base : Entries) (x : Layer) (id : ℕ) (acts : Items Running) (new : Option Tracked) → IsFormed base x → IsStored base id new → StaysFormed base (put_with new id acts x) }
-    ensures collect { (base : Entries) (x : Layer) (e : Entry) (independent : Bool) → IsFormed base x → IsFormed base (collect e independent x).1 }
+    ensures touch { (classes : Items Declared) (base : Entries) (x : Layer) (id : ℕ) (new : Option Tracked) → IsFormed classes base x → IsStored classes base id new → StaysFormed classes base (touch_with new id x) }
+    ensures make { (classes : Items Declared) (base : Entries) (x : Layer) (class : ℕ) (fields : Items Value) → IsFormed classes base x → IsUnused base x.next → StaysFormed classes base (create class fields x) }
+    ensures remove { (classes : Items Declared) (base : Entries) (x : Layer) (id : ℕ) (new : Option Tracked) → IsFormed classes base x → IsStored classes base id new → StaysFormed classes base (remove_with new id x) }
+    ensures activate { (classes : Items Declared) (base : Entries) (x : Layer) (id class trigger : ℕ) (args : Items Value) (new : Option Tracked) → IsFormed classes base x → IsStored classes base id new
+        → StaysFormed classes base (activate_with new id class trigger args x) }
+    ensures deactivate { (classes : Items Declared) (base : Entries) (x : Layer) (id number : ℕ) (new : Option Tracked) → IsFormed classes base x → IsStored classes base id new → StaysFormed classes base (deactivate_with new id number x) }
+    ensures put { (classes : Items Declared) (base : Entries) (x : Layer) (id : ℕ) (acts : Items Running) (new : Option Tracked) → IsFormed classes base x → IsStored classes base id new → StaysFormed classes base (put_with new id acts x) }
+    ensures collect { (classes : Items Declared) (base : Entries) (x : Layer) (e : Entry) (independent : Bool) → IsFormed classes base x → IsFormed classes base (collect e independent x).1 }
 {}

@@ -6,20 +6,23 @@ use Rattle.ode_codec.specs.StoredRows.{Stored, activation_row, activation_rows, 
 use Rattle.ode_formed_laws.proofs.ObjectLaws.{by_form}
 use Rattle.ode_keep.specs.Entries.{value_under}
 use Rattle.ode_laws.proofs.AlikePairs.{all_found}
+use Rattle.ode_laws.proofs.BornLaws.{object_born}
 use Rattle.ode_laws.proofs.Rows.{find-map}
 use Rattle.ode_objects.specs.Objects.{has_number, is_numbered}
 use Rattle.ode_objects.specs.declared.object.Active.{Active}
 use Rattle.ode_objects.specs.declared.object.Object as tracked
 use Rattle.ode_overlay_laws.specs.Standing.{IsIn, active_as, object_as}
 use Rattle.ode_settling_laws.proofs.KindLaws.{activation_stands, object_stands, version_stands}
-use Rattle.ode_settling_laws.proofs.PartLaws.{activations_stand, number_found, of_number, state_found, versions_stand}
+use Rattle.ode_settling_laws.proofs.PartLaws.{activations_stand, all_stored, number_found, of_number, state_found, versions_stand}
 use Rattle.ode_settling_laws.specs.Formed.{IsOwn, active_value, object_value, value_in, version_value}
+use Rattle.ode_value.specs.Fields.{fields_of}
 use Rattle.ode_value.specs.GoodWorlds.{AreBones, IsActivation, IsObject}
 use Rattle.ode_value.specs.Keys.{activation_key, object_key, version_key}
 use Rattle.ode_value.specs.Language.{Language}
 use Rattle.ode_value.specs.Objects.{Activation}
 use Rattle.ode_value.specs.Pasts.{Kept}
 use Rattle.ode_value.specs.Worlds.{Object}
+use Rattle.ode_value.specs.declared.class.Field.{Field}
 use Rattle.ode_value.specs.declared.key.Key.{Key}
 
 abbrev NumberKept : Type 0
@@ -51,13 +54,18 @@ module _ (l : Language) (s : Stored) (good : AreBones l s.world.bones) (id : ℕ
   while_live : (v : Option (List ℕ)) → v ≡ cond o.live v None
   while_live v = sym (ap (λ b. cond b v None) live)
 
-  object_there : value_under (rows s) (object_key id) ≡ value_in (object_key id) o
+  object_there : value_under (rows s) (object_key id) ≡ value_in s.world.bones.classes (object_key id) o
   object_there = object_stands s id ∙ ap (option_map (λ (p : Object). (object_row p).1)) at.object ∙ while_live (Some (object_value id o))
 
-  version_there : (n : ℕ) → value_under (rows s) (version_key id n) ≡ value_in (version_key id n) o
+  -- the fields of its class
+  abbrev fields : List Field
+  fields = fields_of s.world.bones.classes o.class
+
+  version_there : (n : ℕ) → value_under (rows s) (version_key id n) ≡ value_in s.world.bones.classes (version_key id n) o
   version_there n =
-      version_stands s good.rising id n ∙ ap (option_and_then (λ (p : Object). value_under (version_rows p) (version_key id n))) at.object
-      ∙ versions_stand id n o.versions ∙ while_live (option_map (version_value id) (find (is_numbered n) o.versions))
+      version_stands s good.rising id n ∙ ap (option_and_then (λ (p : Object). value_under (version_rows s.world.bones.classes p) (version_key id n))) at.object
+      ∙ versions_stand id n fields o.versions (all_stored fields o.versions (object_born l s.world.bones good.classes (object_as id o) its))
+      ∙ while_live (option_map (version_value fields) (find (is_numbered n) o.versions))
 
   state_is : (n : ℕ) (a : Active) → find (has_number n) o.activations ≡ Some a → state_of s.world id a.number ≡ a.state
   state_is n a found =
@@ -73,7 +81,7 @@ module _ (l : Language) (s : Stored) (good : AreBones l s.world.bones) (id : ℕ
   by_found n (Some a) is =
       ap (λ m. Some (activation_row id m (active_as a)).1) (state_is n a is) ∙ sym (ap (λ b. cond b (Some (activation_row id a.state (active_as a)).1) None) (is_on n a is))
 
-  activation_there : (n : ℕ) → value_under (rows s) (activation_key id n) ≡ value_in (activation_key id n) o
+  activation_there : (n : ℕ) → value_under (rows s) (activation_key id n) ≡ value_in s.world.bones.classes (activation_key id n) o
   activation_there n =
       activation_stands s good.rising id n ∙ ap (option_and_then (λ (p : Object). value_under (activation_rows s.world p) (activation_key id n))) at.object
       ∙ activations_stand id n (λ m. state_of s.world id m) (map active_as o.activations)
@@ -81,5 +89,5 @@ module _ (l : Language) (s : Stored) (good : AreBones l s.world.bones) (id : ℕ
       ∙ by_found n (find (has_number n) o.activations) refl
       ∙ while_live (option_and_then (active_value id) (find (has_number n) o.activations))
 
-  pub first_stands : (q : Key) → IsOwn q → q.a ≡ id → value_under (rows s) q ≡ value_in q o
-  first_stands q own is = by_form (λ k. value_under (rows s) k ≡ value_in k o) id object_there version_there activation_there q own is
+  pub first_stands : (q : Key) → IsOwn q → q.a ≡ id → value_under (rows s) q ≡ value_in s.world.bones.classes q o
+  first_stands q own is = by_form (λ k. value_under (rows s) k ≡ value_in s.world.bones.classes k o) id object_there version_there activation_there q own is

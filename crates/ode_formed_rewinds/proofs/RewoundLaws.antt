@@ -52,9 +52,9 @@ module _ (l : Language) (s : Stored) (good : AreBones l s.world.bones) (classes 
 
   -- what stands there now, where it wasn't held
   abbrev Stood : Key → Type 0
-  Stood q = below q ≡ value_in q now
+  Stood q = below q ≡ value_in s.world.bones.classes q now
 
-  is_first : (q : Key) → IsOwn q → q.a ≡ id → below q ≡ value_in q first
+  is_first : (q : Key) → IsOwn q → q.a ≡ id → below q ≡ value_in s.world.bones.classes q first
   is_first q own is = first_stands l s good id first at q own is
 
   -- ---- its own record
@@ -67,15 +67,15 @@ module _ (l : Language) (s : Stored) (good : AreBones l s.world.bones) (classes 
   object_by true false is same = absurd (cc)
   object_by false b is same = refl
 
-  object_left : Stood (object_key id) → below (object_key id) ≡ value_in (object_key id) left
+  object_left : Stood (object_key id) → below (object_key id) ≡ value_in s.world.bones.classes (object_key id) left
   object_left stood =
       let own = is_first (object_key id) (inl refl) refl in
       own ∙ object_by first.live now.live (live l s good id first at) (sym own ∙ stood)
 
   -- ---- versions
 
-  version_left : (n : ℕ) → below (version_key id n) ≡ value_in (version_key id n) left
-  version_left n = is_first (version_key id n) (inr (inl refl)) refl ∙ sym (same_version id n left first refl refl).1
+  version_left : (n : ℕ) → below (version_key id n) ≡ value_in s.world.bones.classes (version_key id n) left
+  version_left n = is_first (version_key id n) (inr (inl refl)) refl ∙ sym (same_version s.world.bones.classes id n left first refl refl refl).1
 
   -- ---- activations
 
@@ -115,24 +115,24 @@ module _ (l : Language) (s : Stored) (good : AreBones l s.world.bones) (classes 
       ∙ sym (ap (λ b. cond b (Some (activation_row id (cond (is_whole classes a) (state_in now.activations a) a.state) (active_as a)).1) None) on)
       ∙ sym (ap (λ b. cond b (active_value id (rewound_active classes now.activations a)) None) (live l s good id first at))
 
-  active_left : (n : ℕ) → Stood (activation_key id n) → below (activation_key id n) ≡ value_in (activation_key id n) left
+  active_left : (n : ℕ) → Stood (activation_key id n) → below (activation_key id n) ≡ value_in s.world.bones.classes (activation_key id n) left
   active_left n stood =
       active_by n (find (has_number n) first.activations) refl stood (is_first (activation_key id n) (inr (inr refl)) refl)
       ∙ sym (ap (λ (f : Option Active). cond first.live (option_and_then (active_value id) f) None) (find-map (has_number n) (has_number n) (rewound_active classes now.activations) (λ a. refl) first.activations))
 
   -- ---- any key
 
-  left_stands : (x : Layer) (q : Key) → IsOwn q → q.a ≡ id → after_by x q now (below q) ≡ value_in q now → after_by x q left (below q) ≡ value_in q left
+  left_stands : (x : Layer) (q : Key) → IsOwn q → q.a ≡ id → after_by x q now (below q) ≡ value_in s.world.bones.classes q now → after_by x q left (below q) ≡ value_in s.world.bones.classes q left
   left_stands x q own is was = by_held (is_among q x.keys) was where
-    by_held : (b : Bool) → cond b (value_after (object_becomes q now) (below q)) (below q) ≡ value_in q now → cond b (value_after (object_becomes q left) (below q)) (below q) ≡ value_in q left
+    by_held : (b : Bool) → cond b (value_after (object_becomes q now) (below q)) (below q) ≡ value_in s.world.bones.classes q now → cond b (value_after (object_becomes q left) (below q)) (below q) ≡ value_in s.world.bones.classes q left
     by_held true e =
-        by_form (λ k. value_after (object_becomes k left) (below k) ≡ value_in k left) id (spells_object id left (below (object_key id)))
-        (λ n. spells_again (version_key id n) left (below (version_key id n)) (inr (inl refl)) (version_left n)) (λ n. spells_active id n left (below (activation_key id n))) q own is
-    by_held false e = by_form (λ k. Stood k → below k ≡ value_in k left) id object_left (λ n stood. version_left n) active_left q own is e
+        by_form (λ k. value_after (object_becomes k left) (below k) ≡ value_in s.world.bones.classes k left) id (spells_object s.world.bones.classes id left (below (object_key id)))
+        (λ n. spells_again s.world.bones.classes (version_key id n) left (below (version_key id n)) (inr (inl refl)) (version_left n)) (λ n. spells_active s.world.bones.classes id n left (below (activation_key id n))) q own is
+    by_held false e = by_form (λ k. Stood k → below k ≡ value_in s.world.bones.classes k left) id object_left (λ n stood. version_left n) active_left q own is e
 
 -- ---- the overlay
 
-module _ (l : Language) (s : Stored) (good : AreBones l s.world.bones) (classes : List Class) (x : Layer) (remembers : Remembers x.objects s.world) (formed : IsFormed (rows s) x) where
+module _ (l : Language) (s : Stored) (good : AreBones l s.world.bones) (classes : List Class) (x : Layer) (remembers : Remembers x.objects s.world) (formed : IsFormed s.world.bones.classes (rows s) x) where
   abbrev after_of : Key → Option Tracked → Bytes
   after_of q f = cond (is_among q x.keys) (value_after (becomes_of q f) (value_under (rows s) q)) (value_under (rows s) q)
 
@@ -145,23 +145,23 @@ module _ (l : Language) (s : Stored) (good : AreBones l s.world.bones) (classes 
   held_then q = refl
 
   by_first : (id : ℕ) (t u : Tracked) (f : First) → t.first ≡ f → WasFirst s.world id t.current f → tracked_at id x ≡ Some t → rewound_by classes t.current f ≡ Some u → (q : Key) → IsOwn q → q.a ≡ id
-      → after_of q (Some u) ≡ value_in q u.current
+      → after_of q (Some u) ≡ value_in s.world.bones.classes q u.current
   by_first id t u Same is was found left q own at =
       let one : record { first = Same; current = t.current } ≡ u = cc in
-      subst (λ (v : Tracked). after_of q (Some v) ≡ value_in q v.current) one
+      subst (λ (v : Tracked). after_of q (Some v) ≡ value_in s.world.bones.classes q v.current) one
       (sym (ap (after_of q) found) ∙ ap (λ n. after_of q (tracked_at n x)) (sym at) ∙ sym (held_of q) ∙ formed.each id t q found own at)
   by_first id t u (Other first) is was found left q own at =
       let one : record { first = Other first; current = rewound_object classes first t.current } ≡ u = cc in
-      subst (λ (v : Tracked). after_of q (Some v) ≡ value_in q v.current) one
+      subst (λ (v : Tracked). after_of q (Some v) ≡ value_in s.world.bones.classes q v.current) one
       (left_stands l s good classes id first t.current was.is x q own at
       (sym (ap (after_of q) found) ∙ ap (λ n. after_of q (tracked_at n x)) (sym at) ∙ sym (held_of q) ∙ formed.each id t q found own at))
   by_first id t u Absent is was found left q own at = absurd (cc)
 
-  by_tracked : (id : ℕ) (u : Tracked) (f : Option Tracked) → tracked_at id x ≡ f → option_and_then (rewound classes) f ≡ Some u → (q : Key) → IsOwn q → q.a ≡ id → after_of q (Some u) ≡ value_in q u.current
+  by_tracked : (id : ℕ) (u : Tracked) (f : Option Tracked) → tracked_at id x ≡ f → option_and_then (rewound classes) f ≡ Some u → (q : Key) → IsOwn q → q.a ≡ id → after_of q (Some u) ≡ value_in s.world.bones.classes q u.current
   by_tracked id u None found left q own at = absurd (cc)
   by_tracked id u (Some t) found left q own at = by_first id t u t.first refl (remembers.first id t found) found left q own at
 
-  pub rewound_formed : IsFormed (rows s) (rewind classes x)
+  pub rewound_formed : IsFormed s.world.bones.classes (rows s) (rewind classes x)
   unfolding rewind
   rewound_formed = record {
     keys = formed.keys;
@@ -170,8 +170,9 @@ module _ (l : Language) (s : Stored) (good : AreBones l s.world.bones) (classes 
         ∙ by_tracked id u (tracked_at id x) refl (sym (rewound_at classes id x.objects remembers.rising) ∙ is) q own at;
   }
 
-pub rewound_held : (l : Language) (records : Entries) (w : ListWorld) (classes : List Class) (x : Layer) (held : HoldsWorld l records w) → Remembers x.objects held.stored.world → IsFormed records x
-    → IsFormed records (rewind classes x)
+pub rewound_held : (l : Language) (records : Entries) (w : ListWorld) (classes : List Class) (x : Layer) (held : HoldsWorld l records w) → Remembers x.objects held.stored.world
+    → IsFormed held.stored.world.bones.classes records x → IsFormed held.stored.world.bones.classes records (rewind classes x)
 rewound_held l records w classes x held remembers formed =
-    subst (λ (es : Entries). IsFormed es (rewind classes x)) (sym held.rows)
-    (rewound_formed l held.stored (subst (AreBones l) (sym held.stands.bones) held.good.bones) classes x remembers (subst (λ (es : Entries). IsFormed es x) held.rows formed))
+    let first = held.stored.world.bones.classes in
+    subst (λ (es : Entries). IsFormed first es (rewind classes x)) (sym held.rows)
+    (rewound_formed l held.stored (subst (AreBones l) (sym held.stands.bones) held.good.bones) classes x remembers (subst (λ (es : Entries). IsFormed first es x) held.rows formed))

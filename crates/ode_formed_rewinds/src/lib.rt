@@ -15,6 +15,6 @@ ghost use Rattle.ode_version_laws.specs.Remembering.{Remembers};
 /// Over records that hold the world that a transaction began with, an overlay that remembers what its objects were holds the keys of all
 /// records that differ behind `rewind` too, where it held them before.
 pub fn rewinds_stay_formed()
-    ensures { (l : Language) (records : Entries) (w : ListWorld) (classes : Items Class) (x : Layer) (held : HoldsWorld l records w) → Remembers x.objects held.stored.world → IsFormed records x
-        → IsFormed records (rewind classes x) }
+    ensures { (l : Language) (records : Entries) (w : ListWorld) (classes : Items Class) (x : Layer) (held : HoldsWorld l records w) → Remembers x.objects held.stored.world
+        → IsFormed held.stored.world.bones.classes records x → IsFormed held.stored.world.bones.classes records (rewind classes x) }
 {}

@@ -41,7 +41,7 @@ module _ (number : ℕ) (v : Version) (vs : List Version) where
 
 -- ---- with one changed
 
-module _ (number : ℕ) (fields : List Value) where
+module _ (number : ℕ) (fields : ℕ × List Value) where
   abbrev with_one : List Version → List Version
   with_one vs = written_at (position (is_numbered number) vs) number fields vs
 
@@ -69,7 +69,7 @@ module _ (number : ℕ) (fields : List Value) where
   itself n = grind (arith, nat_tests)
 
   written_here : (v : Version) → IsWritten (Some (one v))
-  written_here v read e = absurd (cc)
+  written_here v stamp values e = absurd (cc)
 
   pub found_written : (vs : List Version) → IsWritten (find (is_numbered number) (with_one vs))
   found_written [] = tt

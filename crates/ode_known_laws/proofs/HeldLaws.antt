@@ -41,7 +41,7 @@ ReadsAll = (l : Language) (records : Entries) (w : ListWorld) (x : Layer) (y : N
 
 abbrev pub StoresAll : Type 0
 StoresAll = (l : Language) (records : Entries) (w : ListWorld) (x : Layer) (id : ℕ) (new : Option Tracked) → HoldsCounted l records w
-    → fresh (map class_of w.bones.classes) records id x ≡ Ok new → IsStored records id new
+    → fresh (map class_of w.bones.classes) records id x ≡ Ok new → IsStored w.bones.classes records id new
 
 is_read : (classes : List Class) (base : Entries) (x : Layer) (y : NumberTx) (id : ℕ) → ReadsFresh x y id (fresh classes base id x) → IsRead classes base x y id
 is_read classes base x y id reads = by_answer (fresh classes base id x) refl reads where
@@ -93,9 +93,10 @@ module _ (base : Entries) (first : NumberWorld) (held : IsHeld base first) where
         is_read (declared_in first) base x y id
         (subst (λ (cs : List Class). ReadsFresh x y id (fresh cs base id x)) same_classes (reads held.language base held.world x y id held.held stands (begins ∙ held.is)))
 
-    pub stored_now : (id : ℕ) (new : Option Tracked) → fresh (declared_in first) base id x ≡ Ok new → StoresAll → IsStored base id new
+    pub stored_now : (id : ℕ) (new : Option Tracked) → fresh (declared_in first) base id x ≡ Ok new → StoresAll → IsStored first.bones.classes base id new
     stored_now id new read stores =
-        stores held.language base held.world x id new held.held (subst (λ (cs : List Class). fresh cs base id x ≡ Ok new) (sym same_classes) read)
+        subst (λ (b : Bones). IsStored b.classes base id new) (sym same_bones)
+        (stores held.language base held.world x id new held.held (subst (λ (cs : List Class). fresh cs base id x ≡ Ok new) (sym same_classes) read))
 
   -- ---- nothing stands under the keys of the next number
 
@@ -114,7 +115,7 @@ module _ (base : Entries) (first : NumberWorld) (held : IsHeld base first) where
       ap (λ (es : Entries). value_under es q) held.held.world.rows
       ∙ by_form (λ (k : Key). value_under (rows s) k ≡ None) x.next
       (object_stands s x.next ∙ ap (option_map (λ (o : Object). (object_row o).1)) none)
-      (λ n. version_stands s rising x.next n ∙ ap (option_and_then (λ (o : Object). value_under (version_rows o) (version_key x.next n))) none)
+      (λ n. version_stands s rising x.next n ∙ ap (option_and_then (λ (o : Object). value_under (version_rows s.world.bones.classes o) (version_key x.next n))) none)
       (λ n. activation_stands s rising x.next n ∙ ap (option_and_then (λ (o : Object). value_under (activation_rows s.world o) (activation_key x.next n))) none) q own at
     where
       none : object_numbered x.next s.world.bones.objects ≡ None

@@ -92,7 +92,7 @@ pub record Leaves {R : Type 0} (base : Entries) (y : NumberTx) (answer : Answer 
   pub versions : StillHaveVersions y answer
   pub numbers : StillHaveNumbers y answer
   pub triggers : StillHaveTriggers y.first.bones.classes y answer
-  pub formed : StaysFormed base answer
+  pub formed : StaysFormed y.first.bones.classes base answer
   pub keys : StillHoldsKeys y.first answer
 
 module _ (classes : List Declared) (first : NumberWorld) (beside : Beside) (base : Entries) (x : Layer) (known : IsKnown base first x) where
@@ -159,7 +159,7 @@ module _ (base : Entries) (first : NumberWorld) (x : Layer) (known : IsKnown bas
   abbrev collected : Bool → Bool × Layer
   collected b = cond b (true, with_entry e independent x) (false, x)
 
-  by_room : (b : Bool) → IsViewed first (collected b).1 → IsFormed base (collected b).1 → HoldsKeys first (collected b).1 → IsKnown base first (collected b).1
+  by_room : (b : Bool) → IsViewed first (collected b).1 → IsFormed first.bones.classes base (collected b).1 → HoldsKeys first (collected b).1 → IsKnown base first (collected b).1
   unfolding world_now
   by_room true viewed formed keys = record {
     held = known.held;
@@ -173,7 +173,7 @@ module _ (base : Entries) (first : NumberWorld) (x : Layer) (known : IsKnown bas
   }
   by_room false viewed formed keys = known
 
-  pub collected_known : IsViewed first (collect e independent x).1 → IsFormed base (collect e independent x).1 → HoldsKeys first (collect e independent x).1 → IsKnown base first (collect e independent x).1
+  pub collected_known : IsViewed first (collect e independent x).1 → IsFormed first.bones.classes base (collect e independent x).1 → HoldsKeys first (collect e independent x).1 → IsKnown base first (collect e independent x).1
   unfolding collect
   collected_known viewed formed keys = by_room (has_room x && are_args e.args) viewed formed keys
 

@@ -81,7 +81,7 @@ module _ (tables : ℕ → ℕ → Table) (first : NumberWorld) (beside : Beside
 
   pub left_known : (aborted (numbers tables) y ≡ running classes first left beside) × IsViewed first left → Remembers left.objects first
       → HaveVersions (aborted (numbers tables) y).now.bones → HaveNumbers (aborted (numbers tables) y).now.bones
-      → HaveTriggers classes (aborted (numbers tables) y).now.bones → IsFormed base left → HoldsKeys first left → IsKnown base first left
+      → HaveTriggers classes (aborted (numbers tables) y).now.bones → IsFormed classes base left → HoldsKeys first left → IsKnown base first left
   left_known viewed remembers versions has triggers formed keys = record {
     held = known.held;
     viewed = viewed.1;

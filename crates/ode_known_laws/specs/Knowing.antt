@@ -33,7 +33,7 @@ pub record IsKnown (base : Entries) (first : NumberWorld) (x : Layer) : Type 0 w
   pub remembers : Remembers x.objects first
   pub versions : HaveVersions (world_now first.bones.classes first x).bones
   pub numbered : GoesOnNumbered (running first.bones.classes first x nothing_beside)
-  pub formed : IsFormed base x
+  pub formed : IsFormed first.bones.classes base x
   pub keys : HoldsKeys first x
   pub triggers : HaveTriggers first.bones.classes (world_now first.bones.classes first x).bones
 

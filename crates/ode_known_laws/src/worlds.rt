@@ -1,5 +1,6 @@
 //! The world now.
-ghost use Rattle.std.specs.Prelude.{◌≡◌, ◌+ℤ◌, pos, int_le, nat_le};
+ghost use Rattle.std.specs.Prelude.{◌≡◌, ◌+ℤ◌, pos, int_le, map, nat_le};
+ghost use Rattle.ode_heap.specs.Answering.{class_of};
 ghost use Rattle.ode_keep.specs.Entries.{Entries};
 ghost use Rattle.ode_known_laws.specs.Knowing.{IsKnown};
 ghost use Rattle.ode_laws.specs.Alike.{NumberWorld};
@@ -22,7 +23,7 @@ pub fn worlds_known()
     ensures numbered { (first : NumberWorld) (beside : Beside) (base : Entries) (x : Layer) → IsKnown base first x
         → AreNumbered (running first.bones.classes first x beside).now.bones }
     ensures light { (first : NumberWorld) (beside : Beside) (base : Entries) (x : Layer) → IsKnown base first x
-        → int_le (pos (weight first.bones) +ℤ growth_told x) (pos weight_limit) ≡ nat_le (weight (kept_bones (running first.bones.classes first x beside).now.bones)) weight_limit }
+        → int_le (pos (weight first.bones) +ℤ growth_told (map class_of first.bones.classes) x) (pos weight_limit) ≡ nat_le (weight (kept_bones (running first.bones.classes first x beside).now.bones)) weight_limit }
 {
     overlays_have_views();
     held_worlds_are_shown();

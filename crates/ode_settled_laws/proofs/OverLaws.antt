@@ -1,10 +1,11 @@
 -- What is left of a settled transaction over records.
-use Rattle.std.proofs.Common.{◌≡◌, ◌≤◌, ◌-ℤ◌, ℕ, pos, List, ◌++◌, refl, sym, ap, subst, ◌∙◌, arith}
+use Rattle.std.proofs.Common.{◌≡◌, ◌≤◌, ◌-ℤ◌, ℕ, pos, List, ◌++◌, map, refl, sym, ap, subst, ◌∙◌, arith}
 use Rattle.std.proofs.lemmas.Bool.Decides.{nat_tests}
 use Rattle.std.proofs.lemmas.Int.{ints}
 use Rattle.std.specs.List.{AllByRecursion}
 use Rattle.std.specs.Prelude.{◌+ℤ◌, ◌+◌}
 use Rattle.ode_codec.specs.Standing.{HoldsWorld}
+use Rattle.ode_heap.specs.Answering.{class_of}
 use Rattle.ode_heap_laws.specs.Few.{HasFewParts, HoldsCounted}
 use Rattle.ode_keep.specs.Entries.{Entries}
 use Rattle.ode_laws.specs.Alike.{NumberTx, NumberWorld, SettledAs}
@@ -21,6 +22,7 @@ use Rattle.ode_value.specs.Settling.{Settled, ends_with}
 use Rattle.ode_value.specs.Tables.{Table}
 use Rattle.ode_value.specs.Weights.{weight}
 use Rattle.ode_value.specs.Worlds.{Bones, Declared}
+use Rattle.ode_value.specs.declared.class.Class.{Class}
 use Rattle.ode_view_laws.specs.Viewing.{Beside, running, world_now}
 
 -- ---- growth
@@ -54,6 +56,10 @@ module _ (l : Language) (base : Entries) (v : ListWorld) (held : HoldsCounted l 
   abbrev tables : ℕ → ℕ → Table
   tables = held.world.stored.tables
 
+  -- its classes
+  abbrev kinds : List Class
+  kinds = map class_of first.bones.classes
+
   abbrev view : NumberTx
   view = running first.bones.classes first now new
 
@@ -75,16 +81,16 @@ module _ (l : Language) (base : Entries) (v : ListWorld) (held : HoldsCounted l 
     first_weighs : weight first.bones ≡ weight v.bones
     first_weighs = ap (λ (b : Bones). weight b) held.world.stands.bones
 
-    grows : growth now ≡ pos (weight (kept_bones view.now.bones)) -ℤ pos (weight first.bones) → bytes_before now ≤ weight first.bones → IsGood l s.0
-        → pos (weight v.bones) +ℤ growth_told now ≡ pos (weight s.0.bones)
+    grows : growth kinds now ≡ pos (weight (kept_bones view.now.bones)) -ℤ pos (weight first.bones) → bytes_before kinds now ≤ weight first.bones → IsGood l s.0
+        → pos (weight v.bones) +ℤ growth_told kinds now ≡ pos (weight s.0.bones)
     grows is less good =
-        subst (λ (n : ℕ). pos n +ℤ growth_told now ≡ pos (weight s.0.bones)) first_weighs
-        (told_grows (weight s.0.bones) (weight first.bones) (bytes_after now) (bytes_before now) (is ∙ ap (λ (n : ℕ). pos n -ℤ pos (weight first.bones)) weighs) less
+        subst (λ (n : ℕ). pos n +ℤ growth_told kinds now ≡ pos (weight s.0.bones)) first_weighs
+        (told_grows (weight s.0.bones) (weight first.bones) (bytes_after kinds now) (bytes_before kinds now) (is ∙ ap (λ (n : ℕ). pos n -ℤ pos (weight first.bones)) weighs) less
         (subst (λ (n : ℕ). n ≤ weight_limit) (sym first_weighs) held.world.good.bones.light) good.bones.light)
 
     pub settled_over : (records : List Row) → (IsGood l s.0 → (after : HoldsWorld l records s.0) × (after.stored.tables ≡ tables))
-        → growth now ≡ pos (weight (kept_bones view.now.bones)) -ℤ pos (weight first.bones) → bytes_before now ≤ weight first.bones
-        → SettledOver l tables v (growth_told now) records new.text (line v.bones.transaction) s
+        → growth kinds now ≡ pos (weight (kept_bones view.now.bones)) -ℤ pos (weight first.bones) → bytes_before kinds now ≤ weight first.bones
+        → SettledOver l tables v (growth_told kinds now) records new.text (line v.bones.transaction) s
     settled_over records holds is less = record {
       prints = prints;
       classes = sym classes;

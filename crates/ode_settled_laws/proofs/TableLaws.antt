@@ -2,7 +2,7 @@
 use Rattle.std.proofs.Common.{◌≡◌, ℕ, ◌+◌, List, [], ◌∷◌, ◌++◌, map, length, refl, sym, ap, subst, ◌∙◌}
 use Rattle.std.specs.List.{AllByRecursion, enumerate_from, flat_map, range_with_len}
 use Rattle.ode_codec.specs.Standing.{StandsAs}
-use Rattle.ode_codec.specs.StoredRows.{activation_rows, counters_row, entry_row, head_row, object_row, places_of, rows, table_head, table_heads, table_pieces, table_rows, text_rows, version_rows}
+use Rattle.ode_codec.specs.StoredRows.{activation_rows, added_rows, counters_row, entry_row, head_row, object_row, places_of, rows, table_head, table_heads, table_pieces, table_rows, text_rows, version_rows}
 use Rattle.ode_heap_laws.specs.Few.{HoldsCounted}
 use Rattle.ode_laws.specs.Alike.{AgreesOn, NumberWorld}
 use Rattle.ode_settled_laws.specs.Holding.{IsHeldBy}
@@ -51,9 +51,9 @@ module _ (tables other : ℕ → ℕ → Table) where
   same_rows w agree =
       let b = w.bones in
       ap (λ hs. counters_row b ∷ map head_row b.classes ++ flat_map text_rows b.classes ++ hs ++ flat_map (table_rows tables) b.classes
-      ++ map object_row b.objects ++ flat_map version_rows b.objects ++ flat_map (activation_rows w) b.objects ++ map entry_row b.queue) (sym (class_heads b.classes agree))
+      ++ map object_row b.objects ++ flat_map (version_rows b.classes) b.objects ++ flat_map (activation_rows w) b.objects ++ map entry_row b.queue ++ flat_map (added_rows b) b.classes) (sym (class_heads b.classes agree))
       ∙ ap (λ ts. counters_row b ∷ map head_row b.classes ++ flat_map text_rows b.classes ++ flat_map (table_heads other) b.classes ++ ts
-      ++ map object_row b.objects ++ flat_map version_rows b.objects ++ flat_map (activation_rows w) b.objects ++ map entry_row b.queue) (sym (class_tables b.classes agree))
+      ++ map object_row b.objects ++ flat_map (version_rows b.classes) b.objects ++ flat_map (activation_rows w) b.objects ++ map entry_row b.queue ++ flat_map (added_rows b) b.classes) (sym (class_tables b.classes agree))
 
 pub held_by : (l : Language) (records : List Row) (w : ListWorld) (held : HoldsCounted l records w) (tables : ℕ → ℕ → Table) → AllByRecursion (AgreesOn held.world.stored.tables tables) w.bones.classes
     → StandsAs tables held.world.stored.world w → IsHeldBy l tables records w

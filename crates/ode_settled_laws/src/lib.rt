@@ -2,8 +2,9 @@
 //! that does nothing.
 #![tactic(auto)]
 
-ghost use Rattle.std.specs.Prelude.{◌≡◌, ◌∷◌, ℕ, List as Items};
+ghost use Rattle.std.specs.Prelude.{◌≡◌, ◌∷◌, ℕ, List as Items, map};
 ghost use Rattle.std.specs.List.{AllByRecursion};
+ghost use Rattle.ode_heap.specs.Answering.{class_of};
 ghost use Rattle.ode_heap_laws.specs.Few.{HoldsCounted};
 ghost use Rattle.ode_keep.specs.Entries.{Changes, Entries, HasRisingKeys, applied, value_under};
 ghost use Rattle.ode_laws.specs.Alike.{AgreesOn, NumberWorld, RunsAs};
@@ -46,14 +47,14 @@ pub fn transactions_settle_over_records()
         → let tables = held.world.stored.tables in let first = held.world.stored.world in
         HasRisingKeys base → RunsAs tables (running first.bones.classes first x old) t
         → running first.bones.classes first now new ≡ posted (numbers tables) (both_lists (numbers tables)) TCommit (running first.bones.classes first x old)
-        → IsOver first now → Remembers now.objects first → GoesOnNumbered (running first.bones.classes first now new) → IsFormed base now → ((q : Key) → value_under (applied changes base) q ≡ stands_after now base q)
-        → SettledOver l tables v (growth_told now) (applied changes base) new.text (committed_line v.bones.transaction) (commit lists t) }
+        → IsOver first now → Remembers now.objects first → GoesOnNumbered (running first.bones.classes first now new) → IsFormed first.bones.classes base now → ((q : Key) → value_under (applied changes base) q ≡ stands_after now base q)
+        → SettledOver l tables v (growth_told (map class_of first.bones.classes) now) (applied changes base) new.text (committed_line v.bones.transaction) (commit lists t) }
     ensures abort { (l : Language) (base : Entries) (changes : Changes) (v : ListWorld) (held : HoldsCounted l base v) (x now : Layer) (old new : Beside) (reason : Reason) (t : ListTx)
         → let tables = held.world.stored.tables in let first = held.world.stored.world in
         HasRisingKeys base → RunsAs tables (running first.bones.classes first x old) t
         → running first.bones.classes first now new ≡ posted (numbers tables) (whole_list (numbers tables)) TAbort (aborted (numbers tables) (running first.bones.classes first x old))
-        → IsOver first now → Remembers now.objects first → GoesOnNumbered (running first.bones.classes first now new) → IsFormed base now → ((q : Key) → value_under (applied changes base) q ≡ stands_after now base q)
-        → SettledOver l tables v (growth_told now) (applied changes base) new.text (aborted_line v.bones.transaction reason) (abort lists reason t) }
+        → IsOver first now → Remembers now.objects first → GoesOnNumbered (running first.bones.classes first now new) → IsFormed first.bones.classes base now → ((q : Key) → value_under (applied changes base) q ≡ stands_after now base q)
+        → SettledOver l tables v (growth_told (map class_of first.bones.classes) now) (applied changes base) new.text (aborted_line v.bones.transaction reason) (abort lists reason t) }
 {
     transactions_hold_worlds();
     transactions_settle_alike();

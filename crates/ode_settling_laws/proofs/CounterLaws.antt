@@ -20,6 +20,7 @@ use Rattle.ode_value.specs.Keys.{counters_key, key_cmp}
 use Rattle.ode_value.specs.Settling.{clock_after, settled_world}
 use Rattle.ode_value.specs.Transactions as transactions
 use Rattle.ode_value.specs.Worlds.{Bones, Position}
+use Rattle.ode_value.specs.declared.change.Added.{Added}
 use Rattle.ode_value.specs.declared.key.Key.{Key}
 
 -- ---- their spelling
@@ -49,11 +50,11 @@ module _ (x : Layer) (y : NumberTx) (stands : Stands x y) where
   abbrev after : Bones
   after = (settled_world y).bones
 
-  -- the bones of the first world with the numbers that were drawn
+  -- the bones of the first world with the numbers that were drawn, and the fields that were added by now
   abbrev numbered : ℕ → ℕ → Bones
   numbered next count =
       let b = y.first.bones in
-      record b { next = next; transaction = b.transaction + 1; next_entry = b.next_entry + count }
+      record b { added = y.now.bones.added; next = next; transaction = b.transaction + 1; next_entry = b.next_entry + count }
 
   counters_drawn : counters_of after ≡ counters_after x
   counters_drawn =
@@ -61,6 +62,7 @@ module _ (x : Layer) (y : NumberTx) (stands : Stands x y) where
       ∙ with_position x.origin (numbered y.now.bones.next (length y.collected))
       ∙ ap (λ n. with_clock x.origin (counters_of (numbered n (length y.collected)))) stands.next
       ∙ ap (λ n. with_clock x.origin (counters_of (numbered x.next n))) (ap length stands.collected ∙ length-map collected_as x.collected)
+      ∙ ap (λ (added : List Added). with_clock x.origin (counters_of (record (numbered x.next (length x.collected)) { added = added }))) stands.added
       ∙ ap (λ (c : Counters). with_clock x.origin (drawn x c)) (sym stands.counters)
 
   pub counters_left : (q : Key) → counted_after x q (value_under (counters_row y.first.bones ∷ []) q) ≡ value_under (counters_row after ∷ []) q

@@ -1,13 +1,15 @@
 -- What stands under a key of each kind in a stored database.
-use Rattle.std.proofs.Common.{◌≡◌, ◌==◌, ℕ, ◌+◌, ◌<◌, ◌≤◌, List, [], ◌∷◌, ◌++◌, map, Bool, true, false, cond, Option, Some, None, refl, ap, ◌∙◌, append_assoc, arith}
+use Rattle.std.proofs.Common.{◌≡◌, ◌==◌, ℕ, ◌+◌, ◌<◌, ◌≤◌, List, [], ◌∷◌, ◌++◌, map, Bool, true, false, cond, Option, Some, None, refl, sym, ap, ◌∙◌, append_assoc, arith}
 use Rattle.std.proofs.lemmas.Bool.Decides.{nat_tests}
 use Rattle.std.specs.BTreeMap.{is_at}
 use Rattle.std.specs.List.{flat_map}
 use Rattle.std.specs.Option.{option_and_then, option_map}
-use Rattle.ode_codec.specs.StoredRows.{Stored, activation_row, activation_rows, counters_row, entry_row, head_row, object_row, pieces_of, places_of, rows, state_of, table_bytes, table_head, table_heads, table_pieces, table_row, table_rows, text_row, text_rows, version_rows}
+use Rattle.ode_codec.specs.StoredRows.{Stored, activation_row, activation_rows, added_row, added_rows, counters_row, entry_row, head_row, object_row, pieces_of, places_of, rows, state_of, table_bytes, table_head, table_heads, table_pieces, table_row, table_rows, text_row, text_rows, version_rows}
 use Rattle.ode_keep.specs.Entries.{Entries, value_under}
 use Rattle.ode_laws.proofs.Rows.{id_of}
+use Rattle.ode_value.specs.Changing.{added_to}
 use Rattle.ode_value.specs.Denoting.{object_numbered}
+use Rattle.ode_value.specs.Fields.{fields_of}
 use Rattle.ode_value.specs.GoodWorlds.{RiseFrom}
 use Rattle.ode_value.specs.Keys.{activation_key, counters_key, key_cmp, object_key, version_key}
 use Rattle.ode_value.specs.Objects.{Activation}
@@ -15,6 +17,7 @@ use Rattle.ode_value.specs.PrintedClasses.{decl_text}
 use Rattle.ode_value.specs.Records.{Row, version_row}
 use Rattle.ode_value.specs.Tables.{Table}
 use Rattle.ode_value.specs.Worlds.{Bones, Declared, Object}
+use Rattle.ode_value.specs.declared.change.Added.{Added}
 use Rattle.ode_value.specs.declared.key.Key.{Key}
 
 abbrev Value : Type 0
@@ -113,12 +116,17 @@ second_number q id out = grind (arith, nat_tests)
 
 -- ---- the records of a stored database
 
-pub five : (c : Row) (r2 r3 r4 r5 r6 r7 r8 r9 : List Row) → (c ∷ r2 ++ r3 ++ r4 ++ r5 ++ r6 ++ r7 ++ r8 ++ r9) ≡ (c ∷ ((r2 ++ (r3 ++ (r4 ++ r5))) ++ (r6 ++ (r7 ++ (r8 ++ r9)))))
-five c r2 r3 r4 r5 r6 r7 r8 r9 = simp append_assoc
+pub six : (c : Row) (r2 r3 r4 r5 r6 r7 r8 r9 r10 : List Row)
+    → (c ∷ r2 ++ r3 ++ r4 ++ r5 ++ r6 ++ r7 ++ r8 ++ r9 ++ r10) ≡ (c ∷ ((r2 ++ (r3 ++ (r4 ++ r5))) ++ (r6 ++ (r7 ++ (r8 ++ (r9 ++ r10))))))
+six c r2 r3 r4 r5 r6 r7 r8 r9 r10 = simp append_assoc
 
 -- those of classes
 abbrev pub class_rows : (ℕ → ℕ → Table) → List Declared → List Row
 class_rows tables classes = map head_row classes ++ (flat_map text_rows classes ++ (flat_map (table_heads tables) classes ++ flat_map (table_rows tables) classes))
+
+-- and behind them those of fields that were added to these
+abbrev pub declared_rows : (ℕ → ℕ → Table) → List Declared → List Added → List Row
+declared_rows tables classes added = class_rows tables classes ++ flat_map (λ (c : Declared). map (added_row classes) (added_to c.class.number added)) classes
 
 no_class : (tables : ℕ → ℕ → Table) (classes : List Declared) (q : Key) → (2 == q.kind) ≡ false → (3 == q.kind) ≡ false → (4 == q.kind) ≡ false → (5 == q.kind) ≡ false
     → value_under (class_rows tables classes) q ≡ None
@@ -146,7 +154,7 @@ module _ (s : Stored) (q : Key) where
   objects = map object_row b.objects
 
   abbrev versions : List Row
-  versions = flat_map version_rows b.objects
+  versions = flat_map (version_rows b.classes) b.objects
 
   abbrev activations : List Row
   activations = flat_map (activation_rows s.world) b.objects
@@ -154,11 +162,20 @@ module _ (s : Stored) (q : Key) where
   abbrev entries : List Row
   entries = map entry_row b.queue
 
+  -- those of added fields
+  abbrev added : List Row
+  added = flat_map (added_rows b) b.classes
+
+  abbrev last : List Row
+  last = entries ++ added
+
   no_objects : (6 == q.kind) ≡ false → value_under objects q ≡ None
   no_objects a6 = none_map object_row q (λ o. other_kind (object_row o).0 q a6) b.objects
 
   no_versions : (7 == q.kind) ≡ false → value_under versions q ≡ None
-  no_versions a7 = none_flat version_rows q (λ (o : Object). none_map (version_row o.id) q (λ v. other_kind (version_row o.id v).0 q a7) o.versions) b.objects
+  no_versions a7 =
+      none_flat (version_rows b.classes) q
+      (λ (o : Object). none_map (version_row o.id (fields_of b.classes o.class)) q (λ v. other_kind (version_row o.id (fields_of b.classes o.class) v).0 q a7) o.versions) b.objects
 
   no_activations : (8 == q.kind) ≡ false → value_under activations q ≡ None
   no_activations a8 =
@@ -168,21 +185,31 @@ module _ (s : Stored) (q : Key) where
   no_entries : (9 == q.kind) ≡ false → value_under entries q ≡ None
   no_entries a9 = none_map entry_row q (λ e. other_kind (entry_row e).0 q a9) b.queue
 
+  no_added : (10 == q.kind) ≡ false → value_under added q ≡ None
+  no_added a10 = none_flat (added_rows b) q (λ (c : Declared). none_map (added_row b.classes) q (λ a. other_kind (added_row b.classes a).0 q a10) (added_to c.class.number b.added)) b.classes
+
+  no_last : (9 == q.kind) ≡ false → (10 == q.kind) ≡ false → value_under last q ≡ None
+  no_last a9 a10 = passed entries added q (no_entries a9) ∙ no_added a10
+
   -- behind the counters
-  behind : value_under (rows s) q ≡ value_under (counters_row b ∷ (classes ++ (objects ++ (versions ++ (activations ++ entries))))) q
+  behind : value_under (rows s) q ≡ value_under (counters_row b ∷ (classes ++ (objects ++ (versions ++ (activations ++ last))))) q
   behind =
       ap (λ (es : Entries). value_under es q)
-      (five (counters_row b) (map head_row b.classes) (flat_map text_rows b.classes) (flat_map (table_heads s.tables) b.classes) (flat_map (table_rows s.tables) b.classes) objects versions activations entries)
+      (six (counters_row b) (map head_row b.classes) (flat_map text_rows b.classes) (flat_map (table_heads s.tables) b.classes) (flat_map (table_rows s.tables) b.classes) objects versions activations entries added)
 
   not_first : (1 == q.kind) ≡ false → (es : Entries) → value_under (counters_row b ∷ es) q ≡ value_under es q
   not_first a1 es = ap (λ t. cond t (Some (counters_row b).1) (value_under es q)) (other_kind counters_key q a1)
 
-  -- of other kinds there are those of classes
-  pub class_stands : (1 == q.kind) ≡ false → (6 == q.kind) ≡ false → (7 == q.kind) ≡ false → (8 == q.kind) ≡ false → (9 == q.kind) ≡ false → value_under (rows s) q ≡ value_under classes q
+  -- of other kinds there are those of classes and of added fields
+  pub class_stands : (1 == q.kind) ≡ false → (6 == q.kind) ≡ false → (7 == q.kind) ≡ false → (8 == q.kind) ≡ false → (9 == q.kind) ≡ false
+      → value_under (rows s) q ≡ value_under (declared_rows s.tables b.classes b.added) q
   class_stands a1 a6 a7 a8 a9 =
-      behind ∙ not_first a1 (classes ++ (objects ++ (versions ++ (activations ++ entries))))
-      ∙ alone classes (objects ++ (versions ++ (activations ++ entries))) q
-      (passed objects (versions ++ (activations ++ entries)) q (no_objects a6) ∙ passed versions (activations ++ entries) q (no_versions a7) ∙ passed activations entries q (no_activations a8) ∙ no_entries a9)
+      behind ∙ not_first a1 (classes ++ (objects ++ (versions ++ (activations ++ last))))
+      ∙ value_append classes (objects ++ (versions ++ (activations ++ last))) q
+      ∙ ap (or_else (value_under classes q))
+      (passed objects (versions ++ (activations ++ last)) q (no_objects a6) ∙ passed versions (activations ++ last) q (no_versions a7) ∙ passed activations last q (no_activations a8)
+      ∙ passed entries added q (no_entries a9))
+      ∙ sym (value_append classes added q)
 
   module _ (k : ℕ) (is : q.kind ≡ k) where
     apart : (n : ℕ) → (n == k) ≡ false → (n == q.kind) ≡ false
@@ -194,37 +221,37 @@ module _ (s : Stored) (q : Key) where
   pub counters_stand : q.kind ≡ 1 → value_under (rows s) q ≡ value_under (counters_row b ∷ []) q
   counters_stand is =
       behind ∙ ap (λ (m : Value). cond (is_at (key_cmp q) counters_key) (Some (counters_row b).1) m)
-      (passed classes (objects ++ (versions ++ (activations ++ entries))) q (no_classes 1 is refl refl refl refl)
-      ∙ passed objects (versions ++ (activations ++ entries)) q (no_objects (apart 1 is 6 refl)) ∙ passed versions (activations ++ entries) q (no_versions (apart 1 is 7 refl))
-      ∙ passed activations entries q (no_activations (apart 1 is 8 refl)) ∙ no_entries (apart 1 is 9 refl))
+      (passed classes (objects ++ (versions ++ (activations ++ last))) q (no_classes 1 is refl refl refl refl)
+      ∙ passed objects (versions ++ (activations ++ last)) q (no_objects (apart 1 is 6 refl)) ∙ passed versions (activations ++ last) q (no_versions (apart 1 is 7 refl))
+      ∙ passed activations last q (no_activations (apart 1 is 8 refl)) ∙ no_last (apart 1 is 9 refl) (apart 1 is 10 refl))
 
   pub objects_stand : q.kind ≡ 6 → value_under (rows s) q ≡ value_under objects q
   objects_stand is =
-      behind ∙ not_first (apart 6 is 1 refl) (classes ++ (objects ++ (versions ++ (activations ++ entries))))
-      ∙ passed classes (objects ++ (versions ++ (activations ++ entries))) q (no_classes 6 is refl refl refl refl)
-      ∙ alone objects (versions ++ (activations ++ entries)) q
-      (passed versions (activations ++ entries) q (no_versions (apart 6 is 7 refl)) ∙ passed activations entries q (no_activations (apart 6 is 8 refl)) ∙ no_entries (apart 6 is 9 refl))
+      behind ∙ not_first (apart 6 is 1 refl) (classes ++ (objects ++ (versions ++ (activations ++ last))))
+      ∙ passed classes (objects ++ (versions ++ (activations ++ last))) q (no_classes 6 is refl refl refl refl)
+      ∙ alone objects (versions ++ (activations ++ last)) q
+      (passed versions (activations ++ last) q (no_versions (apart 6 is 7 refl)) ∙ passed activations last q (no_activations (apart 6 is 8 refl)) ∙ no_last (apart 6 is 9 refl) (apart 6 is 10 refl))
 
   versions_stand : q.kind ≡ 7 → value_under (rows s) q ≡ value_under versions q
   versions_stand is =
-      behind ∙ not_first (apart 7 is 1 refl) (classes ++ (objects ++ (versions ++ (activations ++ entries))))
-      ∙ passed classes (objects ++ (versions ++ (activations ++ entries))) q (no_classes 7 is refl refl refl refl)
-      ∙ passed objects (versions ++ (activations ++ entries)) q (no_objects (apart 7 is 6 refl))
-      ∙ alone versions (activations ++ entries) q (passed activations entries q (no_activations (apart 7 is 8 refl)) ∙ no_entries (apart 7 is 9 refl))
+      behind ∙ not_first (apart 7 is 1 refl) (classes ++ (objects ++ (versions ++ (activations ++ last))))
+      ∙ passed classes (objects ++ (versions ++ (activations ++ last))) q (no_classes 7 is refl refl refl refl)
+      ∙ passed objects (versions ++ (activations ++ last)) q (no_objects (apart 7 is 6 refl))
+      ∙ alone versions (activations ++ last) q (passed activations last q (no_activations (apart 7 is 8 refl)) ∙ no_last (apart 7 is 9 refl) (apart 7 is 10 refl))
 
   activations_stand : q.kind ≡ 8 → value_under (rows s) q ≡ value_under activations q
   activations_stand is =
-      behind ∙ not_first (apart 8 is 1 refl) (classes ++ (objects ++ (versions ++ (activations ++ entries))))
-      ∙ passed classes (objects ++ (versions ++ (activations ++ entries))) q (no_classes 8 is refl refl refl refl)
-      ∙ passed objects (versions ++ (activations ++ entries)) q (no_objects (apart 8 is 6 refl)) ∙ passed versions (activations ++ entries) q (no_versions (apart 8 is 7 refl))
-      ∙ alone activations entries q (no_entries (apart 8 is 9 refl))
+      behind ∙ not_first (apart 8 is 1 refl) (classes ++ (objects ++ (versions ++ (activations ++ last))))
+      ∙ passed classes (objects ++ (versions ++ (activations ++ last))) q (no_classes 8 is refl refl refl refl)
+      ∙ passed objects (versions ++ (activations ++ last)) q (no_objects (apart 8 is 6 refl)) ∙ passed versions (activations ++ last) q (no_versions (apart 8 is 7 refl))
+      ∙ alone activations last q (no_last (apart 8 is 9 refl) (apart 8 is 10 refl))
 
   pub entry_stands : q.kind ≡ 9 → value_under (rows s) q ≡ value_under entries q
   entry_stands is =
-      behind ∙ not_first (apart 9 is 1 refl) (classes ++ (objects ++ (versions ++ (activations ++ entries))))
-      ∙ passed classes (objects ++ (versions ++ (activations ++ entries))) q (no_classes 9 is refl refl refl refl)
-      ∙ passed objects (versions ++ (activations ++ entries)) q (no_objects (apart 9 is 6 refl)) ∙ passed versions (activations ++ entries) q (no_versions (apart 9 is 7 refl))
-      ∙ passed activations entries q (no_activations (apart 9 is 8 refl))
+      behind ∙ not_first (apart 9 is 1 refl) (classes ++ (objects ++ (versions ++ (activations ++ last))))
+      ∙ passed classes (objects ++ (versions ++ (activations ++ last))) q (no_classes 9 is refl refl refl refl)
+      ∙ passed objects (versions ++ (activations ++ last)) q (no_objects (apart 9 is 6 refl)) ∙ passed versions (activations ++ last) q (no_versions (apart 9 is 7 refl))
+      ∙ passed activations last q (no_activations (apart 9 is 8 refl)) ∙ alone entries added q (no_added (apart 9 is 10 refl))
 
   -- no object's key has a second number
   pub no_object : q.kind ≡ 6 → (q.b == 0) ≡ false → value_under (rows s) q ≡ None
@@ -235,10 +262,11 @@ module _ (s : Stored) where
   object_stands id = objects_stand s (object_key id) refl ∙ object_under s.world.bones.objects id
 
   module _ (rising : RiseFrom 0 (map id_of s.world.bones.objects)) (id n : ℕ) where
-    pub version_stands : value_under (rows s) (version_key id n) ≡ option_and_then (λ (o : Object). value_under (version_rows o) (version_key id n)) (object_numbered id s.world.bones.objects)
+    pub version_stands : value_under (rows s) (version_key id n) ≡ option_and_then (λ (o : Object). value_under (version_rows s.world.bones.classes o) (version_key id n)) (object_numbered id s.world.bones.objects)
     version_stands =
         versions_stand s (version_key id n) refl
-        ∙ value_flat version_rows (version_key id n) (λ o apart. none_map (version_row o.id) (version_key id n) (λ v. other_version id n o.id v.number apart) o.versions) s.world.bones.objects 0 rising
+        ∙ value_flat (version_rows s.world.bones.classes) (version_key id n)
+        (λ o apart. none_map (version_row o.id (fields_of s.world.bones.classes o.class)) (version_key id n) (λ v. other_version id n o.id v.number apart) o.versions) s.world.bones.objects 0 rising
 
     pub activation_stands : value_under (rows s) (activation_key id n) ≡ option_and_then (λ (o : Object). value_under (activation_rows s.world o) (activation_key id n)) (object_numbered id s.world.bones.objects)
     activation_stands =

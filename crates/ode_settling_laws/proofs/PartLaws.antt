@@ -4,22 +4,27 @@ use Rattle.std.proofs.lemmas.Bool.{eqb-true}
 use Rattle.std.proofs.lemmas.Bool.Decides.{nat_tests}
 use Rattle.std.specs.Prelude.{◌||◌}
 use Rattle.std.specs.BTreeMap.{is_at}
-use Rattle.std.specs.List.{filter, find, list_any}
+use Rattle.std.specs.List.{AllByRecursion, filter, find, list_any}
 use Rattle.std.specs.Option.{option_and_then, option_map, unwrap_or}
 use Rattle.ode_codec.specs.StoredRows.{activation_row}
 use Rattle.ode_keep.specs.Entries.{value_under}
+use Rattle.ode_laws.proofs.BornLaws.{HasAll}
 use Rattle.ode_laws.proofs.Rows.{find-map}
-use Rattle.ode_objects.specs.Objects.{has_number, is_numbered}
+use Rattle.ode_objects.specs.Objects.{has_number, is_numbered, stamp_of, values_of}
 use Rattle.ode_objects.specs.declared.object.Active.{Active}
+use Rattle.ode_objects.specs.declared.object.Fields.{Fields}
+use Rattle.ode_objects.specs.declared.object.Fields.TheVariants.{Read, Written}
 use Rattle.ode_objects.specs.declared.object.Version.{Version}
 use Rattle.ode_overlay_laws.specs.Standing.{active_as, version_as}
-use Rattle.ode_settling_laws.specs.Formed.{active_value, version_value}
+use Rattle.ode_settling_laws.specs.Formed.{active_value, stored_values, version_value}
+use Rattle.ode_value.specs.Fields.{born_values}
 use Rattle.ode_value.specs.GoodWorlds.{RiseFrom}
 use Rattle.ode_value.specs.Keeping.{is_active}
 use Rattle.ode_value.specs.Keys.{activation_key, key_cmp, version_key}
 use Rattle.ode_value.specs.Objects.{Activation}
-use Rattle.ode_value.specs.Records.{version_row}
+use Rattle.ode_value.specs.Records.{Row, version_bytes, version_row}
 use Rattle.ode_value.specs.Worlds.{kept_at}
+use Rattle.ode_value.specs.declared.class.Field.{Field}
 
 -- ---- versions
 
@@ -27,15 +32,36 @@ version_at : (id n m : ℕ) (b : Bool) → (m == n) ≡ b → is_at (key_cmp (ve
 version_at id n m true is = grind (arith, nat_tests)
 version_at id n m false is = grind (arith, nat_tests)
 
-pub versions_stand : (id n : ℕ) (vs : List Version) → value_under (map (version_row id) (map version_as vs)) (version_key id n) ≡ option_map (version_value id) (find (is_numbered n) vs)
-versions_stand id n [] = refl
-versions_stand id n (v ∷ vs) =
-    ap (λ b. cond b (Some (version_value id v)) (value_under (map (version_row id) (map version_as vs)) (version_key id n))) (version_at id n v.number (v.number == n) refl)
-    ∙ by_test (v.number == n) (versions_stand id n vs) where
-      by_test : (b : Bool) → value_under (map (version_row id) (map version_as vs)) (version_key id n) ≡ option_map (version_value id) (find (is_numbered n) vs)
-          → cond b (Some (version_value id v)) (value_under (map (version_row id) (map version_as vs)) (version_key id n)) ≡ option_map (version_value id) (cond b (Some v) (find (is_numbered n) vs))
-      by_test true more = refl
-      by_test false more = more
+-- a version's record has its values as the definition of records has them
+abbrev pub HasStored : List Field → Version → Type 0
+HasStored fields v = born_values (stamp_of v.fields) fields (values_of v.fields) ≡ stored_values fields v.fields
+
+-- a version whose record has all values has them as it is stored
+stored_by : (fields : List Field) (f : Fields) → born_values (stamp_of f) fields (values_of f) ≡ values_of f → born_values (stamp_of f) fields (values_of f) ≡ stored_values fields f
+stored_by fields (Read stamp values) all = refl
+stored_by fields (Written kept) all = all
+
+pub all_stored : (fields : List Field) (vs : List Version) → AllByRecursion (HasAll fields) (map version_as vs) → AllByRecursion (HasStored fields) vs
+all_stored fields [] all = tt
+all_stored fields (v ∷ vs) all = (stored_by fields v.fields all.0, all_stored fields vs all.1)
+
+module _ (id n : ℕ) (fields : List Field) where
+  abbrev row_of : Version → Row
+  row_of v = version_row id fields (version_as v)
+
+  version_spelled : (v : Version) → HasStored fields v → (row_of v).1 ≡ version_value fields v
+  version_spelled v stored = ap (version_bytes (unwrap_or v.parent 0) (stamp_of v.fields)) stored
+
+  pub versions_stand : (vs : List Version) → AllByRecursion (HasStored fields) vs
+      → value_under (map (version_row id fields) (map version_as vs)) (version_key id n) ≡ option_map (version_value fields) (find (is_numbered n) vs)
+  versions_stand [] stored = refl
+  versions_stand (v ∷ vs) stored =
+      ap (λ b. cond b (Some (row_of v).1) (value_under (map (version_row id fields) (map version_as vs)) (version_key id n))) (version_at id n v.number (v.number == n) refl)
+      ∙ by_test (v.number == n) (version_spelled v stored.0) (versions_stand vs stored.1) where
+        by_test : (b : Bool) → (row_of v).1 ≡ version_value fields v → value_under (map (version_row id fields) (map version_as vs)) (version_key id n) ≡ option_map (version_value fields) (find (is_numbered n) vs)
+            → cond b (Some (row_of v).1) (value_under (map (version_row id fields) (map version_as vs)) (version_key id n)) ≡ option_map (version_value fields) (cond b (Some v) (find (is_numbered n) vs))
+        by_test true same more = ap (λ (bytes : List ℕ). Some bytes) same
+        by_test false same more = more
 
 -- ---- activations
 

@@ -9,6 +9,7 @@ use Rattle.ode_codec.specs.StoredRows.{Stored, activation_row, activation_rows, 
 use Rattle.ode_codec.specs.declared.record.Counters.{Counters}
 use Rattle.ode_keep.specs.Entries.{Entries, value_under}
 use Rattle.ode_laws.proofs.AlikePairs.{all_found}
+use Rattle.ode_laws.proofs.BornLaws.{HasAll, object_born}
 use Rattle.ode_laws.proofs.Each.{all-then}
 use Rattle.ode_laws.proofs.KeptRows as kept
 use Rattle.ode_laws.proofs.Rows.{id_of, numbered_id}
@@ -20,15 +21,16 @@ use Rattle.ode_objects.specs.declared.tracked.Tracked.{Tracked}
 use Rattle.ode_overlay.specs.After.{counted_after, held_after, is_among, queued_after, ran_after, stands_after, value_after}
 use Rattle.ode_overlay.specs.Layers.{Layer, tracked_at}
 use Rattle.ode_overlay.specs.Records.{becomes, becomes_of}
-use Rattle.ode_overlay_laws.specs.Standing.{Stands, active_as, collected_as, kept_as, object_as, origin_as}
+use Rattle.ode_overlay_laws.specs.Standing.{Stands, active_as, collected_as, kept_as, object_as, origin_as, version_as}
 use Rattle.ode_settling_laws.proofs.ApartLaws.{IsOutside, no_entry, not_counted, not_held, not_ran, outside_kinds, outside_objects}
 use Rattle.ode_settling_laws.proofs.CounterLaws.{counters_left}
 use Rattle.ode_settling_laws.proofs.KeptLaws.{NumberKept, good_kept, kept_by, kept_live, kept_numbered, kept_rows, same_state}
-use Rattle.ode_settling_laws.proofs.KindLaws.{activation_stands, class_rows, class_stands, counters_stand, entry_stands, no_object, object_stands, version_stands}
-use Rattle.ode_settling_laws.proofs.PartLaws.{actives_stand, number_of, of_number, versions_stand}
+use Rattle.ode_settling_laws.proofs.KindLaws.{activation_stands, class_stands, counters_stand, declared_rows, entry_stands, no_object, object_stands, version_stands}
+use Rattle.ode_settling_laws.proofs.PartLaws.{HasStored, actives_stand, all_stored, number_of, of_number, versions_stand}
 use Rattle.ode_settling_laws.proofs.QueueLaws.{queue_stands}
 use Rattle.ode_settling_laws.specs.Formed.{IsFormed, IsOwn, active_value, object_value, value_in, version_value}
 use Rattle.ode_value.specs.Denoting.{if_live, object_numbered}
+use Rattle.ode_value.specs.Fields.{fields_of}
 use Rattle.ode_value.specs.GoodWorlds.{AreBones, IsEntry, IsObject, RiseFrom}
 use Rattle.ode_value.specs.Keeping.{has_activation, kept_bones, kept_object, kept_past}
 use Rattle.ode_value.specs.Keys.{activation_key, object_key, version_key}
@@ -38,6 +40,8 @@ use Rattle.ode_value.specs.Posting.{waiting}
 use Rattle.ode_value.specs.Settling.{entry_in, settled_world}
 use Rattle.ode_value.specs.Transactions.{Collected, Origin}
 use Rattle.ode_value.specs.Worlds.{Declared, Entry, Object, kept_at}
+use Rattle.ode_value.specs.declared.change.Added.{Added}
+use Rattle.ode_value.specs.declared.class.Field.{Field}
 use Rattle.ode_value.specs.declared.key.Key.{Key}
 
 abbrev Value : Type 0
@@ -61,7 +65,7 @@ each_has (a ∷ acts) = (
 )
 
 module _ (l : Language) (s : Stored) (x : Layer) (y : NumberTx) (good : AreBones l s.world.bones) (first : y.first ≡ s.world) (stands : Stands x y) (numbered : AreNumbered y.now.bones)
-    (classes : y.now.bones.classes ≡ y.first.bones.classes) (formed : IsFormed (rows s) x) where
+    (classes : y.now.bones.classes ≡ y.first.bones.classes) (left_good : AreBones l (settled_world y).bones) (formed : IsFormed s.world.bones.classes (rows s) x) where
   abbrev base : Entries
   base = rows s
 
@@ -76,6 +80,14 @@ module _ (l : Language) (s : Stored) (x : Layer) (y : NumberTx) (good : AreBones
 
   abbrev objects : List Object
   objects = left.bones.objects
+
+  -- the classes are those of the first world
+  classes_stay : left.bones.classes ≡ s.world.bones.classes
+  classes_stay = classes ∙ ap (λ (w : NumberWorld). w.bones.classes) first
+
+  -- and so are the fields that were added
+  added_stay : left.bones.added ≡ s.world.bones.added
+  added_stay = stands.added ∙ ap (λ (w : NumberWorld). w.bones.added) first
 
   -- ---- objects by number
 
@@ -130,7 +142,8 @@ module _ (l : Language) (s : Stored) (x : Layer) (y : NumberTx) (good : AreBones
     version_same : (n : ℕ) → there (version_key id n) ≡ value_under base (version_key id n)
     version_same n =
         version_stands after rising id n
-        ∙ ap (option_and_then (λ (o : Object). value_under (version_rows o) (version_key id n))) (object_stays id none)
+        ∙ ap (λ (cs : List Declared). option_and_then (λ (o : Object). value_under (version_rows cs o) (version_key id n)) (object_numbered id objects)) classes_stay
+        ∙ ap (option_and_then (λ (o : Object). value_under (version_rows s.world.bones.classes o) (version_key id n))) (object_stays id none)
         ∙ sym (version_stands s good.rising id n)
 
     states_same : (o : Object) → object_numbered id s.world.bones.objects ≡ Some o → o.id ≡ id → AllByRecursion (λ (a : Activation). state_of left o.id a.number ≡ state_of s.world o.id a.number) o.activations
@@ -167,26 +180,43 @@ module _ (l : Language) (s : Stored) (x : Layer) (y : NumberTx) (good : AreBones
     abbrev its : Object
     its = kept_object (object_as id o)
 
-    object_own : there (object_key id) ≡ value_in (object_key id) o
+    object_own : there (object_key id) ≡ value_in s.world.bones.classes (object_key id) o
     object_own = object_stands after id ∙ ap (option_map (λ (p : Object). (object_row p).1)) (object_there id t is) ∙ by_live o.live where
       by_live : (b : Bool) → option_map (λ (p : Object). (object_row p).1) (cond b (Some (kept_object (object_as id t.current))) None) ≡ cond b (Some (object_value id t.current)) None
       by_live true = refl
       by_live false = refl
 
-    version_own : (n : ℕ) → there (version_key id n) ≡ value_in (version_key id n) o
-    version_own n = version_stands after rising id n ∙ ap (option_and_then (λ (p : Object). value_under (version_rows p) (version_key id n))) (object_there id t is) ∙ by_live o.live where
-      by_live : (b : Bool) → option_and_then (λ (p : Object). value_under (version_rows p) (version_key id n)) (cond b (Some (kept_object (object_as id t.current))) None)
-          ≡ cond b (option_map (version_value id) (find (is_numbered n) t.current.versions)) None
-      by_live true = versions_stand id n t.current.versions
-      by_live false = refl
+    -- the fields of its class
+    abbrev fields : List Field
+    fields = fields_of s.world.bones.classes o.class
+
+    object_live : o.live ≡ true → object_numbered id objects ≡ Some its
+    object_live live = object_there id t is ∙ ap (λ b. cond b (Some its) None) live
+
+    versions_stored : o.live ≡ true → AllByRecursion (HasStored fields) o.versions
+    versions_stored live =
+        let each : AllByRecursion (HasAll (fields_of left.bones.classes o.class)) (map version_as o.versions) =
+        object_born l left.bones left_good.classes its (all_found (IsObject left.bones) id objects left_good.objects its (object_live live)) in
+        all_stored fields o.versions (subst (λ (cs : List Declared). AllByRecursion (HasAll (fields_of cs o.class)) (map version_as o.versions)) classes_stay each)
+
+    version_own : (n : ℕ) → there (version_key id n) ≡ value_in s.world.bones.classes (version_key id n) o
+    version_own n =
+        version_stands after rising id n
+        ∙ ap (λ (cs : List Declared). option_and_then (λ (p : Object). value_under (version_rows cs p) (version_key id n)) (object_numbered id objects)) classes_stay
+        ∙ ap (option_and_then (λ (p : Object). value_under (version_rows s.world.bones.classes p) (version_key id n))) (object_there id t is)
+        ∙ by_live o.live refl where
+          by_live : (b : Bool) → t.current.live ≡ b → option_and_then (λ (p : Object). value_under (version_rows s.world.bones.classes p) (version_key id n)) (cond b (Some (kept_object (object_as id t.current))) None)
+              ≡ cond b (option_map (version_value fields) (find (is_numbered n) t.current.versions)) None
+          by_live true live = versions_stand id n fields t.current.versions (versions_stored live)
+          by_live false live = refl
 
     rise : RiseFrom 0 (map number_of (map active_as o.activations))
     rise = (all_found (HasNumbers y.now.bones.next) id y.now.bones.objects numbered.objects (object_as id o) (stands.tracked id t is).object).rising
 
     states : o.live ≡ true → (m : ℕ) → has_activation its m ≡ true → state_of left id m ≡ unwrap_or (kept_at m (kept_as o).activations) 0
-    states live m has = state_left id m its (Some (kept_as o)) (object_there id t is ∙ ap (λ b. cond b (Some its) None) live) live (stands.tracked id t is).kept has
+    states live m has = state_left id m its (Some (kept_as o)) (object_live live) live (stands.tracked id t is).kept has
 
-    activation_own : (n : ℕ) → there (activation_key id n) ≡ value_in (activation_key id n) o
+    activation_own : (n : ℕ) → there (activation_key id n) ≡ value_in s.world.bones.classes (activation_key id n) o
     activation_own n =
         activation_stands after rising id n ∙ ap (option_and_then (λ (p : Object). value_under (activation_rows left p) (activation_key id n))) (object_there id t is) ∙ by_live o.live refl where
           by_live : (b : Bool) → t.current.live ≡ b → option_and_then (λ (p : Object). value_under (activation_rows left p) (activation_key id n)) (cond b (Some (kept_object (object_as id t.current))) None)
@@ -194,10 +224,10 @@ module _ (l : Language) (s : Stored) (x : Layer) (y : NumberTx) (good : AreBones
           by_live true live = actives_stand id n (state_of left id) t.current.activations rise (states live)
           by_live false live = refl
 
-    own_value : (q : Key) → IsOwn q → q.a ≡ id → there q ≡ value_in q o
-    own_value q (inl e) same = subst (λ k. there k ≡ value_in k o) (sym e) (subst (λ n. there (object_key n) ≡ value_in (object_key n) o) (sym same) object_own)
-    own_value q (inr (inl e)) same = subst (λ k. there k ≡ value_in k o) (sym e) (subst (λ n. there (version_key n q.b) ≡ value_in (version_key n q.b) o) (sym same) (version_own q.b))
-    own_value q (inr (inr e)) same = subst (λ k. there k ≡ value_in k o) (sym e) (subst (λ n. there (activation_key n q.b) ≡ value_in (activation_key n q.b) o) (sym same) (activation_own q.b))
+    own_value : (q : Key) → IsOwn q → q.a ≡ id → there q ≡ value_in s.world.bones.classes q o
+    own_value q (inl e) same = subst (λ k. there k ≡ value_in s.world.bones.classes k o) (sym e) (subst (λ n. there (object_key n) ≡ value_in s.world.bones.classes (object_key n) o) (sym same) object_own)
+    own_value q (inr (inl e)) same = subst (λ k. there k ≡ value_in s.world.bones.classes k o) (sym e) (subst (λ n. there (version_key n q.b) ≡ value_in s.world.bones.classes (version_key n q.b) o) (sym same) (version_own q.b))
+    own_value q (inr (inr e)) same = subst (λ k. there k ≡ value_in s.world.bones.classes k o) (sym e) (subst (λ n. there (activation_key n q.b) ≡ value_in s.world.bones.classes (activation_key n q.b) o) (sym same) (activation_own q.b))
 
   -- ---- keys of objects, versions and activations
 
@@ -242,7 +272,8 @@ module _ (l : Language) (s : Stored) (x : Layer) (y : NumberTx) (good : AreBones
   class_goal q a1 a6 a7 a8 a9 =
       outside_goal q (outside_kinds q a6 a7 a8) a9
       (not_counted x q (value_under base q) a1 ∙ class_stands s q a1 a6 a7 a8 a9
-      ∙ ap (λ (cs : List Declared). value_under (class_rows s.tables cs) q) (sym (classes ∙ ap (λ (w : NumberWorld). w.bones.classes) first))
+      ∙ ap (λ (cs : List Declared). value_under (declared_rows s.tables cs s.world.bones.added) q) (sym classes_stay)
+      ∙ ap (λ (added : List Added). value_under (declared_rows s.tables left.bones.classes added) q) (sym added_stay)
       ∙ sym (class_stands after q a1 a6 a7 a8 a9))
 
   counters_goal : (q : Key) → q.kind ≡ 1 → Goal q
@@ -308,8 +339,8 @@ module _ (l : Language) (s : Stored) (x : Layer) (y : NumberTx) (good : AreBones
 
 -- from records that hold a world
 pub settled_held : (l : Language) (records : Entries) (w : ListWorld) (x : Layer) (y : NumberTx) (held : HoldsWorld l records w) → y.first ≡ held.stored.world → Stands x y → AreNumbered y.now.bones
-    → y.now.bones.classes ≡ y.first.bones.classes → IsFormed records x
+    → y.now.bones.classes ≡ y.first.bones.classes → AreBones l (settled_world y).bones → IsFormed held.stored.world.bones.classes records x
     → (q : Key) → stands_after x records q ≡ value_under (rows (record { world = settled_world y; tables = held.stored.tables })) q
-settled_held l records w x y held first stands numbered classes formed q =
+settled_held l records w x y held first stands numbered classes left formed q =
     ap (λ (es : Entries). stands_after x es q) held.rows
-    ∙ settled_stands l held.stored x y (subst (AreBones l) (sym held.stands.bones) held.good.bones) first stands numbered classes (subst (λ (es : Entries). IsFormed es x) held.rows formed) q
+    ∙ settled_stands l held.stored x y (subst (AreBones l) (sym held.stands.bones) held.good.bones) first stands numbered classes left (subst (λ (es : Entries). IsFormed held.stored.world.bones.classes es x) held.rows formed) q

@@ -12,6 +12,7 @@ ghost use Rattle.ode_overlay.specs.After.{stands_after};
 ghost use Rattle.ode_overlay.specs.Layers.{Layer};
 ghost use Rattle.ode_overlay_laws.specs.Standing.{Stands};
 ghost use Rattle.ode_settling_laws.specs.Formed.{IsFormed};
+ghost use Rattle.ode_value.specs.GoodWorlds.{AreBones};
 ghost use Rattle.ode_value.specs.Language.{Language, ListWorld};
 ghost use Rattle.ode_value.specs.Settling.{settled_world};
 ghost use Rattle.ode_value.specs.declared.key.Key.{Key};
@@ -22,6 +23,7 @@ ghost use Rattle.ode_value.specs.declared.key.Key.{Key};
 /// that ran, and behind it the collected firings, numbered from the counter.
 pub fn settlings_leave_worlds()
     ensures { (l : Language) (base : Entries) (w : ListWorld) (x : Layer) (y : NumberTx) (held : HoldsWorld l base w) → y.first ≡ held.stored.world → Stands x y
-        → AreNumbered y.now.bones → y.now.bones.classes ≡ y.first.bones.classes → IsFormed base x
+        → AreNumbered y.now.bones → y.now.bones.classes ≡ y.first.bones.classes → AreBones l (settled_world y).bones
+        → IsFormed held.stored.world.bones.classes base x
         → (q : Key) → stands_after x base q ≡ value_under (rows (record { world = settled_world y; tables = held.stored.tables })) q }
 {}

@@ -13,13 +13,13 @@ pub returns-clause-remove : goal.returns-clause-remove
 returns-clause-remove c = remove_stays
 
 pub returns-clause-activate : goal.returns-clause-activate
-returns-clause-activate c = λ base x id class trigger args new formed read. activate_stays base x id new formed read class trigger args
+returns-clause-activate c = λ classes base x id class trigger args new formed read. activate_stays classes base x id new formed read class trigger args
 
 pub returns-clause-deactivate : goal.returns-clause-deactivate
-returns-clause-deactivate c = λ base x id number new formed read. deactivate_stays base x id new formed read number
+returns-clause-deactivate c = λ classes base x id number new formed read. deactivate_stays classes base x id new formed read number
 
 pub returns-clause-put : goal.returns-clause-put
-returns-clause-put c = λ base x id acts new formed read. put_stays base x id new formed read acts
+returns-clause-put c = λ classes base x id acts new formed read. put_stays classes base x id new formed read acts
 
 pub returns-clause-collect : goal.returns-clause-collect
 returns-clause-collect c = collect_stays

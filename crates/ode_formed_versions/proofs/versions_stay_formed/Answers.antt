@@ -2,7 +2,7 @@ use Rattle.ode_formed_versions.proofs.VersionLaws.{derive_stays, drop_stays, wri
 use Rattle.ode_formed_versions.proofs.versions_stay_formed.Goals as goal
 
 pub returns-clause-write : goal.returns-clause-write
-returns-clause-write c = λ base x r slot value new formed read. write_stays base x r new formed read slot value
+returns-clause-write c = λ classes base x r slot value new formed read. write_stays classes base x r new formed read slot value
 
 pub returns-clause-derive : goal.returns-clause-derive
 returns-clause-derive c = derive_stays

@@ -25,7 +25,7 @@ returns-clause-named c = λ classes first beside base x known r tables o name t 
       versions = c.calls_keep_versions.ensures.activate (declared_in first) base x y r.object t.class t.place args stands (versions_now classes first beside base x known) read;
       numbers = c.calls_keep_numbers.ensures.activate (declared_in first) base x y r.object t.class t.place args stands (numbers_now classes first beside base x known) read;
       triggers = c.calls_keep_triggers.ensures.activate first.bones.classes (declared_in first) base x y r.object t.class t.place args stands (triggers_now classes first beside base x known) read (taken_at first.bones.classes y.now.bones r.object t.class t.place o at takes);
-      formed = activate_formed base (declared_in first) x r.object t.class t.place args read.object read.read (c.changes_stay_formed.ensures.activate base x r.object t.class t.place args read.object known.formed stored);
+      formed = activate_formed first.bones.classes base (declared_in first) x r.object t.class t.place args read.object read.read (c.changes_stay_formed.ensures.activate first.bones.classes base x r.object t.class t.place args read.object known.formed stored);
       keys = c.calls_keep_keys.ensures.activate (declared_in first) base x y r.object t.class t.place args stands known.keys read;
     })
 
@@ -42,6 +42,6 @@ returns-clause-initial c = λ classes first beside base x known id tables t o at
       versions = c.calls_keep_versions.ensures.activate (declared_in first) base x y id t.class t.place [] stands (versions_now classes first beside base x known) read;
       numbers = c.calls_keep_numbers.ensures.activate (declared_in first) base x y id t.class t.place [] stands (numbers_now classes first beside base x known) read;
       triggers = c.calls_keep_triggers.ensures.activate first.bones.classes (declared_in first) base x y id t.class t.place [] stands (triggers_now classes first beside base x known) read (taken_at first.bones.classes y.now.bones id t.class t.place o at takes);
-      formed = activate_formed base (declared_in first) x id t.class t.place [] read.object read.read (c.changes_stay_formed.ensures.activate base x id t.class t.place [] read.object known.formed stored);
+      formed = activate_formed first.bones.classes base (declared_in first) x id t.class t.place [] read.object read.read (c.changes_stay_formed.ensures.activate first.bones.classes base x id t.class t.place [] read.object known.formed stored);
       keys = c.calls_keep_keys.ensures.activate (declared_in first) base x y id t.class t.place [] stands known.keys read;
     })

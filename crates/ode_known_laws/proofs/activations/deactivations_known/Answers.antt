@@ -26,6 +26,6 @@ returns c = λ classes first beside base x known r number tables.
       versions = c.calls_keep_versions.ensures.deactivate (declared_in first) base x y r.object number stands (versions_now classes first beside base x known) read;
       numbers = c.calls_keep_numbers.ensures.deactivate (declared_in first) base x y r.object number stands (numbers_now classes first beside base x known) read;
       triggers = c.calls_keep_triggers.ensures.deactivate first.bones.classes (declared_in first) base x y r.object number stands (triggers_now classes first beside base x known) read;
-      formed = deactivate_formed base (declared_in first) x r.object number read.object read.read (c.changes_stay_formed.ensures.deactivate base x r.object number read.object known.formed stored);
+      formed = deactivate_formed first.bones.classes base (declared_in first) x r.object number read.object read.read (c.changes_stay_formed.ensures.deactivate first.bones.classes base x r.object number read.object known.formed stored);
       keys = c.calls_keep_keys.ensures.deactivate (declared_in first) base x y r.object number stands known.keys read;
     })

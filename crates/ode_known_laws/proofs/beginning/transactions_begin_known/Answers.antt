@@ -22,7 +22,7 @@ returns c = λ origin base w held.
           begun_versioned origin w
           (on_first base w held (λ (v : NumberWorld). HaveVersions v.bones) (c.good_worlds_are_settled.ensures.versions held.language h.stored.tables h.stored.world held.world h.good h.stands));
       numbered = begun_numbered origin w (held_numbered base w held numbered);
-      formed = c.overlays_begin_formed.ensures base (counters_of w.bones) queued origin;
+      formed = c.overlays_begin_formed.ensures w.bones.classes base (counters_of w.bones) queued origin;
       keys = c.calls_keep_keys.ensures.begun w (counters_of w.bones) queued origin;
       triggers =
           begun_triggers origin w

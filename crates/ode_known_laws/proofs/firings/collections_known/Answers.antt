@@ -14,11 +14,11 @@ returns-clause-running c = λ classes first beside base x known independent f ke
     let e = entry_by (generation_of x.origin + 1) f in
     let ordered = ordered_now classes first beside base x known in
     let law = c.collections_show.ensures classes first beside x known.viewed prints (λ line. subst IsOrdered (sym (line_alone line (running classes first x beside))) ordered) independent f kept in
-    (law.0, collected_known base first x known e independent law.1 (c.changes_stay_formed.ensures.collect base x e independent known.formed) (c.calls_keep_keys.ensures.collect first x e independent known.keys))
+    (law.0, collected_known base first x known e independent law.1 (c.changes_stay_formed.ensures.collect first.bones.classes base x e independent known.formed) (c.calls_keep_keys.ensures.collect first x e independent known.keys))
 
 pub returns-clause-settling : goal.returns-clause-settling
 returns-clause-settling c = λ classes first beside base x known independent f kept.
     let e = entry_by (generation_of x.origin + 1) f in
     let ordered = ordered_now classes first beside base x known in
     let law = c.collections_show.ensures classes first beside x known.viewed says (λ line. ordered) independent f kept in
-    (law.0, collected_known base first x known e independent law.1 (c.changes_stay_formed.ensures.collect base x e independent known.formed) (c.calls_keep_keys.ensures.collect first x e independent known.keys))
+    (law.0, collected_known base first x known e independent law.1 (c.changes_stay_formed.ensures.collect first.bones.classes base x e independent known.formed) (c.calls_keep_keys.ensures.collect first x e independent known.keys))

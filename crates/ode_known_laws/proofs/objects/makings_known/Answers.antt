@@ -22,6 +22,6 @@ returns c = λ classes first beside base x known tables class fields.
       versions = c.calls_keep_versions.ensures.create class fields x y stands (versions_now classes first beside base x known);
       numbers = c.calls_keep_numbers.ensures.create class fields x y stands (numbers_now classes first beside base x known);
       triggers = c.calls_keep_triggers.ensures.create first.bones.classes class fields x y stands (triggers_now classes first beside base x known);
-      formed = c.changes_stay_formed.ensures.make base x class fields known.formed unused;
+      formed = c.changes_stay_formed.ensures.make first.bones.classes base x class fields known.formed unused;
       keys = c.calls_keep_keys.ensures.create class fields x y stands known.keys new;
     })

@@ -23,6 +23,6 @@ returns c = λ classes first beside base x known id.
       versions = c.calls_keep_versions.ensures.remove (declared_in first) base x y id stands (versions_now classes first beside base x known) read;
       numbers = c.calls_keep_numbers.ensures.remove (declared_in first) base x y id stands (numbers_now classes first beside base x known) read;
       triggers = c.calls_keep_triggers.ensures.remove first.bones.classes (declared_in first) base x y id stands (triggers_now classes first beside base x known) read;
-      formed = remove_formed base (declared_in first) x id read.object read.read (c.changes_stay_formed.ensures.remove base x id read.object known.formed stored);
+      formed = remove_formed first.bones.classes base (declared_in first) x id read.object read.read (c.changes_stay_formed.ensures.remove first.bones.classes base x id read.object known.formed stored);
       keys = c.calls_keep_keys.ensures.remove (declared_in first) base x y id stands known.keys read;
     })

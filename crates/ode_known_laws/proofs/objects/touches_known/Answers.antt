@@ -22,6 +22,6 @@ returns c = λ classes first beside base x known id.
       versions = c.calls_keep_versions.ensures.touch (declared_in first) base x y id stands (versions_now classes first beside base x known) read;
       numbers = c.calls_keep_numbers.ensures.touch (declared_in first) base x y id stands (numbers_now classes first beside base x known) read;
       triggers = c.calls_keep_triggers.ensures.touch first.bones.classes (declared_in first) base x y id stands (triggers_now classes first beside base x known) read;
-      formed = touch_formed base (declared_in first) x id read.object read.read (c.changes_stay_formed.ensures.touch base x id read.object known.formed stored);
+      formed = touch_formed first.bones.classes base (declared_in first) x id read.object read.read (c.changes_stay_formed.ensures.touch first.bones.classes base x id read.object known.formed stored);
       keys = c.calls_keep_keys.ensures.touch (declared_in first) base x y id stands known.keys read;
     })

@@ -21,6 +21,6 @@ returns c = λ base first x known id rs.
       versions = c.calls_keep_versions.ensures.put (declared_in first) base x y id rs stands (versions_now classes first nothing_beside base x known) read;
       numbers = c.calls_keep_numbers.ensures.put (declared_in first) base x y id rs stands (numbers_now classes first nothing_beside base x known) read;
       triggers = c.calls_keep_triggers.ensures.put first.bones.classes (declared_in first) base x y id rs stands (triggers_now classes first nothing_beside base x known) read;
-      formed = put_formed base (declared_in first) x id rs read.object read.read (c.changes_stay_formed.ensures.put base x id rs read.object known.formed stored);
+      formed = put_formed first.bones.classes base (declared_in first) x id rs read.object read.read (c.changes_stay_formed.ensures.put first.bones.classes base x id rs read.object known.formed stored);
       keys = c.calls_keep_keys.ensures.put (declared_in first) base x y id rs stands known.keys read;
     })

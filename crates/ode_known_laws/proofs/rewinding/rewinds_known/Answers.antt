@@ -6,6 +6,8 @@ use Rattle.ode_known_laws.specs.Knowing.{declared_in}
 use Rattle.ode_laws.specs.Alike.{NumberWorld}
 use Rattle.ode_object_laws.proofs.NumberLaws.{numbers_of}
 use Rattle.ode_object_laws.specs.Objects.{HaveTriggers}
+use Rattle.ode_overlay.specs.Rewinding.{rewind}
+use Rattle.ode_settling_laws.specs.Formed.{IsFormed}
 use Rattle.ode_version_laws.specs.Denoting.{HaveVersions}
 use Rattle.ode_version_laws.specs.Remembering.{Remembers}
 use Rattle.ode_version_laws.specs.Showing.{AreSettled}
@@ -26,6 +28,8 @@ returns c = λ classes first beside base x known tables.
           (c.rewinds_follow.ensures.versions tables x y stands known.remembers versions)
           (c.rewinds_keep_objects.ensures.numbers tables y (numbers_of first.bones known.numbered.first) (more_drawn tables first beside base x known))
           (c.rewinds_keep_objects.ensures.triggers tables y first.bones.classes triggers)
-          (c.rewinds_stay_formed.ensures known.held.language base known.held.world (declared_in first) x h (subst (Remembers x.objects) known.held.is known.remembers) known.formed)
+          (on_first base first known.held (λ (v : NumberWorld). IsFormed v.bones.classes base (rewind (declared_in first) x))
+          (c.rewinds_stay_formed.ensures known.held.language base known.held.world (declared_in first) x h (subst (Remembers x.objects) known.held.is known.remembers)
+          (subst (λ (v : NumberWorld). IsFormed v.bones.classes base x) known.held.is known.formed)))
           (c.calls_keep_keys.ensures.rewind first (declared_in first) x known.remembers known.keys),
     )

@@ -22,6 +22,6 @@ returns c = λ classes first beside base x known r.
       versions = c.calls_keep_versions.ensures.derive (declared_in first) base x y r stands (versions_now classes first beside base x known) read;
       numbers = c.calls_keep_numbers.ensures.derive (declared_in first) base x y r stands (numbers_now classes first beside base x known) read;
       triggers = c.calls_keep_triggers.ensures.derive first.bones.classes (declared_in first) base x y r stands (triggers_now classes first beside base x known) read;
-      formed = derive_formed base (declared_in first) x r read.object read.read (c.versions_stay_formed.ensures.derive base x r read.object known.formed stored (versions_read classes first beside base x known r.object read.object stands read.is));
+      formed = derive_formed first.bones.classes base (declared_in first) x r read.object read.read (c.versions_stay_formed.ensures.derive first.bones.classes base x r read.object known.formed stored (versions_read classes first beside base x known r.object read.object stands read.is));
       keys = c.calls_keep_keys.ensures.derive (declared_in first) base x y r stands known.keys read;
     })

@@ -22,6 +22,6 @@ returns c = λ classes first beside base x known r.
       versions = c.calls_keep_versions.ensures.drop (declared_in first) base x y r stands (versions_now classes first beside base x known) read;
       numbers = c.calls_keep_numbers.ensures.drop (declared_in first) base x y r stands (numbers_now classes first beside base x known) read;
       triggers = c.calls_keep_triggers.ensures.drop first.bones.classes (declared_in first) base x y r stands (triggers_now classes first beside base x known) read;
-      formed = drop_formed base (declared_in first) x r read.object read.read (c.versions_stay_formed.ensures.drop base x r read.object known.formed stored (versions_read classes first beside base x known r.object read.object stands read.is));
+      formed = drop_formed first.bones.classes base (declared_in first) x r read.object read.read (c.versions_stay_formed.ensures.drop first.bones.classes base x r read.object known.formed stored (versions_read classes first beside base x known r.object read.object stands read.is));
       keys = c.calls_keep_keys.ensures.drop (declared_in first) base x y r stands known.keys read;
     })

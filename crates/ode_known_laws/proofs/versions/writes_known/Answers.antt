@@ -22,6 +22,6 @@ returns c = λ classes first beside base x known r slot v.
       versions = c.calls_keep_versions.ensures.write (declared_in first) base x y r slot v stands (versions_now classes first beside base x known) read;
       numbers = c.calls_keep_numbers.ensures.write (declared_in first) base x y r slot v stands (numbers_now classes first beside base x known) read;
       triggers = c.calls_keep_triggers.ensures.write first.bones.classes (declared_in first) base x y r slot v stands (triggers_now classes first beside base x known) read;
-      formed = write_formed base (declared_in first) x r read.object read.read slot v (c.versions_stay_formed.ensures.write base x r slot v read.object known.formed stored);
+      formed = write_formed first.bones.classes base (declared_in first) x r read.object read.read slot v (c.versions_stay_formed.ensures.write first.bones.classes base x r slot v read.object known.formed stored);
       keys = c.calls_keep_keys.ensures.write (declared_in first) base x y r slot v stands known.keys read;
     })
