@@ -134,7 +134,9 @@ module _ (b : Bones) (objects : AllByRecursion (IsObject b) b.objects) (c : Decl
   version_more class last v h = record {
     number = h.number;
     parent = h.parent;
+    stamp = h.stamp;
     fields = zip_then (λ (g : Field). FitsSort b g.sort) (λ (g : Field). FitsSort d g.sort) (λ g v fits. sort_more g.sort v fits) class.fields v.fields h.fields;
+    later = h.later;
   }
 
   pub object_more : (o : Object) → IsObject b o → IsObject d o
@@ -190,6 +192,7 @@ good_with l w c good is light =
     record {
       bones = record {
         classes = classes_more l [] b.classes c good.bones.classes is;
+        added = good.bones.added;
         rising = good.bones.rising;
         objects = all-then (IsObject b) (IsObject (bones_with c b)) (object_more b good.bones.objects c before) b.objects good.bones.objects;
         numbers = good.bones.numbers;

@@ -2,6 +2,7 @@
 use Rattle.std.proofs.Common.{◌≡◌, ◌<◌, ◌≤◌, ◌^◌, Bool, true, false, List, [], ◌∷◌, length, map, Ok, Err, refl, sym, ap, ◌∙◌, subst, arith}
 use Rattle.std.specs.Prelude.{nat_lt}
 use Rattle.std.specs.List.{AllByRecursion, sum_by}
+use Rattle.std.specs.Option.{IsSome}
 use Rattle.std.proofs.lemmas.Bool.{ltb-false}
 use Rattle.std.proofs.lemmas.List.Sums.{sum_by-cons}
 use Rattle.ode_codec.specs.Standing.{HoldsWorld}
@@ -9,10 +10,11 @@ use Rattle.ode_codec.specs.StoredRows.{Stored, rows}
 use Rattle.ode_compile.specs.Compiling.{AreCompiled, size_of_table}
 use Rattle.ode_compile.proofs.TriggerLaws.{tables_fewer}
 use Rattle.ode_keep.specs.Entries.{applied}
+use Rattle.ode_laws.proofs.Each.{all-then}
 use Rattle.ode_laws.proofs.GoodNumbers.{good_numbered}
 use Rattle.ode_value.specs.Answers.{Answer, ◌>>=◌, ◌>>◌, refuses}
 use Rattle.ode_value.specs.ClassLimits.{limits_class, limits_triggers}
-use Rattle.ode_value.specs.GoodWorlds.{IsClass}
+use Rattle.ode_value.specs.GoodWorlds.{IsClass, IsObject}
 use Rattle.ode_value.specs.Language.{Language, ListWorld}
 use Rattle.ode_value.specs.Lengths.{class_records, table_records}
 use Rattle.ode_value.specs.Limits.{class_limit, weight_limit}
@@ -21,14 +23,14 @@ use Rattle.ode_value.specs.Records.{Row}
 use Rattle.ode_value.specs.Symbols.{Alphabet}
 use Rattle.ode_value.specs.Tables.{Table}
 use Rattle.ode_value.specs.Weights.{record_count, table_size, weight}
-use Rattle.ode_value.specs.Worlds.{Declared}
+use Rattle.ode_value.specs.Worlds.{Bones, Declared, Object, class_numbered}
 use Rattle.ode_value.specs.declared.member.TriggerDecl.{TriggerDecl}
 use Rattle.ode_value.specs.declared.reason.Refusal.{Refusal}
 use Rattle.ode_value.specs.declared.reason.Refusal.TheVariants as refusal
 use Rattle.ode_class_records.specs.ClassRows.{IsSized, class_rows}
 use Rattle.ode_class_records.specs.Puts.{puts}
 use Rattle.ode_class_records.proofs.PieceLaws.{sized_by}
-use Rattle.ode_class_laws.specs.Declaring.{bones_with, stored_with, world_with}
+use Rattle.ode_class_laws.specs.Declaring.{AreOf, bones_with, stored_with, world_with}
 use Rattle.ode_class_laws.proofs.GoodLaws.{classes_before, good_with}
 use Rattle.ode_class_laws.proofs.Stands.{as_many, stands_with}
 use Rattle.ode_class_laws.proofs.StoredLaws.{class_stored}
@@ -73,12 +75,16 @@ pub class_held : (l : Language) (records : List Row) (w : ListWorld) (held : Hol
 class_held l records w held c own alphabets is made light =
     let s : Stored = held.stored in
     let before = classes_before l w.bones.classes c held.good.bones.classes is in
-    let stored_before = subst (λ b. AllByRecursion (λ (d : Declared). d.class.number < c.class.number) b.classes) (sym held.stands.bones) before in (
+    let stored_before = subst (λ b. AllByRecursion (λ (d : Declared). d.class.number < c.class.number) b.classes) (sym held.stands.bones) before in
+    let known : AreOf w.bones.classes w.bones.objects =
+    all-then (IsObject w.bones) (λ (o : Object). IsSome (class_numbered o.class w.bones.classes)) (λ o object. object.class) w.bones.objects held.good.bones.objects in
+    let stored_known = subst (λ (b : Bones). AreOf b.classes b.objects) (sym held.stands.bones) known in
+    let added : s.world.bones.added ≡ [] = ap (λ (b : Bones). b.added) held.stands.bones ∙ held.good.bones.added in (
       record {
         stored = stored_with c own s;
         rows =
             ap (applied (puts (class_rows (stored_with c own s).tables c))) held.rows
-            ∙ class_stored s c own (as_many c.class.triggers own alphabets made) (own_sized c own alphabets made is.limits) stored_before;
+            ∙ class_stored s c own (as_many c.class.triggers own alphabets made) (own_sized c own alphabets made is.limits) stored_before stored_known added;
         stands = stands_with s.tables s.world w c own alphabets held.stands (good_numbered l w held.good) before made;
         good = good_with l w c held.good is light;
       },

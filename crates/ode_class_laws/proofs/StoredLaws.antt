@@ -1,27 +1,34 @@
 -- The rows of a stored database with one more class.
-use Rattle.std.proofs.Common.{◌≡◌, ◌<◌, ◌≤◌, ℕ, ◌+◌, ◌*◌, cond, true, List, [], ◌∷◌, ◌++◌, length, map, ◌==◌, length-append, refl, sym, ◌∙◌, ap, arith, append_assoc, subst}
+use Rattle.std.proofs.Common.{◌≡◌, ◌<◌, ◌≤◌, ℕ, ◌+◌, ◌*◌, cond, true, List, [], ◌∷◌, ◌++◌, length, map, ◌==◌, Option, Some, None, length-append, refl, sym, ◌∙◌, ap, arith, append_assoc, subst}
 use Rattle.std.proofs.lemmas.Bool.Decides.{Decides-eqb}
 use Rattle.std.proofs.lemmas.Grind.{flat_map-append}
 use Rattle.std.proofs.lemmas.List.{append-nil, map-append}
 use Rattle.std.specs.Prelude.{slice_index_or}
 use Rattle.std.specs.List.{AllByRecursion, enumerate_from, flat_map, range_with_len}
+use Rattle.std.specs.Option.{IsSome, option_map_or}
 use Rattle.ode_codec.specs.declared.record.TheConstants.{TABLE_PLACES}
-use Rattle.ode_codec.specs.StoredRows.{Stored, activation_rows, counters_row, entry_row, head_row, object_row, pieces_of, places_of, rows, table_bytes, table_head, table_heads, table_pieces, table_row, table_rows, text_row, text_rows, version_rows, activation_row, state_of}
+use Rattle.ode_codec.specs.StoredRows.{Stored, activation_rows, added_row, added_rows, counters_row, entry_row, head_row, object_row, pieces_of, places_of, rows, table_bytes, table_head, table_heads, table_pieces, table_row, table_rows, text_row, text_rows, version_rows, activation_row, state_of}
 use Rattle.ode_keep.specs.Entries.{Entries, applied}
 use Rattle.ode_laws.proofs.Each.{all-append}
 use Rattle.ode_laws.proofs.Numbers.{apart}
+use Rattle.ode_value.specs.Changing.{added_to}
+use Rattle.ode_value.specs.Fields.{fields_of}
 use Rattle.ode_value.specs.Keys.{class_head_kind, class_piece_kind, table_head_kind, table_piece_kind}
 use Rattle.ode_value.specs.Lengths.{piece_count}
 use Rattle.ode_value.specs.PrintedClasses.{decl_text}
 use Rattle.ode_value.specs.Records.{Row, version_row}
 use Rattle.ode_value.specs.Tables.{Table}
 use Rattle.ode_value.specs.Objects.{Activation}
-use Rattle.ode_value.specs.Worlds.{Declared, Entry, Object, World}
+use Rattle.ode_value.specs.Worlds.{Bones, Declared, Entry, Object, World, class_numbered}
+use Rattle.ode_value.specs.declared.change.Added.{Added}
+use Rattle.ode_value.specs.declared.class.Class.{Class}
+use Rattle.ode_value.specs.declared.class.Field.{Field}
 use Rattle.ode_class_records.specs.ClassRows.{IsSized, IsStoredBy, class_rows, head_at, pieces_at}
 use Rattle.ode_class_records.specs.Puts.{puts}
 use Rattle.ode_class_records.proofs.ClimbLaws.{Climbs}
 use Rattle.ode_class_records.proofs.RowLaws.{heads_climb, heads_stored, tables_climb, tables_stored, text_climbs}
-use Rattle.ode_class_laws.specs.Declaring.{AreBefore, stored_with, tables_with}
+use Rattle.ode_class_laws.specs.Declaring.{AreBefore, AreOf, stored_with, tables_with}
+use Rattle.ode_class_laws.proofs.GoodLaws.{found_more}
 use Rattle.ode_class_laws.proofs.Insertion.{Earlier, Higher, Lower, applied_both, behind_earlier, higher_earlier, lower_climbs, lower_earlier}
 
 -- ---- tables by class and place
@@ -129,11 +136,11 @@ module _ (n : ℕ) where
 objects_high : (os : List Object) → Higher table_piece_kind (map object_row os)
 objects_high os = all_mapped (λ (e : Row). table_piece_kind < e.0.kind) object_row (λ o. omega arith) os
 
-versions_high : (os : List Object) → Higher table_piece_kind (flat_map version_rows os)
-versions_high [] = tt
-versions_high (o ∷ os) =
-    all-append (λ (e : Row). table_piece_kind < e.0.kind) (version_rows o) (flat_map version_rows os)
-    (all_mapped (λ (e : Row). table_piece_kind < e.0.kind) (version_row o.id) (λ v. omega arith) o.versions) (versions_high os)
+versions_high : (cs : List Declared) (os : List Object) → Higher table_piece_kind (flat_map (version_rows cs) os)
+versions_high cs [] = tt
+versions_high cs (o ∷ os) =
+    all-append (λ (e : Row). table_piece_kind < e.0.kind) (version_rows cs o) (flat_map (version_rows cs) os)
+    (all_mapped (λ (e : Row). table_piece_kind < e.0.kind) (version_row o.id (fields_of cs o.class)) (λ v. omega arith) o.versions) (versions_high cs os)
 
 activations_high : (w : World (Unit {0}) ℕ) (os : List Object) → Higher table_piece_kind (flat_map (activation_rows w) os)
 activations_high w [] = tt
@@ -149,6 +156,33 @@ activations_high w (o ∷ os) =
 entries_high : (qs : List (ℕ × Entry)) → Higher table_piece_kind (map entry_row qs)
 entries_high [] = tt
 entries_high (q ∷ qs) = (omega arith, entries_high qs)
+
+-- ---- rows of objects, and of added fields
+
+abbrev fields_in : Option Class → List Field
+fields_in found = option_map_or (λ (k : Class). k.fields) found []
+
+-- one more class leaves the fields of the others
+fields_more : (cs : List Declared) (c : Declared) (n : ℕ) → IsSome (class_numbered n cs) → fields_of (cs ++ c ∷ []) n ≡ fields_of cs n
+fields_more cs c n known = by_class (class_numbered n cs) refl known where
+  by_class : (found : Option Class) → class_numbered n cs ≡ found → IsSome found → fields_of (cs ++ c ∷ []) n ≡ fields_of cs n
+  by_class None is some = absurd (cc)
+  by_class (Some k) is some = ap fields_in (found_more n cs (c ∷ []) k is) ∙ ap fields_in (sym is)
+
+versions_same : (cs : List Declared) (c : Declared) (os : List Object) → AreOf cs os → flat_map (version_rows (cs ++ c ∷ [])) os ≡ flat_map (version_rows cs) os
+versions_same cs c [] known = refl
+versions_same cs c (o ∷ os) known =
+    ap (λ (fields : List Field). map (version_row o.id fields) o.versions ++ flat_map (version_rows (cs ++ c ∷ [])) os) (fields_more cs c o.class known.0)
+    ∙ ap (λ rs. version_rows cs o ++ rs) (versions_same cs c os known.1)
+
+-- where no field was added, there is no row of one
+none_added : (b : Bones) → b.added ≡ [] → (cs : List Declared) → flat_map (added_rows b) cs ≡ []
+none_added b none [] = refl
+none_added b none (c ∷ cs) =
+    ap (λ (all : List Added). map (added_row b.classes) (added_to c.class.number all) ++ flat_map (added_rows b) cs) none ∙ none_added b none cs
+
+without_added : (es : Entries) (b : Bones) → b.added ≡ [] → (cs : List Declared) → es ++ flat_map (added_rows b) cs ≡ es
+without_added es b none cs = ap (λ rs. es ++ rs) (none_added b none cs) ∙ append-nil es
 
 -- eight lists, grouped from the right
 regroup : (a t h p o v x q : Entries) → a ++ t ++ h ++ p ++ o ++ v ++ x ++ q ≡ a ++ (t ++ (h ++ (p ++ (o ++ (v ++ (x ++ q))))))
@@ -168,7 +202,7 @@ one_flat : {X : Type 0} (f : X → List Row) (xs : List X) (x : X) → flat_map 
 one_flat f xs x = flat_map-append f xs (x ∷ []) ∙ ap (λ rs. flat_map f xs ++ rs) (append-nil (f x))
 
 module _ (s : Stored) (c : Declared) (own : List Table) (same : length own ≡ length c.class.triggers) (sized : AllByRecursion IsSized own)
-    (before : AreBefore c.class.number s.world.bones.classes) where
+    (before : AreBefore c.class.number s.world.bones.classes) (known : AreOf s.world.bones.classes s.world.bones.objects) (none : s.world.bones.added ≡ []) where
   abbrev n : ℕ
   n = c.class.number
 
@@ -197,7 +231,7 @@ module _ (s : Stored) (c : Declared) (own : List Table) (same : length own ≡ l
   O = map object_row s.world.bones.objects
 
   abbrev V : Entries
-  V = flat_map version_rows s.world.bones.objects
+  V = flat_map (version_rows cs) s.world.bones.objects
 
   abbrev A : Entries
   A = flat_map (activation_rows s.world) s.world.bones.objects
@@ -224,7 +258,7 @@ module _ (s : Stored) (c : Declared) (own : List Table) (same : length own ≡ l
   behind_high =
       let test = λ (e : Row). table_piece_kind < e.0.kind in
       all-append test O (V ++ (A ++ Q)) (objects_high s.world.bones.objects)
-      (all-append test V (A ++ Q) (versions_high s.world.bones.objects) (all-append test A Q (activations_high s.world s.world.bones.objects) (entries_high s.world.bones.queue)))
+      (all-append test V (A ++ Q) (versions_high cs s.world.bones.objects) (all-append test A Q (activations_high s.world s.world.bones.objects) (entries_high s.world.bones.queue)))
 
   tables_high : Higher table_head_kind (P ++ Z)
   tables_high =
@@ -306,22 +340,34 @@ module _ (s : Stored) (c : Declared) (own : List Table) (same : length own ≡ l
   now_tables : flat_map (table_rows by) (cs ++ c ∷ []) ≡ P ++ p
   now_tables = one_flat (table_rows by) cs c ∙ ap (λ rs. rs ++ p) (tables_same n own s.tables cs before)
 
+  now_versions : flat_map (version_rows (cs ++ c ∷ [])) s.world.bones.objects ≡ V
+  now_versions = versions_same cs c s.world.bones.objects known
+
+  abbrev now_classes : Entries
+  now_classes = F ++ map head_row (cs ++ c ∷ []) ++ flat_map text_rows (cs ++ c ∷ []) ++ flat_map (table_heads by) (cs ++ c ∷ []) ++ flat_map (table_rows by) (cs ++ c ∷ [])
+
   back : (F3 ++ (P ++ p)) ++ Z ≡ rows after
   back =
       ap (λ x. (F ++ x ++ (T ++ t) ++ (I ++ i) ++ (P ++ p)) ++ Z) (sym now_heads)
       ∙ ap (λ x. (F ++ map head_row (cs ++ c ∷ []) ++ x ++ (I ++ i) ++ (P ++ p)) ++ Z) (sym now_texts)
       ∙ ap (λ x. (F ++ map head_row (cs ++ c ∷ []) ++ flat_map text_rows (cs ++ c ∷ []) ++ x ++ (P ++ p)) ++ Z) (sym now_table_heads)
       ∙ ap (λ x. (F ++ map head_row (cs ++ c ∷ []) ++ flat_map text_rows (cs ++ c ∷ []) ++ flat_map (table_heads by) (cs ++ c ∷ []) ++ x) ++ Z) (sym now_tables)
-      ∙ sym (to_right (F ++ map head_row (cs ++ c ∷ []) ++ flat_map text_rows (cs ++ c ∷ []) ++ flat_map (table_heads by) (cs ++ c ∷ []) ++ flat_map (table_rows by) (cs ++ c ∷ [])))
+      ∙ sym (to_right now_classes)
+      ∙ ap (λ x. now_classes ++ O ++ x ++ A ++ Q) (sym now_versions)
+      ∙ sym (without_added (now_classes ++ O ++ flat_map (version_rows (cs ++ c ∷ [])) s.world.bones.objects ++ A ++ Q) after.world.bones none (cs ++ c ∷ []))
     where
       to_right : (a : Entries) → a ++ O ++ V ++ A ++ Q ≡ a ++ Z
       to_right a = append_assoc (a ++ O ++ V) A Q ∙ append_assoc (a ++ O) V (A ++ Q) ∙ append_assoc a O (V ++ (A ++ Q))
 
+  abbrev plain : Entries
+  plain = F ++ H ++ T ++ I ++ P ++ O ++ V ++ A ++ Q
+
   pub class_stored : applied (puts (class_rows by c)) (rows s) ≡ rows after
   class_stored =
-      applied_both (head_row c ∷ t ++ i) p (rows s)
-      ∙ ap (applied (puts p)) (applied_both (head_row c ∷ t) i (rows s))
-      ∙ ap (λ es. applied (puts p) (applied (puts i) es)) (applied_both h t (rows s))
+      ap (applied (puts (class_rows by c))) (without_added plain s.world.bones none cs)
+      ∙ applied_both (head_row c ∷ t ++ i) p plain
+      ∙ ap (applied (puts p)) (applied_both (head_row c ∷ t) i plain)
+      ∙ ap (λ es. applied (puts p) (applied (puts i) es)) (applied_both h t plain)
       ∙ ap (λ es. applied (puts p) (applied (puts i) (applied (puts t) (applied (puts h) es)))) (regroup (F ++ H) T I P O V A Q ∙ append_assoc F H (T ++ (I ++ (P ++ Z))))
       ∙ ap (λ es. applied (puts p) (applied (puts i) (applied (puts t) es))) with_head
       ∙ ap (λ es. applied (puts p) (applied (puts i) es)) with_texts

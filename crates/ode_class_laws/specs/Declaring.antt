@@ -1,9 +1,10 @@
 -- A world with one more class, and how it is stored.
 use Rattle.std.specs.Prelude.{◌<◌, ℕ, cond, List, [], ◌∷◌, ◌++◌, ◌==◌, slice_index_or}
 use Rattle.std.specs.List.{AllByRecursion}
+use Rattle.std.specs.Option.{IsSome}
 use Rattle.ode_codec.specs.StoredRows.{Stored}
 use Rattle.ode_value.specs.Tables.{Table}
-use Rattle.ode_value.specs.Worlds.{Bones, Declared, World}
+use Rattle.ode_value.specs.Worlds.{Bones, Declared, Object, World, class_numbered}
 
 -- bones with a class behind the others
 abbrev pub bones_with : Declared → Bones → Bones
@@ -24,3 +25,7 @@ stored_with c own s = record { world = world_with c s.world; tables = tables_wit
 -- classes with lower numbers
 abbrev pub AreBefore : ℕ → List Declared → Type 0
 AreBefore number classes = AllByRecursion (λ (d : Declared). d.class.number < number) classes
+
+-- objects of these classes
+abbrev pub AreOf : List Declared → List Object → Type 0
+AreOf classes objects = AllByRecursion (λ (o : Object). IsSome (class_numbered o.class classes)) objects

@@ -2,7 +2,7 @@
 //! contract of a function that does nothing.
 #![tactic(auto)]
 
-ghost use Rattle.std.specs.Prelude.{◌≡◌, ◌≤◌, List as Items, length};
+ghost use Rattle.std.specs.Prelude.{◌≡◌, ◌≤◌, List as Items, [], length};
 ghost use Rattle.std.specs.List.{AllByRecursion};
 ghost use Rattle.ode_value.specs.GoodWorlds.{IsClass};
 ghost use Rattle.ode_value.specs.Language.{Language, ListWorld};
@@ -19,15 +19,15 @@ ghost use Rattle.ode_compile.specs.Compiling.{AreCompiled};
 ghost use Rattle.ode_keep.specs.Entries.{applied};
 ghost use Rattle.ode_class_records.specs.ClassRows.{IsSized, IsStoredBy, class_rows};
 ghost use Rattle.ode_class_records.specs.Puts.{puts};
-ghost use Rattle.ode_class_laws.specs.Declaring.{AreBefore, bones_with, stored_with, tables_with, world_with};
+ghost use Rattle.ode_class_laws.specs.Declaring.{AreBefore, AreOf, bones_with, stored_with, tables_with, world_with};
 
-/// The changes that put the rows of a class with a number above all others make the rows of a stored database those of the same database
-/// with the class behind the others, and with its tables.
+/// The changes that put the rows of a class with a number above all others make the rows of a stored database whose objects are of its
+/// classes, and where no class was given fields, those of the same database with the class behind the others, and with its tables.
 pub fn declared_classes_are_stored()
     ensures own { (s : Stored) (c : Declared) (own : Items Table) → length own ≡ length c.class.triggers
         → IsStoredBy (stored_with c own s).tables c c.class (decl_text c.tree) own }
     ensures rows { (s : Stored) (c : Declared) (own : Items Table) → length own ≡ length c.class.triggers → AllByRecursion IsSized own
-        → AreBefore c.class.number s.world.bones.classes
+        → AreBefore c.class.number s.world.bones.classes → AreOf s.world.bones.classes s.world.bones.objects → s.world.bones.added ≡ []
         → applied (puts (class_rows (stored_with c own s).tables c)) (rows s) ≡ rows (stored_with c own s) }
 {}
 

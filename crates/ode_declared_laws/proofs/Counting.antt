@@ -10,7 +10,7 @@ use Rattle.ode_value.specs.Worlds.{Declared}
 use Rattle.ode_value.specs.declared.class.Class.{Class}
 use Rattle.ode_value.specs.declared.class.Class.{Class}
 
-few_fields : (c : Class) → length c.fields ≤ field_limit → length c.fields < 2 ^ 16
+few_fields : (c : Class) → length c.fields ≤ field_limit → length c.fields < 2 ^ 15
 unfolding field_limit
 few_fields c few = omega (arith, few)
 

@@ -18,7 +18,7 @@ use Rattle.ode_value.specs.Pasts.{lists}
 use Rattle.ode_value.specs.Settling.{Settled, abort, commit, posted, settle, transaction}
 use Rattle.ode_value.specs.Texts.{class_line}
 use Rattle.ode_value.specs.Transactions.{Script, begun}
-use Rattle.ode_value.specs.Weights.{class_weight, object_weight, weight}
+use Rattle.ode_value.specs.Weights.{added_weight, class_weight, object_weight, weight}
 use Rattle.ode_value.specs.Worlds.{Bones, Declared, Object}
 use Rattle.ode_value.specs.declared.reason.Reason.TheVariants.{Space}
 
@@ -75,13 +75,18 @@ module _ (l : Language) (w : ListWorld) (c : Declared) (good : IsGood l w) where
   unfolding posted
   same_abort = refl
 
+  -- the weight with the class, by the objects
+  abbrev weighing : List Object → ℕ
+  weighing os =
+      counters_length (length w.bones.added) + sum_by class_weight (w.bones.classes ++ c ∷ []) + sum_by (object_weight (w.bones.classes ++ c ∷ [])) os
+      + sum_by added_weight w.bones.added
+
   -- what a commit leaves weighs as much
   pub left_weighs : weight (commit lists (with_line line (begun Script (world_with c w)))).0.bones ≡ weight (bones_with c w.bones)
   unfolding weight posted
   left_weighs =
       let there = all_there w.bones w.bones.objects good.bones.objects in
-      ap (λ (os : List Object). counters_length + sum_by class_weight (w.bones.classes ++ c ∷ []) + sum_by object_weight (map kept_object (filter is_there os))) there
-      ∙ ap (λ (os : List Object). counters_length + sum_by class_weight (w.bones.classes ++ c ∷ []) + sum_by object_weight os) there
+      ap (λ (os : List Object). weighing (map kept_object (filter is_there os))) there ∙ ap weighing there
 
   pub settles_light : length c.class.name ≤ name_limit → weight (bones_with c w.bones) ≤ weight_limit → transaction lists Script (declares c) w ≡ commit lists (with_line line (begun Script (world_with c w)))
   settles_light short light =

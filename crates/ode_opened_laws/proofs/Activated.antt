@@ -32,7 +32,10 @@ use Rattle.ode_opened_laws.proofs.Keeping.{both, each_flat, each_map, less, tell
 use Rattle.ode_opened_laws.proofs.Telling.{activation_reads, head_of, own_numbers}
 use Rattle.ode_opened_laws.proofs.Triggered.{IsGiven, descends_to, given, placed_at, trigger_refers, trigger_there}
 
-module _ (l : Language) (w : World (Unit {0}) ℕ) (b : Bones) (are : AreBones l b) (again : Again) (reads : AllByRecursion (IsReadableObject w) b.objects) (ones : AreFromOne b) where
+module _ (l : Language) (w : World (Unit {0}) ℕ) (are : AreBones l w.bones) (again : Again) (reads : AllByRecursion (IsReadableObject w) w.bones.objects) (ones : AreFromOne w.bones) where
+  abbrev b : Bones
+  b = w.bones
+
   abbrev classes : List Class
   classes = map class_of b.classes
 
@@ -100,12 +103,12 @@ module _ (l : Language) (w : World (Unit {0}) ℕ) (b : Bones) (are : AreBones l
   -- ---- the rules
 
   head_at : (o : Object) → object_numbered o.id b.objects ≡ Some o → heads o.id ≡ Some (head_of o)
-  head_at o own = tells l w b are again reads ones o.id ∙ ap (option_map head_of) own
+  head_at o own = tells l w are again reads ones o.id ∙ ap (option_map head_of) own
 
   own_number : (o : Object) (a : Activation) (P : Object → Activation → Type 0) → IsOwn P o a → is_own_number b.next heads shared a.number ≡ true
   own_number o a P own =
       both (nat_lt a.number b.next) (is_none (heads a.number) && not (shared a.number)) (less a.number b.next own.is.number)
-      (both (is_none (heads a.number)) (not (shared a.number)) (ap is_none (tells l w b are again reads ones a.number ∙ ap (option_map head_of) own.apart))
+      (both (is_none (heads a.number)) (not (shared a.number)) (ap is_none (tells l w are again reads ones a.number ∙ ap (option_map head_of) own.apart))
       (ap not (none_shared activations a.number (activations_differ w b.objects are.numbers))))
 
   fitting : (o : Object) → object_numbered o.id b.objects ≡ Some o → (a : Activation) (P : Object → Activation → Type 0) → IsOwn P o a → activation_fits b.next classes heads shared (with_state w o.id a) ≡ true
@@ -114,7 +117,7 @@ module _ (l : Language) (w : World (Unit {0}) ℕ) (b : Bones) (are : AreBones l
       let at = found_at o.class a t.trigger t.is in
       both (option_map_or (λ (h : Head). descends classes h.class a.class) (heads o.id) false) (have_trigger classes a.class a.trigger a.args && is_own_number b.next heads shared a.number)
       (ap (λ (g : Option Head). option_map_or (λ (h : Head). descends classes h.class a.class) g false) (head_at o there) ∙ descends_to l b.classes are.classes o.class a t.trigger t.is)
-      (both (have_trigger classes a.class a.trigger a.args) (is_own_number b.next heads shared a.number) (trigger_there l w b are again a.class a.trigger a.args t.trigger at t.fits)
+      (both (have_trigger classes a.class a.trigger a.args) (is_own_number b.next heads shared a.number) (trigger_there l w are again a.class a.trigger a.args t.trigger at t.fits)
       (own_number o a P own))
 
   module _ (reached : ℕ → ℕ → ℕ → Bool) where
@@ -152,7 +155,7 @@ module _ (l : Language) (w : World (Unit {0}) ℕ) (b : Bones) (are : AreBones l
       let k = (row_of o a).0 in
       let t : IsGiven b a.args (trigger_in b.classes o.class a) = given b a.args (trigger_in b.classes o.class a) own.is.trigger in
       ap (λ (g : Option Record). found (cause.Record k) g >>= λ r. needs (cause.Record k) (references_fit b.next classes heads r)) (activation_reads again w o.id a own.reads_it.spells)
-      ∙ ap (needs (cause.Record k)) (trigger_refers l w b are again reads ones a.class a.trigger a.args t.trigger (found_at o.class a t.trigger t.is) t.fits)
+      ∙ ap (needs (cause.Record k)) (trigger_refers l w are again reads ones a.class a.trigger a.args t.trigger (found_at o.class a t.trigger t.is) t.fits)
 
   pub activation_references_kept : each (references_keep b.next classes heads) activations ≡ Ok tt
   activation_references_kept = kept_by IsAny (references_keep b.next classes heads) one_refers (any_object b.objects)

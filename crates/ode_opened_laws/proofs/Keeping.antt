@@ -21,6 +21,7 @@ use Rattle.ode_passes.specs.declared.cause.Cause.TheVariants as cause
 use Rattle.ode_sound_laws.specs.Typed.{AreFromOne}
 use Rattle.ode_types.specs.Families as families
 use Rattle.ode_value.specs.Denoting.{if_live, object_at, object_numbered}
+use Rattle.ode_value.specs.Fields.{born_values, fields_of, is_born}
 use Rattle.ode_value.specs.Fitting.{FitFields, FitsObject, FitsRef, FitsSort, IsDrawn}
 use Rattle.ode_value.specs.GoodWorlds.{AreBones, IsObject, IsVersion}
 use Rattle.ode_value.specs.Language.{Language}
@@ -112,15 +113,30 @@ sort_of b sort.Void (value.Bool t) fits = absurd fits
 sort_of b sort.Void (value.Text t) fits = absurd fits
 sort_of b sort.Void (value.Reference r) fits = absurd fits
 
-sorts_of : (b : Bones) (fs : List Field) (vs : List Value) → FitFields b fs vs → have_sorts fs vs ≡ true
-sorts_of b [] [] fit = refl
-sorts_of b [] (v ∷ vs) fit = absurd fit
-sorts_of b (f ∷ fs) [] fit = absurd fit
-sorts_of b (f ∷ fs) (v ∷ vs) fit = both (has_sort f.sort v) (have_sorts fs vs) (sort_of b f.sort v fit.0) (sorts_of b fs vs fit.1)
+-- a field that came later has no value in the record
+sorts_skip : (stamp : ℕ) (f : Field) (fs : List Field) (vs : List Value) → is_born stamp f ≡ false → have_sorts stamp (f ∷ fs) vs ≡ have_sorts stamp fs vs
+sorts_skip stamp f fs [] later = ap (λ t. cond t false (have_sorts stamp fs [])) later
+sorts_skip stamp f fs (v ∷ vs) later = ap (λ t. cond t (has_sort f.sort v && have_sorts stamp fs vs) (have_sorts stamp fs (v ∷ vs))) later
+
+sorts_step : (b : Bones) (stamp : ℕ) (f : Field) (fs : List Field) (v : Value) (vs : List Value) → FitsSort b f.sort v → have_sorts stamp fs vs ≡ true
+    → (t : Bool) → is_born stamp f ≡ t → have_sorts stamp (f ∷ fs) (cond t (v ∷ vs) vs) ≡ true
+sorts_step b stamp f fs v vs fits more true born =
+    ap (λ t. cond t (has_sort f.sort v && have_sorts stamp fs vs) (have_sorts stamp fs (v ∷ vs))) born
+    ∙ both (has_sort f.sort v) (have_sorts stamp fs vs) (sort_of b f.sort v fits) more
+sorts_step b stamp f fs v vs fits more false later = sorts_skip stamp f fs vs later ∙ more
+
+sorts_of : (b : Bones) (stamp : ℕ) (fs : List Field) (vs : List Value) → FitFields b fs vs → have_sorts stamp fs (born_values stamp fs vs) ≡ true
+sorts_of b stamp [] [] fit = refl
+sorts_of b stamp [] (v ∷ vs) fit = absurd fit
+sorts_of b stamp (f ∷ fs) [] fit = absurd fit
+sorts_of b stamp (f ∷ fs) (v ∷ vs) fit = sorts_step b stamp f fs v (born_values stamp fs vs) fit.0 (sorts_of b stamp fs vs fit.1) (is_born stamp f) refl
 
 -- ---- a good world
 
-module _ (l : Language) (w : World (Unit {0}) ℕ) (b : Bones) (are : AreBones l b) (again : Again) where
+module _ (l : Language) (w : World (Unit {0}) ℕ) (are : AreBones l w.bones) (again : Again) where
+  abbrev b : Bones
+  b = w.bones
+
   abbrev classes : List Class
   classes = map class_of b.classes
 
@@ -128,7 +144,11 @@ module _ (l : Language) (w : World (Unit {0}) ℕ) (b : Bones) (are : AreBones l
   objects = map object_row b.objects
 
   abbrev versions : Entries
-  versions = flat_map version_rows b.objects
+  versions = flat_map (version_rows b.classes) b.objects
+
+  -- the fields of an object's class
+  abbrev own_fields : Object → List Field
+  own_fields o = fields_of b.classes o.class
 
   abbrev heads : ℕ → Option Head
   heads = head_in objects
@@ -179,11 +199,24 @@ module _ (l : Language) (w : World (Unit {0}) ℕ) (b : Bones) (are : AreBones l
     value_fits sort.Text v fits = refl
     value_fits sort.Void v fits = refl
 
-    values_fit : (fs : List Field) (vs : List Value) → FitFields b fs vs → fit_references b.next classes heads fs vs ≡ true
-    values_fit [] [] fit = refl
-    values_fit [] (v ∷ vs) fit = refl
-    values_fit (f ∷ fs) [] fit = refl
-    values_fit (f ∷ fs) (v ∷ vs) fit = both (fits_sort b.next classes heads f.sort v) (fit_references b.next classes heads fs vs) (value_fits f.sort v fit.0) (values_fit fs vs fit.1)
+    refers_skip : (stamp : ℕ) (f : Field) (fs : List Field) (vs : List Value) → is_born stamp f ≡ false → fit_references b.next classes heads stamp fs vs ≡ true
+        → fit_references b.next classes heads stamp (f ∷ fs) vs ≡ true
+    refers_skip stamp f fs [] later is = refl
+    refers_skip stamp f fs (v ∷ vs) later is =
+        ap (λ t. cond t (fits_sort b.next classes heads f.sort v && fit_references b.next classes heads stamp fs vs) (fit_references b.next classes heads stamp fs (v ∷ vs))) later ∙ is
+
+    refers_step : (stamp : ℕ) (f : Field) (fs : List Field) (v : Value) (vs : List Value) → FitsSort b f.sort v → fit_references b.next classes heads stamp fs vs ≡ true
+        → (t : Bool) → is_born stamp f ≡ t → fit_references b.next classes heads stamp (f ∷ fs) (cond t (v ∷ vs) vs) ≡ true
+    refers_step stamp f fs v vs fits more true born =
+        ap (λ t. cond t (fits_sort b.next classes heads f.sort v && fit_references b.next classes heads stamp fs vs) (fit_references b.next classes heads stamp fs (v ∷ vs))) born
+        ∙ both (fits_sort b.next classes heads f.sort v) (fit_references b.next classes heads stamp fs vs) (value_fits f.sort v fits) more
+    refers_step stamp f fs v vs fits more false later = refers_skip stamp f fs vs later more
+
+    values_fit : (stamp : ℕ) (fs : List Field) (vs : List Value) → FitFields b fs vs → fit_references b.next classes heads stamp fs (born_values stamp fs vs) ≡ true
+    values_fit stamp [] [] fit = refl
+    values_fit stamp [] (v ∷ vs) fit = refl
+    values_fit stamp (f ∷ fs) [] fit = refl
+    values_fit stamp (f ∷ fs) (v ∷ vs) fit = refers_step stamp f fs v (born_values stamp fs vs) fit.0 (values_fit stamp fs vs fit.1) (is_born stamp f) refl
 
     -- ---- an object
 
@@ -205,7 +238,7 @@ module _ (l : Language) (w : World (Unit {0}) ℕ) (b : Bones) (are : AreBones l
     pub told : AllByRecursion IsTold b.objects
     told =
         all_told b.objects are.objects reads (own_numbers b.objects 0 are.rising)
-        (have_versions b.objects (all_then (IsObject b) (λ (o : Object). 0 < length o.versions) (λ o is. is.some) b.objects are.objects)) ones
+        (have_versions b.classes b.objects (all_then (IsObject b) (λ (o : Object). 0 < length o.versions) (λ o is. is.some) b.objects are.objects)) ones
 
     pub head_told : (o : Object) → IsTold o → heads o.id ≡ Some (head_of o)
     head_told o it = tells o.id ∙ ap (option_map head_of) it.own
@@ -234,55 +267,72 @@ module _ (l : Language) (w : World (Unit {0}) ℕ) (b : Bones) (are : AreBones l
 
     record IsOwn (o : Object) (c : Class) (v : Version) : Type 0 where
       is : IsVersion b c o.last v
-      reads_it : IsReadableVersion o.id v
+      reads_it : IsReadableVersion o.id (own_fields o) v
       some : 0 < v.number
 
-    own_versions : (o : Object) (c : Class) (vs : List Version) → AllByRecursion (IsVersion b c o.last) vs → AllByRecursion (IsReadableVersion o.id) vs → AllByRecursion (λ (v : Version). 0 < v.number) vs
-        → AllByRecursion (IsOwn o c) vs
+    own_versions : (o : Object) (c : Class) (vs : List Version) → AllByRecursion (IsVersion b c o.last) vs → AllByRecursion (IsReadableVersion o.id (own_fields o)) vs
+        → AllByRecursion (λ (v : Version). 0 < v.number) vs → AllByRecursion (IsOwn o c) vs
     own_versions o c [] one two three = tt
     own_versions o c (v ∷ vs) one two three = (record { is = one.0; reads_it = two.0; some = three.0 }, own_versions o c vs one.1 two.1 three.1)
+
+    -- the values that its record has
+    abbrev born_of : Object → Version → List Value
+    born_of o v = born_values v.stamp (own_fields o) v.fields
+
+    abbrev added : ℕ
+    added = length b.added
 
     module _ (o : Object) (it : IsTold o) (c : Class) (at : class_numbered o.class b.classes ≡ Some c) where
       class_at : families.class_numbered classes o.class ≡ Some c
       class_at = same_numbered b.classes o.class ∙ at
 
-      version_kept : (v : Version) → IsOwn o c v → version_keeps classes heads (version_row o.id v) ≡ Ok tt
+      fields_at : own_fields o ≡ c.fields
+      fields_at = ap (λ (g : Option Class). option_map_or (λ (d : Class). d.fields) g []) at
+
+      version_kept : (v : Version) → IsOwn o c v → version_keeps added classes heads (version_row o.id (own_fields o) v) ≡ Ok tt
       version_kept v own =
-          let why = cause.Record (version_row o.id v).0 in
+          let why = cause.Record (version_row o.id (own_fields o) v).0 in
           let number = v.number in
           let parent = unwrap_or v.parent 0 in
-          let fields : fields_fit classes o.class v.fields ≡ true =
-          ap (λ (g : Option Class). option_map_or (λ (d : Class). have_sorts d.fields v.fields) g false) class_at ∙ sorts_of b c.fields v.fields own.is.fields in
-          let test : fits_head classes number parent v.fields (head_of o) ≡ true =
-          both (nat_le 1 number) (nat_le number o.last && (((parent == 0) || nat_lt parent number) && fields_fit classes o.class v.fields)) (upto 1 number (omega (arith, own.some)))
-          (both (nat_le number o.last) (((parent == 0) || nat_lt parent number) && fields_fit classes o.class v.fields) (upto number o.last own.is.number)
-          (both ((parent == 0) || nat_lt parent number) (fields_fit classes o.class v.fields) (parent_below v.parent number own.is.parent) fields)) in
-          ap (λ (g : Option Record). found why g >>= λ r. needs why (version_fits classes heads r)) (version_reads again o.id v own.reads_it.spells)
-          ∙ ap (λ (g : Option Head). needs why (option_map_or (fits_head classes number parent v.fields) g false)) (head_told o it)
-          ∙ ap (needs why) test
+          let values : List Value = born_of o v in
+          let fields : fields_fit classes o.class v.stamp values ≡ true =
+          ap (λ (g : Option Class). option_map_or (λ (d : Class). have_sorts v.stamp d.fields values) g false) class_at
+          ∙ ap (λ (fs : List Field). have_sorts v.stamp c.fields (born_values v.stamp fs v.fields)) fields_at ∙ sorts_of b v.stamp c.fields v.fields own.is.fields in
+          let test : fits_head classes number parent v.stamp values (head_of o) ≡ true =
+          both (nat_le 1 number) (nat_le number o.last && (((parent == 0) || nat_lt parent number) && fields_fit classes o.class v.stamp values)) (upto 1 number (omega (arith, own.some)))
+          (both (nat_le number o.last) (((parent == 0) || nat_lt parent number) && fields_fit classes o.class v.stamp values) (upto number o.last own.is.number)
+          (both ((parent == 0) || nat_lt parent number) (fields_fit classes o.class v.stamp values) (parent_below v.parent number own.is.parent) fields)) in
+          ap (λ (g : Option Record). found why g >>= λ r. needs why (version_fits added classes heads r)) (version_reads again o.id (own_fields o) v own.reads_it.spells)
+          ∙ ap (λ (g : Option Head). needs why (nat_le v.stamp added && option_map_or (fits_head classes number parent v.stamp values) g false)) (head_told o it)
+          ∙ ap (needs why) (both (nat_le v.stamp added) (fits_head classes number parent v.stamp values (head_of o)) (upto v.stamp added own.is.stamp) test)
 
-      references_kept : (v : Version) → IsOwn o c v → references_keep b.next classes heads (version_row o.id v) ≡ Ok tt
+      references_kept : (v : Version) → IsOwn o c v → references_keep b.next classes heads (version_row o.id (own_fields o) v) ≡ Ok tt
       references_kept v own =
-          let why = cause.Record (version_row o.id v).0 in
-          let test : references_in b.next classes heads o.class v.fields ≡ true =
-          ap (λ (g : Option Class). option_map_or (λ (d : Class). fit_references b.next classes heads d.fields v.fields) g true) class_at ∙ values_fit c.fields v.fields own.is.fields in
-          ap (λ (g : Option Record). found why g >>= λ r. needs why (references_fit b.next classes heads r)) (version_reads again o.id v own.reads_it.spells)
-          ∙ ap (λ (g : Option Head). needs why (option_map_or (λ (h : Head). references_in b.next classes heads h.class v.fields) g true)) (head_told o it)
+          let why = cause.Record (version_row o.id (own_fields o) v).0 in
+          let values : List Value = born_of o v in
+          let test : references_in b.next classes heads o.class v.stamp values ≡ true =
+          ap (λ (g : Option Class). option_map_or (λ (d : Class). fit_references b.next classes heads v.stamp d.fields values) g true) class_at
+          ∙ ap (λ (fs : List Field). fit_references b.next classes heads v.stamp c.fields (born_values v.stamp fs v.fields)) fields_at ∙ values_fit v.stamp c.fields v.fields own.is.fields in
+          ap (λ (g : Option Record). found why g >>= λ r. needs why (references_fit b.next classes heads r)) (version_reads again o.id (own_fields o) v own.reads_it.spells)
+          ∙ ap (λ (g : Option Head). needs why (option_map_or (λ (h : Head). references_in b.next classes heads h.class v.stamp values) g true)) (head_told o it)
           ∙ ap (needs why) test
 
-    module _ (rule : Row → Ruled (Unit {0})) (one : (o : Object) (it : IsTold o) (c : Class) (at : class_numbered o.class b.classes ≡ Some c) (v : Version) → IsOwn o c v → rule (version_row o.id v) ≡ Ok tt) where
-      own_kept : (o : Object) → IsTold o → (g : Option Class) → class_numbered o.class b.classes ≡ g → IsSome g → IfSome g (λ c. AllByRecursion (IsVersion b c o.last) o.versions) → each rule (version_rows o) ≡ Ok tt
+    module _ (rule : Row → Ruled (Unit {0}))
+        (one : (o : Object) (it : IsTold o) (c : Class) (at : class_numbered o.class b.classes ≡ Some c) (v : Version) → IsOwn o c v → rule (version_row o.id (own_fields o) v) ≡ Ok tt) where
+      own_kept : (o : Object) → IsTold o → (g : Option Class) → class_numbered o.class b.classes ≡ g → IsSome g → IfSome g (λ c. AllByRecursion (IsVersion b c o.last) o.versions)
+          → each rule (version_rows b.classes o) ≡ Ok tt
       own_kept o it None at some fit = absurd (cc)
       own_kept o it (Some c) at some fit =
-          each_map rule (version_row o.id) o.versions (all_then (IsOwn o c) (λ v. rule (version_row o.id v) ≡ Ok tt) (one o it c at) o.versions (own_versions o c o.versions fit it.reads_it.versions it.some))
+          each_map rule (version_row o.id (own_fields o)) o.versions
+          (all_then (IsOwn o c) (λ v. rule (version_row o.id (own_fields o) v) ≡ Ok tt) (one o it c at) o.versions (own_versions o c o.versions fit it.reads_it.versions it.some))
 
       all_kept : each rule versions ≡ Ok tt
       all_kept =
-          each_flat rule version_rows b.objects
-          (all_then IsTold (λ o. each rule (version_rows o) ≡ Ok tt) (λ o it. own_kept o it (class_numbered o.class b.classes) refl it.is.class it.is.versions) b.objects told)
+          each_flat rule (version_rows b.classes) b.objects
+          (all_then IsTold (λ o. each rule (version_rows b.classes o) ≡ Ok tt) (λ o it. own_kept o it (class_numbered o.class b.classes) refl it.is.class it.is.versions) b.objects told)
 
-    pub versions_kept : each (version_keeps classes heads) versions ≡ Ok tt
-    versions_kept = all_kept (version_keeps classes heads) version_kept
+    pub versions_kept : each (version_keeps added classes heads) versions ≡ Ok tt
+    versions_kept = all_kept (version_keeps added classes heads) version_kept
 
     pub all_references_kept : each (references_keep b.next classes heads) versions ≡ Ok tt
     all_references_kept = all_kept (references_keep b.next classes heads) references_kept

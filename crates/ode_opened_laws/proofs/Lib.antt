@@ -1,4 +1,5 @@
 pub mod ByKinds
+pub mod Plain
 pub mod Tallying
 pub mod Weighing
 pub mod Climbing

@@ -1,7 +1,7 @@
 -- Records that hold a world are opened to its classes with their tables, and to its weight.
-use Rattle.std.proofs.Common.{◌≡◌, ℕ, ◌+◌, ◌≤◌, List, ◌++◌, map, true, Option, Some, Ok, refl, sym, ap, subst, ◌∙◌, append_assoc, arith}
+use Rattle.std.proofs.Common.{◌≡◌, ℕ, ◌+◌, ◌≤◌, List, ◌∷◌, ◌++◌, map, true, Option, Some, Ok, refl, sym, ap, subst, ◌∙◌, append_assoc, arith}
 use Rattle.std.specs.Prelude.{Bool, nat_le}
-use Rattle.std.specs.List.{AllByRecursion, flat_map}
+use Rattle.std.specs.List.{AllByRecursion, flat_map, sum_by}
 use Rattle.std.proofs.lemmas.Bool.Decides.{nat_tests}
 use Rattle.ode_codec.specs.Standing.{ArePasts, HasTables}
 use Rattle.ode_codec.specs.StoredRows.{Stored, activation_row, activation_rows, counters_row, entry_row, object_row, rows, state_of, version_rows}
@@ -30,6 +30,7 @@ use Rattle.ode_passes.specs.Walking.{within}
 use Rattle.ode_passes.specs.declared.cause.Cause.TheVariants as cause
 use Rattle.ode_passes.specs.declared.tally.Tally.{Tally}
 use Rattle.ode_sound_laws.specs.Typed.{AreFromOne}
+use Rattle.ode_value.specs.Fields.{born_values}
 use Rattle.ode_value.specs.GoodWorlds.{AreBones, IsObject, RiseFrom}
 use Rattle.ode_value.specs.Keys.{activation_kind, counters_key, entry_kind, version_kind}
 use Rattle.ode_value.specs.Language.{ListWorld}
@@ -40,9 +41,11 @@ use Rattle.ode_value.specs.Pasts.{Kept}
 use Rattle.ode_value.specs.Records.{row_weight, total_weight, version_row}
 use Rattle.ode_value.specs.Tables.{Table}
 use Rattle.ode_value.specs.Versions.{Version}
-use Rattle.ode_value.specs.Weights.{weight}
+use Rattle.ode_value.specs.Weights.{added_weight, weight}
 use Rattle.ode_value.specs.Worlds.{Bones, Object}
+use Rattle.ode_value.specs.declared.change.Added.{Added}
 use Rattle.ode_value.specs.declared.class.Class.{Class}
+use Rattle.ode_value.specs.declared.class.Field.{Field}
 use Rattle.ode_opening_records.specs.Reading.{AreOpened, base_of, opened_by}
 use Rattle.ode_opening_records.specs.declared.base.Base.{Base}
 use Rattle.ode_opened_laws.specs.WorldBases.{world_base}
@@ -51,6 +54,7 @@ use Rattle.ode_opened_laws.proofs.ByKinds.{AreSorted, are_sorted}
 use Rattle.ode_opened_laws.proofs.Keeping.{all_references_kept, each_append, objects_kept, versions_kept}
 use Rattle.ode_opened_laws.proofs.Parts.{activations_of_kind, all_counted, classes_are_parts, classes_of_kind, counters_of_kind, counters_read, entries_are_parts, entries_of_kind, none_counted, objects_are_parts, objects_of_kind, versions_of_kind}
 use Rattle.ode_opened_laws.proofs.Placed.{all_placed}
+use Rattle.ode_opened_laws.proofs.Plain.{IsUnstamped, counters_plain, object_unstamped, without_added}
 use Rattle.ode_opened_laws.proofs.Queued.{entry_references_kept, queue_kept}
 use Rattle.ode_opened_laws.proofs.Reached.{AreTold, are_reached}
 use Rattle.ode_opened_laws.proofs.Tallying.{IsPart, IsTallied, counted_is, entries_tallied, one_more, parts_tallied}
@@ -62,7 +66,7 @@ ok_same x y is = cc
 light : (n : ℕ) → n ≤ weight_limit → is_light n ≡ Ok tt
 light n few = let test : nat_le n weight_limit ≡ true = grind (arith, nat_tests) in ap (needs (cause.Size n)) test
 
-module _ (again : Again) (told : AreTold) (acts_weigh : (id state : ℕ) (a : Activation) → row_weight (activation_row id state a) ≡ activation_length a.args) (weighs : (id : ℕ) (v : Version) → row_weight (version_row id v) ≡ version_length v.fields)
+module _ (again : Again) (told : AreTold) (acts_weigh : (id state : ℕ) (a : Activation) → row_weight (activation_row id state a) ≡ activation_length a.args) (weighs : (id : ℕ) (fields : List Field) (v : Version) → row_weight (version_row id fields v) ≡ version_length v.stamp (born_values v.stamp fields v.fields))
     (s : Stored) (past : List (ℕ × Kept Histories Starts)) (are : AreBones ode s.world.bones) (reads : IsReadable s) (mean : AllByRecursion (HasTables s.tables) s.world.bones.classes)
     (pasts : ArePasts s.tables s.world.bones.classes s.world.bones.objects s.world.pasts past) (ones : AreFromOne s.world.bones) where
   abbrev b : Bones
@@ -80,7 +84,7 @@ module _ (again : Again) (told : AreTold) (acts_weigh : (id state : ℕ) (a : Ac
   of_objects = map object_row b.objects
 
   abbrev of_versions : Entries
-  of_versions = flat_map version_rows b.objects
+  of_versions = flat_map (version_rows b.classes) b.objects
 
   abbrev of_activations : Entries
   of_activations = flat_map (activation_rows s.world) b.objects
@@ -88,8 +92,12 @@ module _ (again : Again) (told : AreTold) (acts_weigh : (id state : ℕ) (a : Ac
   abbrev of_queue : Entries
   of_queue = map entry_row b.queue
 
+  -- no record is that of an added field
   abbrev all : Entries
-  all = rows s
+  all = counters_row b ∷ of_classes ++ of_objects ++ of_versions ++ of_activations ++ of_queue
+
+  rows_are : rows s ≡ all
+  rows_are = without_added all b are.added b.classes
 
   -- those of objects, with what these have
   abbrev things : Entries
@@ -109,11 +117,13 @@ module _ (again : Again) (told : AreTold) (acts_weigh : (id state : ℕ) (a : Ac
   sum_is : sum + spare ≡ weight b
   unfolding weight
   sum_is =
+      let none : sum_by added_weight b.added ≡ 0 = ap (λ (fields : List Added). sum_by added_weight fields) are.added in
       omega (
         arith,
+        none,
         counters_weigh b,
         classes_weigh s.tables b.classes mean storable,
-        objects_weigh acts_weigh weighs s.world b.objects,
+        objects_weigh acts_weigh weighs s.world b.classes b.objects,
         weight_append (of_classes ++ of_objects ++ of_versions) of_activations,
         weight_append (of_classes ++ of_objects) of_versions,
         weight_append of_classes of_objects,
@@ -124,10 +134,13 @@ module _ (again : Again) (told : AreTold) (acts_weigh : (id state : ℕ) (a : Ac
 
   -- ---- the tally
 
+  unstamped : AllByRecursion (λ (o : Object). AllByRecursion IsUnstamped o.versions) b.objects
+  unstamped = all_then (IsObject b) (λ (o : Object). AllByRecursion IsUnstamped o.versions) (object_unstamped b are.added) b.objects are.objects
+
   parts : AllByRecursion IsPart counted_rows
   parts =
       let P = IsPart in
-      let objects = objects_are_parts again s.world b.objects reads.objects in
+      let objects = objects_are_parts again s.world b.objects reads.objects unstamped in
       subst_all (all_append P of_classes things (classes_are_parts s.tables again b.classes storable) objects)
     where
       grouped : of_classes ++ things ≡ counted_rows
@@ -156,7 +169,7 @@ module _ (again : Again) (told : AreTold) (acts_weigh : (id state : ℕ) (a : Ac
       let few_ = few in
       let total : counted 0 (counters_row b) ≡ 0 + row_weight (counters_row b) = counted_is 0 (counters_row b) refl (omega (arith, few_)) in
       let same : 0 + row_weight (counters_row b) ≡ row_weight (counters_row b) = omega arith in
-      one_more no_tally (counters_row b) (of.Counters counters) (counters_read again b reads.counters)
+      one_more no_tally (counters_row b) (of.Counters counters) (counters_plain b are.added) (counters_read again b reads.counters)
       ∙ ap (λ (n : ℕ). Ok (record { total = n; counters = Some counters })) (total ∙ same)
 
   tallied_all : through tallied no_tally all ≡ Ok (record { total = sum; counters = Some counters })
@@ -199,7 +212,7 @@ module _ (again : Again) (told : AreTold) (acts_weigh : (id state : ℕ) (a : Ac
   objects_by os vs = each (object_keeps b.next classes (has_version vs)) os
 
   abbrev versions_by : Entries → Entries → Ruled (Unit {0})
-  versions_by os vs = each (version_keeps classes (head_in os)) vs
+  versions_by os vs = each (version_keeps counters.added classes (head_in os)) vs
 
   abbrev activations_by : Entries → Entries → Ruled (Unit {0})
   activations_by os acts = each (activation_keeps b.next classes (head_in os) (is_shared acts) reached) acts
@@ -231,8 +244,8 @@ module _ (again : Again) (told : AreTold) (acts_weigh : (id state : ℕ) (a : Ac
   references_kept =
       let rule = references_keep b.next classes heads in
       each_append rule (of_versions ++ of_activations) of_queue
-      (each_append rule of_versions of_activations (all_references_kept ode s.world b are again reads.objects ones) (activation_references_kept ode s.world b are again reads.objects ones))
-      (entry_references_kept ode s.world b are again reads.objects ones reads.queue)
+      (each_append rule of_versions of_activations (all_references_kept ode s.world are again reads.objects ones) (activation_references_kept ode s.world are again reads.objects ones))
+      (entry_references_kept ode s.world are again reads.objects ones reads.queue)
 
   objects_do : objects_keep counters reached classes all ≡ done
   unfolding objects_keep
@@ -244,27 +257,31 @@ module _ (again : Again) (told : AreTold) (acts_weigh : (id state : ℕ) (a : Ac
       ∙ ap (by_rules of_objects of_versions of_activations of_queue) sorted.references
       ∙ all_done (objects_by of_objects of_versions) (versions_by of_objects of_versions) (activations_by of_objects of_activations) (queue_by of_objects of_queue)
       (references_by of_objects (of_versions ++ of_activations ++ of_queue))
-      (objects_kept ode s.world b are again reads.objects ones) (versions_kept ode s.world b are again reads.objects ones)
-      (activations_kept ode s.world b are again reads.objects ones reached states_reached)
-      (queue_kept ode s.world b are again reads.objects ones reads.queue) references_kept
+      (objects_kept ode s.world are again reads.objects ones) (versions_kept ode s.world are again reads.objects ones)
+      (activations_kept ode s.world are again reads.objects ones reached states_reached)
+      (queue_kept ode s.world are again reads.objects ones reads.queue) references_kept
 
   -- ---- all rules
 
   base_is : base_of classes tables sum ≡ world_base s.tables b
   base_is = ap (λ (n : ℕ). record (base_of classes tables 0) { bytes = n }) sum_is
 
-  pub rows_opened : classes_in ode all ≡ Ok classes → opened_by ode (Ok tables) all ≡ Ok (world_base s.tables b)
+  all_opened : classes_in ode all ≡ Ok classes → opened_by ode (Ok tables) all ≡ Ok (world_base s.tables b)
   unfolding opened_by
-  rows_opened read =
+  all_opened read =
       ap (λ m. m >>= λ t. classes_in ode all >>= λ cs. Ok tables >>= λ own. objects_keep t.0 (is_reached_in own (places_from 0 cs)) cs all >>= λ _. is_light t.1 >>= λ _. Ok (base_of cs own t.1)) tally_is
       ∙ ap (λ m. m >>= λ cs. Ok tables >>= λ own. objects_keep counters (is_reached_in own (places_from 0 cs)) cs all >>= λ _. is_light sum >>= λ _. Ok (base_of cs own sum)) read
       ∙ ap (λ m. m >>= λ _. is_light sum >>= λ _. Ok (base_of classes tables sum)) objects_do
       ∙ ap (λ m. m >>= λ _. Ok (base_of classes tables sum)) (light sum few)
       ∙ ap (λ (base : Base). Ok base) base_is
 
+  pub rows_opened : classes_in ode (rows s) ≡ Ok classes → opened_by ode (Ok tables) (rows s) ≡ Ok (world_base s.tables b)
+  rows_opened read =
+      ap (λ (es : Entries). opened_by ode (Ok tables) es) rows_are ∙ all_opened (sym (ap (λ (es : Entries). classes_in ode es) rows_are) ∙ read)
+
 -- ---- a world that is held
 
-module _ (again : Again) (told : AreTold) (acts_weigh : (id state : ℕ) (a : Activation) → row_weight (activation_row id state a) ≡ activation_length a.args) (weighs : (id : ℕ) (v : Version) → row_weight (version_row id v) ≡ version_length v.fields)
+module _ (again : Again) (told : AreTold) (acts_weigh : (id state : ℕ) (a : Activation) → row_weight (activation_row id state a) ≡ activation_length a.args) (weighs : (id : ℕ) (fields : List Field) (v : Version) → row_weight (version_row id fields v) ≡ version_length v.stamp (born_values v.stamp fields v.fields))
     (records : Entries) (w : ListWorld) (held : HoldsCounted ode records w) (ones : AreFromOne w.bones) (reads : IsReadable held.world.stored) where
   abbrev s : Stored
   s = held.world.stored

@@ -1,14 +1,16 @@
 -- The records of a world, kind by kind.
-use Rattle.std.proofs.Common.{◌≡◌, ℕ, ◌<◌, ◌≤◌, ◌^◌, List, [], ◌∷◌, ◌++◌, map, true, false, Option, Some, None, refl, append_assoc, arith}
+use Rattle.std.proofs.Common.{◌≡◌, ℕ, ◌<◌, ◌≤◌, ◌^◌, List, [], ◌∷◌, ◌++◌, map, length, true, false, Option, Some, None, refl, ap, append_assoc, arith}
 use Rattle.std.specs.List.{AllByRecursion, flat_map}
 use Rattle.std.specs.Prelude.{◌==◌, pos}
 use Rattle.std.specs.Int.{cast_unsigned, w64}
 use Rattle.std.specs.Option.{is_some, option_map_or}
 use Rattle.std.proofs.lemmas.Bool.Decides.{nat_tests}
+use Rattle.ode_codec.specs.FirstFormat.{is_of_first}
 use Rattle.ode_codec.specs.Reading.{record_under}
-use Rattle.ode_codec.specs.Rules.{HasRanges, IsRecord}
+use Rattle.ode_codec.specs.Rules.{HasRanges, IsKept, IsRecord}
 use Rattle.ode_codec.specs.Spelling.{key_of, truth, u32, u64, value_of}
 use Rattle.ode_codec.specs.StoredRows.{activation_row, activation_rows, counters_row, entry_row, object_row, places_of, state_of, version_rows}
+use Rattle.ode_codec.specs.declared.record.Counters.{Counters}
 use Rattle.ode_codec.specs.declared.record.Record.{Record}
 use Rattle.ode_codec.specs.declared.record.Record.TheVariants as of
 use Rattle.ode_heap.specs.Answering.{IsReadableActivation, IsReadableEntry, IsReadableObject, IsReadableVersion, counters_of}
@@ -20,15 +22,19 @@ use Rattle.ode_opening_laws.proofs.Founds.{found_of, head_at, head_found, heads_
 use Rattle.ode_opening_laws.proofs.Sections.{Passes, rows_pass}
 use Rattle.ode_opening_laws.proofs.Storable.{IsStorable}
 use Rattle.ode_passes.specs.Records.{Found}
+use Rattle.ode_passes.specs.Tally.{counters_or}
 use Rattle.ode_passes.specs.Walking.{is_from}
+use Rattle.ode_value.specs.Fields.{born_values, fields_of}
 use Rattle.ode_value.specs.Keys.{class_head_kind, counters_key, entry_kind, key, table_piece_kind}
 use Rattle.ode_value.specs.Objects.{Activation}
-use Rattle.ode_value.specs.Records.{Row, clock_bytes, version_row}
+use Rattle.ode_value.specs.Records.{Row, clock_bytes, stamp_bytes, version_row}
 use Rattle.ode_value.specs.Tables.{Table}
 use Rattle.ode_value.specs.Versions.{Version}
 use Rattle.ode_value.specs.Worlds.{Bones, Declared, Entry, Object, Position, World}
+use Rattle.ode_value.specs.declared.class.Field.{Field}
 use Rattle.ode_value.specs.declared.key.Key.{Key}
 use Rattle.ode_opened_laws.proofs.ByKinds.{AreOf, IsOf}
+use Rattle.ode_opened_laws.proofs.Plain.{IsUnstamped, plain_between, version_plain}
 use Rattle.ode_opened_laws.proofs.Tallying.{IsPart, IsTallied, IsUncounted}
 use Rattle.ode_opened_laws.proofs.Telling.{activation_reads, activation_record, entry_reads, entry_record, object_reads, object_record, version_reads, version_record}
 
@@ -54,16 +60,18 @@ module _ (w : World (Unit {0}) ℕ) where
   pub objects_of_kind : (os : List Object) → AllByRecursion (IsReadableObject w) os → AreOf 6 6 (map object_row os)
   objects_of_kind os reads = all_map (IsOf 6 6) (IsReadableObject w) object_row object_of_kind os reads
 
-  version_of_kind : (id : ℕ) (v : Version) → IsReadableVersion id v → IsOf 7 7 (version_row id v)
+  version_of_kind : (id : ℕ) (fields : List Field) (v : Version) → IsReadableVersion id fields v → IsOf 7 7 (version_row id fields v)
   unfolding HasRanges
-  version_of_kind id v is =
+  version_of_kind id fields v is =
       let low : id < 2 ^ 64 = is.spells.ranges.0 in
       let number : v.number < 2 ^ 32 = is.spells.ranges.1 in
       record { least = omega arith; most = omega arith; a = omega arith; b = omega arith }
 
-  pub versions_of_kind : (os : List Object) → AllByRecursion (IsReadableObject w) os → AreOf 7 7 (flat_map version_rows os)
+  pub versions_of_kind : (os : List Object) → AllByRecursion (IsReadableObject w) os → AreOf 7 7 (flat_map (version_rows w.bones.classes) os)
   versions_of_kind os reads =
-      all_flat (IsOf 7 7) (IsReadableObject w) version_rows (λ (o : Object) is. all_map (IsOf 7 7) (IsReadableVersion o.id) (version_row o.id) (version_of_kind o.id) o.versions is.versions) os reads
+      let of_class : ℕ → List Field = fields_of w.bones.classes in
+      all_flat (IsOf 7 7) (IsReadableObject w) (version_rows w.bones.classes)
+      (λ (o : Object) is. all_map (IsOf 7 7) (IsReadableVersion o.id (of_class o.class)) (version_row o.id (of_class o.class)) (version_of_kind o.id (of_class o.class)) o.versions is.versions) os reads
 
   activation_of_kind : (id : ℕ) (a : Activation) → IsReadableActivation w id a → IsOf 8 8 (activation_row id (state_of w id a.number) a)
   unfolding HasRanges
@@ -104,24 +112,31 @@ abbrev IsOther : Record → Type 0
 IsOther (of.Counters c) = ⊥
 IsOther _ = Unit {0}
 
-part_of : (e : Row) (r : Record) → record_under e.0 e.1 ≡ Some r → IsOther r → IsPart e
-part_of e (of.Counters c) reads other = absurd other
-part_of e (of.ClassHead class name parent text_length triggers) reads other = record { r = of.ClassHead class name parent text_length triggers; reads = reads; other = λ before. refl }
-part_of e (of.ClassPiece class piece bytes) reads other = record { r = of.ClassPiece class piece bytes; reads = reads; other = λ before. refl }
-part_of e (of.TableHead class trigger states symbols) reads other = record { r = of.TableHead class trigger states symbols; reads = reads; other = λ before. refl }
-part_of e (of.TablePiece class trigger piece bytes) reads other = record { r = of.TablePiece class trigger piece bytes; reads = reads; other = λ before. refl }
-part_of e (of.Object object class last) reads other = record { r = of.Object object class last; reads = reads; other = λ before. refl }
-part_of e (of.Version object number parent fields) reads other = record { r = of.Version object number parent fields; reads = reads; other = λ before. refl }
-part_of e (of.Activation a) reads other = record { r = of.Activation a; reads = reads; other = λ before. refl }
-part_of e (of.Entry number q) reads other = record { r = of.Entry number q; reads = reads; other = λ before. refl }
+part_of : (e : Row) (r : Record) → record_under e.0 e.1 ≡ Some r → is_of_first e.0 e.1 ≡ true → IsOther r → IsPart e
+part_of e r reads plain other = record { r = r; reads = reads; plain = plain; other = left r other }
+  where
+    left : (r : Record) → IsOther r → (before : Option Counters) → counters_or before r ≡ before
+    left (of.Counters c) other before = absurd other
+    left (of.ClassHead class name parent text_length triggers) other before = refl
+    left (of.ClassPiece class piece bytes) other before = refl
+    left (of.TableHead class trigger states symbols) other before = refl
+    left (of.TablePiece class trigger piece bytes) other before = refl
+    left (of.Object object class last) other before = refl
+    left (of.Version object number parent stamp fields) other before = refl
+    left (of.Activation a) other before = refl
+    left (of.Entry number q) other before = refl
+    left (of.Added class birth name sort refers literal) other before = refl
 
 abbrev IsOtherFound : Key × Record → Type 0
 IsOtherFound f = IsOther f.1
 
-are_parts : (es : Entries) (fs : Found) → Decode es fs → AllByRecursion IsOtherFound fs → AllByRecursion IsPart es
-are_parts [] fs reads others = tt
-are_parts (e ∷ es) [] reads others = absurd reads
-are_parts (e ∷ es) (f ∷ fs) reads others = (part_of e f.1 reads.1 others.0, are_parts es fs reads.2 others.1)
+-- those of classes have one form
+are_parts : (es : Entries) (fs : Found) → Decode es fs → AreOf 2 5 es → AllByRecursion IsOtherFound fs → AllByRecursion IsPart es
+are_parts [] fs reads kinds others = tt
+are_parts (e ∷ es) [] reads kinds others = absurd reads
+are_parts (e ∷ es) (f ∷ fs) reads kinds others =
+    let high = kinds.0.most in
+    (part_of e f.1 reads.1 (plain_between e kinds.0.least (omega (arith, high))) others.0, are_parts es fs reads.2 kinds.1 others.1)
 
 module _ (tables : ℕ → ℕ → Table) where
   found_others : (ds : List Declared) → AllByRecursion IsOtherFound (found_of tables ds)
@@ -136,29 +151,56 @@ module _ (tables : ℕ → ℕ → Table) where
       (all_append O (heads_found ds ++ pieces_found ds) (table_heads_found tables ds) (all_append O (heads_found ds) (pieces_found ds) heads pieces) table_heads) table_pieces
 
   pub classes_are_parts : Again → (ds : List Declared) → AllByRecursion (IsStorable tables) ds → AllByRecursion IsPart (class_rows tables ds)
-  classes_are_parts again ds all = are_parts (class_rows tables ds) (found_of tables ds) (rows_decode tables again ds all) (found_others ds)
+  classes_are_parts again ds all = are_parts (class_rows tables ds) (found_of tables ds) (rows_decode tables again ds all) (classes_of_kind tables ds all) (found_others ds)
 
 module _ (again : Again) (w : World (Unit {0}) ℕ) where
   object_is_part : (o : Object) → IsReadableObject w o → IsPart (object_row o)
-  object_is_part o is = part_of (object_row o) (object_record o) (object_reads again o is.spells) tt
+  object_is_part o is = part_of (object_row o) (object_record o) (object_reads again o is.spells) refl tt
 
-  version_is_part : (id : ℕ) (v : Version) → IsReadableVersion id v → IsPart (version_row id v)
-  version_is_part id v is = part_of (version_row id v) (version_record id v) (version_reads again id v is.spells) tt
+  -- a version without a stamp
+  record IsPlain (id : ℕ) (fields : List Field) (v : Version) : Type 0 where
+    reads_it : IsReadableVersion id fields v
+    unstamped : IsUnstamped v
+
+  all_plain : (id : ℕ) (fields : List Field) (vs : List Version) → AllByRecursion (IsReadableVersion id fields) vs → AllByRecursion IsUnstamped vs → AllByRecursion (IsPlain id fields) vs
+  all_plain id fields [] reads unstamped = tt
+  all_plain id fields (v ∷ vs) reads unstamped = (record { reads_it = reads.0; unstamped = unstamped.0 }, all_plain id fields vs reads.1 unstamped.1)
+
+  version_is_part : (id : ℕ) (fields : List Field) (v : Version) → IsPlain id fields v → IsPart (version_row id fields v)
+  unfolding IsKept
+  version_is_part id fields v is =
+      let few : length (born_values v.stamp fields v.fields) < 2 ^ 15 = is.reads_it.spells.kept.0 in
+      part_of (version_row id fields v) (version_record id fields v) (version_reads again id fields v is.reads_it.spells) (version_plain id fields v is.unstamped few) tt
 
   activation_is_part : (id : ℕ) (a : Activation) → IsReadableActivation w id a → IsPart (activation_row id (state_of w id a.number) a)
-  activation_is_part id a is = part_of (activation_row id (state_of w id a.number) a) (activation_record w id a) (activation_reads again w id a is.spells) tt
+  activation_is_part id a is = part_of (activation_row id (state_of w id a.number) a) (activation_record w id a) (activation_reads again w id a is.spells) refl tt
 
-  pub objects_are_parts : (os : List Object) → AllByRecursion (IsReadableObject w) os → AllByRecursion IsPart (map object_row os ++ flat_map version_rows os ++ flat_map (activation_rows w) os)
-  objects_are_parts os reads =
+  record IsPlainObject (o : Object) : Type 0 where
+    reads_it : IsReadableObject w o
+    unstamped : AllByRecursion IsUnstamped o.versions
+
+  plain_objects : (os : List Object) → AllByRecursion (IsReadableObject w) os → AllByRecursion (λ (o : Object). AllByRecursion IsUnstamped o.versions) os → AllByRecursion IsPlainObject os
+  plain_objects [] reads unstamped = tt
+  plain_objects (o ∷ os) reads unstamped = (record { reads_it = reads.0; unstamped = unstamped.0 }, plain_objects os reads.1 unstamped.1)
+
+  versions_are_parts : (o : Object) → IsPlainObject o → AllByRecursion IsPart (version_rows w.bones.classes o)
+  versions_are_parts o is =
+      let fields : List Field = fields_of w.bones.classes o.class in
+      all_map IsPart (IsPlain o.id fields) (version_row o.id fields) (version_is_part o.id fields) o.versions (all_plain o.id fields o.versions is.reads_it.versions is.unstamped)
+
+  pub objects_are_parts : (os : List Object) → AllByRecursion (IsReadableObject w) os → AllByRecursion (λ (o : Object). AllByRecursion IsUnstamped o.versions) os
+      → AllByRecursion IsPart (map object_row os ++ flat_map (version_rows w.bones.classes) os ++ flat_map (activation_rows w) os)
+  objects_are_parts os reads unstamped =
       let R = IsReadableObject w in
-      let versions = all_flat IsPart R version_rows (λ (o : Object) is. all_map IsPart (IsReadableVersion o.id) (version_row o.id) (version_is_part o.id) o.versions is.versions) os reads in
+      let of_versions = flat_map (version_rows w.bones.classes) os in
+      let versions = all_flat IsPart IsPlainObject (version_rows w.bones.classes) versions_are_parts os (plain_objects os reads unstamped) in
       let activations = all_flat IsPart R (activation_rows w)
       (λ (o : Object) is. all_map IsPart (IsReadableActivation w o.id) (λ (a : Activation). activation_row o.id (state_of w o.id a.number) a) (activation_is_part o.id) o.activations is.activations) os reads in
-      all_append IsPart (map object_row os ++ flat_map version_rows os) (flat_map (activation_rows w) os)
-      (all_append IsPart (map object_row os) (flat_map version_rows os) (all_map IsPart R object_row object_is_part os reads) versions) activations
+      all_append IsPart (map object_row os ++ of_versions) (flat_map (activation_rows w) os)
+      (all_append IsPart (map object_row os) of_versions (all_map IsPart R object_row object_is_part os reads) versions) activations
 
 pub entries_are_parts : Again → (qs : List (ℕ × Entry)) → AllByRecursion IsReadableEntry qs → AllByRecursion IsPart (map entry_row qs)
-entries_are_parts again qs reads = all_map IsPart IsReadableEntry entry_row (λ q is. part_of (entry_row q) (entry_record q) (entry_reads again q is) tt) qs reads
+entries_are_parts again qs reads = all_map IsPart IsReadableEntry entry_row (λ q is. part_of (entry_row q) (entry_record q) (entry_reads again q is) refl tt) qs reads
 
 -- ---- the counters
 
@@ -182,7 +224,7 @@ spelled_as b (Some p) = simp append_assoc
 
 counters_spelled : (b : Bones) → (counters_row b).1 ≡ value_of (of.Counters (counters_of b))
 unfolding value_of
-counters_spelled b = spelled_as b b.clock
+counters_spelled b = ap (λ (bytes : List ℕ). bytes ++ stamp_bytes (length b.added)) (spelled_as b b.clock)
 
 pub counters_read : Again → (b : Bones) → IsRecord (of.Counters (counters_of b)) → record_under (counters_row b).0 (counters_row b).1 ≡ Some (of.Counters (counters_of b))
 counters_read again b is = decodes_one again (of.Counters (counters_of b)) counters_key (counters_row b).1 is (counters_keyed b) (counters_spelled b)

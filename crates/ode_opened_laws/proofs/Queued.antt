@@ -32,7 +32,10 @@ use Rattle.ode_opened_laws.proofs.Keeping.{both, each_map, less, numbered_all, t
 use Rattle.ode_opened_laws.proofs.Telling.{entry_reads, head_of}
 use Rattle.ode_opened_laws.proofs.Triggered.{IsGiven, descends_to, given, trigger_refers, trigger_there}
 
-module _ (l : Language) (w : World (Unit {0}) ℕ) (b : Bones) (are : AreBones l b) (again : Again) (reads : AllByRecursion (IsReadableObject w) b.objects) (ones : AreFromOne b) where
+module _ (l : Language) (w : World (Unit {0}) ℕ) (are : AreBones l w.bones) (again : Again) (reads : AllByRecursion (IsReadableObject w) w.bones.objects) (ones : AreFromOne w.bones) where
+  abbrev b : Bones
+  b = w.bones
+
   abbrev classes : List Class
   classes = map class_of b.classes
 
@@ -67,7 +70,7 @@ module _ (l : Language) (w : World (Unit {0}) ℕ) (b : Bones) (are : AreBones l
   object_there : (e : Entry) → IfSome (object_at b e.object) (λ o. IsSome (trigger_in b.classes o.class (activation_of e)))
       → option_map_or (λ (h : Head). descends classes h.class e.class) (heads e.object) true ≡ true
   object_there e has =
-      ap (λ (g : Option Head). option_map_or (λ (h : Head). descends classes h.class e.class) g true) (tells l w b are again reads ones e.object)
+      ap (λ (g : Option Head). option_map_or (λ (h : Head). descends classes h.class e.class) g true) (tells l w are again reads ones e.object)
       ∙ descends_there e (object_numbered e.object b.objects) refl has
 
   waiting : (q : ℕ × Entry) → IsWaiting q → waits (counters_of b) classes heads q.0 (entry_of q.1) ≡ true
@@ -78,7 +81,7 @@ module _ (l : Language) (w : World (Unit {0}) ℕ) (b : Bones) (are : AreBones l
       (both (nat_lt q.0 b.next_entry) (nat_le 1 e.generation && nat_le e.generation generation_limit) (less q.0 b.next_entry it.is.number)
       (both (nat_le 1 e.generation) (nat_le e.generation generation_limit) (upto 1 e.generation it.is.generation.0) (upto e.generation generation_limit it.is.generation.1)))
       (both (have_trigger classes e.class e.trigger e.args) (nat_lt e.object b.next && option_map_or (λ (h : Head). descends classes h.class e.class) (heads e.object) true)
-      (trigger_there l w b are again e.class e.trigger e.args t.trigger t.is t.fits)
+      (trigger_there l w are again e.class e.trigger e.args t.trigger t.is t.fits)
       (both (nat_lt e.object b.next) (option_map_or (λ (h : Head). descends classes h.class e.class) (heads e.object) true) (less e.object b.next it.is.object) (object_there e it.is.fits)))
 
   entry_kept : (q : ℕ × Entry) → IsWaiting q → entry_keeps (counters_of b) classes heads (entry_row q) ≡ Ok tt
@@ -93,7 +96,7 @@ module _ (l : Language) (w : World (Unit {0}) ℕ) (b : Bones) (are : AreBones l
       let e = q.1 in
       let t : IsGiven b e.args (trigger_at b.classes e.class e.trigger) = given b e.args (trigger_at b.classes e.class e.trigger) it.is.trigger in
       ap (λ (g : Option Record). found why g >>= λ r. needs why (references_fit b.next classes heads r)) (entry_reads again q it.reads_it)
-      ∙ ap (needs why) (trigger_refers l w b are again reads ones e.class e.trigger e.args t.trigger t.is t.fits)
+      ∙ ap (needs why) (trigger_refers l w are again reads ones e.class e.trigger e.args t.trigger t.is t.fits)
 
   -- ---- the queue
 

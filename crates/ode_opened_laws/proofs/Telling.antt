@@ -16,18 +16,21 @@ use Rattle.ode_opening_laws.proofs.Decoding.{Again, decodes_one}
 use Rattle.ode_opening_objects.specs.Heads.{has_version, head_in, head_under, of_object}
 use Rattle.ode_opening_objects.specs.declared.head.Head.{Head}
 use Rattle.ode_value.specs.Denoting.{object_numbered}
+use Rattle.ode_value.specs.Fields.{born_values, fields_of}
 use Rattle.ode_value.specs.GoodWorlds.{RiseFrom}
 use Rattle.ode_value.specs.Keys.{activation_key, entry_key, object_key, version_key}
 use Rattle.ode_value.specs.Objects.{Activation}
 use Rattle.ode_value.specs.Records.{Row, version_row}
 use Rattle.ode_value.specs.Versions.{Version}
-use Rattle.ode_value.specs.Worlds.{Entry, Object, World}
+use Rattle.ode_value.specs.Worlds.{Declared, Entry, Object, World}
+use Rattle.ode_value.specs.declared.class.Field.{Field}
 
 abbrev pub object_record : Object → Record
 object_record o = of.Object o.id o.class o.last
 
-abbrev pub version_record : ℕ → Version → Record
-version_record id v = of.Version id v.number (unwrap_or v.parent 0) v.fields
+-- a version, by the fields of its class
+abbrev pub version_record : ℕ → List Field → Version → Record
+version_record id fields v = of.Version id v.number (unwrap_or v.parent 0) v.stamp (born_values v.stamp fields v.fields)
 
 abbrev pub head_of : Object → Head
 head_of o = record { class = o.class; last = o.last }
@@ -45,16 +48,19 @@ object_spelled o = refl
 pub object_reads : Again → (o : Object) → IsRecord (object_record o) → record_under (object_row o).0 (object_row o).1 ≡ Some (object_record o)
 object_reads again o is = decodes_one again (object_record o) (object_row o).0 (object_row o).1 is (object_keyed o) (object_spelled o)
 
-version_keyed : (id : ℕ) (v : Version) → version_key id v.number ≡ key_of (version_record id v)
+version_keyed : (id : ℕ) (fields : List Field) (v : Version) → version_key id v.number ≡ key_of (version_record id fields v)
 unfolding key_of
-version_keyed id v = refl
+version_keyed id fields v = refl
 
-version_spelled : (id : ℕ) (v : Version) → (version_row id v).1 ≡ value_of (version_record id v)
+version_spelled : (id : ℕ) (fields : List Field) (v : Version) → (version_row id fields v).1 ≡ value_of (version_record id fields v)
 unfolding value_of
-version_spelled id v = simp append_assoc
+version_spelled id fields v = refl
 
-pub version_reads : Again → (id : ℕ) (v : Version) → IsRecord (version_record id v) → record_under (version_row id v).0 (version_row id v).1 ≡ Some (version_record id v)
-version_reads again id v is = decodes_one again (version_record id v) (version_row id v).0 (version_row id v).1 is (version_keyed id v) (version_spelled id v)
+pub version_reads : Again → (id : ℕ) (fields : List Field) (v : Version) → IsRecord (version_record id fields v)
+    → record_under (version_row id fields v).0 (version_row id fields v).1 ≡ Some (version_record id fields v)
+version_reads again id fields v is =
+    let row = version_row id fields v in
+    decodes_one again (version_record id fields v) row.0 row.1 is (version_keyed id fields v) (version_spelled id fields v)
 
 -- an activation with its state number, and an entry
 abbrev pub activation_record : World (Unit {0}) ℕ → ℕ → Activation → Record
@@ -166,15 +172,16 @@ any_behind p (e ∷ es) ds is = or_right (p e) (list_any p (es ++ ds)) (any_behi
     or_right true b here = refl
     or_right false b here = here
 
-own_version : (o : Object) (vs : List Version) (more : Entries) → 0 < length vs → list_any (λ (e : Row). e.0.a == o.id) (map (version_row o.id) vs ++ more) ≡ true
-own_version o [] more some = absurd (omega arith)
-own_version o (v ∷ vs) more some = ap (λ b. b || list_any (λ (e : Row). e.0.a == o.id) (map (version_row o.id) vs ++ more)) (it o.id)
+own_version : (fields : List Field) (o : Object) (vs : List Version) (more : Entries) → 0 < length vs → list_any (λ (e : Row). e.0.a == o.id) (map (version_row o.id fields) vs ++ more) ≡ true
+own_version fields o [] more some = absurd (omega arith)
+own_version fields o (v ∷ vs) more some = ap (λ b. b || list_any (λ (e : Row). e.0.a == o.id) (map (version_row o.id fields) vs ++ more)) (it o.id)
 
-some_later : (o : Object) (os ps : List Object) → AllByRecursion (λ (p : Object). has_version (flat_map version_rows os) p.id ≡ true) ps
-    → AllByRecursion (λ (p : Object). has_version (flat_map version_rows (o ∷ os)) p.id ≡ true) ps
-some_later o os [] all = tt
-some_later o os (p ∷ ps) all = (any_behind (λ (e : Row). e.0.a == p.id) (version_rows o) (flat_map version_rows os) all.0, some_later o os ps all.1)
+module _ (cs : List Declared) where
+  some_later : (o : Object) (os ps : List Object) → AllByRecursion (λ (p : Object). has_version (flat_map (version_rows cs) os) p.id ≡ true) ps
+      → AllByRecursion (λ (p : Object). has_version (flat_map (version_rows cs) (o ∷ os)) p.id ≡ true) ps
+  some_later o os [] all = tt
+  some_later o os (p ∷ ps) all = (any_behind (λ (e : Row). e.0.a == p.id) (version_rows cs o) (flat_map (version_rows cs) os) all.0, some_later o os ps all.1)
 
-pub have_versions : (os : List Object) → AllByRecursion (λ (o : Object). 0 < length o.versions) os → AllByRecursion (λ (o : Object). has_version (flat_map version_rows os) o.id ≡ true) os
-have_versions [] all = tt
-have_versions (o ∷ os) all = (own_version o o.versions (flat_map version_rows os) all.0, some_later o os os (have_versions os all.1))
+  pub have_versions : (os : List Object) → AllByRecursion (λ (o : Object). 0 < length o.versions) os → AllByRecursion (λ (o : Object). has_version (flat_map (version_rows cs) os) o.id ≡ true) os
+  have_versions [] all = tt
+  have_versions (o ∷ os) all = (own_version (fields_of cs o.class) o o.versions (flat_map (version_rows cs) os) all.0, some_later o os os (have_versions os all.1))

@@ -10,7 +10,7 @@ use Rattle.ode_laws.proofs.Numbers.{IsPlaced, triggers_placed}
 use Rattle.ode_opening_laws.specs.Holding.{class_of}
 use Rattle.ode_opening_laws.proofs.Decoding.{Again}
 use Rattle.ode_opening_laws.proofs.Each.{all_flat, all_then}
-use Rattle.ode_opening_objects.specs.Fitting.{descends, fits_sort, has_sort, is_numbered, match_sorts, of_param, refer}
+use Rattle.ode_opening_objects.specs.Fitting.{born_param, descends, fits_sort, has_sort, is_numbered, match_sorts, of_param, refer}
 use Rattle.ode_opening_objects.specs.Heads.{head_in}
 use Rattle.ode_opening_objects.specs.Objects.{args_refer}
 use Rattle.ode_opening_objects.specs.Triggers.{fit_trigger, have_trigger, trigger_under}
@@ -103,37 +103,40 @@ under ds class place t is =
     by None there = absurd (cc)
     by (Some u) there = let same : trigger_of class (place, u) ≡ t = cc in ap (λ (s : Trigger). Some s.decl) same
 
-module _ (l : Language) (w : World (Unit {0}) ℕ) (b : Bones) (are : AreBones l b) (again : Again) where
+module _ (l : Language) (w : World (Unit {0}) ℕ) (are : AreBones l w.bones) (again : Again) where
+  abbrev b : Bones
+  b = w.bones
+
   abbrev classes : List Class
   classes = map class_of b.classes
 
   abbrev heads : ℕ → Option Head
   heads = head_in (map object_row b.objects)
 
-  match_of : (ps : List Param) (vs : List Value) → AllZip (λ (p : Param). FitsSort b p.sort) ps vs → match_sorts of_param ps vs ≡ true
+  match_of : (ps : List Param) (vs : List Value) → AllZip (λ (p : Param). FitsSort b p.sort) ps vs → match_sorts 0 born_param of_param ps vs ≡ true
   match_of [] [] fit = refl
   match_of [] (v ∷ vs) fit = absurd fit
   match_of (p ∷ ps) [] fit = absurd fit
-  match_of (p ∷ ps) (v ∷ vs) fit = both (has_sort p.sort v) (match_sorts of_param ps vs) (sort_of b p.sort v fit.0) (match_of ps vs fit.1)
+  match_of (p ∷ ps) (v ∷ vs) fit = both (has_sort p.sort v) (match_sorts 0 born_param of_param ps vs) (sort_of b p.sort v fit.0) (match_of ps vs fit.1)
 
   -- arguments fit the trigger that they fit in the world
   pub trigger_there : (class place : ℕ) (args : List Value) (t : Trigger) → trigger_at b.classes class place ≡ Some t → FitTrigger b args t → have_trigger classes class place args ≡ true
   trigger_there class place args t at fit =
       ap (λ (o : Option TriggerDecl). option_map_or (fit_trigger args) o false) (under b.classes class place t at)
-      ∙ both (match_sorts of_param t.decl.params args) (nat_le (values_length args) args_limit) (match_of t.decl.params args fit.sorts) (upto (values_length args) args_limit fit.short)
+      ∙ both (match_sorts 0 born_param of_param t.decl.params args) (nat_le (values_length args) args_limit) (match_of t.decl.params args fit.sorts) (upto (values_length args) args_limit fit.short)
 
   module _ (reads : AllByRecursion (IsReadableObject w) b.objects) (ones : AreFromOne b) where
-    refer_of : (ps : List Param) (vs : List Value) → AllZip (λ (p : Param). FitsSort b p.sort) ps vs → refer b.next classes heads of_param ps vs ≡ true
+    refer_of : (ps : List Param) (vs : List Value) → AllZip (λ (p : Param). FitsSort b p.sort) ps vs → refer b.next classes heads 0 born_param of_param ps vs ≡ true
     refer_of [] [] fit = refl
     refer_of [] (v ∷ vs) fit = refl
     refer_of (p ∷ ps) [] fit = refl
     refer_of (p ∷ ps) (v ∷ vs) fit =
-        both (fits_sort b.next classes heads p.sort v) (refer b.next classes heads of_param ps vs) (value_fits l w b are again reads ones p.sort v fit.0) (refer_of ps vs fit.1)
+        both (fits_sort b.next classes heads p.sort v) (refer b.next classes heads 0 born_param of_param ps vs) (value_fits l w are again reads ones p.sort v fit.0) (refer_of ps vs fit.1)
 
     -- and so do their references
     pub trigger_refers : (class place : ℕ) (args : List Value) (t : Trigger) → trigger_at b.classes class place ≡ Some t → FitTrigger b args t → args_refer b.next classes heads class place args ≡ true
     trigger_refers class place args t at fit =
-        ap (λ (o : Option TriggerDecl). option_map_or (λ (u : TriggerDecl). refer b.next classes heads of_param u.params args) o true) (under b.classes class place t at)
+        ap (λ (o : Option TriggerDecl). option_map_or (λ (u : TriggerDecl). refer b.next classes heads 0 born_param of_param u.params args) o true) (under b.classes class place t at)
         ∙ refer_of t.decl.params args fit.sorts
 
 -- a trigger that there is, with arguments that fit it

@@ -13,18 +13,21 @@ use Rattle.ode_opening_laws.specs.Holding.{class_of, class_rows, stored_tables}
 use Rattle.ode_opening_laws.proofs.Sized.{IsSized, IsSizedAt}
 use Rattle.ode_opening_laws.proofs.Storable.{IsStorable}
 use Rattle.ode_opening_tables.specs.Tables.{all_triggers, spare_in, spare_of}
+use Rattle.ode_value.proofs.LengthLaws.{length-stamp}
 use Rattle.ode_value.specs.Classes.{Trigger, own_triggers, trigger_of}
+use Rattle.ode_value.specs.Fields.{born_values, fields_of}
 use Rattle.ode_value.specs.Lengths.{activation_length, counters_length, key_length, piece_count, pieces_length, table_length, trigger_length, version_length}
 use Rattle.ode_value.specs.Limits.{value_limit}
 use Rattle.ode_value.specs.Objects.{Activation}
 use Rattle.ode_value.specs.PrintedClasses.{decl_text}
-use Rattle.ode_value.specs.Records.{Row, byte, clock_bytes, row_weight, total_weight, version_row}
+use Rattle.ode_value.specs.Records.{Row, byte, clock_bytes, row_weight, stamp_bytes, total_weight, version_row}
 use Rattle.ode_value.specs.Symbols.{symbol_count}
 use Rattle.ode_value.specs.Tables.{Table}
 use Rattle.ode_value.specs.TreeCount.{tree_count}
 use Rattle.ode_value.specs.Versions.{Version}
 use Rattle.ode_value.specs.Weights.{activation_weight, class_weight, object_weight, trigger_weight, version_weight}
 use Rattle.ode_value.specs.Worlds.{Bones, Declared, Object, Position, World}
+use Rattle.ode_value.specs.declared.class.Field.{Field}
 use Rattle.ode_value.specs.declared.member.TriggerDecl.{TriggerDecl}
 
 pub weight_append : (es ds : Entries) → total_weight (es ++ ds) ≡ total_weight es + total_weight ds
@@ -33,10 +36,13 @@ weight_append (e ∷ es) ds = let more = weight_append es ds in omega arith
 
 -- ---- the counters
 
-pub counters_weigh : (b : Bones) → row_weight (counters_row b) ≡ counters_length
-counters_weigh b = by b.clock
+pub counters_weigh : (b : Bones) → row_weight (counters_row b) ≡ counters_length (length b.added)
+counters_weigh b =
+    let first = u64 b.next ++ u64 b.transaction ++ u64 b.next_entry ++ clock_bytes b.clock in
+    let long : length first ≡ 45 = by b.clock in
+    omega (arith, long, length-append first (stamp_bytes (length b.added)), length-stamp (length b.added))
   where
-    by : (clock : Option Position) → key_length + length (u64 b.next ++ u64 b.transaction ++ u64 b.next_entry ++ clock_bytes clock) ≡ counters_length
+    by : (clock : Option Position) → length (u64 b.next ++ u64 b.transaction ++ u64 b.next_entry ++ clock_bytes clock) ≡ 45
     by None = refl
     by (Some p) = refl
 
@@ -213,24 +219,25 @@ module _ (tables : ℕ → ℕ → Table) where
 -- ---- objects
 
 module _ (acts_weigh : (id state : ℕ) (a : Activation) → row_weight (activation_row id state a) ≡ activation_length a.args)
-    (weighs : (id : ℕ) (v : Version) → row_weight (version_row id v) ≡ version_length v.fields) (w : World (Unit {0}) ℕ) where
+    (weighs : (id : ℕ) (fields : List Field) (v : Version) → row_weight (version_row id fields v) ≡ version_length v.stamp (born_values v.stamp fields v.fields)) (w : World (Unit {0}) ℕ) where
   activations_weigh : (id : ℕ) (acts : List Activation) → total_weight (map (λ (a : Activation). activation_row id (state_of w id a.number) a) acts) ≡ sum_by activation_weight acts
   activations_weigh id [] = refl
   activations_weigh id (a ∷ acts) = omega (arith, acts_weigh id (state_of w id a.number) a, activations_weigh id acts, sum_by-cons activation_weight a acts)
 
-  versions_weigh : (id : ℕ) (vs : List Version) → total_weight (map (version_row id) vs) ≡ sum_by version_weight vs
-  versions_weigh id [] = refl
-  versions_weigh id (v ∷ vs) = omega (arith, weighs id v, versions_weigh id vs, sum_by-cons version_weight v vs)
+  versions_weigh : (id : ℕ) (fields : List Field) (vs : List Version) → total_weight (map (version_row id fields) vs) ≡ sum_by (version_weight fields) vs
+  versions_weigh id fields [] = refl
+  versions_weigh id fields (v ∷ vs) = omega (arith, weighs id fields v, versions_weigh id fields vs, sum_by-cons (version_weight fields) v vs)
 
-  pub objects_weigh : (os : List Object) → total_weight (map object_row os) + total_weight (flat_map version_rows os) + total_weight (flat_map (activation_rows w) os) ≡ sum_by object_weight os
-  objects_weigh [] = refl
-  objects_weigh (o ∷ os) =
+  pub objects_weigh : (cs : List Declared) (os : List Object)
+      → total_weight (map object_row os) + total_weight (flat_map (version_rows cs) os) + total_weight (flat_map (activation_rows w) os) ≡ sum_by (object_weight cs) os
+  objects_weigh cs [] = refl
+  objects_weigh cs (o ∷ os) =
       omega (
         arith,
-        versions_weigh o.id o.versions,
+        versions_weigh o.id (fields_of cs o.class) o.versions,
         activations_weigh o.id o.activations,
-        weight_append (version_rows o) (flat_map version_rows os),
+        weight_append (version_rows cs o) (flat_map (version_rows cs) os),
         weight_append (activation_rows w o) (flat_map (activation_rows w) os),
-        objects_weigh os,
-        sum_by-cons object_weight o os,
+        objects_weigh cs os,
+        sum_by-cons (object_weight cs) o os,
       )

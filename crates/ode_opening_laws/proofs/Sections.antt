@@ -5,11 +5,13 @@ use Rattle.std.proofs.lemmas.Bool.Decides.{nat_tests}
 use Rattle.std.proofs.lemmas.List.{append-nil}
 use Rattle.std.proofs.lemmas.List.Elements.{filter-append}
 use Rattle.ode_codec.specs.Standing.{HoldsWorld}
-use Rattle.ode_codec.specs.StoredRows.{Stored, activation_row, activation_rows, counters_row, entry_row, head_row, object_row, places_of, rows, state_of, table_bytes, table_head, table_heads, table_pieces, table_rows, text_rows, version_rows}
+use Rattle.ode_codec.specs.StoredRows.{Stored, activation_row, activation_rows, added_row, added_rows, counters_row, entry_row, head_row, object_row, places_of, rows, state_of, table_bytes, table_head, table_heads, table_pieces, table_rows, text_rows, version_rows}
 use Rattle.ode_codec.specs.declared.record.TheConstants.{TABLE_PLACES}
 use Rattle.ode_keep.specs.Entries.{Entries}
 use Rattle.ode_language.specs.Languages.{ode}
 use Rattle.ode_passes.specs.Walking.{is_from, within}
+use Rattle.ode_value.specs.Changing.{added_to}
+use Rattle.ode_value.specs.Fields.{fields_of}
 use Rattle.ode_value.specs.Keys.{class_head_kind, class_piece_key, key, table_piece_kind}
 use Rattle.ode_value.specs.Language.{ListWorld}
 use Rattle.ode_value.specs.Lengths.{piece_count}
@@ -111,8 +113,10 @@ module _ (tables : ℕ → ℕ → Table) where
 objects_later : (os : List Object) → AllByRecursion IsLater (map object_row os)
 objects_later os = all_map IsLater Any object_row (λ o _. omega arith) os (all_any os)
 
-versions_later : (os : List Object) → AllByRecursion IsLater (flat_map version_rows os)
-versions_later os = all_flat IsLater Any version_rows (λ (o : Object) _. all_map IsLater Any (version_row o.id) (λ v _. omega arith) o.versions (all_any o.versions)) os (all_any os)
+versions_later : (cs : List Declared) (os : List Object) → AllByRecursion IsLater (flat_map (version_rows cs) os)
+versions_later cs os =
+    all_flat IsLater Any (version_rows cs)
+    (λ (o : Object) _. all_map IsLater Any (version_row o.id (fields_of cs o.class)) (λ v _. omega arith) o.versions (all_any o.versions)) os (all_any os)
 
 activations_later : (w : World (Unit {0}) ℕ) (os : List Object) → AllByRecursion IsLater (flat_map (activation_rows w) os)
 activations_later w os =
@@ -122,19 +126,26 @@ activations_later w os =
 queue_later : (qs : List (ℕ × Entry)) → AllByRecursion IsLater (map entry_row qs)
 queue_later qs = all_map IsLater Any entry_row (λ q _. omega arith) qs (all_any qs)
 
+added_later : (b : Bones) (ds : List Declared) → AllByRecursion IsLater (flat_map (added_rows b) ds)
+added_later b ds =
+    all_flat IsLater Any (added_rows b)
+    (λ (d : Declared) _. all_map IsLater Any (added_row b.classes) (λ a _. omega arith) (added_to d.class.number b.added) (all_any (added_to d.class.number b.added))) ds (all_any ds)
+
 rows_of_classes : (s : Stored) → AllByRecursion (IsStorable s.tables) s.world.bones.classes → of_classes (rows s) ≡ class_rows s.tables s.world.bones.classes
 rows_of_classes s all =
     let b = s.world.bones in
     let classes_ : Entries = class_rows s.tables b.classes in
     let objects_ : Entries = map object_row b.objects in
-    let versions_ : Entries = flat_map version_rows b.objects in
+    let versions_ : Entries = flat_map (version_rows b.classes) b.objects in
     let activations_ : Entries = flat_map (activation_rows s.world) b.objects in
     let queue_ : Entries = map entry_row b.queue in
+    let added_ : Entries = flat_map (added_rows b) b.classes in
     let to_classes : of_classes (counters_row b ∷ classes_) ≡ classes_ = all_of classes_ (rows_pass s.tables b.classes all) in
     let to_objects = without (counters_row b ∷ classes_) objects_ classes_ to_classes (none_of objects_ (objects_later b.objects)) in
-    let to_versions = without (counters_row b ∷ classes_ ++ objects_) versions_ classes_ to_objects (none_of versions_ (versions_later b.objects)) in
+    let to_versions = without (counters_row b ∷ classes_ ++ objects_) versions_ classes_ to_objects (none_of versions_ (versions_later b.classes b.objects)) in
     let to_activations = without (counters_row b ∷ classes_ ++ objects_ ++ versions_) activations_ classes_ to_versions (none_of activations_ (activations_later s.world b.objects)) in
-    without (counters_row b ∷ classes_ ++ objects_ ++ versions_ ++ activations_) queue_ classes_ to_activations (none_of queue_ (queue_later b.queue))
+    let to_queue = without (counters_row b ∷ classes_ ++ objects_ ++ versions_ ++ activations_) queue_ classes_ to_activations (none_of queue_ (queue_later b.queue)) in
+    without (counters_row b ∷ classes_ ++ objects_ ++ versions_ ++ activations_ ++ queue_) added_ classes_ to_queue (none_of added_ (added_later b b.classes))
 
 pub classes_are_held : (records : Entries) (w : ListWorld) (is : HoldsWorld ode records w) → HoldClasses records is.stored.tables w.bones.classes
 classes_are_held records w held =

@@ -205,7 +205,7 @@ module _ (counters : Counters) (reached : ℕ → ℕ → ℕ → Bool) (classes
   -- by the objects, by what the records of activations tell, by the tables, and by the references
   abbrev ruled : (ℕ → Option Head) → (ℕ → Bool) → (ℕ → ℕ → ℕ → Bool) → Ruled (Unit {0}) → Ruled (Unit {0})
   ruled heads shared seen references =
-      A >>= λ _. (each (version_keeps classes heads) (within version_kind version_kind entries)
+      A >>= λ _. (each (version_keeps counters.added classes heads) (within version_kind version_kind entries)
       >>= λ _. (each (activation_keeps next classes heads shared seen) (within activation_kind activation_kind entries)
       >>= λ _. (at_most queue_limit (entry_keeps counters classes heads) (within entry_kind entry_kind entries)
       >>= λ _. references)))

@@ -1,5 +1,5 @@
 -- Which values fit the fields of a class or the parameters of a trigger, by what is known of the objects that they refer to.
-use Rattle.std.specs.Prelude.{ℕ, zero, suc, List, [], ◌∷◌, length, Bool, true, false, nat_le, nat_lt, ◌==◌, ◌&&◌, ◌||◌, Option, Some, None}
+use Rattle.std.specs.Prelude.{ℕ, zero, suc, List, [], ◌∷◌, length, Bool, true, false, cond, nat_le, nat_lt, ◌==◌, ◌&&◌, ◌||◌, Option, Some, None}
 use Rattle.std.specs.Option.{option_map_or, unwrap_or}
 use Rattle.std.specs.Str.{bytes_eq}
 use Rattle.ode_types.specs.Families.{class_numbered}
@@ -21,6 +21,13 @@ of_field f = f.sort
 abbrev pub of_param : Param → Sort
 of_param p = p.sort
 
+-- from which stamp on there is one
+abbrev pub born_field : Field → ℕ
+born_field f = f.birth
+
+abbrev pub born_param : Param → ℕ
+born_param p = 0
+
 -- a value has a sort
 abbrev pub has_sort : Sort → Value → Bool
 has_sort sort.Int (value.Int n) = true
@@ -29,14 +36,16 @@ has_sort sort.Text (value.Text t) = true
 has_sort (sort.Reference class) (value.Reference r) = true
 has_sort _ _ = false
 
--- a value for each member, of its sort
-abbrev pub match_sorts : {M : Type 0} → (M → Sort) → List M → List Value → Bool
-match_sorts of [] [] = true
-match_sorts of (m ∷ ms) (v ∷ vs) = has_sort (of m) v && match_sorts of ms vs
-match_sorts of _ _ = false
+-- a value for each member that was there at a stamp, of its sort
+abbrev pub match_sorts : {M : Type 0} → ℕ → (M → ℕ) → (M → Sort) → List M → List Value → Bool
+match_sorts stamp born of [] [] = true
+match_sorts stamp born of [] (v ∷ vs) = false
+match_sorts stamp born of (m ∷ ms) [] = cond (nat_le (born m) stamp) false (match_sorts stamp born of ms [])
+match_sorts stamp born of (m ∷ ms) (v ∷ vs) =
+    cond (nat_le (born m) stamp) (has_sort (of m) v && match_sorts stamp born of ms vs) (match_sorts stamp born of ms (v ∷ vs))
 
-abbrev pub have_sorts : List Field → List Value → Bool
-have_sorts fields values = match_sorts of_field fields values
+abbrev pub have_sorts : ℕ → List Field → List Value → Bool
+have_sorts stamp fields values = match_sorts stamp born_field of_field fields values
 
 -- ---- classes from one up
 
@@ -83,10 +92,11 @@ module _ (next : ℕ) (classes : List Class) (heads : ℕ → Option Head) where
   fits_sort (sort.Reference class) (value.Reference r) = fits_reference class r
   fits_sort _ _ = true
 
-  -- the references among the values of members fit
-  abbrev pub refer : {M : Type 0} → (M → Sort) → List M → List Value → Bool
-  refer of (m ∷ ms) (v ∷ vs) = fits_sort (of m) v && refer of ms vs
-  refer of _ _ = true
+  -- the references among the values of members fit that were there at a stamp
+  abbrev pub refer : {M : Type 0} → ℕ → (M → ℕ) → (M → Sort) → List M → List Value → Bool
+  refer stamp born of (m ∷ ms) (v ∷ vs) =
+      cond (nat_le (born m) stamp) (fits_sort (of m) v && refer stamp born of ms vs) (refer stamp born of ms (v ∷ vs))
+  refer stamp born of _ _ = true
 
-  abbrev pub fit_references : List Field → List Value → Bool
-  fit_references fields values = refer of_field fields values
+  abbrev pub fit_references : ℕ → List Field → List Value → Bool
+  fit_references stamp fields values = refer stamp born_field of_field fields values

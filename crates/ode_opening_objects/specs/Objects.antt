@@ -17,7 +17,7 @@ use Rattle.ode_value.specs.Records.{Row}
 use Rattle.ode_value.specs.declared.class.Class.{Class}
 use Rattle.ode_value.specs.declared.member.TriggerDecl.{TriggerDecl}
 use Rattle.ode_value.specs.declared.value.Value.{Value}
-use Rattle.ode_opening_objects.specs.Fitting.{fit_references, have_sorts, of_param, refer}
+use Rattle.ode_opening_objects.specs.Fitting.{born_param, fit_references, have_sorts, of_param, refer}
 use Rattle.ode_opening_objects.specs.Heads.{has_version, head_in, of_object}
 use Rattle.ode_opening_objects.specs.Triggers.{activation_keeps, at_most, entry_keeps, is_shared, trigger_under}
 use Rattle.ode_opening_objects.specs.declared.head.Head.{Head}
@@ -41,37 +41,38 @@ object_keeps next classes versions e = object_head next classes versions e >>= �
 -- ---- versions
 
 -- values have the sorts of the fields of a class
-abbrev pub fields_fit : List Class → ℕ → List Value → Bool
-fields_fit classes number values = option_map_or (λ (c : Class). have_sorts c.fields values) (class_numbered classes number) false
+abbrev pub fields_fit : List Class → ℕ → ℕ → List Value → Bool
+fields_fit classes number stamp values = option_map_or (λ (c : Class). have_sorts stamp c.fields values) (class_numbered classes number) false
 
 -- A version has a number from 1 up to the last one of its object, a parent below its own number, and fields of its class's sorts. No version
 -- has number 0, which says that there is no parent.
-abbrev pub fits_head : List Class → ℕ → ℕ → List Value → Head → Bool
-fits_head classes number parent fields h =
-    nat_le 1 number && (nat_le number h.last && ((parent == 0 || nat_lt parent number) && fields_fit classes h.class fields))
+abbrev pub fits_head : List Class → ℕ → ℕ → ℕ → List Value → Head → Bool
+fits_head classes number parent stamp fields h =
+    nat_le 1 number && (nat_le number h.last && ((parent == 0 || nat_lt parent number) && fields_fit classes h.class stamp fields))
 
 -- it has its object
-abbrev pub version_fits : List Class → (ℕ → Option Head) → Record → Bool
-version_fits classes heads (of.Version object number parent fields) = option_map_or (fits_head classes number parent fields) (heads object) false
-version_fits classes heads _ = false
+abbrev pub version_fits : ℕ → List Class → (ℕ → Option Head) → Record → Bool
+version_fits added classes heads (of.Version object number parent stamp fields) =
+    nat_le stamp added && option_map_or (fits_head classes number parent stamp fields) (heads object) false
+version_fits added classes heads _ = false
 
-abbrev pub version_keeps : List Class → (ℕ → Option Head) → Row → Ruled (Unit {0})
-version_keeps classes heads e = record_in e >>= λ r. needs (cause.Record e.0) (version_fits classes heads r)
+abbrev pub version_keeps : ℕ → List Class → (ℕ → Option Head) → Row → Ruled (Unit {0})
+version_keeps added classes heads e = record_in e >>= λ r. needs (cause.Record e.0) (version_fits added classes heads r)
 
 -- ---- references
 
 module _ (next : ℕ) (classes : List Class) (heads : ℕ → Option Head) where
   -- the references in fields of a class fit
-  abbrev pub references_in : ℕ → List Value → Bool
-  references_in number values = option_map_or (λ (c : Class). fit_references next classes heads c.fields values) (class_numbered classes number) true
+  abbrev pub references_in : ℕ → ℕ → List Value → Bool
+  references_in number stamp values = option_map_or (λ (c : Class). fit_references next classes heads stamp c.fields values) (class_numbered classes number) true
 
   -- the references in arguments for a trigger fit
   abbrev pub args_refer : ℕ → ℕ → List Value → Bool
-  args_refer class place args = option_map_or (λ (t : TriggerDecl). refer next classes heads of_param t.params args) (trigger_under classes class place) true
+  args_refer class place args = option_map_or (λ (t : TriggerDecl). refer next classes heads 0 born_param of_param t.params args) (trigger_under classes class place) true
 
   -- the references of a version, of an activation or of an entry fit
   abbrev pub references_fit : Record → Bool
-  references_fit (of.Version object number parent fields) = option_map_or (λ (h : Head). references_in h.class fields) (heads object) true
+  references_fit (of.Version object number parent stamp fields) = option_map_or (λ (h : Head). references_in h.class stamp fields) (heads object) true
   references_fit (of.Activation a) = args_refer a.class a.trigger a.args
   references_fit (of.Entry number q) = args_refer q.class q.trigger q.args
   references_fit _ = true
@@ -91,7 +92,7 @@ objects_keep counters reached classes entries =
     let activations : Entries = within activation_kind activation_kind entries in
     let heads : ℕ → Option Head = head_in objects in do
       _ ← each (object_keeps next classes (has_version versions)) objects
-      _ ← each (version_keeps classes heads) versions
+      _ ← each (version_keeps counters.added classes heads) versions
       _ ← each (activation_keeps next classes heads (is_shared activations) reached) activations
       _ ← at_most queue_limit (entry_keeps counters classes heads) (within entry_kind entry_kind entries)
       each (references_keep next classes heads) (within version_kind entry_kind entries)

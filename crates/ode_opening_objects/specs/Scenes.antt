@@ -62,7 +62,7 @@ versions_of entries id = has_version (within version_kind version_kind entries) 
 
 -- a record keeps the rule of a pass
 abbrev pub fits : Rule → Known → Key → Record → Ruled (Unit {0})
-fits rule.Versions s k r = needs (cause.Record k) (version_fits s.classes (at s.heads) r)
+fits rule.Versions s k r = needs (cause.Record k) (version_fits s.counters.added s.classes (at s.heads) r)
 fits rule.Activations s k r =
     found (cause.Record k) (of_activation r) >>= goes_on s.counters.next_number s.classes (at s.heads) (is_twice s.numbers) (is_seen s.states) k
 

@@ -21,7 +21,7 @@ use Rattle.ode_value.specs.declared.key.Key.{Key}
 use Rattle.ode_value.specs.declared.member.TriggerDecl.{TriggerDecl}
 use Rattle.ode_value.specs.declared.value.Value.{Value}
 use Rattle.ode_walk.specs.Reaching.{is_reached}
-use Rattle.ode_opening_objects.specs.Fitting.{descends, match_sorts, of_param}
+use Rattle.ode_opening_objects.specs.Fitting.{born_param, descends, match_sorts, of_param}
 use Rattle.ode_opening_objects.specs.declared.head.Head.{Head}
 
 -- ---- triggers
@@ -32,7 +32,7 @@ trigger_under classes class place = option_and_then (λ (c : Class). slice_get c
 
 -- arguments have the sorts of a trigger's parameters, and take few enough bytes
 abbrev pub fit_trigger : List Value → TriggerDecl → Bool
-fit_trigger args t = match_sorts of_param t.params args && nat_le (values_length args) args_limit
+fit_trigger args t = match_sorts 0 born_param of_param t.params args && nat_le (values_length args) args_limit
 
 -- there is a trigger, and they fit it
 abbrev pub have_trigger : List Class → ℕ → ℕ → List Value → Bool

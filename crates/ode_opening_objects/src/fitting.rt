@@ -1,5 +1,5 @@
 //! Which values fit the fields of a class or the parameters of a trigger.
-ghost use Rattle.std.specs.Prelude.{◌≡◌};
+ghost use Rattle.std.specs.Prelude.{◌≡◌, ℕ};
 ghost use Rattle.ode_value.specs.declared.statement.Sort.{Sort as OfSort};
 ghost use Rattle.ode_opening_objects.specs.Fitting.{fits_object, fits_reference, fits_sort, has_sort, is_drawn, match_sorts, refer};
 ghost use Rattle.ode_opening_objects.specs.Numbers.{at};
@@ -10,33 +10,52 @@ use crate::scene::Scene;
 use ode_types::Classes;
 use ode_value::{Field, Name, Param, Ref, Sort, Value};
 
-/// What has a sort.
+/// What has a sort, from a stamp on.
 pub(crate) trait Sorted {
     /// Its sort.
     ghost sort_of: { Self → OfSort };
 
+    /// The stamp.
+    ghost birth_of: { Self → ℕ };
+
     /// Its sort.
     fn sort(&self) -> &Sort
         ensures { result.now ≡ sort_of self.now };
+
+    /// The stamp.
+    fn birth(&self) -> u32
+        ensures { result ≡ birth_of self.now };
 }
 
 impl Sorted for Field {
-    ghost use Rattle.ode_opening_objects.specs.Fitting.{of_field};
+    ghost use Rattle.ode_opening_objects.specs.Fitting.{born_field, of_field};
 
     ghost sort_of = { of_field };
+
+    ghost birth_of = { born_field };
 
     fn sort(&self) -> &Sort {
         &self.sort
     }
+
+    fn birth(&self) -> u32 {
+        self.birth
+    }
 }
 
 impl Sorted for Param {
-    ghost use Rattle.ode_opening_objects.specs.Fitting.{of_param};
+    ghost use Rattle.ode_opening_objects.specs.Fitting.{born_param, of_param};
 
     ghost sort_of = { of_param };
 
+    ghost birth_of = { born_param };
+
     fn sort(&self) -> &Sort {
         &self.sort
+    }
+
+    fn birth(&self) -> u32 {
+        0
     }
 }
 
@@ -52,19 +71,26 @@ fn has_sort(sort: &Sort, value: &Value) -> bool
     }
 }
 
-/// Whether there is a value of its sort for each member, and no other.
-pub(crate) fn match_sorts<M: Sorted>(members: &[M], values: &[Value]) -> bool
-    ensures { result ≡ match_sorts M.sort_of members.now values.now }
+/// Whether there is a value of its sort for each member that was there at a stamp, and no other.
+pub(crate) fn match_sorts<M: Sorted>(stamp: u32, members: &[M], values: &[Value]) -> bool
+    ensures { result ≡ match_sorts stamp M.birth_of M.sort_of members.now values.now }
 {
     match members {
         [] => match values {
             [] => true,
             [_, ..] => false,
         },
-        [member, members @ ..] => match values {
-            [] => false,
-            [value, values @ ..] => has_sort(member.sort(), value) && match_sorts(members, values),
-        },
+        [member, members @ ..] => {
+            if member.birth() > stamp {
+                return match_sorts(stamp, members, values);
+            }
+            match values {
+                [] => false,
+                [value, values @ ..] => {
+                    has_sort(member.sort(), value) && match_sorts(stamp, members, values)
+                }
+            }
+        }
     }
 }
 
@@ -110,17 +136,22 @@ fn fits_sort(scene: &Scene, sort: &Sort, value: &Value) -> bool
     }
 }
 
-/// Whether the references among the values of members fit.
-pub(crate) fn refer<M: Sorted>(scene: &Scene, members: &[M], values: &[Value]) -> bool
-    ensures { result ≡ refer scene.now.counters.next_number scene.now.classes (at scene.now.heads) M.sort_of members.now values.now }
+/// Whether the references among the values of members fit that were there at a stamp.
+pub(crate) fn refer<M: Sorted>(scene: &Scene, stamp: u32, members: &[M], values: &[Value]) -> bool
+    ensures { result ≡ refer scene.now.counters.next_number scene.now.classes (at scene.now.heads) stamp M.birth_of M.sort_of members.now values.now }
 {
     match members {
         [] => true,
-        [member, members @ ..] => match values {
-            [] => true,
-            [value, values @ ..] => {
-                fits_sort(scene, member.sort(), value) && refer(scene, members, values)
+        [member, members @ ..] => {
+            if member.birth() > stamp {
+                return refer(scene, stamp, members, values);
             }
-        },
+            match values {
+                [] => true,
+                [value, values @ ..] => {
+                    fits_sort(scene, member.sort(), value) && refer(scene, stamp, members, values)
+                }
+            }
+        }
     }
 }

@@ -78,46 +78,58 @@ impl<'a> Pass for Roll<'a> {
     }
 }
 
-fn fields_fit(classes: &Classes, number: u32, values: &[Value]) -> bool
-    ensures { result ≡ fields_fit classes.now number values.now }
+fn fields_fit(classes: &Classes, number: u32, stamp: u32, values: &[Value]) -> bool
+    ensures { result ≡ fields_fit classes.now number stamp values.now }
 {
     match classes.class(number) {
-        Some(class) => match_sorts(class.fields.as_slice(), values),
+        Some(class) => match_sorts(stamp, class.fields.as_slice(), values),
         None => false,
     }
 }
 
-fn fits_head(classes: &Classes, number: u32, parent: u32, fields: &[Value], head: Head) -> bool
-    ensures { result ≡ fits_head classes.now number parent fields.now head }
+fn fits_head(
+    classes: &Classes,
+    number: u32,
+    parent: u32,
+    stamp: u32,
+    fields: &[Value],
+    head: Head,
+) -> bool
+    ensures { result ≡ fits_head classes.now number parent stamp fields.now head }
 {
     1 <= number
         && number <= head.last
         && (parent == 0 || parent < number)
-        && fields_fit(classes, head.class, fields)
+        && fields_fit(classes, head.class, stamp, fields)
 }
 
 fn version_fits(scene: &Scene, row: &Record) -> bool
-    ensures { result ≡ version_fits scene.now.classes (at scene.now.heads) row.now }
+    ensures { result ≡ version_fits scene.now.counters.added scene.now.classes (at scene.now.heads) row.now }
 {
     match row {
         Record::Version {
             object,
             number,
             parent,
+            stamp,
             fields,
         } => match scene.heads.at(*object) {
-            Some(head) => fits_head(scene.classes, *number, *parent, fields.as_slice(), head),
+            Some(head) => {
+                let fields = fields.as_slice();
+                *stamp <= scene.counters.added
+                    && fits_head(scene.classes, *number, *parent, *stamp, fields, head)
+            }
             None => false,
         },
         _ => false,
     }
 }
 
-fn references_in(scene: &Scene, number: u32, values: &[Value]) -> bool
-    ensures { result ≡ references_in scene.now.counters.next_number scene.now.classes (at scene.now.heads) number values.now }
+fn references_in(scene: &Scene, number: u32, stamp: u32, values: &[Value]) -> bool
+    ensures { result ≡ references_in scene.now.counters.next_number scene.now.classes (at scene.now.heads) number stamp values.now }
 {
     match scene.classes.class(number) {
-        Some(class) => refer(scene, class.fields.as_slice(), values),
+        Some(class) => refer(scene, stamp, class.fields.as_slice(), values),
         None => true,
     }
 }
@@ -127,7 +139,7 @@ fn args_refer(scene: &Scene, class: u32, place: u16, args: &[Value]) -> bool
     ensures { result ≡ args_refer scene.now.counters.next_number scene.now.classes (at scene.now.heads) class place args.now }
 {
     match trigger_under(scene.classes, class, place) {
-        Some(trigger) => refer(scene, trigger.params.as_slice(), args),
+        Some(trigger) => refer(scene, 0, trigger.params.as_slice(), args),
         None => true,
     }
 }
@@ -136,8 +148,13 @@ fn references_fit(scene: &Scene, row: &Record) -> bool
     ensures { result ≡ references_fit scene.now.counters.next_number scene.now.classes (at scene.now.heads) row.now }
 {
     match row {
-        Record::Version { object, fields, .. } => match scene.heads.at(*object) {
-            Some(head) => references_in(scene, head.class, fields.as_slice()),
+        Record::Version {
+            object,
+            stamp,
+            fields,
+            ..
+        } => match scene.heads.at(*object) {
+            Some(head) => references_in(scene, head.class, *stamp, fields.as_slice()),
             None => true,
         },
         Record::Activation(a) => args_refer(scene, a.class, a.trigger, a.args.as_slice()),

@@ -37,7 +37,7 @@ pub(crate) fn trigger_under(classes: &Classes, class: u32, place: u16) -> Option
 fn fit_trigger(args: &[Value], trigger: &TriggerDecl) -> bool
     ensures { result ≡ fit_trigger args.now trigger.now }
 {
-    match_sorts(trigger.params.as_slice(), args) && fit(args, ARGS_LIMIT)
+    match_sorts(0, trigger.params.as_slice(), args) && fit(args, ARGS_LIMIT)
 }
 
 // Whether there is a trigger whose parameters the arguments fit.

@@ -26,7 +26,7 @@ are_checked earlier (d ∷ ds) are = (
   subst (λ (cs : List Class). AreCheckedBehind cs (map class_of ds)) (map-append class_of earlier (d ∷ [])) (are_checked (earlier ++ d ∷ []) ds are.1),
 )
 
-few_enough : (n : ℕ) → n ≤ field_limit → n < 2 ^ 16
+few_enough : (n : ℕ) → n ≤ field_limit → n < 2 ^ 15
 unfolding field_limit
 few_enough n few = omega arith
 
