@@ -1,10 +1,12 @@
 -- What a declaration comes to.
-use Rattle.std.proofs.Common.{◌≡◌, ◌≤◌, ◌+◌, ◌∙◌, Bool, true, false, List, [], ◌∷◌, map, length, Some, None, Ok, Err, ap, sym, subst, arith, refl}
+use Rattle.std.proofs.Common.{◌≡◌, ◌≤◌, ◌+◌, ◌∙◌, ℕ, Bool, true, false, List, [], ◌∷◌, ◌++◌, map, length, Option, Some, None, Ok, Err, ap, sym, subst, arith, refl}
 use Rattle.std.specs.Prelude.{nat_lt}
-use Rattle.std.specs.List.{AllByRecursion}
+use Rattle.std.specs.List.{AllByRecursion, sum_by}
+use Rattle.std.specs.Option.{IsSome, option_map_or}
 use Rattle.std.proofs.lemmas.Bool.{ltb-false}
 use Rattle.std.proofs.lemmas.List.Sums.{sum_by-append, sum_by-cons}
 use Rattle.ode_accepted_laws.specs.Languages.{HasSoundRules}
+use Rattle.ode_class_laws.proofs.GoodLaws.{found_more}
 use Rattle.ode_class_laws.specs.Declaring.{bones_with}
 use Rattle.ode_compile.proofs.TriggerLaws.{records_fewer}
 use Rattle.ode_compile.specs.Compiling.{AreCompiled, compiled, size_of_table}
@@ -26,15 +28,16 @@ use Rattle.ode_transact.specs.Output.{heard}
 use Rattle.ode_transact.specs.Resting.{IsAtRest}
 use Rattle.ode_value.specs.Answers.{Answer, ◌>>=◌, ◌>>◌, checks, refuses}
 use Rattle.ode_value.specs.ClassLimits.{limits_class, limits_triggers}
-use Rattle.ode_value.specs.Language.{ListWorld}
-use Rattle.ode_value.specs.Lengths.{class_records}
+use Rattle.ode_value.specs.GoodWorlds.{AreClasses, IsGood, IsObject}
+use Rattle.ode_value.specs.Language.{Language, ListWorld}
+use Rattle.ode_value.specs.Lengths.{class_records, object_length}
 use Rattle.ode_value.specs.Limits.{class_limit}
 use Rattle.ode_value.specs.Pasts.{lists}
 use Rattle.ode_value.specs.PrintedClasses.{decl_text}
 use Rattle.ode_value.specs.Settling.{transaction}
 use Rattle.ode_value.specs.Transactions.{Script}
-use Rattle.ode_value.specs.Weights.{class_weight, record_count, weight}
-use Rattle.ode_value.specs.Worlds.{Bones, Declared}
+use Rattle.ode_value.specs.Weights.{activation_weight, class_weight, object_weight, record_count, version_weight, weight}
+use Rattle.ode_value.specs.Worlds.{Bones, Declared, Object, class_numbered}
 use Rattle.ode_value.specs.declared.class.Class.{Class}
 use Rattle.ode_value.specs.declared.reason.Refusal.{Refusal}
 use Rattle.ode_value.specs.declared.reason.Refusal.TheVariants as refusal
@@ -76,13 +79,36 @@ limits_of known d c h =
 pub declares_compiled : (b : Bones) (known : List Class) (d : ClassDecl) → known ≡ classes_in b → declared_in ode b d ≡ compiled known d
 declares_compiled b known d same = ap (λ (cs : List Class). compiled cs d) (sym same)
 
--- what a world weighs with a class more
-pub more_weighs : (c : Declared) (b : Bones) → weight (bones_with c b) ≡ weight b + class_weight c
+-- an object by its class
+abbrev weighing : Object → Option Class → ℕ
+weighing o found = object_length + sum_by (version_weight (option_map_or (λ (k : Class). k.fields) found [])) o.versions + sum_by activation_weight o.activations
+
+-- where that is there, the object weighs as much with a class more
+object_same : (cs : List Declared) (c : Declared) (o : Object) → IsSome (class_numbered o.class cs) → object_weight (cs ++ c ∷ []) o ≡ object_weight cs o
+object_same cs c o known = by_class (class_numbered o.class cs) refl known where
+  by_class : (found : Option Class) → class_numbered o.class cs ≡ found → IsSome found → object_weight (cs ++ c ∷ []) o ≡ object_weight cs o
+  by_class None is some = absurd (cc)
+  by_class (Some k) is some = ap (weighing o) (found_more o.class cs (c ∷ []) k is) ∙ ap (weighing o) (sym is)
+
+objects_same : (b : Bones) (c : Declared) (os : List Object) → AllByRecursion (IsObject b) os → sum_by (object_weight (b.classes ++ c ∷ [])) os ≡ sum_by (object_weight b.classes) os
+objects_same b c [] are = refl
+objects_same b c (o ∷ os) are =
+    omega (
+      arith,
+      sum_by-cons (object_weight (b.classes ++ c ∷ [])) o os,
+      sum_by-cons (object_weight b.classes) o os,
+      object_same b.classes c o are.0.class,
+      objects_same b c os are.1,
+    )
+
+-- what a good world weighs with a class more
+pub more_weighs : (l : Language) (w : ListWorld) (c : Declared) → IsGood l w → weight (bones_with c w.bones) ≡ weight w.bones + class_weight c
 unfolding weight
-more_weighs c b =
-    let all = sum_by-append class_weight b.classes (c ∷ []) in
+more_weighs l w c good =
+    let all = sum_by-append class_weight w.bones.classes (c ∷ []) in
     let one = sum_by-cons class_weight c [] in
-    omega (arith, all, one)
+    let objects = objects_same w.bones c w.bones.objects good.bones.objects in
+    omega (arith, all, one, objects)
 
 -- one answer is one class
 same_declared : (m : Answer Declared) (c d : Declared) → m ≡ Ok c → m ≡ Ok d → c ≡ d
@@ -112,19 +138,19 @@ module _ (known : List Class) (d : ClassDecl) (made : Compiled) (answers : compi
     pub meant : declared_in ode w.bones d ≡ Ok own
     meant = declares_compiled w.bones known d same ∙ answers
 
-    pub made_is : HasSoundRules ode → ReadsWell ode → HasText ode (statement.Class d) → HasFewParts own → IsMade ode w own made
-    made_is rules reads text few = record {
-      is = declared_is ode rules reads text.0 d text.1 w.bones own meant;
+    pub made_is : HasSoundRules ode → ReadsWell ode → AreClasses ode [] w.bones.classes → HasText ode (statement.Class d) → HasFewParts own → IsMade ode w own made
+    made_is rules reads all text few = record {
+      is = declared_is ode rules reads text.0 d text.1 w.bones own all meant;
       few = few;
       class = refl;
       text = sym printed;
     }
 
     -- whatever it calls the class
-    pub made_as : HasSoundRules ode → ReadsWell ode → HasText ode (statement.Class d) → (AllByRecursion HasFewParams made.class.triggers → HasFewParts own) → (c : Declared) → declared_in ode w.bones d ≡ Ok c → AllByRecursion HasFewParams c.class.triggers → IsMade ode w c made
-    made_as rules reads text parts c is =
+    pub made_as : HasSoundRules ode → ReadsWell ode → AreClasses ode [] w.bones.classes → HasText ode (statement.Class d) → (AllByRecursion HasFewParams made.class.triggers → HasFewParts own) → (c : Declared) → declared_in ode w.bones d ≡ Ok c → AllByRecursion HasFewParams c.class.triggers → IsMade ode w c made
+    made_as rules reads all text parts c is =
         subst (λ (k : Declared). AllByRecursion HasFewParams k.class.triggers → IsMade ode w k made) (same_declared (declared_in ode w.bones d) own c meant is)
-        (λ few. made_is rules reads text (parts few))
+        (λ few. made_is rules reads all text (parts few))
 
 module _ {H K : Type 0} (seen : H → View) (held : K → View → Entries → Type 0) (live : K → Bool) (w : ListWorld) (d : ClassDecl) (after : Opened K) (quiet : Bool) (old new : H) where
   -- what is left where a class is declared

@@ -25,6 +25,7 @@ use Rattle.ode_transact.specs.Settling.{Meaning}
 use Rattle.ode_transact.specs.declared.error.EngineError.{EngineError}
 use Rattle.ode_transact.specs.declared.output.Output.{Output}
 use Rattle.ode_good_laws.specs.Well.{IsWell}
+use Rattle.ode_value.specs.GoodWorlds.{IsGood}
 use Rattle.ode_value.specs.Language.{Language, ListWorld}
 use Rattle.ode_value.specs.Lengths.{class_records}
 use Rattle.ode_value.specs.Limits.{class_limit, weight_limit}
@@ -57,7 +58,7 @@ few_changes text text2 own own2 n same_text same_own count few =
 abbrev pub PutsMade : Compiled → Changes → Type 0
 PutsMade made changes = (by : ℕ → ℕ → Table) (c : Declared) → IsStoredBy by c made.class made.text made.tables → changes ≡ puts (class_rows by c)
 
-module _ (l : Language) (w : ListWorld) (c : Declared) (made : Compiled) (is : IsMade l w c made) (all : AreCompiled made.class.triggers made.tables made.alphabets) (trees : made.counts ≡ tree_counts made.class.triggers) where
+module _ (l : Language) (w : ListWorld) (good : IsGood l w) (c : Declared) (made : Compiled) (is : IsMade l w c made) (all : AreCompiled made.class.triggers made.tables made.alphabets) (trees : made.counts ≡ tree_counts made.class.triggers) where
   compiled_is : AreCompiled c.class.triggers made.tables made.alphabets
   compiled_is = subst (λ (k : Class). AreCompiled k.triggers made.tables made.alphabets) (sym is.class) all
 
@@ -75,14 +76,14 @@ module _ (l : Language) (w : ListWorld) (c : Declared) (made : Compiled) (is : I
     pub heavy_is : weight_limit < bytes → weight_limit < weight (bones_with c w.bones)
     heavy_is over =
         let put = puts_weigh in
-        let more = more_weighs c w.bones in
+        let more = more_weighs l w c good in
         omega (arith, was, sum, put, more, over)
 
     -- there is room
     weighs_is : bytes ≤ weight_limit → bytes ≡ weight (bones_with c w.bones)
     weighs_is below =
         let put = puts_weigh in
-        let more = more_weighs c w.bones in
+        let more = more_weighs l w c good in
         omega (arith, was, sum, put, more, below)
 
     pub taken_is : bytes ≤ weight_limit → IsTaken l w c made changes bytes

@@ -1,5 +1,5 @@
 -- A class is declared, or refused.
-use Rattle.std.proofs.Common.{◌≡◌, List, Result, Some, None, Ok, Err, Bool, ℕ, refl, subst, sym}
+use Rattle.std.proofs.Common.{◌≡◌, List, [], Result, Some, None, Ok, Err, Bool, ℕ, refl, subst, sym}
 use Rattle.std.specs.List.{AllByRecursion}
 use Rattle.ode_again_laws.proofs.Parameters.{few_parameters}
 use Rattle.ode_declare.specs.Declaring.{Declares}
@@ -32,7 +32,7 @@ use Rattle.ode_transact.specs.Settling.{Meaning}
 use Rattle.ode_transact.specs.declared.error.EngineError.{EngineError}
 use Rattle.ode_transact.specs.declared.output.Output.{Output}
 use Rattle.ode_value.specs.Answers.{Answer, ◌>>=◌}
-use Rattle.ode_value.specs.GoodWorlds.{IsClass}
+use Rattle.ode_value.specs.GoodWorlds.{AreClasses, IsClass}
 use Rattle.ode_value.specs.Language.{ListWorld}
 use Rattle.ode_value.specs.Objects.{Histories, Starts}
 use Rattle.ode_value.specs.Pasts.{lists}
@@ -44,9 +44,9 @@ use Rattle.ode_value.specs.declared.statement.ClassDecl.{ClassDecl}
 use Rattle.ode_value.specs.declared.statement.Statement.TheVariants as statement
 
 -- the triggers of a class that is read have few parameters
-pub few_kept : (w : ListWorld) (d : ClassDecl) → HasText ode (statement.Class d) → (c : Declared) → declared_in ode w.bones d ≡ Ok c → AllByRecursion HasFewParams c.class.triggers
-few_kept w d text c is =
-    let class : IsClass ode w.bones.classes c = declared_is ode sound_rules reads_well text.0 d text.1 w.bones c is in
+pub few_kept : (w : ListWorld) → AreClasses ode [] w.bones.classes → (d : ClassDecl) → HasText ode (statement.Class d) → (c : Declared) → declared_in ode w.bones d ≡ Ok c → AllByRecursion HasFewParams c.class.triggers
+few_kept w all d text c is =
+    let class : IsClass ode w.bones.classes c = declared_is ode sound_rules reads_well text.0 d text.1 w.bones c all is in
     few_parameters _ c.tree _ c.class class.text class.checked
 
 -- a host that nothing was done to

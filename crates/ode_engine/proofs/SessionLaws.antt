@@ -81,7 +81,7 @@ module _ (w : ListWorld) (well : IsWell ode w) where
       (sound_rules.checked (checked_classes w.bones.classes) parts.0 read s (check_passed (ode.checked (classes_in w.bones) parts.0 read) s parts.2))
 
   pub class_is_well : w.bones.transaction < number_limit → (d : ClassDecl) → HasText ode (statement.Class d) → (c : Declared) → declared_in ode w.bones d ≡ Ok c → IsWell ode (transaction lists Script (declares c) w).0
-  class_is_well left d text c is = class_well ode sound_rules w well (room w left) c (declared_is ode sound_rules reads_well text.0 d text.1 w.bones c is)
+  class_is_well left d text c is = class_well ode sound_rules w well (room w left) c (declared_is ode sound_rules reads_well text.0 d text.1 w.bones c well.good.bones.classes is)
 
 -- ---- the session behind
 

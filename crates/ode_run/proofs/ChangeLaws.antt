@@ -5,7 +5,10 @@ use Rattle.std.specs.Result.{result_unwrap_or}
 use Rattle.ode_interpreter.specs.Seen.{Ends}
 use Rattle.ode_interpreter.specs.declared.stop.Stop.{Stop}
 use Rattle.ode_interpreter.specs.declared.stop.Stop.TheVariants as stop
-use Rattle.ode_laws.specs.Alike.{NumberTx}
+use Rattle.ode_known_laws.specs.Knowing.{declared_in}
+use Rattle.ode_laws.specs.Alike.{NumberTx, NumberWorld}
+use Rattle.ode_overlay.specs.Layers.{Layer}
+use Rattle.ode_overlay.specs.Settling.{growth_told}
 use Rattle.ode_overlay.specs.declared.error.OverlayError.{OverlayError}
 use Rattle.ode_run.specs.Telling.{EndsThen}
 use Rattle.ode_value.specs.Acts.{Outcome, Done, Aborted, gives, go_on, prints}
@@ -14,6 +17,7 @@ use Rattle.ode_value.specs.Keeping.{kept_bones}
 use Rattle.ode_value.specs.Limits.{weight_limit}
 use Rattle.ode_value.specs.Texts.{version_line}
 use Rattle.ode_value.specs.Weights.{weight}
+use Rattle.ode_value.specs.declared.class.Class.{Class}
 use Rattle.ode_value.specs.declared.reason.Reason.TheVariants as reason
 use Rattle.ode_value.specs.declared.value.Ref.{Ref}
 use Rattle.ode_version_laws.specs.Denoting.{tells_version}
@@ -49,6 +53,14 @@ weighed y b is = ap (tested y) is
 
 pub told_is : (answer : Result ℤ OverlayError) (grown told : ℤ) → grown ≡ result_unwrap_or answer (pos 0) → answer ≡ Ok told → grown ≡ told
 told_is answer grown told is tells = is ∙ ap (λ (a : Result ℤ OverlayError). result_unwrap_or a (pos 0)) tells
+
+-- the growth that is told by the first world's classes, over its weight
+pub told_by : (x : Layer) (y : NumberTx) (first : NumberWorld) (bytes : ℕ) (classes : List Class) → classes ≡ declared_in first → bytes ≡ weight first.bones
+    → int_le (pos (weight first.bones) +ℤ growth_told (declared_in first) x) (pos weight_limit) ≡ nat_le (weight (kept_bones y.now.bones)) weight_limit
+    → int_le (pos bytes +ℤ growth_told classes x) (pos weight_limit) ≡ nat_le (weight (kept_bones y.now.bones)) weight_limit
+told_by x y first bytes classes same heavy law =
+    ap (λ (n : ℕ). int_le (pos n +ℤ growth_told classes x) (pos weight_limit)) heavy
+    ∙ ap (λ (cs : List Class). int_le (pos (weight first.bones) +ℤ growth_told cs x) (pos weight_limit)) same ∙ law
 
 pub light_is : (y : NumberTx) (bytes : ℕ) (grown told : ℤ) → grown ≡ told → int_le (pos bytes +ℤ told) (pos weight_limit) ≡ nat_le (weight (kept_bones y.now.bones)) weight_limit
     → int_le (pos bytes +ℤ grown) (pos weight_limit) ≡ true → weighs y ≡ Done tt y

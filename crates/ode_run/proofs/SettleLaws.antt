@@ -1,5 +1,5 @@
 -- The last points of a context's transaction, and what is left behind them.
-use Rattle.std.proofs.Common.{◌≡◌, ◌⊎◌, ℕ, ℤ, Bool, false, List, Result, Ok, Err, IfErr, IfOk, sym, ap, subst, ◌∙◌, inl, inr}
+use Rattle.std.proofs.Common.{◌≡◌, ◌⊎◌, ℕ, Bool, false, List, Result, Ok, Err, IfErr, IfOk, sym, ap, subst, ◌∙◌, inl, inr}
 use Rattle.ode_host.specs.View.{View}
 use Rattle.ode_interpreter.specs.Seen.{Leaves, with_classes}
 use Rattle.ode_interpreter.specs.declared.stop.Stop.{Stop}
@@ -9,6 +9,7 @@ use Rattle.ode_known_laws.specs.Knowing.{IsKnown, declared_in}
 use Rattle.ode_laws.specs.Alike.{NumberTx, NumberWorld, RunsAs}
 use Rattle.ode_overlay.specs.Layers.{Layer}
 use Rattle.ode_overlay.specs.Rewinding.{rewind}
+use Rattle.ode_overlay.specs.Settling.{growth_told}
 use Rattle.ode_run.proofs.ContextLaws.{IsKept, IsReturned, begins, known_of}
 use Rattle.ode_run.proofs.EndLaws.{same_view}
 use Rattle.ode_run.specs.Contexts.{ContextRuns, IsContext, IsOpen, LeavesOpen, tables_of, tx_of, tx_over}
@@ -107,8 +108,12 @@ module _ {H K : Type 0} (seen : H → View) (held : K → View → Entries → T
         subst (λ (ts : ℕ → ℕ → Table). tx_of first_of after ≡ last_points ts kept (tx_of first_of ctx)) (sym is.tables)
         (subst (λ b. tx_of first_of after ≡ last_points (tables_of ctx) b (tx_of first_of ctx)) same points)
 
-    pub settled_by : (grown : ℤ) (records : Entries) (text line : List ℕ) (s : Settled Histories Starts) → SettledOver l stored_tables w grown records text line s → SettledOver l (tables_of ctx) w grown records text line s
-    settled_by grown records text line s settled = subst (λ (ts : ℕ → ℕ → Table). SettledOver l ts w grown records text line s) is.tables settled
+    -- its growth is told by the classes that it has
+    pub settled_by : (classes : List Class) (now : Layer) (records : Entries) (text line : List ℕ) (s : Settled Histories Starts) → classes ≡ declared_in first_of
+        → SettledOver l stored_tables w (growth_told (declared_in first_of) now) records text line s → SettledOver l (tables_of ctx) w (growth_told classes now) records text line s
+    settled_by classes now records text line s same settled =
+        subst (λ (cs : List Class). SettledOver l (tables_of ctx) w (growth_told cs now) records text line s) (sym same)
+        (subst (λ (ts : ℕ → ℕ → Table). SettledOver l ts w (growth_told (declared_in first_of) now) records text line s) is.tables settled)
 
 -- by whatever stands beside the overlay numbers tell parts apart
 pub numbered_by : (classes : List Declared) (first : NumberWorld) (x : Layer) (b : Beside) → GoesOnNumbered (running classes first x nothing_beside) → GoesOnNumbered (running classes first x b)

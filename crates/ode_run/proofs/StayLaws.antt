@@ -17,7 +17,7 @@ use Rattle.ode_value.specs.Denoting.{if_live, object_at, object_numbered}
 use Rattle.ode_value.specs.Keys.{activation_key, object_key, version_key}
 use Rattle.ode_value.specs.Lengths.{version_size}
 use Rattle.ode_value.specs.Limits.{args_limit, change_limit, output_limit, value_limit}
-use Rattle.ode_value.specs.Making.{makes, object_with, switches_on, with_activation, with_active, with_new}
+use Rattle.ode_value.specs.Making.{makes, object_with, stamp_now, switches_on, with_activation, with_active, with_new}
 use Rattle.ode_value.specs.Pasts.{numbers}
 use Rattle.ode_value.specs.Statements.{activates_initial}
 use Rattle.ode_value.specs.Tables.{Table}
@@ -81,6 +81,9 @@ module _ (tables : ℕ → ℕ → Table) (class : ℕ) (fields : List Value) (y
   abbrev id : ℕ
   id = y.now.bones.next
 
+  abbrev stamp : ℕ
+  stamp = stamp_now y.now.bones
+
   abbrev keys : List Key
   keys = object_key id ∷ version_key id 1 ∷ []
 
@@ -90,8 +93,8 @@ module _ (tables : ℕ → ℕ → Table) (class : ℕ) (fields : List Value) (y
 
   made_now : IsOfClass (made (holding keys y)) id class
   made_now = record {
-    object = object_with id class fields;
-    there = ap (option_and_then if_live) (numbered_push id y.now.bones.objects (object_with id class fields) (eq-eqb id id refl) none);
+    object = object_with stamp id class fields;
+    there = ap (option_and_then if_live) (numbered_push id y.now.bones.objects (object_with stamp id class fields) (eq-eqb id id refl) none);
     class = refl;
   }
 
@@ -103,8 +106,8 @@ module _ (tables : ℕ → ℕ → Table) (class : ℕ) (fields : List Value) (y
   pub made_there : (z : NumberTx) (n : ℕ) → makes (numbers tables) class fields y ≡ Done n z → IsOfClass z n class
   made_there z n is =
       led (λ m w. IsOfClass w m class) (makes (numbers tables) class fields y) n z is
-      (leads_on (λ _ x. x ≡ holding keys y) (λ m w. IsOfClass w m class) (changes keys (version_size fields) has_number y)
-      (λ _. turns (with_new (numbers tables) class fields) >> (does (touching id) >> (prints (new_line id) >> gives id))) (changes_lead keys (version_size fields) has_number y)
+      (leads_on (λ _ x. x ≡ holding keys y) (λ m w. IsOfClass w m class) (changes keys (version_size stamp fields) has_number y)
+      (λ _. turns (with_new (numbers tables) class fields) >> (does (touching id) >> (prints (new_line id) >> gives id))) (changes_lead keys (version_size stamp fields) has_number y)
       (λ _ x same. lined x same))
 
 -- no object has the next number

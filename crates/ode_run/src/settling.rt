@@ -216,10 +216,10 @@ pub fn settle<H: Host, K: Keep<H>>(
         → IfOk result (λ _. tx_of first ctx.new ≡ last_points (tables_of ctx.old) kept (tx_of first ctx.old)) }
     // Over lists of points the records behind the changes hold the world that a commit leaves, where it is kept.
     ensures commit { (l : Language) (w : ListWorld) (x : ListTx) (is : ContextRuns H.view K.holds K.live l w ctx.old host.old x) → kept ≡ true
-        → IfOk result (λ batch. SettledOver l (tables_of ctx.old) w (growth_told ctx.new.overlay) (applied batch is.entries) ctx.new.text (committed_line w.bones.transaction) (commit lists x)) }
+        → IfOk result (λ batch. SettledOver l (tables_of ctx.old) w (growth_told ctx.new.classes ctx.new.overlay) (applied batch is.entries) ctx.new.text (committed_line w.bones.transaction) (commit lists x)) }
     // Else they hold the one that an abort leaves, for whatever reason.
     ensures abort { (l : Language) (w : ListWorld) (x : ListTx) (is : ContextRuns H.view K.holds K.live l w ctx.old host.old x) (reason : Reason) → kept ≡ false
-        → IfOk result (λ batch. SettledOver l (tables_of ctx.old) w (growth_told ctx.new.overlay) (applied batch is.entries) ctx.new.text (aborted_line w.bones.transaction reason) (abort lists reason x)) }
+        → IfOk result (λ batch. SettledOver l (tables_of ctx.old) w (growth_told ctx.new.classes ctx.new.overlay) (applied batch is.entries) ctx.new.text (aborted_line w.bones.transaction reason) (abort lists reason x)) }
     // A keeper takes them.
     ensures few { IfOk result (λ batch. length batch ≤ MAX_CHANGES) }
     ensures short { IfOk result HasShortValues }

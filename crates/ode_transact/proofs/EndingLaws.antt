@@ -136,7 +136,7 @@ module _ {H K : Type 0} (seen : H → View) (held : K → View → Entries → T
 
   module _ (l : Language) (w : ListWorld) (t : ListTx) (s : Settled Histories Starts) (ctx now : Ctx K) (old mid new : H) (runs : ContextRuns seen held live l w ctx old t)
       (context : IsContext seen held live runs.entries runs.world.world.stored.world now mid) (changes : Changes) (line : List ℕ)
-      (over : SettledOver l (tables_of ctx) w (growth_told now.overlay) (applied changes runs.entries) now.text line s)
+      (over : SettledOver l (tables_of ctx) w (growth_told now.classes now.overlay) (applied changes runs.entries) now.text line s)
       (parts : parts_of now ≡ parts_of ctx) (well : IsWell l s.0) where
     bones_are : runs.world.world.stored.world.bones ≡ w.bones
     bones_are = runs.world.world.stands.bones
@@ -144,11 +144,11 @@ module _ {H K : Type 0} (seen : H → View) (held : K → View → Entries → T
     classes_are : now.classes ≡ map class_of s.0.bones.classes
     classes_are = context.classes ∙ ap (λ (b : Bones). map class_of b.classes) bones_are ∙ ap (λ (cs : List Declared). map class_of cs) (sym over.classes)
 
-    sum_is : pos now.bytes +ℤ growth_told now.overlay ≡ pos (weight s.0.bones)
-    sum_is = ap (λ (n : ℕ). pos n +ℤ growth_told now.overlay) (context.state.bytes ∙ ap weight bones_are) ∙ over.grows well.good
+    sum_is : pos now.bytes +ℤ growth_told now.classes now.overlay ≡ pos (weight s.0.bones)
+    sum_is = ap (λ (n : ℕ). pos n +ℤ growth_told now.classes now.overlay) (context.state.bytes ∙ ap weight bones_are) ∙ over.grows well.good
 
     rests_in : (rest : Opened K) → ((entries : Entries) → held now.heap (seen mid) entries → held rest.keeper (seen new) (applied changes entries)) → resting_parts rest ≡ parts_of now
-        → ((sum : ℕ) → pos now.bytes +ℤ growth_told now.overlay ≡ pos sum → sum < 2 ^ 64 → rest.bytes ≡ sum) → live rest.keeper ≡ true → IsAtRest seen held live l s.0 rest new
+        → ((sum : ℕ) → pos now.bytes +ℤ growth_told now.classes now.overlay ≡ pos sum → sum < 2 ^ 64 → rest.bytes ≡ sum) → live rest.keeper ≡ true → IsAtRest seen held live l s.0 rest new
     rests_in rest records same bytes usable =
         let parts_are : parts_of ctx ≡ resting_parts rest = sym (same ∙ parts) in
         rests seen held live l (applied changes runs.entries) s.0 rest new
@@ -161,7 +161,7 @@ module _ {H K : Type 0} (seen : H → View) (held : K → View → Entries → T
     pub ends_at_rest : (result : Result (Opened K) EngineError)
         → IfOk result (λ rest. (entries : Entries) → held now.heap (seen mid) entries → held rest.keeper (seen new) (applied changes entries))
         → IfOk result (λ rest. resting_parts rest ≡ parts_of now)
-        → IfOk result (λ rest. (sum : ℕ) → pos now.bytes +ℤ growth_told now.overlay ≡ pos sum → sum < 2 ^ 64 → rest.bytes ≡ sum)
+        → IfOk result (λ rest. (sum : ℕ) → pos now.bytes +ℤ growth_told now.classes now.overlay ≡ pos sum → sum < 2 ^ 64 → rest.bytes ≡ sum)
         → IfOk result (λ rest. live rest.keeper ≡ true) → IfOk result (λ rest. IsAtRest seen held live l s.0 rest new)
     ends_at_rest (Ok rest) records same bytes usable = rests_in rest records same bytes usable
     ends_at_rest (Err why) records same bytes usable = tt

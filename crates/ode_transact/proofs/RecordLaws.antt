@@ -7,11 +7,13 @@ use Rattle.std.proofs.lemmas.List.{length-drop, length-map, length-take}
 use Rattle.std.proofs.lemmas.List.Sums.{sum_by-cons}
 use Rattle.std.proofs.lemmas.Nat.{mul-le}
 use Rattle.ode_codec.specs.Standing.{HasTables, HoldsWorld, IsTableOf, IsWhole}
-use Rattle.ode_codec.specs.StoredRows.{Stored, activation_row, activation_rows, bit, counters_row, entry_row, head_row, object_row, piece_of, pieces_of, rows, state_of, table_bytes, table_head, table_heads, table_pieces, table_row, table_rows, text_row, text_rows, u16, u32, u64, version_rows}
+use Rattle.ode_codec.specs.StoredRows.{Stored, activation_row, activation_rows, added_row, added_rows, bit, counters_row, entry_row, head_row, object_row, piece_of, pieces_of, rows, state_of, table_bytes, table_head, table_heads, table_pieces, table_row, table_rows, text_row, text_rows, u16, u32, u64, version_rows}
 use Rattle.ode_keep.specs.Entries.{Entries, record_bytes}
 use Rattle.ode_keep.specs.declared.limits.TheConstants.{MAX_RECORD_BYTES}
-use Rattle.ode_value.proofs.LengthLaws.{length-version}
+use Rattle.ode_value.proofs.LengthLaws.{length-stamp, length-version}
+use Rattle.ode_value.specs.Changing.{added_to}
 use Rattle.ode_value.specs.Classes.{Trigger, trigger_at, trigger_of}
+use Rattle.ode_value.specs.Fields.{fields_of}
 use Rattle.ode_value.specs.Fitting.{HaveTrigger}
 use Rattle.ode_value.specs.GoodWorlds.{AreBones, IsEntry}
 use Rattle.ode_value.specs.Language.{Language, ListWorld}
@@ -19,13 +21,15 @@ use Rattle.ode_value.specs.Lengths.{activation_length, counters_length, key_leng
 use Rattle.ode_value.specs.Limits.{args_limit, queue_limit, value_limit, weight_limit}
 use Rattle.ode_value.specs.Objects.{Activation}
 use Rattle.ode_value.specs.PrintedClasses.{decl_text}
-use Rattle.ode_value.specs.Records.{Row, byte, clock_bytes, counted, row_weight, spelled_value, total_weight, version_row}
+use Rattle.ode_value.specs.Records.{Row, byte, clock_bytes, counted, row_weight, spelled_value, stamp_bytes, total_weight, version_row}
 use Rattle.ode_value.specs.Symbols.{symbol_count}
 use Rattle.ode_value.specs.Tables.{Table}
 use Rattle.ode_value.specs.TreeCount.{tree_count}
 use Rattle.ode_value.specs.Versions.{Version}
 use Rattle.ode_value.specs.Weights.{activation_weight, class_weight, object_weight, trigger_weight, version_weight, weight}
 use Rattle.ode_value.specs.Worlds.{Bones, Declared, Entry, Object, Position, World}
+use Rattle.ode_value.specs.declared.change.Added.{Added}
+use Rattle.ode_value.specs.declared.class.Field.{Field}
 use Rattle.ode_value.specs.declared.member.TriggerDecl.{TriggerDecl}
 use Rattle.ode_value.specs.declared.value.Value.{Value}
 use Rattle.ode_value.specs.declared.value.Value.TheVariants as value
@@ -169,9 +173,9 @@ module _ (tables : ℕ → ℕ → Table) where
 
 -- ---- objects
 
-versions_weigh : (id : ℕ) (vs : List Version) → total_weight (map (version_row id) vs) ≡ sum_by version_weight vs
-versions_weigh id [] = refl
-versions_weigh id (v ∷ vs) = omega (arith, length-version id v, versions_weigh id vs, sum_by-cons version_weight v vs)
+versions_weigh : (id : ℕ) (fields : List Field) (vs : List Version) → total_weight (map (version_row id fields) vs) ≡ sum_by (version_weight fields) vs
+versions_weigh id fields [] = refl
+versions_weigh id fields (v ∷ vs) = omega (arith, length-version id fields v, versions_weigh id fields vs, sum_by-cons (version_weight fields) v vs)
 
 activation_weighs : (id state : ℕ) (a : Activation) → row_weight (activation_row id state a) ≡ activation_length a.args
 activation_weighs id state a =
@@ -182,17 +186,18 @@ module _ (w : World (Unit {0}) ℕ) where
   activations_weigh id [] = refl
   activations_weigh id (a ∷ acts) = omega (arith, activation_weighs id (state_of w id a.number) a, activations_weigh id acts, sum_by-cons activation_weight a acts)
 
-  objects_weigh : (os : List Object) → total_weight (map object_row os) + total_weight (flat_map version_rows os) + total_weight (flat_map (activation_rows w) os) ≡ sum_by object_weight os
-  objects_weigh [] = refl
-  objects_weigh (o ∷ os) =
+  objects_weigh : (cs : List Declared) (os : List Object)
+      → total_weight (map object_row os) + total_weight (flat_map (version_rows cs) os) + total_weight (flat_map (activation_rows w) os) ≡ sum_by (object_weight cs) os
+  objects_weigh cs [] = refl
+  objects_weigh cs (o ∷ os) =
       omega (
         arith,
-        versions_weigh o.id o.versions,
+        versions_weigh o.id (fields_of cs o.class) o.versions,
         activations_weigh o.id o.activations,
-        both_weigh (version_rows o) (flat_map version_rows os),
+        both_weigh (version_rows cs o) (flat_map (version_rows cs) os),
         both_weigh (activation_rows w o) (flat_map (activation_rows w) os),
-        objects_weigh os,
-        sum_by-cons object_weight o os,
+        objects_weigh cs os,
+        sum_by-cons (object_weight cs) o os,
       )
 
 -- ---- the queue
@@ -224,12 +229,21 @@ entries_weigh b (q ∷ qs) are = omega (arith, entry_weighs b q are.0, entries_w
 
 -- ---- the whole
 
-counters_weigh : (b : Bones) → row_weight (counters_row b) ≡ counters_length
-counters_weigh b = by b.clock
+counters_weigh : (b : Bones) → row_weight (counters_row b) ≡ counters_length (length b.added)
+counters_weigh b =
+    let first = u64 b.next ++ u64 b.transaction ++ u64 b.next_entry ++ clock_bytes b.clock in
+    let long : length first ≡ 45 = by b.clock in
+    omega (arith, long, length-append first (stamp_bytes (length b.added)), length-stamp (length b.added))
   where
-    by : (clock : Option Position) → key_length + length (u64 b.next ++ u64 b.transaction ++ u64 b.next_entry ++ clock_bytes clock) ≡ counters_length
+    by : (clock : Option Position) → length (u64 b.next ++ u64 b.transaction ++ u64 b.next_entry ++ clock_bytes clock) ≡ 45
     by None = refl
     by (Some p) = refl
+
+-- where no field was added, there is no record of one
+none_added : (b : Bones) → b.added ≡ [] → (cs : List Declared) → flat_map (added_rows b) cs ≡ []
+none_added b none [] = refl
+none_added b none (c ∷ cs) =
+    ap (λ (all : List Added). map (added_row b.classes) (added_to c.class.number all) ++ flat_map (added_rows b) cs) none ∙ none_added b none cs
 
 -- half a keeper is left for the queue
 within : (all first classes objects queue weighed entries : ℕ) → all ≡ first + classes + objects + queue → first + classes + objects ≤ weighed → weighed ≤ weight_limit
@@ -245,7 +259,7 @@ module _ (l : Language) (s : Stored) (are : AreBones l s.world.bones) (mean : Al
   class_rows = total_weight (map head_row b.classes) + total_weight (flat_map text_rows b.classes) + (total_weight (flat_map (table_heads s.tables) b.classes) + total_weight (flat_map (table_rows s.tables) b.classes))
 
   abbrev object_rows : ℕ
-  object_rows = total_weight (map object_row b.objects) + total_weight (flat_map version_rows b.objects) + total_weight (flat_map (activation_rows s.world) b.objects)
+  object_rows = total_weight (map object_row b.objects) + total_weight (flat_map (version_rows b.classes) b.objects) + total_weight (flat_map (activation_rows s.world) b.objects)
 
   rows_are : total_weight (rows s) ≡ row_weight (counters_row b) + class_rows + object_rows + total_weight (map entry_row b.queue)
   rows_are =
@@ -254,11 +268,14 @@ module _ (l : Language) (s : Stored) (are : AreBones l s.world.bones) (mean : Al
       let A : List Row = flat_map (table_heads s.tables) b.classes in
       let B : List Row = flat_map (table_rows s.tables) b.classes in
       let O : List Row = map object_row b.objects in
-      let V : List Row = flat_map version_rows b.objects in
+      let V : List Row = flat_map (version_rows b.classes) b.objects in
       let S : List Row = flat_map (activation_rows s.world) b.objects in
       let Q : List Row = map entry_row b.queue in
+      let D : List Row = flat_map (added_rows b) b.classes in
+      let none : total_weight D ≡ 0 = ap (λ (rs : List Row). total_weight rs) (none_added b are.added b.classes) in
       omega (
         arith,
+        none,
         both_weigh C T,
         both_weigh (C ++ T) A,
         both_weigh (C ++ T ++ A) B,
@@ -266,6 +283,7 @@ module _ (l : Language) (s : Stored) (are : AreBones l s.world.bones) (mean : Al
         both_weigh (C ++ T ++ A ++ B ++ O) V,
         both_weigh (C ++ T ++ A ++ B ++ O ++ V) S,
         both_weigh (C ++ T ++ A ++ B ++ O ++ V ++ S) Q,
+        both_weigh (C ++ T ++ A ++ B ++ O ++ V ++ S ++ Q) D,
       )
 
   world_weighs : row_weight (counters_row b) + class_rows + object_rows ≤ weight b
@@ -273,7 +291,7 @@ module _ (l : Language) (s : Stored) (are : AreBones l s.world.bones) (mean : Al
   world_weighs =
       let first = counters_weigh b in
       let classes = classes_weigh s.tables b.classes mean in
-      let objects = objects_weigh s.world b.objects in
+      let objects = objects_weigh s.world b.classes b.objects in
       omega (arith, first, classes, objects)
 
   rows_light : total_weight (rows s) ≤ MAX_RECORD_BYTES

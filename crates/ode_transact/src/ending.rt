@@ -77,7 +77,7 @@ fn growth_of<H: Host, K: Keep<H>>(
     heap: &mut Heap<K>,
     host: &mut H,
 ) -> i64
-    ensures is { result ≡ growth_told overlay.now }
+    ensures is { result ≡ growth_told classes.now overlay.now }
     ensures same { (heap.new ≡ heap.old) × (host.new ≡ host.old) }
 {
     match overlay.grown(classes, heap, host) {
@@ -118,7 +118,7 @@ fn changes_of<H: Host, K: Keep<H>>(
     requires live { IsTrue (K.live ctx.old.heap) }
     requires fit { AreFit (parts_of ctx.old) }
     ensures settles { (l : Language) (w : ListWorld) (t : ListTx) (is : ContextRuns H.view K.holds K.live l w ctx.old host.old t)
-        → IfOk result (λ batch. SettledOver l (tables_of ctx.old) w (growth_told ctx.new.overlay) (applied batch is.entries) ctx.new.text (line_of w.bones.transaction ending.now) (settled_by ending.now t)) }
+        → IfOk result (λ batch. SettledOver l (tables_of ctx.old) w (growth_told ctx.new.classes ctx.new.overlay) (applied batch is.entries) ctx.new.text (line_of w.bones.transaction ending.now) (settled_by ending.now t)) }
     ensures context { (l : Language) (w : ListWorld) (t : ListTx) (is : ContextRuns H.view K.holds K.live l w ctx.old host.old t)
         → OnOk result (IsContext H.view K.holds K.live is.entries is.world.world.stored.world ctx.new host.new) }
     ensures few { IfOk result (λ batch. length batch ≤ MAX_CHANGES) }
@@ -154,7 +154,7 @@ fn close<H: Host, K: Keep<H> + Drop>(
     ensures any_moment { (entries : Entries) (said : Items ℕ) → K.holds ctx.heap (H.view host.old) entries → (H.view host.old).text ≡ Some said
         → LeavesOnly (H.view host.old) (H.view host.new) (LeavesBatch K.means entries batch.now said (heard output.old.quiet (ctx.text ++ line.now))) }
     ensures parts { IfOk result (λ rest. resting_parts rest ≡ parts_of ctx) }
-    ensures bytes { IfOk result (λ rest. (sum : ℕ) → pos ctx.bytes +ℤ growth_told ctx.overlay ≡ pos sum → sum < 2 ^ 64 → rest.bytes ≡ sum) }
+    ensures bytes { IfOk result (λ rest. (sum : ℕ) → pos ctx.bytes +ℤ growth_told ctx.classes ctx.overlay ≡ pos sum → sum < 2 ^ 64 → rest.bytes ≡ sum) }
     ensures usable { IfOk result (λ rest. K.live rest.keeper ≡ true) }
     ensures undamaged { OnDamaged result ((entries : Entries) → K.holds ctx.heap (H.view host.old) entries
         → record_bytes (applied batch.now entries) ≤ MAX_RECORD_BYTES → ⊥) }

@@ -49,7 +49,7 @@ returns-then-bytes-gt-WEIGHT_LIMIT-clause-done g c = λ l w d well rest made.
     let weighed = c.in_ok-weighed.weighed in
     let over : weight_limit < weighed.1 = omega (arith, c.if-bytes-gt-WEIGHT_LIMIT.true) in
     let was = rest.bytes ∙ ap weight rest.world.world.stands.bones in
-    let heavy = heavy_is l w d c.args.made made c.requires.compiled c.requires.trees weighed.0 c.in_ok-weighed.ensures.rows rest.world.world.stored c.args.rest.bytes weighed.1 was c.in_ok-weighed.ensures.bytes over in
+    let heavy = heavy_is l w well.good d c.args.made made c.requires.compiled c.requires.trees weighed.0 c.in_ok-weighed.ensures.rows rest.world.world.stored c.args.rest.bytes weighed.1 was c.in_ok-weighed.ensures.bytes over in
     let short : length d.class.name ≤ name_limit = subst (λ (k : Class). length k.name ≤ name_limit) (sym made.class) (search rules) in
     let aborts = c.declarations_settle.ensures.heavy l w d well.good short heavy ∙ ap (λ (k : Class). abort lists Space (with_line (class_line k.name) (begun Script w))) made.class in
     done_as g.H.Host.view g.K.Keep.holds g.K.Keep.live g.K.Keep.means c.turn_away.result l c.args.output.now.quiet c.args.host.now c.turn_away.new.host _ _ aborts (c.turn_away.ensures.done l w rest)
@@ -59,7 +59,7 @@ returns-then-bytes-gt-WEIGHT_LIMIT-clause-counts g c = λ l w d well rest made.
     let weighed = c.in_ok-weighed.weighed in
     let over : weight_limit < weighed.1 = omega (arith, c.if-bytes-gt-WEIGHT_LIMIT.true) in
     let was = rest.bytes ∙ ap weight rest.world.world.stands.bones in
-    let heavy = heavy_is l w d c.args.made made c.requires.compiled c.requires.trees weighed.0 c.in_ok-weighed.ensures.rows rest.world.world.stored c.args.rest.bytes weighed.1 was c.in_ok-weighed.ensures.bytes over in
+    let heavy = heavy_is l w well.good d c.args.made made c.requires.compiled c.requires.trees weighed.0 c.in_ok-weighed.ensures.rows rest.world.world.stored c.args.rest.bytes weighed.1 was c.in_ok-weighed.ensures.bytes over in
     let short : length d.class.name ≤ name_limit = subst (λ (k : Class). length k.name ≤ name_limit) (sym made.class) (search rules) in
     let aborts = c.declarations_settle.ensures.heavy l w d well.good short heavy ∙ ap (λ (k : Class). abort lists Space (with_line (class_line k.name) (begun Script w))) made.class in
     counts_as c.turn_away.result l c.args.output.now c.turn_away.new.output _ _ aborts (c.turn_away.ensures.counts l w rest)
@@ -69,7 +69,7 @@ returns-then-bytes-gt-WEIGHT_LIMIT-clause-any_moment g c = λ l w d said well re
     let weighed = c.in_ok-weighed.weighed in
     let over : weight_limit < weighed.1 = omega (arith, c.if-bytes-gt-WEIGHT_LIMIT.true) in
     let was = rest.bytes ∙ ap weight rest.world.world.stands.bones in
-    let heavy = heavy_is l w d c.args.made made c.requires.compiled c.requires.trees weighed.0 c.in_ok-weighed.ensures.rows rest.world.world.stored c.args.rest.bytes weighed.1 was c.in_ok-weighed.ensures.bytes over in
+    let heavy = heavy_is l w well.good d c.args.made made c.requires.compiled c.requires.trees weighed.0 c.in_ok-weighed.ensures.rows rest.world.world.stored c.args.rest.bytes weighed.1 was c.in_ok-weighed.ensures.bytes over in
     let short : length d.class.name ≤ name_limit = subst (λ (k : Class). length k.name ≤ name_limit) (sym made.class) (search rules) in
     let aborts = c.declarations_settle.ensures.heavy l w d well.good short heavy ∙ ap (λ (k : Class). abort lists Space (with_line (class_line k.name) (begun Script w))) made.class in
     leaves_as g.H.Host.view g.K.Keep.holds g.K.Keep.live g.K.Keep.means l w c.args.output.now.quiet c.args.host.now c.turn_away.new.host said _ _ aborts (c.turn_away.ensures.any_moment l w said well rest)
@@ -92,7 +92,7 @@ returns-else-bytes-gt-WEIGHT_LIMIT-clause-done g c = λ l w d well rest made.
     let below : weighed.1 ≤ weight_limit = omega (arith, c.if-bytes-gt-WEIGHT_LIMIT.false) in
     let was = rest.bytes ∙ ap weight rest.world.world.stands.bones in
     c.take_in.ensures.done l w d rest
-    (taken_is l w d c.args.made made c.requires.compiled c.requires.trees weighed.0 c.in_ok-weighed.ensures.rows rest.world.world.stored c.args.rest.bytes weighed.1 was c.in_ok-weighed.ensures.bytes below)
+    (taken_is l w well.good d c.args.made made c.requires.compiled c.requires.trees weighed.0 c.in_ok-weighed.ensures.rows rest.world.world.stored c.args.rest.bytes weighed.1 was c.in_ok-weighed.ensures.bytes below)
 
 pub returns-else-bytes-gt-WEIGHT_LIMIT-clause-counts : goal.returns-else-bytes-gt-WEIGHT_LIMIT-clause-counts
 returns-else-bytes-gt-WEIGHT_LIMIT-clause-counts g c = λ l w d well rest made.
@@ -100,7 +100,7 @@ returns-else-bytes-gt-WEIGHT_LIMIT-clause-counts g c = λ l w d well rest made.
     let below : weighed.1 ≤ weight_limit = omega (arith, c.if-bytes-gt-WEIGHT_LIMIT.false) in
     let was = rest.bytes ∙ ap weight rest.world.world.stands.bones in
     c.take_in.ensures.counts l w d rest
-    (taken_is l w d c.args.made made c.requires.compiled c.requires.trees weighed.0 c.in_ok-weighed.ensures.rows rest.world.world.stored c.args.rest.bytes weighed.1 was c.in_ok-weighed.ensures.bytes below)
+    (taken_is l w well.good d c.args.made made c.requires.compiled c.requires.trees weighed.0 c.in_ok-weighed.ensures.rows rest.world.world.stored c.args.rest.bytes weighed.1 was c.in_ok-weighed.ensures.bytes below)
 
 pub returns-else-bytes-gt-WEIGHT_LIMIT-clause-any_moment : goal.returns-else-bytes-gt-WEIGHT_LIMIT-clause-any_moment
 returns-else-bytes-gt-WEIGHT_LIMIT-clause-any_moment g c = λ l w d said well rest made.
@@ -108,7 +108,7 @@ returns-else-bytes-gt-WEIGHT_LIMIT-clause-any_moment g c = λ l w d said well re
     let below : weighed.1 ≤ weight_limit = omega (arith, c.if-bytes-gt-WEIGHT_LIMIT.false) in
     let was = rest.bytes ∙ ap weight rest.world.world.stands.bones in
     c.take_in.ensures.any_moment l w d said well rest
-    (taken_is l w d c.args.made made c.requires.compiled c.requires.trees weighed.0 c.in_ok-weighed.ensures.rows rest.world.world.stored c.args.rest.bytes weighed.1 was c.in_ok-weighed.ensures.bytes below)
+    (taken_is l w well.good d c.args.made made c.requires.compiled c.requires.trees weighed.0 c.in_ok-weighed.ensures.rows rest.world.world.stored c.args.rest.bytes weighed.1 was c.in_ok-weighed.ensures.bytes below)
 
 pub returns-else-bytes-gt-WEIGHT_LIMIT-clause-leaves : goal.returns-else-bytes-gt-WEIGHT_LIMIT-clause-leaves
 returns-else-bytes-gt-WEIGHT_LIMIT-clause-leaves g c = c.take_in.ensures.leaves
@@ -124,7 +124,7 @@ returns-then-bytes-gt-WEIGHT_LIMIT-clause-undamaged g c = damaged_so c.turn_away
     let weighed = c.in_ok-weighed.weighed in
     let over : weight_limit < weighed.1 = omega (arith, c.if-bytes-gt-WEIGHT_LIMIT.true) in
     let was = rest.bytes ∙ ap weight rest.world.world.stands.bones in
-    let heavy = heavy_is l w d c.args.made made c.requires.compiled c.requires.trees weighed.0 c.in_ok-weighed.ensures.rows rest.world.world.stored c.args.rest.bytes weighed.1 was c.in_ok-weighed.ensures.bytes over in
+    let heavy = heavy_is l w well.good d c.args.made made c.requires.compiled c.requires.trees weighed.0 c.in_ok-weighed.ensures.rows rest.world.world.stored c.args.rest.bytes weighed.1 was c.in_ok-weighed.ensures.bytes over in
     let short : length d.class.name ≤ name_limit = subst (λ (k : Class). length k.name ≤ name_limit) (sym made.class) (search rules) in
     let aborts = c.declarations_settle.ensures.heavy l w d well.good short heavy ∙ ap (λ (k : Class). abort lists Space (with_line (class_line k.name) (begun Script w))) made.class in
     damaged l w rest left (subst (λ (s : Settled Histories Starts). IsWell l s.0) aborts behind)) c.turn_away.ensures.undamaged
@@ -134,5 +134,5 @@ returns-else-bytes-gt-WEIGHT_LIMIT-clause-undamaged g c = damaged_so c.take_in.r
     let weighed = c.in_ok-weighed.weighed in
     let below : weighed.1 ≤ weight_limit = omega (arith, c.if-bytes-gt-WEIGHT_LIMIT.false) in
     let was = rest.bytes ∙ ap weight rest.world.world.stands.bones in
-    let taken = taken_is l w d c.args.made made c.requires.compiled c.requires.trees weighed.0 c.in_ok-weighed.ensures.rows rest.world.world.stored c.args.rest.bytes weighed.1 was c.in_ok-weighed.ensures.bytes below in
+    let taken = taken_is l w well.good d c.args.made made c.requires.compiled c.requires.trees weighed.0 c.in_ok-weighed.ensures.rows rest.world.world.stored c.args.rest.bytes weighed.1 was c.in_ok-weighed.ensures.bytes below in
     damaged l w d rest taken left c.in_ok-weighed.ensures.few behind) c.take_in.ensures.undamaged

@@ -2,7 +2,6 @@ use Rattle.std.proofs.Common.{true, false, rules}
 use Rattle.std.proofs.lemmas.Result.{IfOk-weaker}
 use Rattle.ode_run.proofs.ServeLaws.{usable_behind, usable_too}
 use Rattle.ode_run.proofs.SettleLaws.{leaves_behind, leaves_too, numbered_by, points_stored, runs_stored, settled_by}
-use Rattle.ode_overlay.specs.Settling.{growth_told}
 use Rattle.ode_run.proofs.settling.settle.Goals as goal
 use Rattle.ode_run.specs.Knowing.{beside}
 use Rattle.ode_value.specs.Pasts.{lists}
@@ -21,7 +20,7 @@ returns-clause-commit g c = λ l w x is kept.
     let rising = g.met.K.Keep.rising law.0 is.entries law.2 in
     let points = points_stored g.H.Host.view g.K.Keep.holds g.K.Keep.live l w before after c.args.host.now x is true c.args.kept kept (c.in_ok-end.ensures.acts is.entries first is.context) in
     IfOk-weaker c.changes.result _ _ (λ batch stands.
-    settled_by g.H.Host.view g.K.Keep.holds g.K.Keep.live l w before after c.args.host.now x is (growth_told after.overlay) (applied batch is.entries) after.text (committed_line w.bones.transaction) (commit lists x)
+    settled_by g.H.Host.view g.K.Keep.holds g.K.Keep.live l w before after c.args.host.now x is after.classes after.overlay (applied batch is.entries) after.text (committed_line w.bones.transaction) (commit lists x) left.stays.classes
     (c.transactions_settle_over_records.ensures.commit l is.entries batch w is.world before.overlay after.overlay (beside first before.deferred before.text before.budget) (beside first after.deferred after.text after.budget) x
     rising (runs_stored g.H.Host.view g.K.Keep.holds g.K.Keep.live l w before after c.args.host.now x is) points known.viewed.over known.remembers (numbered_by first.bones.classes first after.overlay (beside first after.deferred after.text after.budget) known.numbered) known.formed (stands is.entries))) c.changes.ensures.stands
 
@@ -36,7 +35,7 @@ returns-clause-abort g c = λ l w x is reason kept.
     let rising = g.met.K.Keep.rising law.0 is.entries law.2 in
     let points = points_stored g.H.Host.view g.K.Keep.holds g.K.Keep.live l w before after c.args.host.now x is false c.args.kept kept (c.in_ok-end.ensures.acts is.entries first is.context) in
     IfOk-weaker c.changes.result _ _ (λ batch stands.
-    settled_by g.H.Host.view g.K.Keep.holds g.K.Keep.live l w before after c.args.host.now x is (growth_told after.overlay) (applied batch is.entries) after.text (aborted_line w.bones.transaction reason) (abort lists reason x)
+    settled_by g.H.Host.view g.K.Keep.holds g.K.Keep.live l w before after c.args.host.now x is after.classes after.overlay (applied batch is.entries) after.text (aborted_line w.bones.transaction reason) (abort lists reason x) left.stays.classes
     (c.transactions_settle_over_records.ensures.abort l is.entries batch w is.world before.overlay after.overlay (beside first before.deferred before.text before.budget) (beside first after.deferred after.text after.budget) reason x
     rising (runs_stored g.H.Host.view g.K.Keep.holds g.K.Keep.live l w before after c.args.host.now x is) points known.viewed.over known.remembers (numbered_by first.bones.classes first after.overlay (beside first after.deferred after.text after.budget) known.numbered) known.formed (stands is.entries))) c.changes.ensures.stands
 

@@ -15,7 +15,7 @@ use Rattle.ode_value.specs.Language.{Language, ListTx, ListWorld}
 
 pub returns-in-Ok-clause-settles : goal.returns-in-Ok-clause-settles
 returns-in-Ok-clause-settles g c = λ l w t is.
-    ends_over l (tables_of c.args.ctx.now) w (growth_told c.settle.new.ctx.overlay) (applied c.in-Ok.batch is.entries) c.settle.new.ctx.text t c.args.ending.now c.is_none.result c.is_none.ensures
+    ends_over l (tables_of c.args.ctx.now) w (growth_told c.settle.new.ctx.classes c.settle.new.ctx.overlay) (applied c.in-Ok.batch is.entries) c.settle.new.ctx.text t c.args.ending.now c.is_none.result c.is_none.ensures
     (c.in-Ok.ensures.commit l w t is) (λ reason. c.in-Ok.ensures.abort l w t is reason)
 
 pub returns-in-Ok-clause-context : goal.returns-in-Ok-clause-context
