@@ -429,9 +429,16 @@ const LONGEST: &[Long] = &[
     },
     Long {
         key: VECTOR,
+        front: b"\0\0\0\0\x7f\xff",
+        byte: 1,
+        count: 65_534,
+        is_record: true,
+    },
+    Long {
+        key: VECTOR,
         front: b"\0\0\0\0\xff\xff",
         byte: 1,
-        count: 131_070,
+        count: 65_538,
         is_record: true,
     },
     Long {
