@@ -1,7 +1,8 @@
 -- What a class that was checked has of its tree and of the classes before it.
-use Rattle.std.proofs.Common.{◌≡◌, ◌+◌, List, [], ◌∷◌, length, Bool, true, false, Some, None, Option, Ok, Err, refl, ap, sym, ◌∙◌, fold}
+use Rattle.std.proofs.Common.{◌≡◌, ◌+◌, List, [], ◌∷◌, ◌++◌, length, Bool, true, false, Some, None, Option, Ok, Err, refl, ap, sym, ◌∙◌, fold}
 use Rattle.std.specs.Option.{is_none}
 use Rattle.std.specs.Prelude.{nat_lt}
+use Rattle.ode_value.specs.declared.change.Added.{Added}
 use Rattle.ode_value.specs.declared.class.Class.{Class}
 use Rattle.ode_value.specs.declared.reason.CheckError.{CheckError}
 use Rattle.ode_value.specs.declared.reason.CheckError.TheVariants.{Duplicate, TooMany}
@@ -10,10 +11,10 @@ use Rattle.ode_value.specs.declared.statement.Member.{Member}
 use Rattle.ode_value.specs.declared.statement.Member.TheVariants as member
 use Rattle.ode_types.specs.Checks.{Check, ◌>>=◌, needs, each}
 use Rattle.ode_types.specs.Checked.{IsChecked}
-use Rattle.ode_types.specs.Declaring.{begins, declared, numbered, parent_in, with_member, without_members}
+use Rattle.ode_types.specs.Declaring.{begins, declared, numbered, parent_in, with_added, with_member, without_members}
 use Rattle.ode_types.specs.Families.{class_named}
 use Rattle.ode_types.specs.Limits.{classes_limit}
-use Rattle.ode_types.specs.Static.{check_class, checked_member, completed}
+use Rattle.ode_types.specs.Static.{check_grown, checked_member, completed, members_completed}
 
 -- both parts of a check that is passed
 pub bind-ok : {R S : Type 0} (m : Check R) (next : R → Check S) (s : S) → m >>= next ≡ Ok s → (r : R) × (m ≡ Ok r) × (next r ≡ Ok s)
@@ -44,6 +45,35 @@ same_members (m ∷ ms) c =
     let rest = same_members ms (with_member c m) in
     record { number = rest.number ∙ here.number; name = rest.name ∙ here.name }
 
+-- nor do added fields
+same_grown : (added : List Added) (c : Class) → SameHead c (fold with_added c added)
+same_grown [] c = record { number = refl; name = refl }
+same_grown (a ∷ added) c = let rest = same_grown added (with_added c a) in record { number = rest.number; name = rest.name }
+
+-- how a class came of a tree and of fields that are added to it: what it begins with, the first pass, and the members of the second
+pub record CameOf (known : List Class) (added : List Added) (d : ClassDecl) (c : Class) : Type 0 where
+  pub start : Class
+  pub draft : Class
+  pub members : List Member
+  pub begun : begins known d ≡ Ok start
+  pub drafted : declared known d added start ≡ Ok draft
+  pub checked : each (checked_member (known ++ draft ∷ []) draft) d.members ≡ Ok members
+  pub made : fold with_added (fold with_member start members) added ≡ c
+
+pub came_of : (known : List Class) (added : List Added) (d : ClassDecl) (c : Class) → check_grown known added d ≡ Ok c → CameOf known added d c
+unfolding check_grown members_completed
+came_of known added d c h =
+    let first = bind-ok (begins known d) (λ start. declared known d added start >>= (λ draft. completed (known ++ draft ∷ []) draft d added start)) c h in
+    let start = first.0 in
+    let second = bind-ok (declared known d added start) (λ draft. completed (known ++ draft ∷ []) draft d added start) c first.2 in
+    let draft = second.0 in
+    let cs = known ++ draft ∷ [] in
+    let third = bind-ok (members_completed cs draft d start) (λ e. Ok (fold with_added e added)) c second.2 in
+    let fourth = bind-ok (each (checked_member cs draft) d.members) (λ ms. Ok (fold with_member start ms)) third.0 third.1 in
+    let whole : fold with_member start fourth.0 ≡ third.0 = cc (fourth.2) in
+    let grown : fold with_added third.0 added ≡ c = cc (third.2) in
+    record { start = start; draft = draft; members = fourth.0; begun = first.1; drafted = second.1; checked = fourth.1; made = ap (λ (x : Class). fold with_added x added) whole ∙ grown }
+
 -- the class's name is new, and its number is the next one
 pub record IsNext (known : List Class) (c : Class) : Type 0 where
   pub number : c.number ≡ length known + 1
@@ -66,15 +96,11 @@ begins-next known d c h =
     record { number = sym (ap (λ (x : Class). x.number) is) ∙ sym counted; fresh = ap (λ (x : Class). class_named known x.name) (sym is) ∙ fresh }
 
 pub checked-next : (known : List Class) (c : Class) → IsChecked known c → IsNext known c
-unfolding check_class completed
 checked-next known c is =
-    let first = bind-ok (begins known is.tree) _ c is.checks in
-    let second = bind-ok (declared known is.tree first.0) _ c first.2 in
-    let third = bind-ok (each (checked_member _ second.0) is.tree.members) _ c second.2 in
-    let made : fold with_member first.0 third.0 ≡ c = cc (third.2) in
-    let head = same_members third.0 first.0 in
-    let start = begins-next known is.tree first.0 first.1 in
-    record {
-      number = sym (ap (λ (x : Class). x.number) made) ∙ head.number ∙ start.number;
-      fresh = ap (λ (x : Class). class_named known x.name) (sym made) ∙ ap (class_named known) head.name ∙ start.fresh;
-    }
+    let came = came_of known is.added is.tree c is.checks in
+    let head = same_members came.members came.start in
+    let more = same_grown is.added (fold with_member came.start came.members) in
+    let start = begins-next known is.tree came.start came.begun in
+    let number : c.number ≡ came.start.number = sym (ap (λ (x : Class). x.number) came.made) ∙ more.number ∙ head.number in
+    let name : c.name ≡ came.start.name = sym (ap (λ (x : Class). x.name) came.made) ∙ more.name ∙ head.name in
+    record { number = number ∙ start.number; fresh = ap (class_named known) name ∙ start.fresh }

@@ -6,6 +6,7 @@ use Rattle.std.specs.Option.{option_map_or}
 use Rattle.std.proofs.lemmas.List.{map-append}
 use Rattle.std.proofs.lemmas.List.Folds.{list_all-append}
 use Rattle.ode_value.specs.declared.binding.Param.{Param}
+use Rattle.ode_value.specs.declared.change.Added.{Added}
 use Rattle.ode_value.specs.declared.class.Class.{Class}
 use Rattle.ode_value.specs.declared.event.Kind.{Kind}
 use Rattle.ode_value.specs.declared.member.Constraint.{Constraint}
@@ -21,15 +22,15 @@ use Rattle.ode_value.specs.declared.statement.Stmt.{Stmt}
 use Rattle.ode_value.specs.Same.{same_kind}
 use Rattle.ode_types.specs.Bodies.{body, body_checked, next_checked}
 use Rattle.ode_types.specs.Checks.{◌>>=◌, ◌>>◌, each, in_turn, needs, through}
-use Rattle.ode_types.specs.Declaring.{begins, declared, declares, has_method, is_small, kind_word, knows_method, knows_trigger, knows_value, lists, numbered, parent_in, with_member, without_members}
+use Rattle.ode_types.specs.Declaring.{begins, declared, declares, has_method, is_small, kind_word, knows_method, knows_trigger, knows_value, lists, adds, numbered, parent_in, with_added, with_member, without_members}
 use Rattle.ode_types.specs.Events.{kind_method, listed}
 use Rattle.ode_types.specs.Families.{class_named, constraint_named, field_named, line_of}
 use Rattle.ode_types.specs.Kept.{IsTypedClass, are_masks, held, is_body, is_constraint, is_method, is_trigger, slots_behind, slots_through, with_slots}
 use Rattle.ode_types.specs.Limits.{slot_limit}
 use Rattle.ode_types.specs.Scopes.{Scope, behind, member_scope, plain_scope}
-use Rattle.ode_types.specs.Static.{check_class, checked_member, completed, constraint_checked, method_checked, trigger_checked}
+use Rattle.ode_types.specs.Static.{check_grown, checked_member, constraint_checked, method_checked, trigger_checked}
 use Rattle.ode_types.specs.Typing.{fitting}
-use Rattle.ode_types.proofs.CheckedClasses.{bind-ok}
+use Rattle.ode_types.proofs.CheckedClasses.{bind-ok, came_of}
 use Rattle.ode_types.proofs.KeptBodies.{is_constraint-same, is_method-same, is_trigger-same}
 use Rattle.ode_types.proofs.KeptEvents.{event_kept, held_behind, length_held}
 use Rattle.ode_types.proofs.KeptHeads.{all-same, constraint_head, head, method_head, trigger_head}
@@ -84,13 +85,27 @@ module _ (known : List Class) (d : ClassDecl) where
       let p = bind-ok (declares known d c m) (λ x. through (declares known d) x ms) e h in
       ap (λ (x : Class). fold with_member x ms) (declares-adds c m p.0 p.1) ∙ all-add ms p.0 e p.2
 
-  pub declared-adds : (start draft : Class) → declared known d start ≡ Ok draft → fold with_member start d.members ≡ draft
+  adds-added : (c : Class) (a : Added) (e : Class) → adds known d c a ≡ Ok e → with_added c a ≡ e
+  adds-added c a e h =
+      let new = is_none (field_named c.fields a.name) in
+      let p = bind-ok (knows_value known d a.name a.sort) (λ _. needs (Duplicate a.name) new >> Ok (with_added c a)) e h in
+      let q = bind-ok (needs (Duplicate a.name) new) (λ _. Ok (with_added c a)) e p.2 in
+      cc (q.2)
+
+  all-added : (added : List Added) (c e : Class) → through (adds known d) c added ≡ Ok e → fold with_added c added ≡ e
+  all-added [] c e h = cc
+  all-added (a ∷ added) c e h =
+      let p = bind-ok (adds known d c a) (λ x. through (adds known d) x added) e h in
+      ap (λ (x : Class). fold with_added x added) (adds-added c a p.0 p.1) ∙ all-added added p.0 e p.2
+
+  pub declared-adds : (added : List Added) (start draft : Class) → declared known d added start ≡ Ok draft → fold with_added (fold with_member start d.members) added ≡ draft
   unfolding declared
-  declared-adds start draft h =
-      let p = bind-ok (through (declares known d) start d.members) (λ c. needs (TooMany d.name) (is_small known c) >> Ok c) draft h in
-      let q = bind-ok (needs (TooMany d.name) (is_small known p.0)) (λ _. Ok p.0) draft p.2 in
-      let same : p.0 ≡ draft = cc (q.2) in
-      all-add d.members start p.0 p.1 ∙ same
+  declared-adds added start draft h =
+      let p = bind-ok (through (declares known d) start d.members) (λ ms. through (adds known d) ms added >>= (λ c. needs (TooMany d.name) (is_small known c) >> Ok c)) draft h in
+      let q = bind-ok (through (adds known d) p.0 added) (λ c. needs (TooMany d.name) (is_small known c) >> Ok c) draft p.2 in
+      let r = bind-ok (needs (TooMany d.name) (is_small known q.0)) (λ _. Ok q.0) draft q.2 in
+      let same : q.0 ≡ draft = cc (r.2) in
+      ap (λ (x : Class). fold with_added x added) (all-add d.members start p.0 p.1) ∙ all-added added p.0 q.0 q.1 ∙ same
 
 -- ---- the second pass changes no heads
 
@@ -111,6 +126,10 @@ head-with c (member.Trigger t) = ap (λ (ts : List TriggerDecl). record (head c)
 pub head-fold : (ms : List Member) (c : Class) → head (fold with_member c ms) ≡ fold with_member (head c) (map member_head ms)
 head-fold [] c = refl
 head-fold (m ∷ ms) c = head-fold ms (with_member c m) ∙ ap (λ (x : Class). fold with_member x (map member_head ms)) (head-with c m)
+
+pub head-grown : (added : List Added) (c : Class) → head (fold with_added c added) ≡ fold with_added (head c) added
+head-grown [] c = refl
+head-grown (a ∷ added) c = head-grown added (with_added c a)
 
 module _ (cs : List Class) (c : Class) where
   checked-head : (m n : Member) → checked_member cs c m ≡ Ok n → member_head n ≡ member_head m
@@ -263,6 +282,10 @@ module _ (cs : List Class) (c : Class) where
   fold-typed [] e all here = all
   fold-typed (m ∷ ms) e all here = fold-typed ms (with_member e m) (with-typed e m all here.0) here.1
 
+  grown-typed : (added : List Added) (e : Class) → HasTyped e → HasTyped (fold with_added e added)
+  grown-typed [] e all = all
+  grown-typed (a ∷ added) e all = grown-typed added (with_added e a) (record { methods = all.methods; constraints = all.constraints; triggers = all.triggers })
+
 -- ---- a class is typed
 
 -- a class begins without members of its own
@@ -275,23 +298,22 @@ begins-typed known cs e d start h =
     let is : without_members third.0 d.name second.0 ≡ start = cc (third.2) in
     subst (HasTyped cs e) is (record { methods = refl; constraints = refl; triggers = refl })
 
-pub typed_class : (known : List Class) (d : ClassDecl) (c : Class) → check_class known d ≡ Ok c → IsTypedClass (known ++ c ∷ []) c
-unfolding check_class completed
-typed_class known d c h =
-    let first = bind-ok (begins known d) (λ start. declared known d start >>= (λ draft. completed (known ++ draft ∷ []) draft d start)) c h in
-    let start = first.0 in
-    let second = bind-ok (declared known d start) (λ draft. completed (known ++ draft ∷ []) draft d start) c first.2 in
-    let draft = second.0 in
+pub typed_class : (known : List Class) (added : List Added) (d : ClassDecl) (c : Class) → check_grown known added d ≡ Ok c → IsTypedClass (known ++ c ∷ []) c
+typed_class known added d c h =
+    let came = came_of known added d c h in
+    let start = came.start in
+    let draft = came.draft in
+    let ms = came.members in
     let cs = known ++ draft ∷ [] in
-    let third = bind-ok (each (checked_member cs draft) d.members) (λ ms. Ok (fold with_member start ms)) c second.2 in
-    let ms = third.0 in
-    let made : fold with_member start ms ≡ c = cc (third.2) in
+    let same_heads : head (fold with_member start d.members) ≡ head (fold with_member start ms) =
+    head-fold d.members start ∙ ap (fold with_member (head start)) (sym (all-heads cs draft d.members ms came.checked)) ∙ sym (head-fold ms start) in
     let heads : head draft ≡ head c =
-    ap head (sym (declared-adds known d start draft second.1)) ∙ head-fold d.members start
-    ∙ ap (fold with_member (head start)) (sym (all-heads cs draft d.members ms third.1))
-    ∙ sym (head-fold ms start) ∙ ap head made in
-    let all : HasTyped cs draft c =
-    subst (HasTyped cs draft) made (fold-typed cs draft ms start (begins-typed known cs draft d start first.1) (all-typed cs draft d.members ms third.1)) in
+    ap head (sym (declared-adds known d added start draft came.drafted)) ∙ head-grown added (fold with_member start d.members)
+    ∙ ap (λ (x : Class). fold with_added x added) same_heads
+    ∙ sym (head-grown added (fold with_member start ms)) ∙ ap head came.made in
+    let members_typed : HasTyped cs draft (fold with_member start ms) =
+    fold-typed cs draft ms start (begins-typed known cs draft d start came.begun) (all-typed cs draft d.members ms came.checked) in
+    let all : HasTyped cs draft c = subst (HasTyped cs draft) came.made (grown-typed cs draft added (fold with_member start ms) members_typed) in
     record {
       methods = sym (all-same (is_method cs draft) (is_method (known ++ c ∷ []) c) (is_method-same known draft c heads) c.methods) ∙ all.methods;
       constraints = sym (all-same (is_constraint cs draft) (is_constraint (known ++ c ∷ []) c) (is_constraint-same known draft c heads) c.constraints) ∙ all.constraints;

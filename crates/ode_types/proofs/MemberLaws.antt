@@ -3,6 +3,7 @@ use Rattle.std.proofs.Common.{◌≡◌, ℕ, List, [], ◌∷◌, ◌++◌, len
 use Rattle.std.specs.Prelude.{IfOk}
 use Rattle.std.specs.Option.{option_copied}
 use Rattle.ode_value.specs.declared.binding.Param.{Param}
+use Rattle.ode_value.specs.declared.change.Added.{Added}
 use Rattle.ode_value.specs.declared.class.Class.{Class}
 use Rattle.ode_value.specs.declared.statement.ClassDecl.{ClassDecl}
 use Rattle.ode_value.specs.declared.statement.Sort.{Sort}
@@ -12,7 +13,7 @@ use Rattle.ode_types.specs.Declaring.{begins, declared}
 use Rattle.ode_types.specs.Kept.{IsTypedClass}
 use Rattle.ode_types.specs.Limits.{in_slots}
 use Rattle.ode_types.specs.Scopes.{member_scope, scope_of}
-use Rattle.ode_types.specs.Static.{check_class, completed}
+use Rattle.ode_types.specs.Static.{check_grown, completed}
 use Rattle.ode_types.specs.declared.place.Locals.{Locals}
 use Rattle.ode_types.specs.declared.place.Place.{Place}
 use Rattle.ode_types.specs.declared.stop.CheckStop.{CheckStop}
@@ -34,21 +35,21 @@ scope_is place locals classes c name params result known class member returned p
     }
 
 -- both passes, one behind the other
-module _ (known : List Class) (d : ClassDecl) where
-  both : (start draft : Class) → begins known d ≡ Ok start → declared known d start ≡ Ok draft → check_class known d ≡ completed (known ++ draft ∷ []) draft d start
-  unfolding check_class
+module _ (known : List Class) (added : List Added) (d : ClassDecl) where
+  both : (start draft : Class) → begins known d ≡ Ok start → declared known d added start ≡ Ok draft → check_grown known added d ≡ completed (known ++ draft ∷ []) draft d added start
+  unfolding check_grown
   both start draft first second =
-      ap (λ (m : Check Class). m >>= (λ s. declared known d s >>= (λ e. completed (known ++ e ∷ []) e d s))) first
-      ∙ ap (λ (m : Check Class). m >>= (λ e. completed (known ++ e ∷ []) e d start)) second
+      ap (λ (m : Check Class). m >>= (λ s. declared known d added s >>= (λ e. completed (known ++ e ∷ []) e d added s))) first
+      ∙ ap (λ (m : Check Class). m >>= (λ e. completed (known ++ e ∷ []) e d added start)) second
 
-  pub class_answered : (start draft : Class) (r : Result Class CheckStop) → begins known d ≡ Ok start → declared known d start ≡ Ok draft
-      → Answers (completed (known ++ draft ∷ []) draft d start) r → Answers (check_class known d) r
+  pub class_answered : (start draft : Class) (r : Result Class CheckStop) → begins known d ≡ Ok start → declared known d added start ≡ Ok draft
+      → Answers (completed (known ++ draft ∷ []) draft d added start) r → Answers (check_grown known added d) r
   class_answered start draft r first second h = subst (λ (m : Check Class). Answers m r) (sym (both start draft first second)) h
 
-  typed_answer : (r : Result Class CheckStop) → Answers (check_class known d) r → IfOk r (λ c. IsTypedClass (known ++ c ∷ []) c)
-  typed_answer (Ok c) h = typed_class known d c h
+  typed_answer : (r : Result Class CheckStop) → Answers (check_grown known added d) r → IfOk r (λ c. IsTypedClass (known ++ c ∷ []) c)
+  typed_answer (Ok c) h = typed_class known added d c h
   typed_answer (Err e) h = tt
 
-  pub class_typed : (start draft : Class) (r : Result Class CheckStop) → begins known d ≡ Ok start → declared known d start ≡ Ok draft
-      → Answers (completed (known ++ draft ∷ []) draft d start) r → IfOk r (λ c. IsTypedClass (known ++ c ∷ []) c)
+  pub class_typed : (start draft : Class) (r : Result Class CheckStop) → begins known d ≡ Ok start → declared known d added start ≡ Ok draft
+      → Answers (completed (known ++ draft ∷ []) draft d added start) r → IfOk r (λ c. IsTypedClass (known ++ c ∷ []) c)
   class_typed start draft r first second h = typed_answer r (class_answered start draft r first second h)

@@ -4,6 +4,7 @@ use Rattle.std.specs.List.{list_any}
 use Rattle.std.specs.Option.{option_map, option_map_or}
 use Rattle.std.specs.Str.{bytes_eq}
 use Rattle.ode_value.specs.declared.binding.Param.{Param}
+use Rattle.ode_value.specs.declared.change.Added.{Added}
 use Rattle.ode_value.specs.declared.class.Class.{Class}
 use Rattle.ode_value.specs.declared.event.Kind.{Kind}
 use Rattle.ode_value.specs.declared.event.Kind.TheVariants as kind
@@ -15,6 +16,7 @@ use Rattle.ode_value.specs.declared.statement.Member.{Member}
 use Rattle.ode_value.specs.declared.statement.Member.TheVariants as member
 use Rattle.ode_value.specs.declared.statement.Sort.{Sort}
 use Rattle.ode_value.specs.declared.statement.Sort.TheVariants as sort
+use Rattle.ode_value.specs.Fields.{field_of}
 use Rattle.ode_value.specs.Same.{same_kind, same_sort}
 use Rattle.ode_types.specs.Checks.{Check, ◌>>=◌, ◌>>◌, needs, found, through}
 use Rattle.ode_types.specs.Events.{kind_method}
@@ -42,6 +44,10 @@ with_member c (member.Method m) = record c { methods = c.methods ++ m ∷ [] }
 with_member c (member.Constraint x) = record c { constraints = c.constraints ++ x ∷ [] }
 with_member c (member.Events kinds) = record c { kinds = c.kinds ++ kinds }
 with_member c (member.Trigger t) = record c { triggers = c.triggers ++ t ∷ [] }
+
+-- with one more field, which is added to it
+abbrev pub with_added : Class → Added → Class
+with_added c a = record c { fields = c.fields ++ field_of a ∷ [] }
 
 -- the parent is declared, where the class has one
 abbrev pub parent_in : List Class → Option (List ℕ) → Check (Option Class)
@@ -177,9 +183,17 @@ module _ (known : List Class) (d : ClassDecl) where
     knows_trigger c t
     Ok (with_member c (member.Trigger t))
 
-  -- all members
-  unfoldable pub declared : Class → Check Class
-  declared start = do
+  -- an added field, behind those that the class has so far
+  abbrev pub adds : Class → Added → Check Class
+  adds c a = do
+    knows_value a.name a.sort
+    needs (Duplicate a.name) (is_none (field_named c.fields a.name))
+    Ok (with_added c a)
+
+  -- all members, and then all fields that are added
+  unfoldable pub declared : List Added → Class → Check Class
+  declared added start = do
     c ← through declares start d.members
-    needs (TooMany d.name) (is_small known c)
-    Ok c
+    grown ← through adds c added
+    needs (TooMany d.name) (is_small known grown)
+    Ok grown

@@ -1,5 +1,6 @@
 -- The static rules: a checked class or the first rule that is broken, and the same of a statement of a script.
 use Rattle.std.specs.Prelude.{ℕ, List, [], ◌∷◌, ◌++◌, codes, false, fold, None, Ok}
+use Rattle.ode_value.specs.declared.change.Added.{Added}
 use Rattle.ode_value.specs.declared.class.Class.{Class}
 use Rattle.ode_value.specs.declared.member.Constraint.{Constraint}
 use Rattle.ode_value.specs.declared.member.Method.{Method}
@@ -12,7 +13,7 @@ use Rattle.ode_value.specs.declared.statement.Stmt.{Stmt}
 use Rattle.ode_value.specs.declared.value.Ref.{Ref}
 use Rattle.ode_types.specs.Bodies.{checks, body}
 use Rattle.ode_types.specs.Checks.{Check, ◌>>=◌, each}
-use Rattle.ode_types.specs.Declaring.{begins, declared, with_member}
+use Rattle.ode_types.specs.Declaring.{begins, declared, with_added, with_member}
 use Rattle.ode_types.specs.Events.{listed}
 use Rattle.ode_types.specs.Scopes.{Scope, member_scope, plain_scope}
 use Rattle.ode_types.specs.Typing.{fitting}
@@ -51,18 +52,28 @@ checked_member classes c (member.Trigger t) = do
   Ok (member.Trigger u)
 checked_member classes c m = Ok m
 
--- over all members, which are added to what the class begins with
-unfoldable pub completed : List Class → Class → ClassDecl → Class → Check Class
-completed classes c d start = do
+-- over all members, which come to what the class begins with
+unfoldable pub members_completed : List Class → Class → ClassDecl → Class → Check Class
+members_completed classes c d start = do
   members ← each (checked_member classes c) d.members
   Ok (fold with_member start members)
 
--- both passes over a class, by the classes that are known
-unfoldable pub check_class : List Class → ClassDecl → Check Class
-check_class known d = do
+-- and behind them the fields that are added
+abbrev pub completed : List Class → Class → ClassDecl → List Added → Class → Check Class
+completed classes c d added start = do
+  e ← members_completed classes c d start
+  Ok (fold with_added e added)
+
+-- both passes over a class with fields that are added to it, by the classes that are known
+unfoldable pub check_grown : List Class → List Added → ClassDecl → Check Class
+check_grown known added d = do
   start ← begins known d
-  draft ← declared known d start
-  completed (known ++ draft ∷ []) draft d start
+  draft ← declared known d added start
+  completed (known ++ draft ∷ []) draft d added start
+
+-- over a class as it is declared
+abbrev pub check_class : List Class → ClassDecl → Check Class
+check_class known d = check_grown known [] d
 
 -- where a statement of a script stands, by the classes and by the classes of its literals
 abbrev pub script_scope : List Class → List (Ref × ℕ) → Scope

@@ -5,7 +5,8 @@ ghost use Rattle.std.specs.Str.{bytes_eq};
 ghost use Rattle.ode_value.specs.declared.binding.Param.{Param as Parameter};
 ghost use Rattle.ode_types.specs.Checks.{through};
 ghost use Rattle.ode_types.specs.Answers.{Answers, Leaves};
-ghost use Rattle.ode_types.specs.Declaring.{begins, declared, declares, has_method, inherits_shape, is_callable, is_method, is_small, kind_word, knows_method, knows_param, knows_params, knows_sort, knows_trigger, knows_value, lists, numbered, same_params, same_shape, without_members};
+ghost use Rattle.ode_value.specs.Fields.{field_of};
+ghost use Rattle.ode_types.specs.Declaring.{adds, begins, declared, declares, has_method, inherits_shape, is_callable, is_method, is_small, kind_word, knows_method, knows_param, knows_params, knows_sort, knows_trigger, knows_value, lists, numbered, same_params, same_shape, without_members};
 
 use crate::classes::Classes;
 use crate::events::{is_among, kind_method};
@@ -15,8 +16,8 @@ use crate::line::Known;
 use crate::names::word;
 use crate::stop::{CheckStop, boxed, duplicate, too_many, unknown, wrong};
 use ode_value::{
-    Boxed, CheckError, Class, ClassDecl, Constraint, Field, Kind, List, Member, Method, Name,
-    Param, Sort, TriggerDecl,
+    Added, Boxed, CheckError, Class, ClassDecl, Constraint, Field, Kind, List, Member, Method,
+    Name, Param, Sort, TriggerDecl,
 };
 use std::alloc::{AllocError, Global};
 
@@ -472,18 +473,70 @@ fn declare_all(
     Ok(())
 }
 
-/// All members, behind what a class begins with.
+/// A field that was added, as one of the class.
+pub(crate) fn field_of(alloc: Global, added: &Added) -> Result<Field, AllocError>
+    ensures { IfOk result (λ field. field ≡ field_of added.now) }
+{
+    let name = added.name.copy(alloc)?;
+    let sort = added.sort.copy(alloc)?;
+    let value = added.value.copy(alloc)?;
+    Ok(Field {
+        name,
+        sort,
+        birth: added.birth,
+        literal: Some(value),
+    })
+}
+
+// A field that is added, behind those that the class has so far.
+#[tactic(auto, using(crate::proofs::TypingLaws::stops_through))]
+fn add_field(
+    alloc: Global,
+    known: &Classes,
+    decl: &ClassDecl,
+    draft: &mut Class,
+    added: &Added,
+) -> Result<(), CheckStop>
+    ensures { Leaves (adds known.now decl.now draft.old added.now) draft.new result }
+{
+    needs_value(alloc, known, decl, &added.name, &added.sort)?;
+    if field_named(draft.fields.as_slice(), &added.name).is_some() {
+        return duplicate(alloc, &added.name);
+    }
+    draft.fields.push(field_of(alloc, added)?)?;
+    Ok(())
+}
+
+// All fields that are added.
+fn add_fields(
+    alloc: Global,
+    known: &Classes,
+    decl: &ClassDecl,
+    draft: &mut Class,
+    added: &[Added],
+) -> Result<(), CheckStop>
+    ensures { Leaves (through (adds known.now decl.now) draft.old added.now) draft.new result }
+{
+    for field in added {
+        add_field(alloc, known, decl, draft, field)?;
+    }
+    Ok(())
+}
+
+/// All members and then all fields that are added, behind what a class begins with.
 #[tactic(auto, using(crate::proofs::TypingLaws::stops_leaving), unfolding(crate::specs::Declaring::declared))]
 pub(crate) fn declared(
     alloc: Global,
     known: &Classes,
     decl: &ClassDecl,
+    added: &[Added],
     start: &Class,
 ) -> Result<Boxed<Class>, CheckStop>
-    ensures { Answers (declared known.now decl.now start.now) result }
+    ensures { Answers (declared known.now decl.now added.now start.now) result }
 {
     let mut draft = start.copy(alloc)?;
     declare_all(alloc, known, decl, &mut draft, decl.members.as_slice())?;
+    add_fields(alloc, known, decl, &mut draft, added)?;
     if is_small(known, &draft) {
         boxed(alloc, draft)
     } else {

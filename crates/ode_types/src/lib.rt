@@ -23,7 +23,7 @@ pub use classes::Classes;
 pub use limits::{
     ANCESTOR_LIMIT, CLASSES_LIMIT, FIELD_LIMIT, SLOT_LIMIT, TRIGGER_LIMIT, limits_agree,
 };
-pub use members::check_class;
+pub use members::{check_class, check_grown};
 pub use references::literals;
 pub use running::Running;
 pub use statics::check_statement;

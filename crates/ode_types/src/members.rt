@@ -1,24 +1,24 @@
 //! The second pass over a class: bodies, constraints and triggers.
-ghost use Rattle.std.specs.Prelude.{◌≡◌, ◌++◌, ◌∷◌, [], IfOk, Ok, OnOk, false};
+ghost use Rattle.std.specs.Prelude.{◌≡◌, ◌++◌, ◌∷◌, [], IfOk, Ok, OnOk, false, fold};
 ghost use Rattle.std.specs.Option.{option_copied};
 ghost use Rattle.ode_types.specs.Answers.{Answers, Leaves};
-ghost use Rattle.ode_types.specs.Declaring.{with_member};
+ghost use Rattle.ode_types.specs.Declaring.{with_added, with_member};
 ghost use Rattle.ode_types.specs.Typing.{fitting};
 ghost use Rattle.ode_types.specs.Kept.{IsTypedClass};
 ghost use Rattle.ode_types.specs.Scopes.{member_scope, plain_scope, scope_of};
-ghost use Rattle.ode_types.specs.Static.{check_class, checked_member, completed, constraint_checked, method_checked, trigger_checked, trigger_within};
+ghost use Rattle.ode_types.specs.Static.{check_class, check_grown, checked_member, completed, constraint_checked, members_completed, method_checked, trigger_checked, trigger_within};
 
 use crate::bodies::whole_body;
 use crate::classes::Classes;
-use crate::declaring::{begins, declared};
+use crate::declaring::{begins, declared, field_of};
 use crate::events::check_event;
 use crate::line::Known;
 use crate::place::{Locals, Place};
 use crate::rights::fitting;
 use crate::stop::{CheckStop, boxed};
 use ode_value::{
-    Boxed, Class, ClassDecl, Constraint, EventExpr, Expr, Field, Kind, List, Member, Method, Name,
-    Param, Ref, Sort, Stmt, TriggerDecl,
+    Added, Boxed, Class, ClassDecl, Constraint, EventExpr, Expr, Field, Kind, List, Member, Method,
+    Name, Param, Ref, Sort, Stmt, TriggerDecl,
 };
 use std::alloc::{AllocError, Global};
 
@@ -250,8 +250,8 @@ fn add_member(alloc: Global, class: &mut Class, member: Member) -> Result<(), Al
     }
 }
 
-// The second pass over the members of a class, which are added to what it begins with.
-#[tactic(auto, unfolding(crate::specs::Static::completed))]
+// The second pass over the members of a class, which come to what it begins with.
+#[tactic(auto, unfolding(crate::specs::Static::members_completed))]
 fn complete(
     alloc: Global,
     known: &Classes,
@@ -259,7 +259,7 @@ fn complete(
     draft: &Class,
     class: &mut Class,
 ) -> Result<(), CheckStop>
-    ensures { Leaves (completed (known.now ++ draft.now ∷ []) draft.now decl.now class.old) class.new result }
+    ensures { Leaves (members_completed (known.now ++ draft.now ∷ []) draft.now decl.now class.old) class.new result }
 {
     for member in decl.members.as_slice() {
         let checked = check_member(alloc, known, draft, member)?;
@@ -268,31 +268,57 @@ fn complete(
     Ok(())
 }
 
-// The same of a class that begins with this.
-#[tactic(auto, using(crate::proofs::TypingLaws::stops_left))]
+// The fields that are added to a class, behind the others.
+fn put_added(alloc: Global, class: &mut Class, added: &[Added]) -> Result<(), AllocError>
+    ensures { OnOk result (class.new ≡ fold with_added class.old added.now) }
+{
+    for field in added {
+        class.fields.push(field_of(alloc, field)?)?;
+    }
+    Ok(())
+}
+
+// The same of a class that begins with this, and behind its members the fields that are added.
+#[tactic(auto, using(crate::proofs::TypingLaws::stops_leaving))]
 fn completed(
     alloc: Global,
     known: &Classes,
     decl: &ClassDecl,
+    added: &[Added],
     draft: &Class,
     start: Boxed<Class>,
 ) -> Result<Class, CheckStop>
-    ensures { Answers (completed (known.now ++ draft.now ∷ []) draft.now decl.now start) result }
+    ensures { Answers (completed (known.now ++ draft.now ∷ []) draft.now decl.now added.now start) result }
 {
     let mut class = start.into_inner();
     complete(alloc, known, decl, draft, &mut class)?;
+    put_added(alloc, &mut class, added)?;
     Ok(class)
 }
 
-/// A class with slots for the names in its trees, by the classes that are there; or the first static rule that it breaks.
-#[tactic(auto, using(crate::proofs::TypingLaws::stops_through), unfolding(crate::specs::Static::check_class))]
-pub fn check_class(alloc: Global, known: &Classes, decl: &ClassDecl) -> Result<Class, CheckStop>
-    ensures answers { Answers (check_class known.now decl.now) result }
+/// A class with slots for the names in its trees and with fields that are added to it, by the classes that are there; or the first static
+/// rule that it breaks.
+#[tactic(auto, using(crate::proofs::TypingLaws::stops_through), unfolding(crate::specs::Static::check_grown))]
+pub fn check_grown(
+    alloc: Global,
+    known: &Classes,
+    added: &[Added],
+    decl: &ClassDecl,
+) -> Result<Class, CheckStop>
+    ensures answers { Answers (check_grown known.now added.now decl.now) result }
     ensures typed { IfOk result (λ class. IsTypedClass (known.now ++ class ∷ []) class) }
 {
     let start = begins(alloc, known, decl)?;
     let before = start.get();
-    let draft = declared(alloc, known, decl, before)?;
+    let draft = declared(alloc, known, decl, added, before)?;
     let seen = draft.get();
-    completed(alloc, known, decl, seen, start)
+    completed(alloc, known, decl, added, seen, start)
+}
+
+/// The same of a class as it is declared.
+pub fn check_class(alloc: Global, known: &Classes, decl: &ClassDecl) -> Result<Class, CheckStop>
+    ensures answers { Answers (check_class known.now decl.now) result }
+    ensures typed { IfOk result (λ class. IsTypedClass (known.now ++ class ∷ []) class) }
+{
+    check_grown(alloc, known, &[], decl)
 }

@@ -1,5 +1,5 @@
 -- An event whose masks are moved has as many symbols as it had, and a point with the new values has the symbol that it had.
-use Rattle.std.proofs.Common.{◌≡◌, ℕ, ◌+◌, ◌*◌, ◌^◌, ◌≤◌, Bool, true, false, cond, List, [], ◌∷◌, ◌++◌, length, map, Some, None, Option, refl, ap, sym, ◌∙◌, subst}
+use Rattle.std.proofs.Common.{◌≡◌, ℕ, ◌+◌, ◌*◌, ◌^◌, Bool, true, false, cond, List, [], ◌∷◌, ◌++◌, length, map, Some, None, Option, refl, ap, sym, ◌∙◌, subst}
 use Rattle.std.specs.Prelude.{not, filter, filter_map, sum_by, option_map}
 use Rattle.std.specs.List.{cons_option}
 use Rattle.std.specs.Option.{option_map_or}
@@ -239,11 +239,11 @@ count-stays at more e =
     ap size_of (alphabet-is f (moved-alike at more) e) ∙ in-all f (alphabet e)
 
 -- and a point with the new values its symbol
-pub symbol-stays : (new : List Value) (at : ℕ) (e : EventExpr) (params : List Value) (p : Point) → at ≤ length p.fields
+pub symbol-stays : (new : List Value) (at : ℕ) (e : EventExpr) (params : List Value) (p : Point)
     → symbol (moved_event at (length new) e) params (point_with at new p) ≡ symbol e params p
-symbol-stays new at e params p low =
+symbol-stays new at e params p =
     let f = moved_expr at (length new) in
     let q = point_with at new p in
-    let holds = λ (x : Expr). ap is_true (plain-stays at new (record { locals = params ++ p.args; own = p.fields }) low x) in
-    let composite = λ (x : Expr). ap is_true (plain-stays at new (record { locals = params; own = p.fields }) low x) in
+    let holds = λ (x : Expr). ap is_true (plain-stays at new (record { locals = params ++ p.args; own = p.fields }) x) in
+    let composite = λ (x : Expr). ap is_true (plain-stays at new (record { locals = params; own = p.fields }) x) in
     ap (λ a. symbol_among a params q) (alphabet-is f (moved-alike at (length new)) e) ∙ among-with f params p q refl holds composite (alphabet e)

@@ -1,5 +1,5 @@
 -- The marks of an event whose masks are moved are spelled as they were: those of its symbols, and those of points with the new values.
-use Rattle.std.proofs.Common.{◌≡◌, ℕ, ◌-◌, ◌%◌, ◌/◌, ◌^◌, ◌≤◌, true, cond, List, [], ◌∷◌, ◌++◌, length, map, Some, None, Option, refl, ap, ◌∙◌}
+use Rattle.std.proofs.Common.{◌≡◌, ℕ, ◌-◌, ◌%◌, ◌/◌, ◌^◌, true, cond, List, [], ◌∷◌, ◌++◌, length, map, Some, None, Option, refl, ap, ◌∙◌}
 use Rattle.std.specs.Prelude.{◌&&◌, ◌||◌, ◌==◌, nat_lt, option_map}
 use Rattle.std.specs.List.{list_any}
 use Rattle.std.proofs.lemmas.List.{length-map}
@@ -126,11 +126,11 @@ symbols-spelled at more e n =
     let f = moved_expr at more in
     spelled-with f (symbol_mark (moved_event at more e) n) (symbol_mark e n) (symbol-with f (moved-alike at more) e n) e
 
-pub points-spelled : (new : List Value) (at : ℕ) (e : EventExpr) (params : List Value) (p : Point) → at ≤ length p.fields
+pub points-spelled : (new : List Value) (at : ℕ) (e : EventExpr) (params : List Value) (p : Point)
     → spelled (moved_event at (length new) e) (mark (moved_event at (length new) e) params (point_with at new p)) ≡ spelled e (mark e params p)
-points-spelled new at e params p low =
+points-spelled new at e params p =
     let f = moved_expr at (length new) in
     let q = point_with at new p in
-    let holds = λ (x : Expr). ap is_true (plain-stays at new (record { locals = params ++ p.args; own = p.fields }) low x) in
-    let composite = λ (x : Expr). ap is_true (plain-stays at new (record { locals = params; own = p.fields }) low x) in
+    let holds = λ (x : Expr). ap is_true (plain-stays at new (record { locals = params ++ p.args; own = p.fields }) x) in
+    let composite = λ (x : Expr). ap is_true (plain-stays at new (record { locals = params; own = p.fields }) x) in
     spelled-with f (mark (moved_event at (length new) e) params q) (mark e params p) (point-with f (moved-alike at (length new)) params p q refl holds composite e) e

@@ -1,5 +1,5 @@
 -- A plain expression whose places are moved comes to what it came to, and expressions that are moved are the same where they were.
-use Rattle.std.proofs.Common.{◌≡◌, ℕ, zero, suc, ◌+◌, ◌≤◌, List, [], ◌∷◌, ◌++◌, length, take, drop, slice_get, Bool, true, false, refl, ap, sym, ◌∙◌, subst, arith}
+use Rattle.std.proofs.Common.{◌≡◌, ℕ, zero, suc, ◌+◌, List, [], ◌∷◌, ◌++◌, length, slice_get, Bool, true, false, refl, ap, sym, ◌∙◌, subst, arith}
 use Rattle.std.specs.Prelude.{◌&&◌, ◌==◌}
 use Rattle.std.specs.Option.{ok_or}
 use Rattle.std.specs.Str.{bytes_eq}
@@ -10,6 +10,7 @@ use Rattle.ode_value.specs.declared.operator.BinOp.TheVariants as binary
 use Rattle.ode_value.specs.declared.statement.Expr.{Expr, out-Expr, roll-Expr, out-roll-Expr, roll-out-Expr, fold-roll-Expr, map-Expr, ind-Expr}
 use Rattle.ode_value.specs.declared.statement.Expr.TheOpen as expr
 use Rattle.ode_value.specs.declared.value.Value.{Value}
+use Rattle.ode_value.specs.Fields.{put_in}
 use Rattle.ode_value.specs.Masks.{Slots, Plain, plain_of, plain, with_value, side}
 use Rattle.ode_value.specs.Moving.{moved, moved_of, moved_expr, moved_slots}
 use Rattle.ode_value.specs.Operators.{truth, unary_value, binary_value}
@@ -25,12 +26,12 @@ behind-gets (x ∷ new) own place =
     ap (slice_get ((x ∷ new) ++ own)) further ∙ behind-gets new own place
 
 -- the value at a place that is moved is the one that was there
-pub moved-gets : (new own : List Value) (at place : ℕ) → at ≤ length own → slice_get (take at own ++ new ++ drop at own) (moved at (length new) place) ≡ slice_get own place
-moved-gets new [] zero place low = behind-gets new [] place
-moved-gets new (x ∷ own) zero place low = behind-gets new (x ∷ own) place
-moved-gets new [] (suc at) place low = absurd (omega (arith, low))
-moved-gets new (x ∷ own) (suc at) zero low = refl
-moved-gets new (x ∷ own) (suc at) (suc place) low = moved-gets new own at place (omega (arith, low))
+pub moved-gets : (new own : List Value) (at place : ℕ) → slice_get (put_in at new own) (moved at (length new) place) ≡ slice_get own place
+moved-gets new own zero place = behind-gets new own place
+moved-gets new [] (suc at) zero = refl
+moved-gets new [] (suc at) (suc place) = refl
+moved-gets new (x ∷ own) (suc at) zero = refl
+moved-gets new (x ∷ own) (suc at) (suc place) = moved-gets new own at place
 
 moved-apart : (at more m n : ℕ) → moved at more m ≡ moved at more n → m ≡ n
 moved-apart zero more m n h = omega (arith, h)
@@ -62,7 +63,7 @@ moved-roll at more d = fold-roll-Expr Expr (λ x. roll-Expr (moved_of at more x)
 
 -- ---- what an expression comes to
 
-module _ (at : ℕ) (new : List Value) (slots : Slots) (low : at ≤ length slots.own) where
+module _ (at : ℕ) (new : List Value) (slots : Slots) where
   abbrev Stays : Expr → Type 0
   Stays e = plain (moved_expr at (length new) e) (moved_slots at new slots) ≡ plain e slots
 
@@ -94,7 +95,7 @@ module _ (at : ℕ) (new : List Value) (slots : Slots) (low : at ≤ length slot
   level-stays (expr.Lit v) = refl
   level-stays (expr.Name name) = refl
   level-stays (expr.Local place) = refl
-  level-stays (expr.Own place) = ap (λ found. ok_or found (NoObject 0)) (moved-gets new slots.own at place low)
+  level-stays (expr.Own place) = ap (λ found. ok_or found (NoObject 0)) (moved-gets new slots.own at place)
   level-stays expr.This = refl
   level-stays (expr.Slot e place) = refl
   level-stays (expr.Version e) = refl

@@ -10,7 +10,7 @@ use Rattle.ode_value.specs.declared.statement.Sort.{Sort}
 use Rattle.ode_value.specs.declared.value.Value.{Value}
 use Rattle.ode_value.specs.Classes.{is_a}
 use Rattle.ode_value.specs.Denoting.{object_numbered}
-use Rattle.ode_value.specs.Fields.{with_values}
+use Rattle.ode_value.specs.Fields.{put_in}
 use Rattle.ode_value.specs.Pasts.{Past, Kept}
 use Rattle.ode_value.specs.Versions.{Version}
 use Rattle.ode_value.specs.Worlds.{Declared, Object, Bones, World, class_named}
@@ -33,10 +33,10 @@ literals_of c = map (λ (f : List ℕ × Sort × Value). f.2) c.fields
 
 -- a version and a point with these values at a place
 abbrev pub version_with : ℕ → List Value → Version → Version
-version_with place new v = record v { fields = with_values place new v.fields }
+version_with place new v = record v { fields = put_in place new v.fields }
 
 abbrev pub point_with : ℕ → List Value → Point → Point
-point_with place new p = record p { fields = with_values place new p.fields }
+point_with place new p = record p { fields = put_in place new p.fields }
 
 module _ (b : Bones) (c : Change) where
   -- the number of the class, and the place behind its fields, which stand before those of classes that inherit from it

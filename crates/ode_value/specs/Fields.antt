@@ -1,6 +1,6 @@
 -- The fields of a class and the values that a version has of them. A version whose stamp is lower than a field's birth has no value of
 -- its own for that field: it has the literal.
-use Rattle.std.specs.Prelude.{◌≡◌, ℕ, List, [], ◌∷◌, ◌++◌, Bool, cond, nat_le, take, drop, Some}
+use Rattle.std.specs.Prelude.{◌≡◌, ◌≤◌, ℕ, zero, suc, List, [], ◌∷◌, ◌++◌, Bool, cond, nat_le, Some}
 use Rattle.std.specs.List.{AllByRecursion, AllZip, filter}
 use Rattle.std.specs.Option.{option_map_or}
 use Rattle.ode_value.specs.declared.change.Added.{Added}
@@ -13,12 +13,12 @@ use Rattle.ode_value.specs.Worlds.{Declared, class_numbered}
 abbrev pub fields_of : List Declared → ℕ → List Field
 fields_of classes number = option_map_or (λ (c : Class). c.fields) (class_numbered number classes) []
 
--- a field was declared with its class, and all of a class were
-abbrev pub WasDeclared : Field → Type 0
-WasDeclared f = f.birth ≡ 0
+-- a field was there when so many had been added, and all of a class were
+abbrev pub IsBorn : ℕ → Field → Type 0
+IsBorn stamp f = f.birth ≤ stamp
 
-abbrev pub AreDeclared : Class → Type 0
-AreDeclared c = AllByRecursion WasDeclared c.fields
+abbrev pub AreBorn : ℕ → Class → Type 0
+AreBorn stamp c = AllByRecursion (IsBorn stamp) c.fields
 
 -- a field was there at this stamp
 abbrev pub is_born : ℕ → Field → Bool
@@ -40,9 +40,11 @@ IsLiteral stamp f v = cond (is_born stamp f) (Unit {0}) (f.literal ≡ Some v)
 abbrev pub HasLiterals : ℕ → List Field → List Value → Type 0
 HasLiterals stamp fields values = AllZip (IsLiteral stamp) fields values
 
--- values with new ones at a place
-abbrev pub with_values : ℕ → List Value → List Value → List Value
-with_values place new values = take place values ++ new ++ drop place values
+-- a list with new members at a place, where it comes that far
+abbrev pub put_in : {A : Type 0} → ℕ → List A → List A → List A
+put_in zero new xs = new ++ xs
+put_in (suc place) new [] = []
+put_in (suc place) new (x ∷ xs) = x ∷ put_in place new xs
 
 -- a field that was added, as one of the class
 abbrev pub field_of : Added → Field

@@ -1,5 +1,5 @@
 -- Which values fit a sort, and which arguments a trigger.
-use Rattle.std.specs.Prelude.{◌<◌, ◌≤◌, ℕ, List, IsTrue, FitsSigned, Option, Some, None}
+use Rattle.std.specs.Prelude.{◌≡◌, ◌<◌, ◌≤◌, ℕ, List, IsTrue, FitsSigned, Option, Some, None}
 use Rattle.std.specs.Int.{w64}
 use Rattle.std.specs.List.{AllZip, find}
 use Rattle.std.specs.Option.{IfSome}
@@ -15,7 +15,7 @@ use Rattle.ode_value.specs.Objects.{Activation}
 use Rattle.ode_value.specs.References.{IsRef}
 use Rattle.ode_value.specs.Text.{IsText}
 use Rattle.ode_value.specs.Worlds.{Declared, Object, Bones}
-use Rattle.ode_value.specs.Classes.{Trigger, is_a, triggers_of}
+use Rattle.ode_value.specs.Classes.{Trigger, is_a, null, triggers_of}
 use Rattle.ode_value.specs.Firings.{is_of}
 use Rattle.ode_value.specs.Limits.{args_limit}
 use Rattle.ode_value.specs.Denoting.{object_of}
@@ -35,6 +35,14 @@ pub record FitsRef (b : Bones) (class : List ℕ) (r : Ref) : Type 0 where
   pub is : IsRef r
   pub drawn : r.object < b.next
   pub object : IfSome (object_of b r) (FitsObject b class r)
+
+-- a literal of a sort: of a reference's it is null
+abbrev pub IsLiteralOf : Sort → Value → Type 0
+IsLiteralOf sort.Int (value.Int n) = FitsSigned w64 n
+IsLiteralOf sort.Bool (value.Bool b) = Unit {0}
+IsLiteralOf sort.Text (value.Text t) = IsText t
+IsLiteralOf (sort.Reference class) (value.Reference r) = value.Reference r ≡ null
+IsLiteralOf _ _ = ⊥
 
 -- a value fits a sort
 abbrev pub FitsSort : Bones → Sort → Value → Type 0

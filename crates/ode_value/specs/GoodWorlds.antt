@@ -3,19 +3,24 @@ use Rattle.std.specs.Prelude.{◌≡◌, ◌<◌, ◌≤◌, ◌^◌, ◌+◌, �
 use Rattle.std.specs.Int.{w64}
 use Rattle.std.specs.List.{AllByRecursion, AllZip, IsDistinct, flat_map}
 use Rattle.std.specs.Option.{IfSome, IsSome}
+use Rattle.ode_value.specs.declared.change.Added.{Added}
 use Rattle.ode_value.specs.declared.class.Class.{Class}
+use Rattle.ode_value.specs.declared.statement.Sort.{Sort}
+use Rattle.ode_value.specs.declared.statement.Sort.TheVariants as sort
 use Rattle.ode_value.specs.declared.statement.Statement.TheVariants as statement
 use Rattle.ode_value.specs.Objects.{Activation, Histories, Starts, IsWithin}
 use Rattle.ode_value.specs.Pasts.{Kept}
 use Rattle.ode_value.specs.PrintedClasses.{decl_text}
-use Rattle.ode_value.specs.Worlds.{Declared, Entry, Position, class_numbered, Object, Bones}
+use Rattle.ode_value.specs.Worlds.{Declared, Entry, Position, class_named, class_numbered, Object, Bones}
 use Rattle.ode_value.specs.Versions.{Version}
 use Rattle.ode_value.specs.Classes.{trigger_at}
-use Rattle.ode_value.specs.Fields.{AreDeclared, HasLiterals}
-use Rattle.ode_value.specs.Fitting.{FitFields, HaveTrigger, trigger_in}
+use Rattle.ode_value.specs.Changing.{added_to}
+use Rattle.ode_value.specs.Fields.{AreBorn, HasLiterals}
+use Rattle.ode_value.specs.Fitting.{FitFields, HaveTrigger, IsLiteralOf, trigger_in}
 use Rattle.ode_value.specs.Limits.{number_limit, transaction_limit, queue_limit, generation_limit, weight_limit}
 use Rattle.ode_value.specs.ClassLimits.{limits_class}
 use Rattle.ode_value.specs.Language.{ListWorld, Language}
+use Rattle.ode_value.specs.Text.{IsName}
 use Rattle.ode_value.specs.Weights.{weight}
 use Rattle.ode_value.specs.Denoting.{object_at}
 
@@ -31,19 +36,37 @@ pub record IsNext (most n : ℕ) : Type 0 where
 
 -- ---- classes
 
--- A class's text is read as its tree, which is accepted after the earlier classes and gives the class. No field was added to it.
-pub record IsClass (l : Language) (earlier : List Declared) (c : Declared) : Type 0 where
+-- A class's text is read as its tree, which is accepted after the earlier classes with the fields that were added to it, and gives
+-- the class.
+pub record IsClass (l : Language) (added : List Added) (earlier : List Declared) (c : Declared) : Type 0 where
   pub number : c.class.number ≡ length earlier + 1
   pub low : c.class.number < 2 ^ 32
   pub text : l.statement_of (decl_text c.tree ++ codes ";") ≡ Ok (statement.Class c.tree)
-  pub checked : l.class_of (map (λ (d : Declared). d.class) earlier) c.tree ≡ Ok c.class
+  pub checked : l.class_of (map (λ (d : Declared). d.class) earlier) (added_to c.class.number added) c.tree ≡ Ok c.class
   pub limits : limits_class c ≡ Ok c
-  pub fields : AreDeclared c.class
+  pub fields : AreBorn (length added) c.class
 
 -- each class, behind the earlier ones
-abbrev pub AreClasses : Language → List Declared → List Declared → Type 0
-AreClasses l earlier [] = Unit {0}
-AreClasses l earlier (c ∷ cs) = IsClass l earlier c × AreClasses l (earlier ++ c ∷ []) cs
+abbrev pub AreClasses : Language → List Added → List Declared → List Declared → Type 0
+AreClasses l added earlier [] = Unit {0}
+AreClasses l added earlier (c ∷ cs) = IsClass l added earlier c × AreClasses l added (earlier ++ c ∷ []) cs
+
+-- a sort's class is known, where it is one of references
+abbrev pub IsKnownSort : List Declared → Sort → Type 0
+IsKnownSort classes (sort.Reference name) = IsSome (class_named name classes)
+IsKnownSort classes _ = Unit {0}
+
+-- an added field: a known class, a name, a known sort, and a literal of it, which is null where it is one of references
+pub record IsAdded (classes : List Declared) (a : Added) : Type 0 where
+  pub class : IsSome (class_numbered a.class classes)
+  pub name : IsName a.name
+  pub sort : IsKnownSort classes a.sort
+  pub literal : IsLiteralOf a.sort a.value
+
+-- fields with births that rise by one
+abbrev pub AreAdded : List Declared → ℕ → List Added → Type 0
+AreAdded classes birth [] = Unit {0}
+AreAdded classes birth (a ∷ more) = (a.birth ≡ birth) × IsAdded classes a × AreAdded classes (birth + 1) more
 
 -- ---- objects
 
@@ -99,10 +122,11 @@ pub record IsPosition (p : Position) : Type 0 where
 
 -- ---- the whole
 
--- bones: no class was given fields, no two objects or activations have one number
+-- bones: no two objects or activations have one number
 pub record AreBones (l : Language) (b : Bones) : Type 0 where
-  pub classes : AreClasses l [] b.classes
-  pub added : b.added ≡ []
+  pub classes : AreClasses l b.added [] b.classes
+  pub added : AreAdded b.classes 1 b.added
+  pub few_added : length b.added < 2 ^ 32
   pub rising : RiseFrom 0 (map (λ (o : Object). o.id) b.objects)
   pub objects : AllByRecursion (IsObject b) b.objects
   pub numbers : IsDistinct nat_eq (flat_map drawn_numbers b.objects)

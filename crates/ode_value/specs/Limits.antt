@@ -39,7 +39,11 @@ args_limit = 768
 
 -- the bytes of all records but for the queue's entries
 abbrev pub weight_limit : ℕ
-weight_limit = 8388608
+weight_limit = 268435456
+
+-- the same in a file of the first format
+abbrev pub first_weight_limit : ℕ
+first_weight_limit = 8388608
 
 -- the next number of an object or an activation, the next transaction's, and the next entry's
 abbrev pub number_limit : ℕ

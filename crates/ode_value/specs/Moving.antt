@@ -5,7 +5,7 @@ use Rattle.ode_value.specs.declared.event.EventExpr.TheOpen as event
 use Rattle.ode_value.specs.declared.statement.Expr.{Expr, fold-Expr, roll-Expr}
 use Rattle.ode_value.specs.declared.statement.Expr.TheOpen as expr
 use Rattle.ode_value.specs.declared.value.Value.{Value}
-use Rattle.ode_value.specs.Fields.{with_values}
+use Rattle.ode_value.specs.Fields.{put_in}
 use Rattle.ode_value.specs.Masks.{Slots}
 
 -- where a place comes to, with so many more at a place
@@ -24,7 +24,7 @@ moved_expr at more = fold-Expr Expr (λ d. roll-Expr (moved_of at more d))
 
 -- what a plain expression reads, with new values at a place
 abbrev pub moved_slots : ℕ → List Value → Slots → Slots
-moved_slots at new slots = record { locals = slots.locals; own = with_values at new slots.own }
+moved_slots at new slots = record { locals = slots.locals; own = put_in at new slots.own }
 
 -- an event with other masks, by one level
 abbrev pub with_masks_of : (Expr → Expr) → event.EventExpr-F EventExpr → event.EventExpr-F EventExpr

@@ -21,6 +21,10 @@ line text = text ++ 10 ∷ []
 abbrev pub class_line : List ℕ → List ℕ
 class_line name = line (codes "class " ++ name)
 
+-- `changed C`
+abbrev pub changed_line : List ℕ → List ℕ
+changed_line name = line (codes "changed " ++ name)
+
 -- `new #1`
 abbrev pub new_line : ℕ → List ℕ
 new_line id = line (codes "new #" ++ digits_of id)

@@ -10,7 +10,7 @@ ghost use Rattle.ode_value.specs.Marks.{Mark, mark, spelled};
 ghost use Rattle.ode_value.specs.Points.{points, fires};
 ghost use Rattle.ode_value.specs.Symbols.{symbol, symbol_count, symbol_mark};
 ghost use Rattle.ode_value.specs.Changing.{point_with};
-ghost use Rattle.ode_value.specs.Fields.{WasDeclared, born_values};
+ghost use Rattle.ode_value.specs.Fields.{IsBorn, born_values};
 ghost use Rattle.ode_value.specs.Fitting.{FitFields};
 ghost use Rattle.ode_value.specs.Lengths.{value_length, version_length};
 ghost use Rattle.ode_value.specs.Masks.{Slots, plain};
@@ -40,15 +40,15 @@ pub fn lengths_are_counts()
     ensures version { (id : ℕ) (fields : Items Field) (v : Version) → row_weight (version_row id fields v) ≡ version_length v.stamp (born_values v.stamp fields v.fields) }
 {}
 
-/// Where all fields of a class were declared, a version's record has all of its values.
-pub fn declared_fields_are_born()
-    ensures { (b : Bones) (stamp : ℕ) (fields : Items Field) (values : Items Value) → AllByRecursion WasDeclared fields → FitFields b fields values
+/// Where all fields of a class were there at a version's stamp, its record has all of its values.
+pub fn born_fields_are_all()
+    ensures { (b : Bones) (stamp : ℕ) (fields : Items Field) (values : Items Value) → AllByRecursion (IsBorn stamp) fields → FitFields b fields values
         → born_values stamp fields values ≡ values }
 {}
 
 /// Where a class gets fields, a plain expression whose places are moved comes to what it came to; moved ones are the same where they were.
 pub fn moved_expressions_stand()
-    ensures value { (new : Items Value) (at : ℕ) (x : Expr) (slots : Slots) → at ≤ length slots.own →
+    ensures value { (new : Items Value) (at : ℕ) (x : Expr) (slots : Slots) →
         plain (moved_expr at (length new) x) (moved_slots at new slots) ≡ plain x slots }
     ensures same { (at more : ℕ) (x y : Expr) → same_expr (moved_expr at more x) (moved_expr at more y) ≡ same_expr x y }
 {}
@@ -56,7 +56,7 @@ pub fn moved_expressions_stand()
 /// An event whose masks are moved has as many symbols, and a point with the new values the symbol that it had.
 pub fn moved_events_stand()
     ensures count { (at more : ℕ) (e : EventExpr) → symbol_count (moved_event at more e) ≡ symbol_count e }
-    ensures symbol { (new : Items Value) (at : ℕ) (e : EventExpr) (params : Items Value) (p : Point) → at ≤ length p.fields →
+    ensures symbol { (new : Items Value) (at : ℕ) (e : EventExpr) (params : Items Value) (p : Point) →
         symbol (moved_event at (length new) e) params (point_with at new p) ≡ symbol e params p }
 {}
 
@@ -64,7 +64,7 @@ pub fn moved_events_stand()
 pub fn moved_marks_stand()
     ensures symbol { (at more : ℕ) (e : EventExpr) (n : ℕ) →
         spelled (moved_event at more e) (symbol_mark (moved_event at more e) n) ≡ spelled e (symbol_mark e n) }
-    ensures point { (new : Items Value) (at : ℕ) (e : EventExpr) (params : Items Value) (p : Point) → at ≤ length p.fields →
+    ensures point { (new : Items Value) (at : ℕ) (e : EventExpr) (params : Items Value) (p : Point) →
         spelled (moved_event at (length new) e) (mark (moved_event at (length new) e) params (point_with at new p)) ≡ spelled e (mark e params p) }
 {}
 

@@ -21,7 +21,9 @@ pub const VALUE_LIMIT: usize = 3968;
 /// Bytes of an activation's arguments.
 pub const ARGS_LIMIT: usize = 768;
 /// Bytes of all records but for the queue's entries.
-pub const WEIGHT_LIMIT: u64 = 8_388_608;
+pub const WEIGHT_LIMIT: u64 = 268_435_456;
+/// The same in a file of the first format.
+pub const FIRST_WEIGHT_LIMIT: u64 = 8_388_608;
 /// The next number of an object or an activation, the next transaction's, and the next entry's.
 pub const NUMBER_LIMIT: u64 = 4_611_686_018_427_387_904;
 /// The next transaction's number in a file.
@@ -64,6 +66,7 @@ pub fn limits_agree()
     ensures value { VALUE_LIMIT ≡ machine.value_limit }
     ensures args { ARGS_LIMIT ≡ machine.args_limit }
     ensures weight { WEIGHT_LIMIT ≡ machine.weight_limit }
+    ensures first_weight { FIRST_WEIGHT_LIMIT ≡ machine.first_weight_limit }
     ensures number { NUMBER_LIMIT ≡ machine.number_limit }
     ensures transaction { TRANSACTION_LIMIT ≡ machine.transaction_limit }
     ensures version { VERSION_LIMIT ≡ machine.version_limit }

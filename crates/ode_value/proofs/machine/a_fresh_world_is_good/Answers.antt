@@ -9,7 +9,8 @@ unfolding weight queue_limit IsDistinct
 returns c l = record {
   bones = record {
     classes = tt;
-    added = refl;
+    added = tt;
+    few_added = omega arith;
     rising = tt;
     objects = tt;
     numbers = tt;
