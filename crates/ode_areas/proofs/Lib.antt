@@ -8,3 +8,4 @@ pub mod Fitting
 pub mod Moving
 pub mod Above
 pub mod Committing
+pub mod OtherArea

@@ -1,6 +1,8 @@
 -- What a keeper of two areas holds on a host.
 use Rattle.std.specs.Prelude.{◌≡◌, ◌≤◌, ℕ, List, Bool}
 use Rattle.ode_gate.specs.Headers.{IsOfAreas}
+use Rattle.ode_gate.specs.declared.header.Header.{Header}
+use Rattle.ode_gate.specs.declared.places.TheConstants.{AREA_1}
 use Rattle.ode_gate.specs.Slots.{Counts}
 use Rattle.ode_host.specs.View.{View}
 use Rattle.ode_journal.specs.Appends.{JournalStands, need_of, room_of}
@@ -14,9 +16,25 @@ use Rattle.ode_keep.specs.declared.limits.TheConstants.{MAX_RECORD_BYTES}
 abbrev pub is_live : Areas → Bool
 is_live keeper = keeper.is_live
 
--- the bytes of the records that it has in memory
+-- how many bytes its records may have
+abbrev pub most : Areas → ℕ
+most keeper = MAX_RECORD_BYTES
+
+-- the records that it has in memory
+abbrev pub held : Areas → Entries
+held keeper = keeper.map
+
+-- and their bytes
 abbrev pub held_bytes : Areas → ℕ
-held_bytes keeper = record_bytes keeper.map
+held_bytes keeper = record_bytes (held keeper)
+
+-- the header under which its records stand
+abbrev pub header_of : Areas → Header
+header_of keeper = keeper.header
+
+-- they stand in area 1
+abbrev pub IsInOne : Areas → Type 0
+IsInOne keeper = keeper.header.body_at ≡ AREA_1
 
 -- the frame of these changes fits behind the journal
 abbrev pub FitsJournal : Areas → Changes → Type 0

@@ -49,7 +49,7 @@ impl Areas {
 }
 
 impl<H: Host> Keep<H> for Areas {
-    ghost use Rattle.ode_areas.specs.Holding.{FitsJournal, AreasHold, is_live};
+    ghost use Rattle.ode_areas.specs.Holding.{FitsJournal, AreasHold, is_live, most};
     ghost use Rattle.ode_areas.specs.Image.{AreasMean};
     ghost use Rattle.ode_keep.specs.Payloads.{payload_of};
     ghost use Rattle.ode_areas.specs.Steps.{checkpoint_length};
@@ -65,6 +65,8 @@ impl<H: Host> Keep<H> for Areas {
     ghost means = { AreasMean };
 
     ghost live = { is_live };
+
+    ghost most = { most };
 
     ghost stands = { λ keeper host entries h. stands_law keeper (H.view host) entries h };
 

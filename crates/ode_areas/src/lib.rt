@@ -12,5 +12,6 @@ mod plan;
 mod snapshot;
 mod start;
 mod steps;
+mod to_one;
 
 pub use areas::Areas;

@@ -1,5 +1,5 @@
 //! What a commit writes before its frame.
-ghost use Rattle.std.specs.Prelude.{◌≡◌, ◌+◌, ◌<◌, ◌≤◌, length, IfOk, MatchOption};
+ghost use Rattle.std.specs.Prelude.{◌≡◌, ◌+◌, ◌<◌, ◌≤◌, ◌++◌, [], ◌∷◌, length, IfOk, MatchOption};
 ghost use Rattle.std.specs.List.{AllByRecursion};
 ghost use Rattle.std.specs.Option.{IfSome};
 ghost use Rattle.ode_gate.specs.Slots.{IsSlot};
@@ -11,10 +11,12 @@ ghost use Rattle.ode_areas.specs.Steps.{IsNext, MovesOver, empty_under};
 
 use crate::map::Map;
 use crate::snapshot::{shut_snapshot, snapshot_length};
-use ode_gate::{AREA_0, AREA_1, AREA_LEN, AREAS_END, FORMAT, Header, TWO_AREAS, next_generation};
+use ode_gate::{
+    AREA_0, AREA_1, AREA_LEN, AREAS_END, FIRST_FORMAT, Header, SHUT, TWO_AREAS, next_generation,
+};
 use ode_journal::{FRAME_BYTES, Journal};
 use ode_keep::{KeepError, MAX_PAYLOAD_LEN};
-use std::alloc::Global;
+use std::alloc::{AllocError, Global};
 
 /// A snapshot for the other area, with a shut gate behind it, and the header that is to follow.
 #[derive(Drop)]
@@ -36,7 +38,7 @@ fn next_header(older: &Header, length: u64) -> Header
     };
     let slot = if older.slot == 0 { 1 } else { 0 };
     Header {
-        format: FORMAT,
+        format: FIRST_FORMAT,
         layout: TWO_AREAS,
         generation: next_generation(older.generation),
         body_at,
@@ -45,6 +47,23 @@ fn next_header(older: &Header, length: u64) -> Header
         journal_end,
         slot,
     }
+}
+
+/// A checkpoint of these records, of which the snapshot has this length, into the other area.
+pub(crate) fn checkpoint_of(
+    alloc: Global,
+    header: &Header,
+    map: &Map,
+    size: u64,
+) -> Result<Checkpoint, AllocError>
+    requires { size < AREA_LEN }
+    ensures follows { IfOk result (λ c. IsNext header.now c.header) }
+    ensures long { IfOk result (λ c. c.header.body_len ≡ size) }
+    ensures spelled { IfOk result (λ c. AllByRecursion FitsRow map.now → c.bytes.items ≡ snapshot map.now ++ SHUT ∷ []) }
+{
+    let bytes = shut_snapshot(alloc, map, size as usize)?;
+    let header = next_header(header, size);
+    Ok(Checkpoint { header, bytes })
 }
 
 /// The checkpoint that is due before a frame whose payload has this length, and none where the frame fits its journal.
@@ -76,7 +95,6 @@ pub(crate) fn checkpoint_for(
         let total = map.bytes();
         return Err(KeepError::TooLarge { total });
     }
-    let bytes = shut_snapshot(alloc, map, length as usize)?;
-    let header = next_header(header, length);
-    Ok(Some(Checkpoint { header, bytes }))
+    let checkpoint = checkpoint_of(alloc, header, map, length)?;
+    Ok(Some(checkpoint))
 }

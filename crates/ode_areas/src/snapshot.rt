@@ -21,6 +21,15 @@ pub(crate) fn snapshot_length(map: &Map) -> u64
     bytes.saturating_add(fields)
 }
 
+/// The snapshot of these records.
+pub(crate) fn snapshot_of(alloc: Global, map: &Map) -> Result<Vec<u8>, AllocError>
+    ensures { IfOk result (λ bytes. AllByRecursion FitsRow map.now → bytes.items ≡ snapshot map.now) }
+{
+    let mut bytes = Vec::new(alloc);
+    map.records.put_rows(&mut bytes)?;
+    Ok(bytes)
+}
+
 /// The snapshot of these records, of this length in bytes, and one shut gate behind it.
 pub(crate) fn shut_snapshot(alloc: Global, map: &Map, length: usize) -> Result<Vec<u8>, AllocError>
     requires { length < 2 ^ 63 }

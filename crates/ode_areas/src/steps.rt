@@ -18,8 +18,8 @@ use ode_gate::{Header, SLOT_LEN, change_header};
 use ode_host::{Failed, Host, write_synced};
 use ode_journal::{AppendError, Frame, Journal};
 
-// Writes a snapshot into the area that no header counts, and then changes the header to it.
-fn move_over<H: Host>(host: &mut H, checkpoint: &Checkpoint) -> Result<(), Failed>
+/// Writes a snapshot into the area that no header counts, and then changes the header to it.
+pub(crate) fn move_over<H: Host>(host: &mut H, checkpoint: &Checkpoint) -> Result<(), Failed>
     requires { IsSlot checkpoint.now.header.slot }
     ensures moved { OnOk result ((older : Header) (place : Journal) (entries : Entries)
         → StandUnder older place entries (H.view host.old)

@@ -1,5 +1,5 @@
 -- What stands in a slot is one thing, and so is what an image says.
-use Rattle.std.proofs.Common.{◌≡◌, ◌⊎◌, inl, inr, ⊎_elim, ℕ, List, [], ◌∷◌, Some, None, Ok, Err, Result, refl, sym, ◌∙◌, ap, subst, arith}
+use Rattle.std.proofs.Common.{◌≡◌, ◌≤◌, ◌⊎◌, inl, inr, ⊎_elim, ℕ, List, [], ◌∷◌, Some, None, Ok, Err, Result, refl, sym, ◌∙◌, ap, subst, arith}
 use Rattle.std.specs.Prelude.{is_some}
 use Rattle.std.specs.Int.{w32}
 use Rattle.std.proofs.lemmas.Bool.{cases_eq}
@@ -11,7 +11,7 @@ use Rattle.ode_gate.specs.declared.error.GateError.TheVariants.{DiskFault, NoDat
 use Rattle.ode_gate.specs.declared.header.Header.{Header}
 use Rattle.ode_gate.specs.declared.slot.Slot.{Slot}
 use Rattle.ode_gate.specs.declared.slot.Slot.TheVariants.{Shut, Newer, Broken, Good}
-use Rattle.ode_gate.specs.Headers.{IsHeader, header_bytes, next_generation}
+use Rattle.ode_gate.specs.Headers.{IsHeader, IsOfAreas, IsOfPages, header_bytes, next_generation}
 use Rattle.ode_gate.specs.Slots.{Counts, HasOpenSlot, HoldsHeader, IsBroken, IsNewer, IsOpen, IsShut, Leads, bytes_of, open_body, other_slot, place_of}
 use Rattle.ode_gate.specs.Readings.{HasNone, IsBadAt, IsFirstNewer, NoneNewer, ReadsAs, Says, later_of, said_by}
 use Rattle.ode_gate.proofs.Slotted.{opens}
@@ -31,11 +31,14 @@ holds_one bytes g h first second slot =
     let same : header_bytes g ≡ header_bytes h = cc (both) in
     same_header g h (is_in_range g first.rules) (is_in_range h second.rules) same slot
 
-format_at : (gate : ℕ) (h : Header) → IsHeader h → number_at w32 (gate ∷ header_bytes h) FORMAT_AT ≡ FORMAT
+format_at : (gate : ℕ) (h : Header) → IsHeader h → number_at w32 (gate ∷ header_bytes h) FORMAT_AT ≡ h.format
 unfolding header_bytes
-format_at gate h rules = from_be_bytes-to_be_bytes_4 h.format (is_in_range h rules).format ∙ rules.format
+format_at gate h rules = from_be_bytes-to_be_bytes_4 h.format (is_in_range h rules).format
 
--- a header that keeps the rules has the known format
+known_format : (h : Header) → IsHeader h → h.format ≤ FORMAT
+known_format h rules = ⊎_elim (λ (areas : IsOfAreas h). omega (arith, areas.format)) (λ (pages : IsOfPages h). pages.format.1) rules.layout
+
+-- a header that keeps the rules has a known format
 pub holds_newer : (bytes : List ℕ) (h : Header) (format : ℕ) → HoldsHeader bytes h → IsNewer bytes format → ⊥
 holds_newer [] h format holds newer = let no : None ≡ Some (header_bytes h) = holds.spells in cc (no)
 holds_newer (gate ∷ body) h format holds newer = ⊎_elim
@@ -43,8 +46,8 @@ holds_newer (gate ∷ body) h format holds newer = ⊎_elim
     (λ (opened : (gate ≡ OPEN) × (open_body (gate ∷ body) ≡ Some body)).
     let both : Some body ≡ Some (header_bytes h) = sym opened.1 ∙ holds.spells in
     let is : body ≡ header_bytes h = cc (both) in
-    let one : format ≡ FORMAT = newer.says ∙ ap (λ (l : List ℕ). number_at w32 (gate ∷ l) FORMAT_AT) is ∙ format_at gate h holds.rules in
-    omega (arith, one, newer.above))
+    let its : format ≡ h.format = newer.says ∙ ap (λ (l : List ℕ). number_at w32 (gate ∷ l) FORMAT_AT) is ∙ format_at gate h holds.rules in
+    omega (arith, its, newer.above, known_format h holds.rules))
     (opens gate body)
 
 -- a slot reads as one thing

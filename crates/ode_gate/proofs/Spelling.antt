@@ -29,7 +29,7 @@ areas_in_range h rules areas =
     (λ (b : (h.body_at ≡ AREA_1) × (h.journal_end ≡ AREAS_END)). (omega (arith, b.0), omega (arith, b.1)))
     areas.area in
     record {
-      format = omega (arith, rules.format);
+      format = omega (arith, areas.format);
       layout = omega (arith, areas.layout);
       generation = omega (arith, rules.generation);
       body_at = omega (arith, starts.0);
@@ -45,7 +45,7 @@ pages_in_range h rules pages =
     (λ (b : (h.journal_at ≡ REGION_1) × (h.journal_end ≡ PAGES_AT)). (omega (arith, b.0), omega (arith, b.1)))
     pages.region in
     record {
-      format = omega (arith, rules.format);
+      format = omega (arith, pages.format);
       layout = omega (arith, pages.layout);
       generation = omega (arith, rules.generation);
       body_at = omega (arith, pages.body);
@@ -88,11 +88,10 @@ pub moved_header : (h : Header) (slot : ℕ) → IsHeader h → IsHeader (record
 unfolding header_bytes
 moved_header h slot rules = (
   record {
-    format = rules.format;
     generation = rules.generation;
     layout = ⊎_elim
-        (λ (a : IsOfAreas h). inl (record { layout = a.layout; area = a.area; journal = a.journal; room = a.room }))
-        (λ (p : IsOfPages h). inr (record { layout = p.layout; region = p.region; body = p.body; pages = p.pages }))
+        (λ (a : IsOfAreas h). inl (record { format = a.format; layout = a.layout; area = a.area; journal = a.journal; room = a.room }))
+        (λ (p : IsOfPages h). inr (record { format = p.format; layout = p.layout; region = p.region; body = p.body; pages = p.pages }))
         rules.layout;
   },
   refl,

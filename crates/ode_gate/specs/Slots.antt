@@ -50,7 +50,7 @@ pub record HoldsHeader (bytes : List ℕ) (h : Header) : Type 0 where
   pub spells : Spells bytes h
   pub rules : IsHeader h
 
--- an open slot has a format above the known one, whatever else it has
+-- an open slot has a format above the last known one, whatever else it has
 pub record IsNewer (bytes : List ℕ) (format : ℕ) : Type 0 where
   pub opened : IsOpen bytes
   pub there : FORMAT_AT + byte_len w32 ≤ length bytes

@@ -16,7 +16,7 @@ pub enum GateError {
     /// The open slot that stands at this place, in bytes, breaks a rule. At 0 also: both slots are open with one generation.
     #[error("the header at {at} is bad")]
     BadHeader { at: u64 },
-    /// An open slot has this format, which is above the known one.
+    /// An open slot has this format, which is above the last known one.
     #[error("the file has the newer format {found}")]
     NewerFormat { found: u32 },
 }

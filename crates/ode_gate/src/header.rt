@@ -4,8 +4,8 @@ ghost use Rattle.ode_gate.specs.Headers.{next_generation};
 
 use crate::gate::OPEN;
 use crate::places::{
-    AREA_0, AREA_1, AREA_LEN, AREAS_END, FORMAT, GENERATIONS, HEADER_LEN, MAX_PAGES, PAGES,
-    PAGES_AT, REGION_0, REGION_1, SLOT_LEN, TWO_AREAS,
+    AREA_0, AREA_1, AREA_LEN, AREAS_END, FIRST_FORMAT, FORMAT, GENERATIONS, HEADER_LEN, MAX_PAGES,
+    PAGES, PAGES_AT, REGION_0, REGION_1, SLOT_LEN, TWO_AREAS,
 };
 use ode_host::{take_u32, take_u64};
 
@@ -18,7 +18,7 @@ const FIELDS_LEN: usize = HEADER_LEN - 8;
 /// Where the body and the journal lie. All places are offsets in the file, in bytes.
 #[derive(Clone, Copy, Debug, PartialEq, Eq)]
 pub struct Header {
-    /// The format of the file: 1.
+    /// The format of the file: `FIRST_FORMAT` to `FORMAT`.
     pub format: u32,
     /// How the file is laid out: 1 is two areas, 2 is pages.
     pub layout: u32,
@@ -85,7 +85,8 @@ impl Header {
     {
         let is_area = self.body_at == AREA_0 && self.journal_end == AREA_1
             || self.body_at == AREA_1 && self.journal_end == AREAS_END;
-        self.layout == TWO_AREAS
+        self.format == FIRST_FORMAT
+            && self.layout == TWO_AREAS
             && is_area
             && self.body_len < AREA_LEN
             && self.journal_at == self.body_at + self.body_len
@@ -97,15 +98,19 @@ impl Header {
     {
         let is_region = self.journal_at == REGION_0 && self.journal_end == REGION_1
             || self.journal_at == REGION_1 && self.journal_end == PAGES_AT;
-        self.layout == PAGES && is_region && self.body_at == PAGES_AT && self.body_len <= MAX_PAGES
+        FIRST_FORMAT <= self.format
+            && self.format <= FORMAT
+            && self.layout == PAGES
+            && is_region
+            && self.body_at == PAGES_AT
+            && self.body_len <= MAX_PAGES
     }
 
     // Whether it keeps the rules of a header.
     fn is_valid(&self) -> bool
         ensures { IsTrue result ↔ IsHeader self.now }
     {
-        self.format == FORMAT
-            && 1 <= self.generation
+        1 <= self.generation
             && self.generation <= GENERATIONS
             && (self.is_of_areas() || self.is_of_pages())
     }

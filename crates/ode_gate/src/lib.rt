@@ -14,9 +14,9 @@ pub use error::GateError;
 pub use gate::{OPEN, SHUT};
 pub use header::{Header, next_generation};
 pub use places::{
-    AREA_0, AREA_1, AREA_LEN, AREAS_END, FORMAT, FORMAT_AT, GENERATIONS, HEADER_LEN, MAX_PAGES,
-    PAGE_LEN, PAGES, PAGES_AT, REGION_0, REGION_1, REGION_LEN, SLOT_LEN, SLOT_STEP, SLOTS_END,
-    TWO_AREAS,
+    AREA_0, AREA_1, AREA_LEN, AREAS_END, FIRST_FORMAT, FORMAT, FORMAT_AT, GENERATIONS, HEADER_LEN,
+    MAX_PAGES, PAGE_LEN, PAGES, PAGES_AT, REGION_0, REGION_1, REGION_LEN, SLOT_LEN, SLOT_STEP,
+    SLOTS_END, TWO_AREAS,
 };
 pub use reading::read_header;
 pub use slot::Slot;

@@ -1,7 +1,10 @@
 //! Where the parts of a file stand, and how long they are, in bytes.
 
-/// The format of a file, which is the known one.
-pub const FORMAT: u32 = 1;
+/// The first format: two areas, or pages.
+pub const FIRST_FORMAT: u32 = 1;
+
+/// The last format that is known: pages alone.
+pub const FORMAT: u32 = 2;
 
 /// The layout of two areas.
 pub const TWO_AREAS: u32 = 1;

@@ -22,7 +22,7 @@ pub fn place_of(slot: u8) -> u64
 pub enum Slot {
     /// The gate isn't open, or isn't there.
     Shut,
-    /// It is open, and its format is this one, which is above the known one.
+    /// It is open, and its format is this one, which is above the last known one.
     Newer(u32),
     /// It is open and holds no header that keeps the rules.
     Broken,

@@ -15,7 +15,7 @@ ghost use Rattle.ode_keep.specs.Keeping.{UnlessFault, is_usable};
 
 use crate::batch::Batch;
 use crate::error::KeepError;
-use crate::limits::{MAX_CHANGES, MAX_RECORD_BYTES};
+use crate::limits::MAX_CHANGES;
 use crate::rows::Rows;
 use ode_host::Host;
 use ode_value::{Key, List};
@@ -30,6 +30,9 @@ pub trait Keep<H: Host> {
 
     /// Whether the disk never failed it.
     ghost live: { Self → Bool };
+
+    /// How many bytes the keys and values of all records may have.
+    ghost most: { Self → ℕ };
 
     /// Whether it may be used: not after `DiskFault`.
     fn live(&self) -> bool
@@ -97,9 +100,9 @@ pub trait Keep<H: Host> {
         ensures done { OnOk result ((entries : Entries) → holds self.old (H.view host.old) entries
             → holds self.new (H.view host.new) (applied batch.now entries)) }
         ensures fits { OnOk result ((entries : Entries) → holds self.old (H.view host.old) entries
-            → record_bytes (applied batch.now entries) ≤ MAX_RECORD_BYTES) }
+            → record_bytes (applied batch.now entries) ≤ most self.old) }
         ensures too_large { OnTooLarge result (λ total. (entries : Entries) → holds self.old (H.view host.old) entries
-            → (total ≡ record_bytes (applied batch.now entries)) × (MAX_RECORD_BYTES < total)) }
+            → (total ≡ record_bytes (applied batch.now entries)) × (most self.old < total)) }
         ensures refused { OnRefusal result ((entries : Entries) → holds self.old (H.view host.old) entries
             → holds self.new (H.view host.new) entries) }
         ensures looks { OnRefusal result (Looks (H.view host.old) (H.view host.new)) }

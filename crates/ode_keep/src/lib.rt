@@ -5,6 +5,7 @@ mod batch;
 mod error;
 mod keep;
 mod limits;
+mod roomy;
 mod rows;
 mod spelling;
 
@@ -12,8 +13,10 @@ pub use batch::Batch;
 pub use error::{KeepError, StartError};
 pub use keep::Keep;
 pub use limits::{
-    MAX_CHANGE_LEN, MAX_CHANGES, MAX_GROWTH, MAX_PAYLOAD_LEN, MAX_RECORD_BYTES, MAX_VALUE,
+    MAX_CHANGE_LEN, MAX_CHANGES, MAX_GROWTH, MAX_PAGED_BYTES, MAX_PAYLOAD_LEN, MAX_RECORD_BYTES,
+    MAX_VALUE,
 };
+pub use roomy::Roomy;
 pub use rows::{Reader, Rows};
 pub use spelling::{
     COUNT_LEN, FirstChange, FirstRow, KEY_LEN, PUT, REMOVAL, ROW_HEAD, first_row, key_bytes,

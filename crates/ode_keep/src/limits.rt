@@ -9,8 +9,11 @@ pub const MAX_CHANGES: usize = CHANGE_LIMIT;
 /// Bytes in the value of a record.
 pub const MAX_VALUE: usize = VALUE_LIMIT;
 
-/// Bytes in the keys and values of all records.
+/// Bytes in the keys and values of all records that a keeper of two areas takes.
 pub const MAX_RECORD_BYTES: u64 = 16_777_216;
+
+/// Bytes in the keys and values of all records that a keeper of pages takes.
+pub const MAX_PAGED_BYTES: u64 = 276_824_064;
 
 /// Bytes of a change: a byte, the key, the length of the value, and the value.
 pub const MAX_CHANGE_LEN: usize = 1 + ROW_HEAD + MAX_VALUE;

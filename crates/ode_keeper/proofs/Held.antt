@@ -1,17 +1,20 @@
 -- What stands for records under a header that counts, and that a keeper holds the records of one map alone.
-use Rattle.std.proofs.Common.{◌≡◌, ◌≤◌, ◌∙◌, inl, inr, ℕ, List, Some, subst, sym}
+use Rattle.std.proofs.Common.{◌≡◌, ◌≤◌, ◌∙◌, ⊎_elim, inl, inr, ℕ, List, Some, ap, subst, sym}
 use Rattle.ode_gate.specs.Slots.{Counts}
 use Rattle.ode_gate.specs.declared.header.Header.{Header}
-use Rattle.ode_host.specs.Host.{Tells}
+use Rattle.ode_gate.specs.declared.places.TheConstants.{FORMAT}
+use Rattle.ode_gate.proofs.Counting.{one_counts}
+use Rattle.ode_host.specs.Host.{Stands, Tells}
 use Rattle.ode_host.specs.View.{View}
-use Rattle.ode_keep.specs.Entries.{Entries, record_bytes}
-use Rattle.ode_keep.specs.declared.limits.TheConstants.{MAX_RECORD_BYTES}
+use Rattle.ode_keep.specs.Entries.{Changes, Entries, applied, record_bytes}
+use Rattle.ode_keep.specs.Keeping.{LeavesOldOrNew}
 use Rattle.ode_keeper.specs.Files.{FileMeans, HasMap}
-use Rattle.ode_keeper.specs.Holding.{KeeperHolds}
+use Rattle.ode_keeper.specs.Holding.{HoldsLast, KeeperHolds, most}
 use Rattle.ode_keeper.specs.Laws.{stands_law}
-use Rattle.ode_keeper.specs.OneMap.{one_map}
+use Rattle.ode_keeper.specs.OneMap.{never_two, one_map}
 use Rattle.ode_keeper.specs.declared.keeper.Keeper.{Keeper}
 use Rattle.ode_keeper.specs.declared.keeper.Keeper.TheVariants.{Areas, Pages}
+use Rattle.ode_paging.specs.Meaning.{PagesMeanIn}
 
 -- an image stands for the records that it has under the header that counts
 pub means_map : (header : Header) (image : List ℕ) (entries : Entries) → Counts image header → HasMap header image entries → FileMeans image entries
@@ -34,6 +37,29 @@ one_held keeper view entries others first second =
     one_map b.0 entries others (subst (λ (file : List ℕ). FileMeans file entries) (one_file view a.0 b.0 a.1.tells b.1.tells) a.2) b.2
 
 -- and they aren't above the limit
-pub held_within : (keeper : Keeper) (view : View) (entries : Entries) → KeeperHolds keeper view entries → record_bytes entries ≤ MAX_RECORD_BYTES
+pub held_within : (keeper : Keeper) (view : View) (entries : Entries) → KeeperHolds keeper view entries → record_bytes entries ≤ most keeper
 held_within (Areas keeper) view entries h = h.within
 held_within (Pages keeper) view entries h = h.within
+
+-- over a file of the last format they stand in pages
+pub held_last : (image : List ℕ) (own : Entries) → PagesMeanIn FORMAT image own → (keeper : Keeper) (view : View) (entries : Entries) → Stands image view → KeeperHolds keeper view entries
+    → HoldsLast keeper view entries
+held_last image own is (Areas keeper) view entries stands h =
+    let same : h.file ≡ image = one_file view h.file image h.journal.stands.tells stands.tells in
+    absurd (never_two image keeper.header is.means.header (subst (λ (file : List ℕ). Counts file keeper.header) same h.counts) is.means.counts h.areas is.means.pages)
+held_last image own is (Pages keeper) view entries stands h =
+    let same : h.file ≡ image = one_file view h.file image h.journal.stands.tells stands.tells in
+    let under : keeper.header ≡ is.means.header
+    = one_counts image keeper.header is.means.header (subst (λ (file : List ℕ). Counts file keeper.header) same h.counts) is.means.counts in
+    record { hold = h; last = ap (λ (k : Header). k.format) under ∙ is.is }
+
+-- pages of whatever format are an image's records
+pub pages_left : (format : ℕ) (entries : Entries) (changes : Changes) (old : View) (c o : List ℕ) → LeavesOldOrNew (PagesMeanIn format) entries changes old c o
+    → LeavesOldOrNew FileMeans entries changes old c o
+pages_left format entries changes old c o left = record {
+  whole = ⊎_elim
+      (λ (was : PagesMeanIn format c entries). inl (inr was.means))
+      (λ (now : PagesMeanIn format c (applied changes entries)). inr (inr now.means))
+      left.whole;
+  text = left.text;
+}

@@ -12,6 +12,11 @@ abbrev pub is_live : Keeper → Bool
 is_live (Areas keeper) = of_areas.is_live keeper
 is_live (Pages keeper) = of_pages.is_live keeper
 
+-- how many bytes its records may have
+abbrev pub most : Keeper → ℕ
+most (Areas keeper) = of_areas.most keeper
+most (Pages keeper) = of_pages.most keeper
+
 -- the bytes of the keys and values of the records that it has
 abbrev pub held_bytes : Keeper → ℕ
 held_bytes (Areas keeper) = of_areas.held_bytes keeper
@@ -21,3 +26,8 @@ held_bytes (Pages keeper) = of_pages.bytes keeper
 abbrev pub KeeperHolds : Keeper → View → Entries → Type 0
 KeeperHolds (Areas keeper) view entries = of_areas.AreasHold keeper view entries
 KeeperHolds (Pages keeper) view entries = of_pages.PagesHold keeper view entries
+
+-- it holds them in pages of the last format
+abbrev pub HoldsLast : Keeper → View → Entries → Type 0
+HoldsLast (Areas keeper) view entries = ⊥
+HoldsLast (Pages keeper) view entries = of_pages.LastHold keeper view entries

@@ -15,7 +15,7 @@ use Rattle.ode_pagemap.specs.Laws as of_pages
 -- what it holds stands on the disk
 pub stands_law : (keeper : Keeper) (view : View) (entries : Entries) → KeeperHolds keeper view entries → (file : List ℕ) × Stands file view × FileMeans file entries
 stands_law (Areas keeper) view entries h = let it = of_areas.stands_law keeper view entries h in (it.0, it.1, inl it.2)
-stands_law (Pages keeper) view entries h = let it = of_pages.stands_law keeper view entries h in (it.0, it.1, inr it.2)
+stands_law (Pages keeper) view entries h = let it = of_pages.stands_law keeper view entries h in (it.0, it.1, inr it.2.means)
 
 -- and it holds it still where the disk is left alone
 pub stays_law : (keeper : Keeper) (old new : View) (entries : Entries) → KeeperHolds keeper old entries → ((file : List ℕ) → Stands file old → Stands file new) → KeeperHolds keeper new entries

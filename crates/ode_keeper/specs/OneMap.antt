@@ -50,7 +50,7 @@ module _ (header : Header) (image : List ℕ) where
   one_bad_page p q first second = of_pages.one_bad_page header image p q first.1 second.1
 
 -- two headers that count in one image are one, so they are of one layout
-never_two : (image : List ℕ) (g h : Header) → Counts image g → Counts image h → IsOfAreas g → IsOfPages h → ⊥
+pub never_two : (image : List ℕ) (g h : Header) → Counts image g → Counts image h → IsOfAreas g → IsOfPages h → ⊥
 never_two image g h first second areas pages = two_layouts h image (subst IsOfAreas (one_counts image g h first second) areas) pages
 
 -- an image stands for one map

@@ -1,6 +1,7 @@
 //! A keeper of either layout.
 
 use ode_areas::Areas;
+use ode_keep::{MAX_PAGED_BYTES, MAX_RECORD_BYTES};
 use ode_pagemap::PageMap;
 
 /// How many pages a keeper has room for in memory.
@@ -17,7 +18,7 @@ pub enum Keeper {
 
 impl Keeper {
     ghost use Rattle.std.specs.Prelude.{◌≡◌};
-    ghost use Rattle.ode_keeper.specs.Holding.{held_bytes};
+    ghost use Rattle.ode_keeper.specs.Holding.{held_bytes, most};
 
     /// The bytes of the keys and values of the records that it has.
     pub fn bytes(&self) -> u64
@@ -26,6 +27,16 @@ impl Keeper {
         match self {
             Keeper::Areas(areas) => areas.bytes(),
             Keeper::Pages(pages) => pages.bytes(),
+        }
+    }
+
+    /// How many bytes its records may have.
+    pub fn most(&self) -> u64
+        ensures { result ≡ most self.now }
+    {
+        match self {
+            Keeper::Areas(_) => MAX_RECORD_BYTES,
+            Keeper::Pages(_) => MAX_PAGED_BYTES,
         }
     }
 }

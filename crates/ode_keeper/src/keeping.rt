@@ -9,7 +9,7 @@ use ode_value::{Key, List};
 
 impl<H: Host> Keep<H> for Keeper {
     ghost use Rattle.ode_keeper.specs.Files.{FileMeans};
-    ghost use Rattle.ode_keeper.specs.Holding.{KeeperHolds, is_live};
+    ghost use Rattle.ode_keeper.specs.Holding.{KeeperHolds, is_live, most};
     ghost use Rattle.ode_keeper.specs.Laws.{one_map_law, rising_law, stands_law, stays_law};
 
     ghost holds = { KeeperHolds };
@@ -17,6 +17,8 @@ impl<H: Host> Keep<H> for Keeper {
     ghost means = { FileMeans };
 
     ghost live = { is_live };
+
+    ghost most = { most };
 
     ghost stands = { λ keeper host entries h. stands_law keeper (H.view host) entries h };
 
@@ -36,28 +38,28 @@ impl<H: Host> Keep<H> for Keeper {
     fn get(&mut self, host: &mut H, key: Key) -> Result<Option<List<u8>>, KeepError> {
         match self {
             Keeper::Areas(areas) => areas.get(host, key),
-            Keeper::Pages(pages) => Keep::get(pages, host, key),
+            Keeper::Pages(pages) => PageMap::get(pages, host, key),
         }
     }
 
     fn keys_from(&mut self, host: &mut H, key: Key) -> Result<Option<Key>, KeepError> {
         match self {
             Keeper::Areas(areas) => areas.keys_from(host, key),
-            Keeper::Pages(pages) => Keep::keys_from(pages, host, key),
+            Keeper::Pages(pages) => PageMap::keys_from(pages, host, key),
         }
     }
 
     fn rows_from(&mut self, host: &mut H, key: Key) -> Result<Rows, KeepError> {
         match self {
             Keeper::Areas(areas) => areas.rows_from(host, key),
-            Keeper::Pages(pages) => Keep::rows_from(pages, host, key),
+            Keeper::Pages(pages) => PageMap::rows_from(pages, host, key),
         }
     }
 
     fn queued(&mut self, host: &mut H) -> Result<u64, KeepError> {
         match self {
             Keeper::Areas(areas) => areas.queued(host),
-            Keeper::Pages(pages) => Keep::queued(pages, host),
+            Keeper::Pages(pages) => PageMap::queued(pages, host),
         }
     }
 

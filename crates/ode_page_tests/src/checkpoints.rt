@@ -5,7 +5,7 @@ use crate::images::{LAST, LAST_SIZE, full_file, worn_again_file, worn_file};
 use crate::keepers::stop_everywhere;
 use crate::store::{Counting, Store};
 use ode_host::Torn;
-use ode_keep::{KeepError, MAX_RECORD_BYTES};
+use ode_keep::MAX_RECORD_BYTES;
 use std::process::Abort;
 use std::test::Fail;
 
@@ -56,10 +56,6 @@ fn a_checkpoint_outlives_a_stop_at_each_call(rt: HostRuntime) -> Result<(), Fail
     Ok(())
 }
 
-const TOO_LARGE: Result<(), KeepError> = Err(KeepError::TooLarge {
-    total: MAX_RECORD_BYTES + 1,
-});
-
 // The bytes of the records, and what stands under the last entry.
 fn is_full(rt: &impl Abort, store: &mut Store) {
     equal(rt, &store.keeper.bytes(), &MAX_RECORD_BYTES);
@@ -68,16 +64,13 @@ fn is_full(rt: &impl Abort, store: &mut Store) {
 }
 
 #[test]
-fn a_byte_too_much_changes_nothing(rt: HostRuntime) -> Result<(), Fail> {
+fn pages_take_more_records_than_two_areas(rt: HostRuntime) -> Result<(), Fail> {
     let mut store = Store::of(rt.alloc(), &full_file(rt.alloc())?, 64)?;
     is_full(&rt, &mut store);
-    let length = store.host.image().len();
-    let size = usize::from(LAST_SIZE);
+    let size = usize::from(LAST_SIZE).saturating_add(1);
     let last = u64::from(LAST);
-    equal(&rt, &store.put(last, size.saturating_add(1), 3), &TOO_LARGE);
-    is_full(&rt, &mut store);
-    equal(&rt, &store.host.image().len(), &length);
     equal(&rt, &store.put(last, size, 3), &Ok(()));
     equal(&rt, &store.found(last), &Ok(Some((size, 3))));
+    equal(&rt, &store.keeper.bytes(), &(MAX_RECORD_BYTES + 1));
     Ok(())
 }

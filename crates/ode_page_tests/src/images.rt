@@ -81,12 +81,12 @@ pub fn placed_file(alloc: Global, pages: u16) -> Result<Vec<u8>, AllocError> {
     Ok(image)
 }
 
-/// The last page of a file that is full, and the size of the value in it.
+/// The last page of such a file, and the size of the value in it.
 pub const LAST: u16 = 4210;
 
 pub const LAST_SIZE: u16 = 349;
 
-/// A file whose records count 16,777,216 bytes, as many as they may: 4,210 of the longest values, which count 3,985, and one that
+/// A file whose records count 16,777,216 bytes, as many as each keeper takes: 4,210 of the longest values, which count 3,985, and one that
 /// counts the 366 bytes that are left, each in a page of its own.
 pub fn full_file(alloc: Global) -> Result<Vec<u8>, AllocError> {
     let mut image = placed(alloc, LAST + 1)?;

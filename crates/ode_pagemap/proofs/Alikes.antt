@@ -14,7 +14,7 @@ use Rattle.ode_pages.specs.Pages.{IsPage}
 use Rattle.ode_pages.proofs.Paging.{length-page}
 use Rattle.ode_paging.specs.Gathering.{gathered}
 use Rattle.ode_paging.specs.Images.{Image}
-use Rattle.ode_paging.specs.Meaning.{HasMap, PagesMean}
+use Rattle.ode_paging.specs.Meaning.{HasMap, PagesMeanIn}
 use Rattle.ode_paging.specs.Standing.{HasPage, HavePages, bytes_at, filled, image_of, place_of}
 use Rattle.ode_pagemap.specs.Alike.{AreAlike, HaveSamePages, journal_bytes}
 use Rattle.ode_pagemap.specs.Placing.{in_place, place_at}
@@ -130,8 +130,8 @@ module _ (header : Header) (place : Journal) (images : List Image) (pages : List
   pub map_in : HasMap header file (gathered [] pages)
   map_in = record { images = images; over = has.over; pages = pages; count = has.count; each = has.each; apart = has.apart; map = refl }
 
-  pub means_in : Counts file header → PagesMean file (gathered [] pages)
-  means_in counts = record { header = header; counts = counts; pages = has.form; has = map_in }
+  pub means_in : Counts file header → PagesMeanIn header.format file (gathered [] pages)
+  means_in counts = record { means = record { header = header; counts = counts; pages = has.form; has = map_in }; is = refl }
 
   module _ (c : List ℕ) where
     journal_alike : journal_bytes header place.at c ≡ journal_bytes header place.at file → IsJournal header.journal_at header.journal_end has.over.frames c

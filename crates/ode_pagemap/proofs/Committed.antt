@@ -9,7 +9,7 @@ use Rattle.ode_keep.specs.Entries.{Changes, Entries, applied}
 use Rattle.ode_keep.specs.Keeping.{LeavesOldOrNew}
 use Rattle.ode_paging.specs.declared.opening.Opened.{Opened}
 use Rattle.ode_paging.specs.Images.{Image}
-use Rattle.ode_paging.specs.Meaning.{PagesMean}
+use Rattle.ode_paging.specs.Meaning.{PagesMeanIn}
 use Rattle.ode_paging.specs.Gathering.{gathered}
 use Rattle.ode_paging.specs.Standing.{HasPage}
 use Rattle.ode_pagemap.specs.declared.checkpoint.Checkpoint.{Checkpoint}
@@ -22,11 +22,11 @@ use Rattle.ode_pagemap.proofs.Framing.{journal_stands}
 use Rattle.ode_pagemap.proofs.Under.{page_there}
 
 -- a host that is looked at leaves the records that stand
-pub looked : (file : List ℕ) (old new : View) (entries : Entries) (changes : Changes) → ((c o : List ℕ) → old.left old.moment c o → old.text ≡ Some o)
-    → Stands file old → PagesMean file entries → Looks old new → LeavesOnly old new (LeavesOldOrNew PagesMean entries changes old)
-looked file old new entries changes text_stands stands means looks =
-    looks_on old old new (LeavesOldOrNew PagesMean entries changes old) (started old (LeavesOldOrNew PagesMean entries changes old))
-    (λ c o left. record { whole = inl (subst (λ (l : List ℕ). PagesMean l entries) (sym (stands.only c o left)) means); text = text_stands c o left })
+pub looked : (format : ℕ) (file : List ℕ) (old new : View) (entries : Entries) (changes : Changes) → ((c o : List ℕ) → old.left old.moment c o → old.text ≡ Some o)
+    → Stands file old → PagesMeanIn format file entries → Looks old new → LeavesOnly old new (LeavesOldOrNew (PagesMeanIn format) entries changes old)
+looked format file old new entries changes text_stands stands means looks =
+    looks_on old old new (LeavesOldOrNew (PagesMeanIn format) entries changes old) (started old (LeavesOldOrNew (PagesMeanIn format) entries changes old))
+    (λ c o left. record { whole = inl (subst (λ (l : List ℕ). PagesMeanIn format l entries) (sym (stands.only c o left)) means); text = text_stands c o left })
     looks
 
 each : {A : Type 0} (P Q : A → Type 0) (l : List A) → AllByRecursion P l → ((x : A) → P x → Q x) → AllByRecursion Q l
@@ -92,5 +92,5 @@ module _ (keeper : PageMap) (view : View) (changes : Changes) (entries : Entries
       (knows_still keeper now images is.later (applied changes entries) opened cache is.knows)
 
   -- and what a stop leaves on the way is said of the records
-  pub left_on : (new : View) → LeavesOnly view new (LeavesOldOrNew PagesMean (gathered [] is.pages) changes view) → LeavesOnly view new (LeavesOldOrNew PagesMean entries changes view)
-  left_on new leaves = subst (λ (l : Entries). LeavesOnly view new (LeavesOldOrNew PagesMean l changes view)) (sym is.map) leaves
+  pub left_on : (format : ℕ) (new : View) → LeavesOnly view new (LeavesOldOrNew (PagesMeanIn format) (gathered [] is.pages) changes view) → LeavesOnly view new (LeavesOldOrNew (PagesMeanIn format) entries changes view)
+  left_on format new leaves = subst (λ (l : Entries). LeavesOnly view new (LeavesOldOrNew (PagesMeanIn format) l changes view)) (sym is.map) leaves

@@ -15,7 +15,7 @@ use Rattle.ode_journal.specs.declared.journal.Journal.{Journal}
 use Rattle.ode_value.specs.Keys.{entry_kind}
 use Rattle.ode_keep.specs.Entries.{Changes, Entries, HasRisingKeys, applied, count_of_kind, record_bytes}
 use Rattle.ode_keep.specs.Keeping.{OnTooLarge}
-use Rattle.ode_keep.specs.declared.limits.TheConstants.{MAX_RECORD_BYTES}
+use Rattle.ode_keep.specs.declared.limits.TheConstants.{MAX_PAGED_BYTES}
 use Rattle.ode_keep.specs.declared.error.KeepError.{KeepError}
 use Rattle.ode_keep.specs.declared.error.KeepError.TheVariants.{Memory, DiskFault, TooLarge, Damaged}
 use Rattle.ode_paging.specs.declared.opening.Opened.{Opened}
@@ -148,7 +148,7 @@ module _ (keeper now : PageMap) (plan : Plan) (due : Option Checkpoint) (opened 
                 (subst (λ (l : List (ℕ × Entries)). AllByRecursion (λ e. HasPage keeper.header keeper.opened.images holds.file e.0 e.1) l) (sym rest) stood) gone
                 (λ e stands none. new.others e.0 none ∙ page_here keeper.header keeper.opened.journal keeper.opened.images pages holds.file old e.0 e.1 stands))
                 (pages_among plan.images pages later new plan.pages.entries formed.pages formed.payload.rising);
-            within = subst (λ (n : ℕ). n ≤ MAX_RECORD_BYTES) planned.counted.bytes formed.within;
+            within = subst (λ (n : ℕ). n ≤ MAX_PAGED_BYTES) planned.counted.bytes formed.within;
           };
         }
 
@@ -164,7 +164,7 @@ record HoldsBy (header : Header) (opened : Opened) (held : List (ℕ × Entries)
   opens : OpensAs header file opened entries
   journal : JournalStands header.journal_at opens.has.over.frames file opened.journal view
   cached : AllByRecursion (λ e. HasPage header opened.images file e.0 e.1) held
-  within : record_bytes entries ≤ MAX_RECORD_BYTES
+  within : record_bytes entries ≤ MAX_PAGED_BYTES
 
 pub still_holds : (keeper now : PageMap) (old new : View) (entries : Entries) (images : List Image) → now.header ≡ keeper.header → now.opened ≡ keeper.opened
     → now.cache.pages.entries ≡ without images keeper.cache.pages.entries → Looks old new → PagesHold keeper old entries → PagesHold now new entries

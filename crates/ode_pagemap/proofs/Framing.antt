@@ -15,7 +15,7 @@ use Rattle.ode_keep.specs.Entries.{Changes, Entries}
 use Rattle.ode_keep.specs.Keeping.{LeavesOldOrNew}
 use Rattle.ode_paging.specs.Gathering.{gathered}
 use Rattle.ode_paging.specs.Images.{Image, IsPayload}
-use Rattle.ode_paging.specs.Meaning.{HasImages, PagesMean}
+use Rattle.ode_paging.specs.Meaning.{HasImages, PagesMeanIn}
 use Rattle.ode_paging.specs.Overlays.{laid}
 use Rattle.ode_paging.specs.Standing.{HavePages}
 use Rattle.ode_pagemap.specs.Alike.{HaveSamePages}
@@ -98,7 +98,7 @@ module _ (h : Header) (place : Journal) (images : List Image) (pages : List Entr
 
   module _ (changes : Changes) (over : List Image) (payload : List ℕ) (later : List Entries) (makes : Makes changes over payload pages later) where
     -- while the frame is added
-    pub frame_leaves : (c o : List ℕ) → IsBeforeOrAfter h.journal_at place.end frames payload file old c o → LeavesOldOrNew PagesMean (gathered [] pages) changes old c o
+    pub frame_leaves : (c o : List ℕ) → IsBeforeOrAfter h.journal_at place.end frames payload file old c o → LeavesOldOrNew (PagesMeanIn h.format) (gathered [] pages) changes old c o
     frame_leaves c o left =
         let counts : Counts c h = front_counts c left.outside in
         record {
@@ -107,7 +107,7 @@ module _ (h : Header) (place : Journal) (images : List Image) (pages : List Entr
               (λ (now : IsJournal h.journal_at place.end (frames ++ payload ∷ []) c).
               let longer : Journal = record { at = gate_behind h.journal_at (frames ++ payload ∷ []); end = place.end } in
               let stands : StandIn h longer (laid over images) later c = after c left.outside changes over payload later makes longer now refl refl in
-              inr (subst (λ (l : Entries). PagesMean c l) (sym makes.map) (means_in h longer (laid over images) later c stands counts)))
+              inr (subst (λ (l : Entries). PagesMeanIn h.format c l) (sym makes.map) (means_in h longer (laid over images) later c stands counts)))
               left.whole;
           text = left.text;
         }
@@ -125,10 +125,10 @@ module _ (h : Header) (place : Journal) (images : List Image) (pages : List Entr
     }
 
 -- what leaves the pages leaves the old records or the new
-pub old_left : (pages : List Entries) (changes : Changes) (old : View) (c o : List ℕ) → LeavesPages pages old c o → LeavesOldOrNew PagesMean (gathered [] pages) changes old c o
-old_left pages changes old c o left = record { whole = inl left.means; text = left.text }
+pub old_left : (format : ℕ) (pages : List Entries) (changes : Changes) (old : View) (c o : List ℕ) → LeavesPages format pages old c o → LeavesOldOrNew (PagesMeanIn format) (gathered [] pages) changes old c o
+old_left format pages changes old c o left = record { whole = inl left.means; text = left.text }
 
 -- and so it is where the text was the same before
-pub text_back : (entries : Entries) (changes : Changes) (old mid : View) → mid.text ≡ old.text → (c o : List ℕ) → LeavesOldOrNew PagesMean entries changes mid c o
-    → LeavesOldOrNew PagesMean entries changes old c o
-text_back entries changes old mid same c o left = record { whole = left.whole; text = sym same ∙ left.text }
+pub text_back : (format : ℕ) (entries : Entries) (changes : Changes) (old mid : View) → mid.text ≡ old.text → (c o : List ℕ) → LeavesOldOrNew (PagesMeanIn format) entries changes mid c o
+    → LeavesOldOrNew (PagesMeanIn format) entries changes old c o
+text_back format entries changes old mid same c o left = record { whole = left.whole; text = sym same ∙ left.text }

@@ -18,3 +18,4 @@ pub mod Committing
 pub mod Least
 pub mod Committed
 pub mod Paged
+pub mod Last

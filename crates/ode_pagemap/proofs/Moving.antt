@@ -17,7 +17,9 @@ use Rattle.ode_journal.specs.declared.journal.Journal.{Journal}
 use Rattle.ode_journal.specs.Frames.{IsJournal, gate_behind}
 use Rattle.ode_keep.specs.Entries.{Entries}
 use Rattle.ode_pages.specs.Pages.{IsPage}
+use Rattle.ode_paging.specs.Gathering.{gathered}
 use Rattle.ode_paging.specs.Images.{Image}
+use Rattle.ode_paging.specs.Meaning.{PagesMeanIn}
 use Rattle.ode_paging.specs.Standing.{HasPage, filled, image_of}
 use Rattle.ode_pagemap.specs.Alike.{AreAlike, HaveSamePages}
 use Rattle.ode_pagemap.specs.Placing.{ArePlaced, IsSameBeside, LeavesBeside, TouchesNone, in_place, place_at}
@@ -130,7 +132,7 @@ module _ (older : Header) (place : Journal) (images : List Image) (pages : List 
 
 -- What a stop leaves in each step, from a file that stands.
 module _ (older : Header) (place : Journal) (images : List Image) (pages : List Entries) (old : View) (stand : StandUnder older place images pages old) where
-  pub images_leave : (c o : List ℕ) → LeavesBeside images stand.file old c o → LeavesPages pages old c o
+  pub images_leave : (c o : List ℕ) → LeavesBeside images stand.file old c o → LeavesPages older.format pages old c o
   images_leave c o left = record {
     means =
         means_in older place images pages c (beside_stands older place images pages stand.file c stand.has left.beside)
@@ -146,7 +148,7 @@ module _ (older : Header) (place : Journal) (images : List Image) (pages : List 
     middle_counts : Counts middle older
     middle_counts = beside_counts older place images pages stand.file middle stand.has placed.beside stand.counts
 
-    pub gate_leaves : (mid : View) → mid.text ≡ old.text → (c o : List ℕ) → LeavesTorn h.journal_at 1 middle mid c o → LeavesPages pages old c o
+    pub gate_leaves : (mid : View) → mid.text ≡ old.text → (c o : List ℕ) → LeavesTorn h.journal_at 1 middle mid c o → LeavesPages older.format pages old c o
     gate_leaves mid same c o left = record {
       means =
           means_in older place images pages c (gate_stands older place images pages middle c middle_stands h next left.0)
@@ -189,20 +191,22 @@ module _ (older : Header) (place : Journal) (images : List Image) (h : Header) (
   }
 
   -- while it is changed either header counts, and both have the same pages
-  pub header_leaves : (old : View) → mid.text ≡ old.text → (c o : List ℕ) → LeavesHeader file older h mid c o → LeavesPages pages old c o
+  pub header_leaves : (old : View) → mid.text ≡ old.text → (c o : List ℕ) → LeavesHeader file older h mid c o → LeavesPages older.format pages old c o
   header_leaves old same c o left = record {
     means = ⊎_elim
         (λ (was : Counts c older).
         means_in older place images pages c (alike older place images pages file both.stand.has c (alike_behind older place.at images file c both.stand.has.form left.same)) was)
-        (λ (now : Counts c h). means_in h (empty_under h) [] pages c (alike h (empty_under h) [] pages file both.next c (alike_behind h h.journal_at [] file c next.pages left.same)) now)
+        (λ (now : Counts c h).
+        subst (λ (f : ℕ). PagesMeanIn f c (gathered [] pages)) next.format
+        (means_in h (empty_under h) [] pages c (alike h (empty_under h) [] pages file both.next c (alike_behind h h.journal_at [] file c next.pages left.same)) now))
         left.counts;
     text = sym same ∙ left.text;
   }
 
   -- so a stop leaves the pages before the change and in it
-  pub change_leaves : (old new : View) → mid.text ≡ old.text → LeavesOnly old mid (LeavesPages pages old) → LeavesOnly mid new (LeavesHeader file older h mid) → LeavesOnly old new (LeavesPages pages old)
+  pub change_leaves : (old new : View) → mid.text ≡ old.text → LeavesOnly old mid (LeavesPages older.format pages old) → LeavesOnly mid new (LeavesHeader file older h mid) → LeavesOnly old new (LeavesPages older.format pages old)
   change_leaves old new same before change =
-      joined old mid new (LeavesPages pages old) before (weaker mid new (LeavesHeader file older h mid) (LeavesPages pages old) (header_leaves old same) change)
+      joined old mid new (LeavesPages older.format pages old) before (weaker mid new (LeavesHeader file older h mid) (LeavesPages older.format pages old) (header_leaves old same) change)
 
   -- and then the new one does
   pub moved_over : (new : View) (c : List ℕ) → Stands c new → IsChanged file h c → StandUnder h (empty_under h) [] pages new

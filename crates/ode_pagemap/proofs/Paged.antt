@@ -15,6 +15,7 @@ region_at at end false is start ends = inr (start, ends ∙ ap (λ (n : ℕ). co
 
 pub of_pages : (h : Header) → IsPaged h → IsOfPages h
 of_pages h is = record {
+  format = (is.first, is.last);
   layout = is.layout;
   region = region_at h.journal_at h.journal_end (nat_eq h.journal_end REGION_1) refl is.start is.end;
   body = is.body;
@@ -23,6 +24,8 @@ of_pages h is = record {
 
 pub paged : (h : Header) → IsOfPages h → IsPaged h
 paged h is = record {
+  first = is.format.0;
+  last = is.format.1;
   layout = is.layout;
   start = ⊎_elim
       (λ first. first.0 ∙ sym (ap (λ (n : ℕ). cond (nat_eq n REGION_1) REGION_0 REGION_1) first.1))

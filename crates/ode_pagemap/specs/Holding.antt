@@ -1,13 +1,14 @@
 -- What a keeper of pages holds on a host.
-use Rattle.std.specs.Prelude.{◌≤◌, ℕ, List, Bool}
+use Rattle.std.specs.Prelude.{◌≡◌, ◌≤◌, ℕ, List, Bool}
 use Rattle.std.specs.List.{AllByRecursion}
 use Rattle.std.specs.Map.{keys_of}
+use Rattle.ode_gate.specs.declared.places.TheConstants.{FORMAT}
 use Rattle.ode_gate.specs.Headers.{IsOfPages}
 use Rattle.ode_gate.specs.Slots.{Counts}
 use Rattle.ode_host.specs.View.{View}
 use Rattle.ode_journal.specs.Appends.{JournalStands}
 use Rattle.ode_keep.specs.Entries.{Entries, record_bytes}
-use Rattle.ode_keep.specs.declared.limits.TheConstants.{MAX_RECORD_BYTES}
+use Rattle.ode_keep.specs.declared.limits.TheConstants.{MAX_PAGED_BYTES}
 use Rattle.ode_paging.specs.Indexing.{Leads}
 use Rattle.ode_paging.specs.Opening.{OpensAs}
 use Rattle.ode_paging.specs.Standing.{HasPage}
@@ -30,6 +31,14 @@ held keeper = keys_of keeper.cache.pages.entries
 abbrev pub bytes : PageMap → ℕ
 bytes keeper = keeper.opened.bytes
 
+-- the format of its file
+abbrev pub format_of : PageMap → ℕ
+format_of keeper = keeper.header.format
+
+-- how many bytes its records may have
+abbrev pub most : PageMap → ℕ
+most keeper = MAX_PAGED_BYTES
+
 -- how many pages it has room for in memory
 abbrev pub room : PageMap → ℕ
 room keeper = most_of keeper.cache
@@ -44,4 +53,9 @@ pub record PagesHold (keeper : PageMap) (view : View) (entries : Entries) : Type
   pub opens : OpensAs keeper.header file keeper.opened entries
   pub journal : JournalStands keeper.header.journal_at opens.has.over.frames file keeper.opened.journal view
   pub cached : AllByRecursion (λ e. HasPage keeper.header keeper.opened.images file e.0 e.1) keeper.cache.pages.entries
-  pub within : record_bytes entries ≤ MAX_RECORD_BYTES
+  pub within : record_bytes entries ≤ MAX_PAGED_BYTES
+
+-- and the file has the last format
+pub record LastHold (keeper : PageMap) (view : View) (entries : Entries) : Type 0 where
+  pub hold : PagesHold keeper view entries
+  pub last : format_of keeper ≡ FORMAT

@@ -7,7 +7,7 @@ use Rattle.ode_host.specs.View.{View}
 use Rattle.ode_journal.specs.Appends.{need_of, room_of}
 use Rattle.ode_value.specs.Keys.{entry_kind}
 use Rattle.ode_keep.specs.Entries.{Changes, Entries, HasRisingKeys, applied, count_of_kind, record_bytes}
-use Rattle.ode_keep.specs.declared.limits.TheConstants.{MAX_RECORD_BYTES}
+use Rattle.ode_keep.specs.declared.limits.TheConstants.{MAX_PAGED_BYTES}
 use Rattle.ode_paging.specs.declared.encode.TheConstants.{MAX_IMAGES}
 use Rattle.ode_paging.specs.declared.opening.Opened.{Opened}
 use Rattle.ode_paging.specs.declared.planning.Plan.{Plan}
@@ -48,7 +48,7 @@ pub record IsFormed (plan : Plan) : Type 0 where
   pub payload : IsPayload plan.images plan.frame.payload
   pub full : plan.frame.spare ≡ 0
   pub fits : need_of plan.frame.payload ≤ REGION_LEN
-  pub within : plan.counts.bytes ≤ MAX_RECORD_BYTES
+  pub within : plan.counts.bytes ≤ MAX_PAGED_BYTES
 
 -- The frame spells the images of at most two pages for each change. Where it doesn't fit behind the journal, and only there, a
 -- checkpoint of the images that there were is due.
@@ -79,7 +79,7 @@ pub record Knows (keeper : PageMap) (images : List Image) (pages : List Entries)
   pub bytes : keeper.opened.bytes ≡ record_bytes entries
   pub queued : keeper.opened.queued ≡ count_of_kind entry_kind entries
   pub cached : AreAmong pages keeper.cache.pages.entries
-  pub within : record_bytes entries ≤ MAX_RECORD_BYTES
+  pub within : record_bytes entries ≤ MAX_PAGED_BYTES
 
 -- These records still stand on the disk. A frame is at hand that makes the changes, and a checkpoint of them where one is
 -- due. In memory the changes are made.

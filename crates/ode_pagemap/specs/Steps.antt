@@ -15,13 +15,14 @@ use Rattle.ode_keep.specs.Entries.{Changes, Entries, applied}
 use Rattle.ode_pages.specs.Pages.{IsPage}
 use Rattle.ode_paging.specs.Gathering.{HaveNewKeys, gathered}
 use Rattle.ode_paging.specs.Images.{Image, IsPayload}
-use Rattle.ode_paging.specs.Meaning.{HasImages, PagesMean}
+use Rattle.ode_paging.specs.Meaning.{HasImages, PagesMeanIn}
 use Rattle.ode_paging.specs.Overlays.{laid}
 use Rattle.ode_paging.specs.Standing.{HavePages, filled, image_of, page_count}
 use Rattle.ode_pagemap.specs.declared.checkpoint.Checkpoint.{Checkpoint}
 
--- a header that may follow another: of the other region, and in the other slot
+-- a header that may follow another: of its format, of the other region, and in the other slot
 pub record IsNext (older h : Header) : Type 0 where
+  pub format : h.format ≡ older.format
   pub rules : IsHeader h
   pub pages : IsOfPages h
   pub other : h.journal_at ≢ older.journal_at
@@ -52,9 +53,9 @@ pub record ChangesRegion (header : Header) (place : Journal) (file : List ℕ) (
   pub stands : Stands next view
   pub outside : SameOutside header.journal_at place.end file next
 
--- the image stands for the entries of these pages, and the text is as it was
-pub record LeavesPages (pages : List Entries) (old : View) (image out : List ℕ) : Type 0 where
-  pub means : PagesMean image (gathered [] pages)
+-- the image has this format and stands for the entries of these pages, and the text is as it was
+pub record LeavesPages (format : ℕ) (pages : List Entries) (old : View) (image out : List ℕ) : Type 0 where
+  pub means : PagesMeanIn format image (gathered [] pages)
   pub text : old.text ≡ Some out
 
 -- the journal of a header, where it is empty

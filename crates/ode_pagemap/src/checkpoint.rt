@@ -29,7 +29,7 @@ fn stage<H: Host>(host: &mut H, images: &Images, next: &Header) -> Result<(), Fa
         → BothStand older place images.now next.now pages (H.view host.new)) }
     ensures any_moment { (older : Header) (place : Journal) (pages : List Entries)
         → StandUnder older place images.now pages (H.view host.old) → IsNext older next.now
-        → LeavesOnly (H.view host.old) (H.view host.new) (LeavesPages pages (H.view host.old)) }
+        → LeavesOnly (H.view host.old) (H.view host.new) (LeavesPages older.format pages (H.view host.old)) }
     ensures puts { OnOk result (Puts (PAGE_LEN * length images.now + 1) (H.view host.old) (H.view host.new)) }
     ensures leaves { DiskCalls (IsErr result) (H.view host.old) (H.view host.new) }
 {
@@ -44,14 +44,16 @@ pub(crate) fn make_checkpoint<H: Host>(
     header: &Header,
     checkpoint: &Checkpoint,
 ) -> Result<Header, Failed>
-    requires { checkpoint.now.count ≤ MAX_PAGES }
+    requires form { IsOfPages header.now }
+    requires few { checkpoint.now.count ≤ MAX_PAGES }
     ensures done { IfOk result (λ h. (place : Journal) (images : List Image) (pages : List Entries)
         → StandUnder header.now place images pages (H.view host.old) → IsOf images pages checkpoint.now
         → StandUnder h (empty_under h) [] pages (H.view host.new)) }
     ensures form { IfOk result IsOfPages }
+    ensures format { IfOk result (λ h. h.format ≡ header.now.format) }
     ensures any_moment { (place : Journal) (images : List Image) (pages : List Entries)
         → StandUnder header.now place images pages (H.view host.old) → IsOf images pages checkpoint.now
-        → LeavesOnly (H.view host.old) (H.view host.new) (LeavesPages pages (H.view host.old)) }
+        → LeavesOnly (H.view host.old) (H.view host.new) (LeavesPages header.now.format pages (H.view host.old)) }
     ensures most { OnOk result (WritesAtMost (checkpoint_length checkpoint.now.images) (H.view host.old) (H.view host.new)) }
     ensures leaves { DiskCalls (IsErr result) (H.view host.old) (H.view host.new) }
 {

@@ -9,7 +9,7 @@ ghost use Rattle.ode_keep.specs.Keeping.{OnDamaged, OnDiskFault, OnTooLarge, Unl
 ghost use Rattle.ode_paging.specs.Indexing.{page_under};
 ghost use Rattle.ode_paging.specs.Standing.{HasPage, image_of};
 ghost use Rattle.ode_pagemap.specs.Cached.{used};
-ghost use Rattle.ode_pagemap.specs.Holding.{PagesHold, held, index, is_live, room};
+ghost use Rattle.ode_pagemap.specs.Holding.{PagesHold, format_of, held, index, is_live, room};
 ghost use Rattle.ode_pagemap.specs.Reaching.{IsNear, IsReached, LeadsNear};
 
 use crate::map::PageMap;
@@ -114,6 +114,7 @@ impl PageMap {
         ensures unused { OnErr result (held self.new ≡ held self.old) }
         ensures room { room self.new ≡ room self.old }
         ensures index { index self.new ≡ index self.old }
+        ensures format { format_of self.new ≡ format_of self.old }
     {
         match self.read_value(host, number, key) {
             Ok(value) => Ok(value),
@@ -146,6 +147,7 @@ impl PageMap {
         ensures refused { OnErr result (held self.new ≡ held self.old) }
         ensures room { room self.new ≡ room self.old }
         ensures index { index self.new ≡ index self.old }
+        ensures format { format_of self.new ≡ format_of self.old }
     {
         match self.opened.index.page(key) {
             None => Ok(None),

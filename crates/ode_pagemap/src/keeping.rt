@@ -2,7 +2,7 @@
 ghost use Rattle.std.specs.Prelude.{◌≡◌, ◌+◌, ◌*◌, ◌<◌, ◌≤◌, List, None, length, IfErr, IfOk, IsErrOf, IsTrue, MatchOption, OnErr, OnOk};
 ghost use Rattle.std.specs.Option.{IfSome};
 ghost use Rattle.ode_gate.specs.Changes.{WritesAtMost};
-ghost use Rattle.ode_gate.specs.declared.places.TheConstants.{REGION_LEN};
+ghost use Rattle.ode_gate.specs.declared.places.TheConstants.{FORMAT, REGION_LEN};
 ghost use Rattle.ode_host.specs.Causes.{RoseIf};
 ghost use Rattle.ode_host.specs.Host.{DiskCalls, LeavesOnly, Looks, Puts};
 ghost use Rattle.ode_journal.specs.Appends.{need_of, room_of};
@@ -10,8 +10,8 @@ ghost use Rattle.ode_keep.specs.Entries.{Changes, Entries, applied, record_bytes
 ghost use Rattle.ode_keep.specs.Keeping.{LeavesOldOrNew, OnDamaged, OnRefusal, OnTooLarge, is_usable};
 ghost use Rattle.ode_keep.specs.ShortValues.{HasShortValues};
 ghost use Rattle.ode_paging.specs.Images.{Image};
-ghost use Rattle.ode_paging.specs.Meaning.{PagesMean};
-ghost use Rattle.ode_pagemap.specs.Holding.{PagesHold, is_live};
+ghost use Rattle.ode_paging.specs.Meaning.{PagesMeanIn};
+ghost use Rattle.ode_pagemap.specs.Holding.{LastHold, PagesHold, format_of, is_live};
 ghost use Rattle.ode_pagemap.specs.Ready.{IsFormed, IsLeast, IsPlannedFor, IsReady, WritesLeast};
 ghost use Rattle.ode_pagemap.specs.Steps.{ChangesRegion, StandUnder, bytes_before};
 
@@ -20,7 +20,7 @@ use crate::ready::{Ready, take_over};
 use crate::steps::write_changes;
 use ode_gate::MAX_PAGES;
 use ode_host::Host;
-use ode_keep::{Batch, Keep, KeepError, MAX_CHANGES, MAX_RECORD_BYTES, Rows};
+use ode_keep::{Batch, Keep, KeepError, MAX_CHANGES, MAX_PAGED_BYTES, Roomy, Rows};
 use ode_paging::{Counts, Plan, Source, plan_batch};
 use ode_value::{Key, List};
 
@@ -34,7 +34,7 @@ impl PageMap {
         ensures formed { IfOk result IsFormed }
         ensures two_each { IfOk result (λ plan. length plan.images ≤ 2 * length batch.now) }
         ensures too_large { OnTooLarge result (λ total. (entries : Entries) → PagesHold self.now (H.view host.old) entries
-            → (total ≡ record_bytes (applied batch.now entries)) × (MAX_RECORD_BYTES < total)) }
+            → (total ≡ record_bytes (applied batch.now entries)) × (MAX_PAGED_BYTES < total)) }
         ensures damaged { OnDamaged result ((entries : Entries) → PagesHold self.now (H.view host.old) entries → ⊥) }
         ensures looks { Looks (H.view host.old) (H.view host.new) }
         ensures cause { RoseIf (IsErrOf result KeepError.DiskFault) (H.view host.old).disk_faults (H.view host.new).disk_faults }
@@ -71,10 +71,11 @@ impl PageMap {
             (λ _. need_of r.frame.payload ≤ REGION_LEN)) }
         ensures least { IfOk result (λ r. IsLeast self.old batch.now r) }
         ensures stay { OnOk result ((self.new.header ≡ self.old.header) × (self.new.opened.journal ≡ self.old.opened.journal)) }
+        ensures format { format_of self.new ≡ format_of self.old }
         ensures refused { OnErr result ((entries : Entries) → PagesHold self.old (H.view host.old) entries
             → PagesHold self.new (H.view host.new) entries) }
         ensures too_large { OnTooLarge result (λ total. (entries : Entries) → PagesHold self.old (H.view host.old) entries
-            → (total ≡ record_bytes (applied batch.now entries)) × (MAX_RECORD_BYTES < total)) }
+            → (total ≡ record_bytes (applied batch.now entries)) × (MAX_PAGED_BYTES < total)) }
         ensures damaged { OnDamaged result ((entries : Entries) → PagesHold self.old (H.view host.old) entries → ⊥) }
         ensures looks { Looks (H.view host.old) (H.view host.new) }
         ensures cause { RoseIf (IsErrOf result KeepError.DiskFault) (H.view host.old).disk_faults (H.view host.new).disk_faults }
@@ -109,13 +110,14 @@ impl PageMap {
         ensures done { OnOk result ((changes : Changes) (entries : Entries) → IsReady self.old (H.view host.old) changes entries ready.now
             → PagesHold self.new (H.view host.new) (applied changes entries)) }
         ensures any_moment { (changes : Changes) (entries : Entries) → IsReady self.old (H.view host.old) changes entries ready.now
-            → LeavesOnly (H.view host.old) (H.view host.new) (LeavesOldOrNew PagesMean entries changes (H.view host.old)) }
+            → LeavesOnly (H.view host.old) (H.view host.new) (LeavesOldOrNew (PagesMeanIn (format_of self.old)) entries changes (H.view host.old)) }
         ensures region { ready.now.due ≡ None → OnOk result ((images : List Image) (pages : List Entries)
             → (stand : StandUnder self.old.header self.old.opened.journal images pages (H.view host.old))
             → ChangesRegion self.old.header self.old.opened.journal stand.file (H.view host.new)) }
         ensures puts { ready.now.due ≡ None → OnOk result (Puts (need_of ready.now.frame.payload) (H.view host.old) (H.view host.new)) }
         ensures most { OnOk result (WritesAtMost (bytes_before ready.now.due + need_of ready.now.frame.payload) (H.view host.old) (H.view host.new)) }
         ensures kind { IfErr result (λ e. e ≡ KeepError.DiskFault) }
+        ensures format { format_of self.new ≡ format_of self.old }
         ensures leaves { DiskCalls (IsErrOf result KeepError.DiskFault) (H.view host.old) (H.view host.new) }
         ensures usable { is_live self.new ≡ is_usable result }
     {
@@ -138,17 +140,18 @@ impl PageMap {
         ensures done { OnOk result ((entries : Entries) → PagesHold self.old (H.view host.old) entries
             → PagesHold self.new (H.view host.new) (applied batch.now entries)) }
         ensures fits { OnOk result ((entries : Entries) → PagesHold self.old (H.view host.old) entries
-            → record_bytes (applied batch.now entries) ≤ MAX_RECORD_BYTES) }
+            → record_bytes (applied batch.now entries) ≤ MAX_PAGED_BYTES) }
         ensures too_large { OnTooLarge result (λ total. (entries : Entries) → PagesHold self.old (H.view host.old) entries
-            → (total ≡ record_bytes (applied batch.now entries)) × (MAX_RECORD_BYTES < total)) }
+            → (total ≡ record_bytes (applied batch.now entries)) × (MAX_PAGED_BYTES < total)) }
         ensures refused { OnRefusal result ((entries : Entries) → PagesHold self.old (H.view host.old) entries
             → PagesHold self.new (H.view host.new) entries) }
         ensures looks { OnRefusal result (Looks (H.view host.old) (H.view host.new)) }
         ensures any_moment { (entries : Entries) → PagesHold self.old (H.view host.old) entries
-            → LeavesOnly (H.view host.old) (H.view host.new) (LeavesOldOrNew PagesMean entries batch.now (H.view host.old)) }
+            → LeavesOnly (H.view host.old) (H.view host.new) (LeavesOldOrNew (PagesMeanIn (format_of self.old)) entries batch.now (H.view host.old)) }
         ensures usable { is_live self.new ≡ is_usable result }
         ensures leaves { DiskCalls (IsErrOf result KeepError.DiskFault) (H.view host.old) (H.view host.new) }
         ensures damaged { OnDamaged result ((entries : Entries) → PagesHold self.old (H.view host.old) entries → ⊥) }
+        ensures format { format_of self.new ≡ format_of self.old }
 
         // Where the frame fits its journal it is all that is written. Else a checkpoint stands in front of it.
         ensures writes { OnOk result (WritesLeast self.old batch.now (H.view host.old) (H.view host.new)) }
@@ -164,22 +167,26 @@ impl PageMap {
     }
 }
 
+/// Over a file of the last format.
 impl<H: Host> Keep<H> for PageMap {
-    ghost use Rattle.ode_pagemap.specs.Laws.{one_map_law, rising_law, stands_law, stays_law};
+    ghost use Rattle.ode_pagemap.specs.Holding.{most};
+    ghost use Rattle.ode_pagemap.specs.Laws.{last_stands_law, last_stays_law, one_map_law, rising_law};
 
-    ghost holds = { PagesHold };
+    ghost holds = { LastHold };
 
-    ghost means = { PagesMean };
+    ghost means = { PagesMeanIn FORMAT };
 
     ghost live = { is_live };
 
-    ghost stands = { λ keeper host entries h. stands_law keeper (H.view host) entries h };
+    ghost most = { most };
 
-    ghost stays = { λ keeper old new entries h still. stays_law keeper (H.view old) (H.view new) entries h still };
+    ghost stands = { λ keeper host entries h. last_stands_law keeper (H.view host) entries h };
 
-    ghost rising = { rising_law };
+    ghost stays = { λ keeper old new entries h still. last_stays_law keeper (H.view old) (H.view new) entries h still };
 
-    ghost one_map = { one_map_law };
+    ghost rising = { rising_law FORMAT };
+
+    ghost one_map = { one_map_law FORMAT };
 
     fn live(&self) -> bool {
         self.is_live
@@ -204,4 +211,10 @@ impl<H: Host> Keep<H> for PageMap {
     fn commit(&mut self, host: &mut H, batch: &Batch) -> Result<(), KeepError> {
         PageMap::commit(self, host, batch)
     }
+}
+
+impl<H: Host> Roomy<H> for PageMap {
+    ghost use Rattle.ode_pagemap.specs.Laws.{roomy_law};
+
+    ghost roomy = { roomy_law };
 }

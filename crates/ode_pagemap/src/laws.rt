@@ -6,7 +6,7 @@ ghost use Rattle.ode_journal.specs.declared.journal.Journal.{Journal as JournalP
 ghost use Rattle.ode_keep.specs.Entries.{Entries};
 ghost use Rattle.ode_paging.specs.Gathering.{gathered};
 ghost use Rattle.ode_paging.specs.Images.{Image};
-ghost use Rattle.ode_paging.specs.Meaning.{PagesMean};
+ghost use Rattle.ode_paging.specs.Meaning.{PagesMeanIn};
 ghost use Rattle.ode_pagemap.specs.Alike.{AreAlike};
 ghost use Rattle.ode_pagemap.specs.Holding.{held, room};
 ghost use Rattle.ode_pagemap.specs.Steps.{StandIn};
@@ -25,5 +25,5 @@ pub fn alike_files()
         → StandIn header place images pages other }
     ensures means { (header : FileHeader) (place : JournalPlace) (images : List Image) (pages : List Entries) (file other : List ℕ)
         → StandIn header place images pages file → AreAlike header place.at images file other → Counts other header
-        → PagesMean other (gathered [] pages) }
+        → PagesMeanIn header.format other (gathered [] pages) }
 {}

@@ -1,12 +1,14 @@
 //! What a checkpoint changes the header to.
 ghost use Rattle.std.specs.Prelude.{◌≡◌, ◌≤◌};
+ghost use Rattle.ode_gate.specs.Headers.{IsOfPages};
 ghost use Rattle.ode_pagemap.specs.Steps.{IsNext};
 
-use ode_gate::{FORMAT, Header, MAX_PAGES, PAGES, PAGES_AT, REGION_0, REGION_1, next_generation};
+use ode_gate::{Header, MAX_PAGES, PAGES, PAGES_AT, REGION_0, REGION_1, next_generation};
 
-/// The header of the other region, in the other slot, over so many pages in place.
+/// The header of the other region, in the other slot, over so many pages in place. The format stays.
 pub(crate) fn next_header(older: &Header, pages: u64) -> Header
-    requires { pages ≤ MAX_PAGES }
+    requires form { IsOfPages older.now }
+    requires few { pages ≤ MAX_PAGES }
     ensures follows { IsNext older.now result }
     ensures long { result.body_len ≡ pages }
 {
@@ -17,7 +19,7 @@ pub(crate) fn next_header(older: &Header, pages: u64) -> Header
     };
     let slot = if older.slot == 0 { 1 } else { 0 };
     Header {
-        format: FORMAT,
+        format: older.format,
         layout: PAGES,
         generation: next_generation(older.generation),
         body_at: PAGES_AT,

@@ -11,7 +11,7 @@ ghost use Rattle.ode_keep.specs.Entries.{Changes, Entries};
 ghost use Rattle.ode_keep.specs.Keeping.{LeavesOldOrNew};
 ghost use Rattle.ode_paging.specs.Gathering.{gathered};
 ghost use Rattle.ode_paging.specs.Images.{Image};
-ghost use Rattle.ode_paging.specs.Meaning.{PagesMean};
+ghost use Rattle.ode_paging.specs.Meaning.{PagesMeanIn};
 ghost use Rattle.ode_paging.specs.Overlays.{laid};
 ghost use Rattle.ode_pagemap.specs.Steps.{ChangesRegion, IsOf, Makes, StandUnder, bytes_before, images_after};
 
@@ -29,7 +29,7 @@ fn add_frame<H: Host>(host: &mut H, journal: &mut Journal, frame: &Frame) -> Res
         → StandUnder header journal.new (laid over images) later (H.view host.new)) }
     ensures any_moment { (header : Header) (images over : List Image) (pages later : List Entries) (changes : Changes)
         → StandUnder header journal.old images pages (H.view host.old) → Makes changes over frame.now.payload pages later
-        → LeavesOnly (H.view host.old) (H.view host.new) (LeavesOldOrNew PagesMean (gathered [] pages) changes (H.view host.old)) }
+        → LeavesOnly (H.view host.old) (H.view host.new) (LeavesOldOrNew (PagesMeanIn header.format) (gathered [] pages) changes (H.view host.old)) }
     ensures region { OnOk result ((header : Header) (images : List Image) (pages : List Entries)
         → (stand : StandUnder header journal.old images pages (H.view host.old))
         → ChangesRegion header journal.old stand.file (H.view host.new)) }
@@ -51,6 +51,7 @@ pub(crate) fn write_changes<H: Host>(
     due: Option<&Checkpoint>,
     frame: &Frame,
 ) -> Result<(), Failed>
+    requires form { IsOfPages header.old }
     requires full { frame.now.spare ≡ 0 }
     requires pages { IfSome due (λ c. c.now.count ≤ MAX_PAGES) }
     requires room { MatchOption due (need_of frame.now.payload ≤ room_of journal.old) (λ _. need_of frame.now.payload ≤ REGION_LEN) }
@@ -63,8 +64,9 @@ pub(crate) fn write_changes<H: Host>(
         → StandUnder header.old journal.old images pages (H.view host.old)
         → IfSome due.entry (λ c. IsOf images pages c.now)
         → Makes changes over frame.now.payload pages later
-        → LeavesOnly (H.view host.old) (H.view host.new) (LeavesOldOrNew PagesMean (gathered [] pages) changes (H.view host.old)) }
-    ensures form { IsOfPages header.old → IsOfPages header.new }
+        → LeavesOnly (H.view host.old) (H.view host.new) (LeavesOldOrNew (PagesMeanIn header.old.format) (gathered [] pages) changes (H.view host.old)) }
+    ensures form { IsOfPages header.new }
+    ensures format { header.new.format ≡ header.old.format }
     ensures region { due.entry ≡ None → OnOk result ((images : List Image) (pages : List Entries)
         → (stand : StandUnder header.old journal.old images pages (H.view host.old))
         → ChangesRegion header.old journal.old stand.file (H.view host.new)) }

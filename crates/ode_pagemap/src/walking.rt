@@ -9,7 +9,7 @@ ghost use Rattle.ode_value.specs.Keys.{entry_kind, key_cmp};
 ghost use Rattle.ode_keep.specs.Entries.{Entries, StartsOf, count_of_kind, entries_from, least_from, value_under};
 ghost use Rattle.ode_keep.specs.Keeping.{OnDamaged, OnTooLarge, UnlessFault, is_usable};
 ghost use Rattle.ode_paging.specs.Indexing.{Leads};
-ghost use Rattle.ode_pagemap.specs.Holding.{PagesHold, index, is_live};
+ghost use Rattle.ode_pagemap.specs.Holding.{PagesHold, format_of, index, is_live};
 ghost use Rattle.ode_pagemap.specs.Running.{MayRunOn, Runs};
 
 use crate::map::PageMap;
@@ -124,6 +124,7 @@ impl PageMap {
         ensures too_large { OnTooLarge result (λ _. ⊥) }
         ensures fetched { FetchedAtMost PAGE_SIZE (H.view host.old) (H.view host.new) }
         ensures index { index self.new ≡ index self.old }
+        ensures format { format_of self.new ≡ format_of self.old }
     {
         match self.opened.index.lead_from(key) {
             None => Ok(Rows::copy(self.alloc, &[])?),

@@ -50,3 +50,8 @@ pub record PagesMean (image : List ℕ) (entries : Entries) : Type 0 where
   pub counts : Counts image header
   pub pages : IsOfPages header
   pub has : HasMap header image entries
+
+-- and it has this format
+pub record PagesMeanIn (format : ℕ) (image : List ℕ) (entries : Entries) : Type 0 where
+  pub means : PagesMean image entries
+  pub is : means.header.format ≡ format

@@ -31,7 +31,7 @@ use crate::making::{Change, Source};
 use crate::pages::Page;
 use ode_host::Host;
 use ode_journal::Frame;
-use ode_keep::{Batch, KeepError, MAX_CHANGES, MAX_RECORD_BYTES};
+use ode_keep::{Batch, KeepError, MAX_CHANGES, MAX_PAGED_BYTES};
 use ode_value::Key;
 use std::alloc::{AllocError, Global};
 use std::collections::BTreeMap;
@@ -178,7 +178,7 @@ pub fn plan_batch<H: Host>(
         → HavePages source.entry.header.now source.entry.images.now file 0 pages → ArePages pages → count ≡ length pages
         → index.now ≡ indexed 0 [] pages
         → IsCountOf counts (gathered [] pages) → IsCountOf plan.counts (applied batch.now (gathered [] pages))) }
-    ensures within { IfOk result (λ plan. plan.counts.bytes ≤ MAX_RECORD_BYTES) }
+    ensures within { IfOk result (λ plan. plan.counts.bytes ≤ MAX_PAGED_BYTES) }
     ensures rooms { IfOk result (λ plan. keys_of plan.rooms.items ≡ keys_of plan.images) }
     ensures payload { IfOk result (λ plan. IsPayload plan.images plan.frame.payload) }
     ensures full { IfOk result (λ plan. plan.frame.spare ≡ 0) }
@@ -189,14 +189,14 @@ pub fn plan_batch<H: Host>(
     ensures too_large { OnTooLarge result (λ total. (file : List ℕ) (pages : List Entries) → Tells (H.view host.old) file
         → HavePages source.entry.header.now source.entry.images.now file 0 pages → ArePages pages → count ≡ length pages
         → index.now ≡ indexed 0 [] pages → IsCountOf counts (gathered [] pages)
-        → (total ≡ record_bytes (applied batch.now (gathered [] pages))) × (MAX_RECORD_BYTES < total)) }
+        → (total ≡ record_bytes (applied batch.now (gathered [] pages))) × (MAX_PAGED_BYTES < total)) }
     ensures looks { Looks (H.view host.old) (H.view host.new) }
     ensures cause { RoseIf (IsErrOf result KeepError.DiskFault) (H.view host.old).disk_faults (H.view host.new).disk_faults }
 {
     let mut hand = Hand::new(alloc, count);
     let mut counts = counts;
     let moves = make_changes(alloc, host, source, index, batch, &mut hand, &mut counts)?;
-    if counts.bytes > MAX_RECORD_BYTES {
+    if counts.bytes > MAX_PAGED_BYTES {
         return Err(KeepError::TooLarge {
             total: counts.bytes,
         });

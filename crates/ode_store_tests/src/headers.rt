@@ -31,10 +31,10 @@ fn header(slot: u8, generation: u64) -> Header {
     }
 }
 
-// A header of pages, whose journal is in this region.
+// A header of pages in the last format, whose journal is in this region.
 fn of_pages(slot: u8, region: u64, pages: u64) -> Header {
     Header {
-        format: 1,
+        format: 2,
         layout: 2,
         generation: 2,
         body_at: 33_558_528,
@@ -118,7 +118,7 @@ const BAD: Result<u64, GateError> = Err(GateError::BadHeader { at: 0 });
 
 const BAD_SECOND: Result<u64, GateError> = Err(GateError::BadHeader { at: 2048 });
 
-const NEWER: Result<u64, GateError> = Err(GateError::NewerFormat { found: 2 });
+const NEWER: Result<u64, GateError> = Err(GateError::NewerFormat { found: 3 });
 
 fn generation(read: Read) -> Result<u64, GateError> {
     match read {
@@ -142,9 +142,10 @@ const CUTS: &[Cut] = &[
     (13, 1, BAD),
     (56, 1, BAD),
     (57, 1, Ok(1)),
-    (12, 2, BAD),
-    (13, 2, NEWER),
-    (57, 2, NEWER),
+    (57, 2, BAD),
+    (12, 3, BAD),
+    (13, 3, NEWER),
+    (57, 3, NEWER),
 ];
 
 #[test]
@@ -187,14 +188,14 @@ fn of_two_slots_the_later_one_counts(rt: HostRuntime) {
 }
 
 const NEW: &[Slots] = &[
-    (&[(12, 2)], NEWER),
-    (&[(SECOND + 12, 2)], NEWER),
+    (&[(12, 3)], NEWER),
+    (&[(SECOND + 12, 3)], NEWER),
     (
-        &[(12, 3), (SECOND + 12, 2)],
-        Err(GateError::NewerFormat { found: 3 }),
+        &[(12, 4), (SECOND + 12, 3)],
+        Err(GateError::NewerFormat { found: 4 }),
     ),
-    (&[(1, b'o'), (SECOND + 12, 2)], NEWER),
-    (&[(SECOND, 0), (SECOND + 12, 2)], Ok(1)),
+    (&[(1, b'o'), (SECOND + 12, 3)], NEWER),
+    (&[(SECOND, 0), (SECOND + 12, 3)], Ok(1)),
 ];
 
 #[test]
@@ -208,6 +209,7 @@ const BROKEN: &[Slots] = &[
     (&[(1, b'o'), (SECOND + 1, b'o')], BAD),
     (&[(0, 0), (1, b'o')], Ok(2)),
     (&[(12, 0)], BAD),
+    (&[(12, 2)], BAD),
     (&[(16, 0)], BAD),
     (&[(16, 2)], BAD),
     (&[(16, 3)], BAD),
@@ -262,6 +264,10 @@ fn a_header_that_keeps_the_rules_is_read_back(rt: HostRuntime) {
         last,
         of_pages(0, 0, 0),
         of_pages(1, 1, 4_294_967_295),
+        Header {
+            format: 1,
+            ..of_pages(0, 1, 1)
+        },
     ];
     each_is_read_back(&rt, rt.alloc(), &headers);
 }
@@ -288,7 +294,11 @@ fn a_header_past_a_limit_is_bad(rt: HostRuntime) {
         journal_end: 33_558_528,
         ..of_pages(1, 0, 1)
     };
-    let headers = [full, between, of_pages(1, 0, 4_294_967_296)];
+    let newer = Header {
+        format: 2,
+        ..header(0, 1)
+    };
+    let headers = [full, between, newer, of_pages(1, 0, 4_294_967_296)];
     each_is_bad(&rt, rt.alloc(), &headers);
 }
 

@@ -12,7 +12,7 @@ returns-in_err-place_images-clause-any_moment g c older place pages stand next =
     let images = c.args.images.now in
     let old = g.H.Host.view c.args.host.now in
     let mid = g.H.Host.view c.place_images.new.host in
-    weaker old mid (LeavesBeside images stand.file old) (LeavesPages pages old) (images_leave older place images pages old stand) (c.place_images.ensures.any_moment stand.file stand.stands)
+    weaker old mid (LeavesBeside images stand.file old) (LeavesPages older.format pages old) (images_leave older place images pages old stand) (c.place_images.ensures.any_moment stand.file stand.stands)
 
 pub returns-clause-any_moment : goal.returns-clause-any_moment
 returns-clause-any_moment g c older place pages stand next =
@@ -21,10 +21,10 @@ returns-clause-any_moment g c older place pages stand next =
     let old = g.H.Host.view c.args.host.now in
     let mid = g.H.Host.view c.place_images.new.host in
     let new = g.H.Host.view c.write_synced.new.host in
-    let first = weaker old mid (LeavesBeside images stand.file old) (LeavesPages pages old) (images_leave older place images pages old stand) (c.place_images.ensures.any_moment stand.file stand.stands) in
+    let first = weaker old mid (LeavesBeside images stand.file old) (LeavesPages older.format pages old) (images_leave older place images pages old stand) (c.place_images.ensures.any_moment stand.file stand.stands) in
     let middle = c.in_ok-place_images.ensures.placed stand.file stand.stands.tells (short_images older stand.file images stand.has.over) in
-    joined old mid new (LeavesPages pages old) first
-    (weaker mid new (LeavesTorn h.journal_at 1 middle.0 mid) (LeavesPages pages old)
+    joined old mid new (LeavesPages older.format pages old) first
+    (weaker mid new (LeavesTorn h.journal_at 1 middle.0 mid) (LeavesPages older.format pages old)
     (gate_leaves older place images pages old stand middle.0 middle.2 h next mid c.place_images.ensures.leaves.text)
     (c.write_synced.ensures.any_moment middle.0 middle.1))
 

@@ -1,6 +1,9 @@
+use Rattle.std.proofs.Common.{ℕ, subst}
 use Rattle.ode_host.proofs.Moments.{joined, weaker}
+use Rattle.ode_host.specs.Host.{LeavesOnly}
 use Rattle.ode_keep.specs.Keeping.{LeavesOldOrNew}
-use Rattle.ode_paging.specs.Meaning.{PagesMean}
+use Rattle.ode_paging.specs.Meaning.{PagesMeanIn}
+use Rattle.ode_pagemap.specs.Holding.{format_of}
 use Rattle.ode_pagemap.specs.Laws.{stands_law}
 use Rattle.ode_pagemap.proofs.Committed.{looked}
 use Rattle.ode_pagemap.proofs.Framing.{text_back}
@@ -13,12 +16,26 @@ returns-in-Ok-clause-any_moment g c entries h =
     let mid = g.H.Host.view c.prepare.new.host in
     let new = g.H.Host.view c.write_out.new.host in
     let batch = c.args.batch.now in
+    let format = format_of c.args.self.now in
     let stands = stands_law c.args.self.now old entries h in
     let looks = c.in-Ok.ensures.looks in
-    joined old mid new (LeavesOldOrNew PagesMean entries batch old)
-    (looked stands.0 old mid entries batch (g.met.H.Host.text_stands c.args.host.now) stands.1 stands.2 looks)
-    (weaker mid new (LeavesOldOrNew PagesMean entries batch mid) (LeavesOldOrNew PagesMean entries batch old) (text_back entries batch old mid looks.text)
-    (c.write_out.ensures.any_moment batch entries (c.in-Ok.ensures.ready entries h)))
+    joined old mid new (LeavesOldOrNew (PagesMeanIn format) entries batch old)
+    (looked format stands.0 old mid entries batch (g.met.H.Host.text_stands c.args.host.now) stands.1 stands.2 looks)
+    (weaker mid new (LeavesOldOrNew (PagesMeanIn format) entries batch mid) (LeavesOldOrNew (PagesMeanIn format) entries batch old) (text_back format entries batch old mid looks.text)
+    (subst (λ (f : ℕ). LeavesOnly mid new (LeavesOldOrNew (PagesMeanIn f) entries batch mid)) c.prepare.ensures.format
+    (c.write_out.ensures.any_moment batch entries (c.in-Ok.ensures.ready entries h))))
+
+pub returns-in-Err-DiskFault-clause-any_moment : goal.returns-in-Err-DiskFault-clause-any_moment
+returns-in-Err-DiskFault-clause-any_moment g c entries h =
+    let old = g.H.Host.view c.args.host.now in
+    let stands = stands_law c.args.self.now old entries h in
+    looked (format_of c.args.self.now) stands.0 old (g.H.Host.view c.prepare.new.host) entries c.args.batch.now (g.met.H.Host.text_stands c.args.host.now) stands.1 stands.2 c.prepare.ensures.looks
+
+pub returns-in-Err-clause-any_moment : goal.returns-in-Err-clause-any_moment
+returns-in-Err-clause-any_moment g c entries h =
+    let old = g.H.Host.view c.args.host.now in
+    let stands = stands_law c.args.self.now old entries h in
+    looked (format_of c.args.self.now) stands.0 old (g.H.Host.view c.prepare.new.host) entries c.args.batch.now (g.met.H.Host.text_stands c.args.host.now) stands.1 stands.2 c.prepare.ensures.looks
 
 pub returns-in-Ok-clause-writes : goal.returns-in-Ok-clause-writes
 returns-in-Ok-clause-writes g c =

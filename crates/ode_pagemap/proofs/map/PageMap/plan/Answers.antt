@@ -1,6 +1,6 @@
 use Rattle.std.proofs.Common.{◌≡◌, ◌<◌, refl, subst, sym}
 use Rattle.ode_keep.specs.Entries.{Entries, applied, record_bytes}
-use Rattle.ode_keep.specs.declared.limits.TheConstants.{MAX_RECORD_BYTES}
+use Rattle.ode_keep.specs.declared.limits.TheConstants.{MAX_PAGED_BYTES}
 use Rattle.ode_paging.specs.declared.planning.Plan.{Plan}
 use Rattle.ode_paging.proofs.Handled.{damaged_more}
 use Rattle.ode_pagemap.proofs.Committing.{are, counts_of, have, if_both, large_more, planned_for}
@@ -27,7 +27,7 @@ returns-clause-too_large g c =
     let old = g.H.Host.view c.args.host.now in
     large_more Plan c.plan_batch.result c.plan_batch.ensures.too_large
     (λ total large entries h.
-    subst (λ (l : Entries). (total ≡ record_bytes (applied c.args.batch.now l)) × (MAX_RECORD_BYTES < total)) (sym h.opens.has.map)
+    subst (λ (l : Entries). (total ≡ record_bytes (applied c.args.batch.now l)) × (MAX_PAGED_BYTES < total)) (sym h.opens.has.map)
     (large h.file h.opens.has.pages h.journal.stands.tells (have keeper old entries h) (are keeper old entries h) h.opens.count h.opens.leads
     (counts_of keeper old entries h (record { bytes = keeper.opened.bytes; queued = keeper.opened.queued }) refl refl)))
 

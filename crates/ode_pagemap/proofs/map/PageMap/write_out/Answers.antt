@@ -5,7 +5,11 @@ use Rattle.ode_pagemap.specs.Steps.{bytes_before}
 use Rattle.ode_pagemap.specs.declared.checkpoint.Checkpoint.{Checkpoint}
 use Rattle.ode_pagemap.proofs.Committed.{holds_behind, left_on, of_lent}
 use Rattle.ode_pagemap.proofs.Least.{none_lent}
+use Rattle.ode_pagemap.proofs.Paged.{of_pages}
 use Rattle.ode_pagemap.proofs.map.PageMap.write_out.Goals as goal
+
+pub write_changes-requires-clause-form : goal.write_changes-requires-clause-form
+write_changes-requires-clause-form g c = of_pages c.args.self.now.header c.args.self.now.form
 
 pub returns-in-Ok-clause-done : goal.returns-in-Ok-clause-done
 returns-in-Ok-clause-done g c changes entries is =
@@ -22,7 +26,7 @@ returns-in-Ok-clause-any_moment g c changes entries is =
     let view = g.H.Host.view c.args.host.now in
     let ready = c.args.ready.now in
     let same = c.as_ref-due.ensures.value in
-    left_on keeper view changes entries ready is c.as_ref-due.result same (g.H.Host.view c.write_changes.new.host)
+    left_on keeper view changes entries ready is c.as_ref-due.result same keeper.header.format (g.H.Host.view c.write_changes.new.host)
     (c.in-Ok.ensures.any_moment is.images is.over is.pages is.later changes is.stand (of_lent keeper view changes entries ready is c.as_ref-due.result same) is.makes)
 
 pub returns-in-Err-clause-any_moment : goal.returns-in-Err-clause-any_moment
@@ -31,7 +35,7 @@ returns-in-Err-clause-any_moment g c changes entries is =
     let view = g.H.Host.view c.args.host.now in
     let ready = c.args.ready.now in
     let same = c.as_ref-due.ensures.value in
-    left_on keeper view changes entries ready is c.as_ref-due.result same (g.H.Host.view c.write_changes.new.host)
+    left_on keeper view changes entries ready is c.as_ref-due.result same keeper.header.format (g.H.Host.view c.write_changes.new.host)
     (c.in-Err.ensures.any_moment is.images is.over is.pages is.later changes is.stand (of_lent keeper view changes entries ready is c.as_ref-due.result same) is.makes)
 
 pub returns-in-Ok-clause-region : goal.returns-in-Ok-clause-region
