@@ -14,12 +14,12 @@ use Rattle.ode_gate.specs.declared.gate.TheConstants.{OPEN, SHUT}
 use Rattle.ode_gate.specs.Headers.{IsHeader, IsOfPages, header_bytes}
 use Rattle.ode_gate.specs.Slots.{Counts, Spells, open_body, slot_at}
 use Rattle.ode_gate.proofs.Spelling.{length-header_bytes}
-use Rattle.ode_gate.specs.declared.places.TheConstants.{HEADER_LEN, PAGE_LEN, REGION_0, REGION_1, SLOT_LEN, SLOT_STEP}
+use Rattle.ode_gate.specs.declared.places.TheConstants.{FORMAT, HEADER_LEN, PAGE_LEN, REGION_0, REGION_1, SLOT_LEN, SLOT_STEP}
 use Rattle.ode_journal.specs.Frames.{IsJournal}
 use Rattle.ode_keep.specs.Entries.{Entries, HasRisingKeys}
 use Rattle.ode_pages.specs.Pages.{IsPage, room_in}
 use Rattle.ode_paging.specs.Images.{HasRisingPages, Image, IsPayload}
-use Rattle.ode_paging.specs.Meaning.{HasImages, HasMap, PagesMean}
+use Rattle.ode_paging.specs.Meaning.{HasImages, HasMap, PagesMeanIn}
 use Rattle.ode_paging.specs.Standing.{filled}
 use Rattle.ode_value.specs.Records.{snapshot}
 use Rattle.ode_make.specs.Making.{IsInitialised, IsElsewhere, first_frame, first_header, first_image, first_payload, first_rows, made_end}
@@ -123,10 +123,10 @@ unfolding IsStrictlySortedBy
 page_rises images is = subst HasRisingPages (sym is) (tt, tt)
 
 first_pages : IsOfPages first_header
-first_pages = record { layout = refl; region = inl (refl, refl); body = refl; pages = omega arith }
+first_pages = record { format = (omega arith, omega arith); layout = refl; region = inl (refl, refl); body = refl; pages = omega arith }
 
 first_rules : IsHeader first_header
-first_rules = record { format = refl; generation = (omega arith, omega arith); layout = inr first_pages }
+first_rules = record { generation = (omega arith, omega arith); layout = inr first_pages }
 
 first_fits : IsPayload (first_image ∷ []) first_payload
 first_fits = record {
@@ -192,5 +192,5 @@ module _ (file image : List ℕ) (is : IsInitialised first_frame file image) whe
     map = refl;
   }
 
-  pub initialised_means : PagesMean image first_rows
-  initialised_means = record { header = first_header; counts = first_counts; pages = first_pages; has = one_page }
+  pub initialised_means : PagesMeanIn FORMAT image first_rows
+  initialised_means = record { means = record { header = first_header; counts = first_counts; pages = first_pages; has = one_page }; is = refl }

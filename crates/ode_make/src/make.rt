@@ -5,7 +5,7 @@ ghost use Rattle.ode_gate.specs.Slots.{HasOpenSlot};
 ghost use Rattle.ode_gate.specs.declared.error.GateError.TheVariants as gate;
 ghost use Rattle.ode_host.specs.Causes.{RoseIf};
 ghost use Rattle.ode_host.specs.Host.{DiskCalls, Looks, Stands, Tells, written_over};
-ghost use Rattle.ode_paging.specs.Meaning.{PagesMean};
+ghost use Rattle.ode_paging.specs.Meaning.{PagesMeanIn};
 ghost use Rattle.ode_make.specs.Making.{IsInUse, IsInitialised, first_frame, first_header, first_rows};
 
 use ode_gate::{
@@ -125,7 +125,7 @@ pub fn initialise<H: Host>(host: &mut H) -> Result<(), InitError>
     ensures made { OnOk result ((file : List ℕ) → Tells (H.view host.old) file
         → (image : List ℕ) × Stands image (H.view host.new) × IsInitialised first_frame file image) }
     ensures means { OnOk result ((file image : List ℕ) → Tells (H.view host.old) file
-        → Tells (H.view host.new) image → PagesMean image first_rows) }
+        → Tells (H.view host.new) image → PagesMeanIn FORMAT image first_rows) }
 
     ensures exists { IsErrOf result InitError.FileExists
         → (file : List ℕ) → Tells (H.view host.old) file → IsInUse file }

@@ -1,6 +1,7 @@
 use Rattle.std.proofs.Common.{List, ℕ, refl, subst}
+use Rattle.ode_gate.specs.declared.places.TheConstants.{FORMAT}
 use Rattle.ode_host.proofs.Moments.{tells_looks}
-use Rattle.ode_paging.specs.Meaning.{PagesMean}
+use Rattle.ode_paging.specs.Meaning.{PagesMeanIn}
 use Rattle.ode_make.specs.Making.{first_frame, first_rows}
 use Rattle.ode_make.proofs.Making.{initialised, initialised_means, made}
 use Rattle.ode_make.proofs.Telling.{tells_one}
@@ -17,7 +18,7 @@ returns-clause-made g c file tells =
 pub returns-clause-means : goal.returns-clause-means
 returns-clause-means g c file image tells told =
     let made_is = returns-clause-made g c file tells in
-    subst (λ (l : List ℕ). PagesMean l first_rows) (tells_one _ made_is.0 image made_is.1.tells told) (initialised_means file made_is.0 made_is.2)
+    subst (λ (l : List ℕ). PagesMeanIn FORMAT l first_rows) (tells_one _ made_is.0 image made_is.1.tells told) (initialised_means file made_is.0 made_is.2)
 
 pub returns-clause-refused : goal.returns-clause-refused
 returns-clause-refused g c file tells in_use =
