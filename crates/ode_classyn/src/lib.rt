@@ -5,4 +5,4 @@ mod parser;
 
 pub use ode_eventsyn::SyntaxError;
 pub use ode_print::print_class;
-pub use parser::{parse_class, parse_statement};
+pub use parser::{lexed, parse_class, parse_statement};

@@ -12,7 +12,8 @@ use ode_terminals::{Place, place_of};
 use ode_value::{ClassDecl, List, Statement};
 use std::alloc::Global;
 
-fn lexed(alloc: Global, text: &[u8]) -> Result<List<Token>, SyntaxError>
+/// The tokens of a text of fewer than 2^32 bytes.
+pub fn lexed(alloc: Global, text: &[u8]) -> Result<List<Token>, SyntaxError>
     requires { length text.now < 2 ^ 32 }
     ensures ok { IfOk result (λ tokens. lexed text.now ≡ Tokens tokens) }
     ensures err { IfErr result (λ e. IsUnlexed text.now e) }

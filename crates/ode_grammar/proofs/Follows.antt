@@ -163,6 +163,9 @@ follow part.RhsDots k = ends_inner_name k
 follow part.RhsDot k = ends_inner_name k
 follow part.RhsName k = ends_inner_name k
 follow part.Class k = false
+follow part.Additions k = ends_inners k
+follow part.Literal k = ends_clock_text k
+follow part.Negative k = ends_clock_text k
 follow part.Parent k = ends_parent k
 follow part.Members k = ends_inners k
 follow part.FieldOrMethod k = ends_field_or_method k
@@ -359,6 +362,7 @@ IfRow P (Some row) = P row
 -- a token has at a part the row that it has as a name, since no event expression begins with one
 event_after : (t : Terminal) (row : List Item) → row_of part.EventUnary (named t) ≡ Some row → after part.EventUnary t ≡ Some row
 unfolding row_of
+event_after terminal.Change row h = absurd (none-some row h)
 event_after terminal.FaAbs row h = absurd (none-some row h)
 event_after terminal.Pipe row h = absurd (none-some row h)
 event_after terminal.RelPlus row h = absurd (none-some row h)

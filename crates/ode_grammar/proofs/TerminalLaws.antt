@@ -14,7 +14,7 @@ terminals =
     terminal.Stray ∷ terminal.OpenBrace ∷ terminal.CloseBrace ∷ terminal.OpenParen ∷ terminal.CloseParen ∷ terminal.Semi ∷
     terminal.Comma ∷ terminal.Dot ∷ terminal.Colon ∷ terminal.Assign ∷ terminal.Arrow ∷ terminal.Not ∷ terminal.Minus ∷
     terminal.Plus ∷ terminal.Times ∷ terminal.Compares ∷ terminal.AndAnd ∷ terminal.OrOr ∷ terminal.Abort ∷ terminal.Activate ∷
-    terminal.After ∷ terminal.And ∷ terminal.Any ∷ terminal.At ∷ terminal.Before ∷ terminal.Begin ∷ terminal.Choose ∷
+    terminal.After ∷ terminal.And ∷ terminal.Any ∷ terminal.At ∷ terminal.Before ∷ terminal.Begin ∷ terminal.Change ∷ terminal.Choose ∷
     terminal.Class ∷ terminal.Clock ∷ terminal.Commit ∷ terminal.Constraint ∷ terminal.Create ∷ terminal.Deactivate ∷
     terminal.Delete ∷ terminal.DropVersion ∷ terminal.Else ∷ terminal.Event ∷ terminal.Every ∷ terminal.Fa ∷ terminal.FaAbs ∷
     terminal.First ∷ terminal.If ∷ terminal.Initial ∷ terminal.Lasting ∷ terminal.Let ∷ terminal.Mode ∷ terminal.NewVersion ∷
@@ -83,6 +83,7 @@ stands_for-trans t j k s h = go (stands_for-either j k h)
 
 -- what is no name is asked for by itself
 named_exactly : (p : Terminal → Bool) → p terminal.Name ≡ false → (t k : Terminal) → named t ≡ k → p k ≡ true → t ≡ k
+named_exactly p f terminal.Change k e h = absurd (false≢true (sym f ∙ (ap p e ∙ h)))
 named_exactly p f terminal.FaAbs k e h = absurd (false≢true (sym f ∙ (ap p e ∙ h)))
 named_exactly p f terminal.Pipe k e h = absurd (false≢true (sym f ∙ (ap p e ∙ h)))
 named_exactly p f terminal.RelPlus k e h = absurd (false≢true (sym f ∙ (ap p e ∙ h)))

@@ -14,6 +14,7 @@ use Rattle.ode_grammar.specs.Terminals.{named}
 use Rattle.ode_grammar.specs.Expressions.{expr_after, unary_after, dots_after, factors_after, sums_after, compare_after, ands_after, ors_after, args_after, more_args_after}
 use Rattle.ode_grammar.specs.Events.{event, event_unary_after, event_ands_after, event_ors_after, more_relative_after, more_prior_after, more_sequence_after, mask_after, event_mask_after, kind_after, after_what_after, before_what_after, time_what_after, period_after}
 use Rattle.ode_grammar.specs.Statements.{statement_after, clock_text_after, inners_after, inner_name_after, return_value_after, else_after, chained_after, call_dot_after, sets_after, more_sets_after, rhs_after, script_rhs_after, rhs_dots_after, rhs_dot_after, rhs_name_after}
+use Rattle.ode_grammar.specs.Changes.{additions_after, change, literal_after, negative_after}
 use Rattle.ode_grammar.specs.Classes.{class_after, parent_after, members_after, field_or_method_after, more_kinds_after, initial_after, lasting_after, scope_after, mode_after, sort_after, params_after, one_param, more_params}
 
 -- the row of the token at a part
@@ -34,6 +35,9 @@ row_of part.RhsDots k = rhs_dots_after k
 row_of part.RhsDot k = rhs_dot_after k
 row_of part.RhsName k = rhs_name_after k
 row_of part.Class k = class_after k
+row_of part.Additions k = additions_after k
+row_of part.Literal k = literal_after k
+row_of part.Negative k = negative_after k
 row_of part.Parent k = parent_after k
 row_of part.Members k = members_after k
 row_of part.FieldOrMethod k = field_or_method_after k
@@ -98,6 +102,7 @@ skipped part.Inners = Some action.Nothing
 skipped part.Else = Some action.Absent
 skipped part.Parent = Some action.NoParent
 skipped part.Members = Some action.Nothing
+skipped part.Additions = Some action.Nothing
 skipped part.Initial = Some action.NotInitial
 skipped part.Lasting = Some action.Once
 skipped part.Scope = Some action.Committed
@@ -114,9 +119,10 @@ skipped part.Ands = Some action.Nothing
 skipped part.Ors = Some action.Nothing
 skipped other = None
 
--- what is read: an expression, an event expression, a class or a statement
+-- what is read: an expression, an event expression, a class, a change of one, or a statement
 unfoldable pub items_of : Start → List Item
 items_of start.Expr = A part.Expr ∷ []
 items_of start.Event = event
 items_of start.Class = A part.Class ∷ []
+items_of start.Change = change
 items_of start.Statement = A part.Statement ∷ []

@@ -4,6 +4,7 @@ pub mod Expressions
 pub mod Events
 pub mod Statements
 pub mod Classes
+pub mod Changes
 pub mod Grammar
 pub mod Texts
 pub mod Reading

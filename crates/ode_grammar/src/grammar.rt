@@ -2,6 +2,7 @@
 ghost use Rattle.std.specs.Prelude.{◌≡◌, Some, None, IfSome, IfNone};
 ghost use Rattle.ode_grammar.specs.Grammar.{after, row_of, skipped, standing};
 
+use crate::change_rows::{additions_after, literal_after, negative_after};
 use crate::class_rows::*;
 use crate::event_rows::*;
 use crate::expression_rows::*;
@@ -33,6 +34,9 @@ fn row_of(part: Part, terminal: Terminal) -> Option<&'static [Item]>
         Part::RhsDot => rhs_dot_after(terminal),
         Part::RhsName => rhs_name_after(terminal),
         Part::Class => class_after(terminal),
+        Part::Additions => additions_after(terminal),
+        Part::Literal => literal_after(terminal),
+        Part::Negative => negative_after(terminal),
         Part::Parent => parent_after(terminal),
         Part::Members => members_after(terminal),
         Part::FieldOrMethod => field_or_method_after(terminal),
@@ -230,6 +234,7 @@ pub fn skipped(part: Part) -> Option<Action>
     match part {
         Part::Inners
         | Part::Members
+        | Part::Additions
         | Part::EventAnds
         | Part::EventOrs
         | Part::EventMask

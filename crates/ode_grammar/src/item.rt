@@ -37,6 +37,12 @@ pub enum Part {
     RhsName,
     /// A class.
     Class,
+    /// One more added field, any number of times.
+    Additions,
+    /// What an added field is in the objects that are there.
+    Literal,
+    /// The number behind a sign.
+    Negative,
     /// `:` and the parent's name, or nothing.
     Parent,
     /// The members of a class, up to its end.
@@ -124,6 +130,9 @@ pub enum Part {
 pub enum Action {
     Members,
     Class,
+    Change,
+    Addition,
+    Negative,
     Declare,
     Begin,
     Commit,

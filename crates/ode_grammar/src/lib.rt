@@ -1,6 +1,7 @@
-//! The grammar: expressions, event expressions, classes and statements, over classes of tokens.
+//! The grammar: expressions, event expressions, classes, changes of classes and statements, over classes of tokens.
 #![tactic(auto)]
 
+mod change_rows;
 mod class_rows;
 mod event_rows;
 mod expression_rows;

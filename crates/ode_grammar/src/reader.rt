@@ -4,6 +4,7 @@ ghost use Rattle.ode_grammar.specs.Grammar.{items_of};
 ghost use Rattle.ode_grammar.specs.Reading.{next, may_stop};
 ghost use Rattle.ode_grammar.specs.Texts.{IsExtent};
 
+use crate::change_rows::change;
 use crate::grammar::{after, skipped};
 use crate::item::Item::{self, Part as A};
 use crate::item::Part;
@@ -17,6 +18,7 @@ pub enum Start {
     Expr,
     Event,
     Class,
+    Change,
     Statement,
 }
 
@@ -38,6 +40,7 @@ pub fn items_of(start: Start) -> &'static [Item]
         Start::Expr => &[A(Part::Expr)],
         Start::Event => &[A(Part::EventUnary), A(Part::EventAnds), A(Part::EventOrs)],
         Start::Class => &[A(Part::Class)],
+        Start::Change => change(),
         Start::Statement => &[A(Part::Statement)],
     }
 }

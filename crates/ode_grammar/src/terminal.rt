@@ -48,6 +48,8 @@ pub enum Terminal {
     At,
     Before,
     Begin,
+    /// `change`, which isn't reserved: a name but where a change of a class begins.
+    Change,
     Choose,
     Class,
     Clock,
@@ -111,7 +113,8 @@ impl Terminal {
         ensures { result ≡ named self }
     {
         match self {
-            Terminal::FaAbs | Terminal::Pipe | Terminal::RelPlus => Terminal::Name,
+            Terminal::Change | Terminal::FaAbs | Terminal::Pipe | Terminal::RelPlus =>
+                Terminal::Name,
             other => other,
         }
     }

@@ -30,6 +30,7 @@ fn start_of(sort: &str) -> Start {
         "expr" => Start::Expr,
         "event" => Start::Event,
         "class" => Start::Class,
+        "change" => Start::Change,
         _ => Start::Statement,
     }
 }
@@ -46,6 +47,7 @@ fn placed(start: Start, text: &[u8], found: &[Token]) -> Place {
     match start {
         Start::Expr => Place::Anywhere,
         Start::Event | Start::Class => Place::Class,
+        Start::Change => Place::Change,
         Start::Statement => place_of(text, found),
     }
 }
@@ -54,7 +56,7 @@ fn placed(start: Start, text: &[u8], found: &[Token]) -> Place {
 fn judged(alloc: Global, start: Start, text: &[u8], found: &[Token]) -> Result<Answer, Answer> {
     let seen = terminals(alloc, placed(start, text, found), text, found)?;
     let extent = extent_of(alloc, start, seen.as_slice())?;
-    let whole = matches!(start, Start::Class | Start::Statement);
+    let whole = matches!(start, Start::Class | Start::Change | Start::Statement);
     if !extent.is_text || whole && extent.end < seen.len() {
         return Ok(Answer::Syntax(byte_of(text, found, extent.end)));
     }

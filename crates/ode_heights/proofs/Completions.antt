@@ -30,6 +30,8 @@ tokens_of part.RhsDots = terminal.Semi ∷ []
 tokens_of part.RhsDot = terminal.Semi ∷ []
 tokens_of part.RhsName = terminal.OpenParen ∷ terminal.CloseParen ∷ terminal.Semi ∷ []
 tokens_of part.Class = terminal.Class ∷ terminal.Name ∷ terminal.OpenBrace ∷ terminal.CloseBrace ∷ []
+tokens_of part.Literal = terminal.Leaf ∷ []
+tokens_of part.Negative = terminal.Number ∷ []
 tokens_of part.FieldOrMethod = terminal.Semi ∷ []
 tokens_of part.MoreKinds = terminal.Semi ∷ []
 tokens_of part.Sort = terminal.SortWord ∷ []
@@ -144,6 +146,16 @@ class_derives : {items : List Item} {m : Heights} {ts : List Terminal} {out : He
     → Derives heights items (low_of part.Class m) ts out → Derives heights (item.Part part.Class ∷ items) m (tokens_of part.Class ++ ts) out
 unfolding row_of skipped raised
 class_derives d = Rule {t = terminal.Class} part.Class (item.Token terminal.Name ∷ item.Part part.Parent ∷ item.Token terminal.OpenBrace ∷ item.Build action.Members ∷ item.Part part.Members ∷ item.Token terminal.CloseBrace ∷ item.Build action.Class ∷ []) refl (Next terminal.Name refl (Skip part.Parent action.NoParent refl (Next terminal.OpenBrace refl (Make action.Members (Skip part.Members action.Nothing refl (Next terminal.CloseBrace refl (Make action.Class d)))))))
+
+literal_derives : {items : List Item} {m : Heights} {ts : List Terminal} {out : Heights}
+    → Derives heights items (low_of part.Literal m) ts out → Derives heights (item.Part part.Literal ∷ items) m (tokens_of part.Literal ++ ts) out
+unfolding row_of skipped raised
+literal_derives d = Rule {t = terminal.Leaf} part.Literal ([]) refl d
+
+negative_derives : {items : List Item} {m : Heights} {ts : List Terminal} {out : Heights}
+    → Derives heights items (low_of part.Negative m) ts out → Derives heights (item.Part part.Negative ∷ items) m (tokens_of part.Negative ++ ts) out
+unfolding row_of skipped raised
+negative_derives d = Rule {t = terminal.Number} part.Negative (item.Build action.Negative ∷ []) refl (Make action.Negative d)
 
 field_or_method_derives : {items : List Item} {m : Heights} {ts : List Terminal} {out : Heights}
     → Derives heights items (low_of part.FieldOrMethod m) ts out → Derives heights (item.Part part.FieldOrMethod ∷ items) m (tokens_of part.FieldOrMethod ++ ts) out
@@ -319,6 +331,9 @@ part_derives part.RhsDots d = rhs_dots_derives d
 part_derives part.RhsDot d = rhs_dot_derives d
 part_derives part.RhsName d = rhs_name_derives d
 part_derives part.Class d = class_derives d
+part_derives part.Additions d = Skip part.Additions action.Nothing refl d
+part_derives part.Literal d = literal_derives d
+part_derives part.Negative d = negative_derives d
 part_derives part.Parent d = Skip part.Parent action.NoParent refl d
 part_derives part.Members d = Skip part.Members action.Nothing refl d
 part_derives part.FieldOrMethod d = field_or_method_derives d

@@ -188,6 +188,18 @@ row_low part.RhsName terminal.Compares h = record { shaped = shapes_same h.shape
 row_low part.RhsName terminal.AndAnd h = record { shaped = shapes_same h.shaped; plain = cons_more 0 ((max 1 1) + 1) h.plain (omega arith) }
 row_low part.RhsName terminal.OrOr h = record { shaped = shapes_same h.shaped; plain = cons_more 0 ((max 1 1) + 1) h.plain (omega arith) }
 row_low part.Class terminal.Class h = low_refl _
+row_low part.Additions terminal.SortWord h = low_refl _
+row_low part.Additions terminal.Ref h = low_refl _
+row_low part.Literal terminal.Leaf h = low_refl _
+row_low part.Literal terminal.Number h = low_refl _
+row_low part.Literal terminal.Seconds h = low_refl _
+row_low part.Literal terminal.Count h = low_refl _
+row_low part.Literal terminal.Text h = low_refl _
+row_low part.Literal terminal.Instant h = low_refl _
+row_low part.Literal terminal.Minus h = low_refl _
+row_low part.Negative terminal.Number h = low_refl _
+row_low part.Negative terminal.Seconds h = low_refl _
+row_low part.Negative terminal.Count h = low_refl _
 row_low part.Parent terminal.Colon h = low_refl _
 row_low part.Members terminal.SortWord h = low_refl _
 row_low part.Members terminal.Ref h = low_refl _
@@ -332,6 +344,7 @@ unfolding skipped raised
 skip_low part.Inners a h e = let x : action.Nothing ≡ a = cc in ap (λ b. risen b h) x
 skip_low part.Else a h e = let x : action.Absent ≡ a = cc in ap (λ b. risen b h) x
 skip_low part.Parent a h e = let x : action.NoParent ≡ a = cc in ap (λ b. risen b h) x
+skip_low part.Additions a h e = let x : action.Nothing ≡ a = cc in ap (λ b. risen b h) x
 skip_low part.Members a h e = let x : action.Nothing ≡ a = cc in ap (λ b. risen b h) x
 skip_low part.Initial a h e = let x : action.NotInitial ≡ a = cc in ap (λ b. risen b h) x
 skip_low part.Lasting a h e = let x : action.Once ≡ a = cc in ap (λ b. risen b h) x

@@ -10,12 +10,13 @@ use Rattle.ode_grammar.specs.declared.terminal.Terminal.{Terminal}
 use Rattle.ode_grammar.specs.declared.terminal.Terminal.TheVariants as terminal
 use Rattle.ode_grammar.specs.Expressions.{atom, behind_unary, comp, conj, sum}
 use Rattle.ode_grammar.specs.Events.{event as whole_event}
+use Rattle.ode_grammar.specs.Changes.{additions, change}
 use Rattle.ode_grammar.specs.Grammar.{row_of}
 use Rattle.ode_grammar.specs.Statements.{body, done, dotted_call, new}
 use Rattle.ode_grammar.proofs.Follows.{IfRow}
 use Rattle.ode_productions.specs.Productions.{Is, Symbol}
 use Rattle.ode_productions.specs.Productions as is
-use Rattle.ode_productions.specs.Phrases.{Phrase, Says, AArguments, AMoreArguments, ADotted, ASets, AMoreSets, AChange, AGiven, ARight, ASimple, AInner, AInners, AOtherwise, ASort, AParams, AMoreKinds, AInitially, ALasts, AScoped, AModed, AMember, AMembers, AParented, AClass, AStatement, AMoreParams}
+use Rattle.ode_productions.specs.Phrases.{Phrase, Says, AArguments, AMoreArguments, ADotted, ASets, AMoreSets, AChange, AGiven, ARight, ASimple, AInner, AInners, AOtherwise, ASort, AParams, AMoreKinds, AInitially, ALasts, AScoped, AModed, AMember, AMembers, AParented, AClass, ALiteral, AAdditions, AClassChange, AStatement, AMoreParams}
 use Rattle.ode_productions.specs.Phrases as says
 use Rattle.ode_productions.proofs.Rows.{ended, event_front, extend, one, split, to_comparison, to_conjunction, to_expression, to_sum, to_term, unary_rows, Front, PartYields, RowYields, Yields}
 use Rattle.ode_productions.proofs.Texts.{longer}
@@ -762,3 +763,56 @@ unfolding row_of
 sixteenth_param_rows terminal.Comma = λ us l. subst (Says (AMoreParams 1)) (sym (ap (λ x. terminal.Comma ∷ x) (l.2 ∙ ap (λ x. l.0 ++ x) (l.4.1 ∙ ap (λ x. terminal.Name ∷ x) (l.4.2.1 ∙ ap (λ x. terminal.CloseParen ∷ x) (l.4.2.2)))))) (says.NextParam {n = 0} l.3 says.LastParam)
 sixteenth_param_rows terminal.CloseParen = λ us l. subst (λ x. Says (AMoreParams 1) (terminal.CloseParen ∷ x)) (sym l) says.LastParam
 sixteenth_param_rows other = tt
+
+-- ---- changes of classes
+
+-- an added field behind its sort, and those behind it
+more_additions : (xs us : List Terminal) → Says ASort xs → Yields additions us → Says AAdditions (xs ++ us)
+more_additions xs us s l =
+    let x = l.2.2 in
+    let y = x.4.2 in
+    let read : us ≡ terminal.Name ∷ (terminal.Assign ∷ (x.0 ++ (terminal.Semi ∷ y.0))) =
+    l.1 ∙ ap (λ z. terminal.Name ∷ z) (l.2.1 ∙ ap (λ z. terminal.Assign ∷ z) (x.2 ∙ ap (λ z. x.0 ++ z) (x.4.1 ∙ ap (λ z. terminal.Semi ∷ z) (ended x.4.0 y.0 y.1 y.2 y.4)))) in
+    let grouped : xs ++ (terminal.Name ∷ (terminal.Assign ∷ (x.0 ++ (terminal.Semi ∷ y.0)))) ≡ (xs ++ terminal.Name ∷ terminal.Assign ∷ x.0 ++ terminal.Semi ∷ []) ++ y.0 = simp append_assoc in
+    subst (Says AAdditions) (sym (ap (λ z. xs ++ z) read ∙ grouped)) (says.MoreAdditions (says.Addition s x.3) y.3)
+
+pub additions_rows : (k : Terminal) → IfRow (RowYields part.Additions k) (row_of part.Additions k)
+unfolding row_of
+additions_rows terminal.SortWord = λ us l. more_additions (terminal.SortWord ∷ []) us says.SortWord l
+additions_rows terminal.Ref = λ us l. subst (λ x. Says AAdditions (terminal.Ref ∷ x)) (sym l.1) (more_additions (terminal.Ref ∷ terminal.Name ∷ []) l.0 says.RefSort l.2)
+additions_rows other = tt
+
+pub literal_rows : (k : Terminal) → IfRow (RowYields part.Literal k) (row_of part.Literal k)
+unfolding row_of
+literal_rows terminal.Leaf = λ us l. subst (λ x. Says ALiteral (terminal.Leaf ∷ x)) (sym l) says.LeafLiteral
+literal_rows terminal.Number = λ us l. subst (λ x. Says ALiteral (terminal.Number ∷ x)) (sym l) says.NumberLiteral
+literal_rows terminal.Seconds = λ us l. subst (λ x. Says ALiteral (terminal.Seconds ∷ x)) (sym l) says.SecondsLiteral
+literal_rows terminal.Count = λ us l. subst (λ x. Says ALiteral (terminal.Count ∷ x)) (sym l) says.CountLiteral
+literal_rows terminal.Text = λ us l. subst (λ x. Says ALiteral (terminal.Text ∷ x)) (sym l) says.TextLiteral
+literal_rows terminal.Instant = λ us l. subst (λ x. Says ALiteral (terminal.Instant ∷ x)) (sym l) says.InstantLiteral
+literal_rows terminal.Minus = λ us l. subst (λ x. Says ALiteral (terminal.Minus ∷ x)) (sym (ended us l.0 l.1 l.2 l.4)) l.3
+literal_rows other = tt
+
+pub negative_rows : (k : Terminal) → IfRow (RowYields part.Negative k) (row_of part.Negative k)
+unfolding row_of
+negative_rows terminal.Number = λ us l. subst (λ x. Says ALiteral (terminal.Minus ∷ terminal.Number ∷ x)) (sym l) says.NegativeNumber
+negative_rows terminal.Seconds = λ us l. subst (λ x. Says ALiteral (terminal.Minus ∷ terminal.Seconds ∷ x)) (sym l) says.NegativeSeconds
+negative_rows terminal.Count = λ us l. subst (λ x. Says ALiteral (terminal.Minus ∷ terminal.Count ∷ x)) (sym l) says.NegativeCount
+negative_rows other = tt
+
+pub whole_change : (us : List Terminal) → Yields change us → Says AClassChange us
+whole_change us l =
+    let o = l.2.2.2 in
+    let s = o.2 in
+    let n = s.4 in
+    let x = n.2.2 in
+    let y = x.4.2 in
+    let e = y.4 in
+    let closing : y.1 ≡ terminal.CloseBrace ∷ (terminal.Semi ∷ []) = e.1 ∙ ap (λ z. terminal.CloseBrace ∷ z) (e.2.1 ∙ ap (λ z. terminal.Semi ∷ z) e.2.2) in
+    let fields : o.0 ≡ s.0 ++ (terminal.Name ∷ (terminal.Assign ∷ (x.0 ++ (terminal.Semi ∷ (y.0 ++ (terminal.CloseBrace ∷ (terminal.Semi ∷ []))))))) =
+    s.2 ∙ ap (λ z. s.0 ++ z) (n.1 ∙ ap (λ z. terminal.Name ∷ z) (n.2.1 ∙ ap (λ z. terminal.Assign ∷ z) (x.2 ∙ ap (λ z. x.0 ++ z) (x.4.1 ∙ ap (λ z. terminal.Semi ∷ z) (y.2 ∙ ap (λ z. y.0 ++ z) closing))))) in
+    let read : us ≡ terminal.Change ∷ (terminal.Class ∷ (terminal.Name ∷ (terminal.OpenBrace ∷ o.0))) =
+    l.1 ∙ ap (λ z. terminal.Change ∷ z) (l.2.1 ∙ ap (λ z. terminal.Class ∷ z) (l.2.2.1 ∙ ap (λ z. terminal.Name ∷ z) o.1)) in
+    let grouped : s.0 ++ (terminal.Name ∷ (terminal.Assign ∷ (x.0 ++ (terminal.Semi ∷ (y.0 ++ (terminal.CloseBrace ∷ (terminal.Semi ∷ []))))))) ≡ ((s.0 ++ terminal.Name ∷ terminal.Assign ∷ x.0 ++ terminal.Semi ∷ []) ++ y.0) ++ terminal.CloseBrace ∷ terminal.Semi ∷ [] = simp append_assoc in
+    subst (Says AClassChange) (sym (read ∙ ap (λ z. terminal.Change ∷ (terminal.Class ∷ (terminal.Name ∷ (terminal.OpenBrace ∷ z)))) (fields ∙ grouped)))
+    (says.ClassChange (says.Addition s.3 x.3) y.3)

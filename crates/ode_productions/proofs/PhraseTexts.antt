@@ -12,13 +12,14 @@ use Rattle.ode_grammar.specs.declared.terminal.Terminal.TheVariants as terminal
 use Rattle.ode_grammar.specs.Expressions.{arguments, behind_unary, comp, conj, sum, term}
 use Rattle.ode_grammar.specs.Events.{event as whole_event}
 use Rattle.ode_grammar.specs.Statements.{alone, body, class_rest, done, dotted_call, ending, field_set, new, next}
+use Rattle.ode_grammar.specs.Changes.{additions, change}
 use Rattle.ode_grammar.specs.Classes.{method, one_param, test, trigger}
 use Rattle.ode_grammar.specs.Grammar.{after, items_of, row_of, skipped}
 use Rattle.ode_grammar.specs.Texts.{Done, IsText, Make, Next, Rule, Skip}
 use Rattle.ode_grammar.proofs.Follows.{IfRow}
 use Rattle.ode_productions.specs.Productions.{Is, Symbol}
 use Rattle.ode_productions.specs.Productions as is
-use Rattle.ode_productions.specs.Phrases.{Phrase, Says, AClass, AStatement}
+use Rattle.ode_productions.specs.Phrases.{Phrase, Says, AClass, AClassChange, AStatement}
 use Rattle.ode_productions.specs.Phrases as says
 use Rattle.ode_productions.proofs.Texts.{derived, event_whole, no_ands, no_compare, no_factors, no_ors, no_sums, no_unary_skip, regroup, token, whole, C, D, F, S, U}
 
@@ -367,6 +368,7 @@ args_like terminal.Count = refl
 args_like terminal.Text = refl
 args_like terminal.Instant = refl
 args_like terminal.Name = refl
+args_like terminal.Change = refl
 args_like terminal.FaAbs = refl
 args_like terminal.Pipe = refl
 args_like terminal.RelPlus = refl
@@ -385,6 +387,7 @@ return_like terminal.Count = refl
 return_like terminal.Text = refl
 return_like terminal.Instant = refl
 return_like terminal.Name = refl
+return_like terminal.Change = refl
 return_like terminal.FaAbs = refl
 return_like terminal.Pipe = refl
 return_like terminal.RelPlus = refl
@@ -530,6 +533,16 @@ record Sorted (us : List Terminal) : Type 0 where
       → D (item.Part part.Members ∷ []) (us ++ ts)
   pub param : (ts : List Terminal) → D (item.Token terminal.Name ∷ item.Build action.Param ∷ item.Part part.SecondParam ∷ []) ts
       → D (item.Part part.Params ∷ []) (us ++ ts)
+  pub addition : (ts : List Terminal) → D additions ts → D (item.Part part.Additions ∷ []) (us ++ ts)
+
+-- what ends a change of a class
+abbrev closing : List Item
+closing = item.Token terminal.CloseBrace ∷ item.Token terminal.Semi ∷ []
+
+-- an added field: the first of a change, and any other
+record Adds (us : List Terminal) : Type 0 where
+  pub first : (ts : List Terminal) → D (item.Part part.Additions ∷ closing) ts → D (item.Part part.Sort ∷ additions ++ closing) (us ++ ts)
+  pub other : (ts : List Terminal) → D (item.Part part.Additions ∷ []) ts → D (item.Part part.Additions ∷ []) (us ++ ts)
 
 abbrev AsPhrase : Phrase → List Terminal → Type 0
 AsPhrase says.AArguments us = D (item.Part part.Args ∷ []) us
@@ -556,6 +569,10 @@ AsPhrase says.AMember us = (ts : List Terminal) → D (item.Part part.Members �
 AsPhrase says.AMembers us = D (item.Part part.Members ∷ []) us
 AsPhrase says.AParented us = D (item.Part part.Parent ∷ []) us
 AsPhrase says.AClass us = (rest : List Terminal) × (us ≡ terminal.Class ∷ rest) × D class_rest rest
+AsPhrase says.ALiteral us = D (item.Part part.Literal ∷ []) us
+AsPhrase says.AAddition us = Adds us
+AsPhrase says.AAdditions us = D (item.Part part.Additions ∷ []) us
+AsPhrase says.AClassChange us = D change us
 AsPhrase says.AStatement us = D (item.Part part.Statement ∷ []) us
 AsPhrase (says.AMoreParams n) us = IfPart (param_part n) us
 
@@ -645,6 +662,7 @@ said says.SortWord = record {
   sort = Rule part.Sort (item.Build action.Sort ∷ []) refl (Make action.Sort Done);
   member = λ ts d. Rule part.Members (item.Build action.Sort ∷ item.Token terminal.Name ∷ item.Part part.FieldOrMethod ∷ item.Part part.Members ∷ []) refl (Make action.Sort d);
   param = λ ts d. Rule part.Params (item.Build action.Sort ∷ item.Token terminal.Name ∷ item.Build action.Param ∷ item.Part part.SecondParam ∷ []) refl (Make action.Sort d);
+  addition = λ ts d. Rule part.Additions (item.Build action.Sort ∷ additions) refl (Make action.Sort d);
 }
 said says.RefSort = record {
   sort = Rule part.Sort (item.Token terminal.Name ∷ item.Build action.RefSort ∷ []) refl (token terminal.Name (Make action.RefSort Done));
@@ -654,6 +672,7 @@ said says.RefSort = record {
   param = λ ts d.
       Rule part.Params (item.Token terminal.Name ∷ item.Build action.RefSort ∷ item.Token terminal.Name ∷ item.Build action.Param ∷ item.Part part.SecondParam ∷ []) refl
       (token terminal.Name (Make action.RefSort d));
+  addition = λ ts d. Rule part.Additions (item.Token terminal.Name ∷ item.Build action.RefSort ∷ additions) refl (token terminal.Name (Make action.RefSort d));
 }
 said says.NoParams = Rule part.Params [] refl Done
 said (says.SomeParams {us = vs} x y) = (said x).param (terminal.Name ∷ vs) (token terminal.Name (Make action.Param (said y)))
@@ -705,6 +724,35 @@ said (says.Class {ts = us} {us = vs} x y) = (
   refl,
   token terminal.Name (together (together (said x) (token terminal.OpenBrace (Make action.Members (said y)))) (token terminal.CloseBrace (Make action.Class Done))),
 )
+said says.LeafLiteral = Rule part.Literal [] refl Done
+said says.NumberLiteral = Rule part.Literal [] refl Done
+said says.SecondsLiteral = Rule part.Literal [] refl Done
+said says.CountLiteral = Rule part.Literal [] refl Done
+said says.TextLiteral = Rule part.Literal [] refl Done
+said says.InstantLiteral = Rule part.Literal [] refl Done
+said says.NegativeNumber =
+    Rule part.Literal (item.Part part.Negative ∷ []) refl (Rule part.Negative (item.Build action.Negative ∷ []) refl (Make action.Negative Done))
+said says.NegativeSeconds =
+    Rule part.Literal (item.Part part.Negative ∷ []) refl (Rule part.Negative (item.Build action.Negative ∷ []) refl (Make action.Negative Done))
+said says.NegativeCount =
+    Rule part.Literal (item.Part part.Negative ∷ []) refl (Rule part.Negative (item.Build action.Negative ∷ []) refl (Make action.Negative Done))
+said (says.Addition {ts = us} {us = vs} x y) = record {
+  first = λ ts d.
+      regroup (us ++ terminal.Name ∷ terminal.Assign ∷ vs) (terminal.Semi ∷ []) ts
+      (regroup us (terminal.Name ∷ terminal.Assign ∷ vs) (terminal.Semi ∷ ts)
+      (together (said x).sort (token terminal.Name (token terminal.Assign (together (said y) (token terminal.Semi (Make action.Addition d)))))));
+  other = λ ts d.
+      regroup (us ++ terminal.Name ∷ terminal.Assign ∷ vs) (terminal.Semi ∷ []) ts
+      (regroup us (terminal.Name ∷ terminal.Assign ∷ vs) (terminal.Semi ∷ ts)
+      ((said x).addition (terminal.Name ∷ terminal.Assign ∷ vs ++ terminal.Semi ∷ ts)
+      (token terminal.Name (token terminal.Assign (together (said y) (token terminal.Semi (Make action.Addition d)))))));
+}
+said says.NoAdditions = Skip part.Additions action.Nothing refl Done
+said (says.MoreAdditions {us = vs} x y) = (said x).other vs (said y)
+said (says.ClassChange {ts = us} {us = vs} x y) =
+    token terminal.Change (token terminal.Class (token terminal.Name (token terminal.OpenBrace (Make action.Change
+    (regroup us vs (terminal.CloseBrace ∷ terminal.Semi ∷ [])
+    ((said x).first (vs ++ terminal.CloseBrace ∷ terminal.Semi ∷ []) (together (said y) (token terminal.CloseBrace (token terminal.Semi Done)))))))))
 said (says.Declare x) =
     let l = said x in
     subst (λ z. D (item.Part part.Statement ∷ []) (z ++ terminal.Semi ∷ [])) (sym l.1)
@@ -728,6 +776,10 @@ said (says.ShowGiven {ts = us} x) =
 pub class_text : (tokens : List Terminal) → Says AClass tokens → IsText start.Class tokens
 unfolding items_of row_of
 class_text tokens x = let l = said x in subst (λ z. D (item.Part part.Class ∷ []) z) (sym l.1) (Rule part.Class class_rest refl l.2)
+
+pub change_text : (tokens : List Terminal) → Says AClassChange tokens → IsText start.Change tokens
+unfolding items_of
+change_text tokens x = said x
 
 pub statement_text : (tokens : List Terminal) → Says AStatement tokens → IsText start.Statement tokens
 unfolding items_of

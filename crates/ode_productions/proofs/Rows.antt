@@ -15,7 +15,7 @@ use Rattle.ode_grammar.specs.Grammar.{row_of}
 use Rattle.ode_grammar.proofs.Follows.{IfRow}
 use Rattle.ode_productions.specs.Productions.{Is, Symbol}
 use Rattle.ode_productions.specs.Productions as is
-use Rattle.ode_productions.specs.Phrases.{Says, AArguments, AMoreArguments, ADotted, ASets, AMoreSets, AGiven, ARight, AInner, AInners, AOtherwise, ASort, AParams, AMoreKinds, AInitially, ALasts, AScoped, AModed, AMember, AMembers, AParented, AClass, AStatement, AMoreParams}
+use Rattle.ode_productions.specs.Phrases.{Says, AArguments, AMoreArguments, ADotted, ASets, AMoreSets, AGiven, ARight, AInner, AInners, AOtherwise, ASort, AParams, AMoreKinds, AInitially, ALasts, AScoped, AModed, AMember, AMembers, AParented, AClass, ALiteral, AAdditions, AStatement, AMoreParams}
 use Rattle.ode_productions.proofs.Texts.{longer, pair_items, rows}
 
 -- the tokens of a part: a symbol's, or those that make one of the symbol before them
@@ -57,6 +57,9 @@ PartYields part.InnerName ts = Says AInner (terminal.Name ∷ ts)
 PartYields part.ReturnValue ts = Says AInner (terminal.Return ∷ ts)
 PartYields part.Else ts = Says AOtherwise ts
 PartYields part.Class ts = Says AClass ts
+PartYields part.Additions ts = Says AAdditions ts
+PartYields part.Literal ts = Says ALiteral ts
+PartYields part.Negative ts = Says ALiteral (terminal.Minus ∷ ts)
 PartYields part.Parent ts = Says AParented ts
 PartYields part.Members ts = Says AMembers ts
 PartYields part.FieldOrMethod ts = (xs : List Terminal) → Says ASort xs → Says AMember (xs ++ terminal.Name ∷ ts)

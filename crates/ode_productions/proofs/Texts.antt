@@ -65,6 +65,7 @@ rows terminal.Any = refl
 rows terminal.At = refl
 rows terminal.Before = refl
 rows terminal.Begin = refl
+rows terminal.Change = refl
 rows terminal.Choose = refl
 rows terminal.Class = refl
 rows terminal.Clock = refl

@@ -1,4 +1,4 @@
--- The grammar of statements and classes as people write it: an alternative of a production a line.
+-- The grammar of statements, classes and changes of classes as people write it: an alternative of a production a line.
 use Rattle.std.specs.Prelude.{ℕ, suc, List, [], ◌∷◌, ◌++◌}
 use Rattle.ode_grammar.specs.declared.terminal.Terminal.{Terminal}
 use Rattle.ode_grammar.specs.declared.terminal.Terminal.TheVariants as terminal
@@ -30,6 +30,10 @@ pub data Phrase : Type 0 where
   AMembers : Phrase
   AParented : Phrase
   AClass : Phrase
+  ALiteral : Phrase
+  AAddition : Phrase
+  AAdditions : Phrase
+  AClassChange : Phrase
   AStatement : Phrase
   AMoreParams : ℕ → Phrase
 
@@ -119,6 +123,22 @@ pub data Says : Phrase → List Terminal → Type 0 where
   NoParent : Says AParented []
   Parent : Says AParented (terminal.Colon ∷ terminal.Name ∷ [])
   Class : {ts us : List Terminal} → Says AParented ts → Says AMembers us → Says AClass (terminal.Class ∷ terminal.Name ∷ ts ++ terminal.OpenBrace ∷ us ++ terminal.CloseBrace ∷ [])
+  -- literal := NUMBER | "-" NUMBER | TEXT | "true" | "false" | "null"
+  LeafLiteral : Says ALiteral (terminal.Leaf ∷ [])
+  NumberLiteral : Says ALiteral (terminal.Number ∷ [])
+  SecondsLiteral : Says ALiteral (terminal.Seconds ∷ [])
+  CountLiteral : Says ALiteral (terminal.Count ∷ [])
+  TextLiteral : Says ALiteral (terminal.Text ∷ [])
+  InstantLiteral : Says ALiteral (terminal.Instant ∷ [])
+  NegativeNumber : Says ALiteral (terminal.Minus ∷ terminal.Number ∷ [])
+  NegativeSeconds : Says ALiteral (terminal.Minus ∷ terminal.Seconds ∷ [])
+  NegativeCount : Says ALiteral (terminal.Minus ∷ terminal.Count ∷ [])
+  -- addition := sort NAME "=" literal ";"
+  Addition : {ts us : List Terminal} → Says ASort ts → Says ALiteral us → Says AAddition (ts ++ terminal.Name ∷ terminal.Assign ∷ us ++ terminal.Semi ∷ [])
+  -- change := "change" "class" NAME "{" addition { addition } "}" ";"
+  NoAdditions : Says AAdditions []
+  MoreAdditions : {ts us : List Terminal} → Says AAddition ts → Says AAdditions us → Says AAdditions (ts ++ us)
+  ClassChange : {ts us : List Terminal} → Says AAddition ts → Says AAdditions us → Says AClassChange (terminal.Change ∷ terminal.Class ∷ terminal.Name ∷ terminal.OpenBrace ∷ ts ++ us ++ terminal.CloseBrace ∷ terminal.Semi ∷ [])
   -- statement := class ";" | "begin" ";" | "commit" ";" | "abort" ";" | "clock" TEXT ";" | ";" | simple | "show" given
   Declare : {ts : List Terminal} → Says AClass ts → Says AStatement (ts ++ terminal.Semi ∷ [])
   Begin : Says AStatement (terminal.Begin ∷ terminal.Semi ∷ [])

@@ -3,7 +3,7 @@ ghost use Rattle.std.specs.Prelude.{List};
 ghost use Rattle.ode_grammar.specs.declared.reader.Start.TheVariants as start;
 ghost use Rattle.ode_grammar.specs.declared.terminal.Terminal.{Terminal};
 ghost use Rattle.ode_grammar.specs.Texts.{IsText};
-ghost use Rattle.ode_productions.specs.Phrases.{AClass, AStatement, Says};
+ghost use Rattle.ode_productions.specs.Phrases.{AClass, AClassChange, AStatement, Says};
 ghost use Rattle.ode_productions.specs.Productions.{Event, Expression, Is};
 ghost use Rattle.ode_productions.specs.Standing.{StandsFor};
 
@@ -23,6 +23,12 @@ pub fn events_are_productions()
 pub fn classes_are_productions()
     ensures rows { (tokens : List Terminal) → IsText start.Class tokens → StandsFor (Says AClass) tokens }
     ensures productions { (tokens : List Terminal) → StandsFor (Says AClass) tokens → IsText start.Class tokens }
+{}
+
+/// A change of a class, of the rows, is one of the productions, and the other way round.
+pub fn changes_are_productions()
+    ensures rows { (tokens : List Terminal) → IsText start.Change tokens → StandsFor (Says AClassChange) tokens }
+    ensures productions { (tokens : List Terminal) → StandsFor (Says AClassChange) tokens → IsText start.Change tokens }
 {}
 
 /// A statement of a script, of the rows, is one of the productions, and the other way round.

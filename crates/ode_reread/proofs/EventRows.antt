@@ -22,7 +22,7 @@ use Rattle.ode_heights.specs.Heights.{above, in_pair, leaf, raised}
 use Rattle.ode_terminals.specs.declared.seen.Place.{Place}
 use Rattle.ode_terminals.specs.declared.seen.Place.TheVariants as place_of
 use Rattle.ode_terminals.specs.Seen.{instant_terminal, mark_terminal, number_terminal, reference_terminal, seen, this_terminal}
-use Rattle.ode_terminals.specs.Words.{event_words, rows, word_terminal}
+use Rattle.ode_terminals.specs.Words.{free_words, rows, word_terminal}
 use Rattle.ode_value.specs.Limits.{choose_limit}
 use Rattle.ode_value.specs.declared.event.EventExpr.{EventExpr}
 use Rattle.ode_value.specs.declared.event.EventExpr.TheVariants as event
@@ -273,16 +273,18 @@ mark_no_count mark.Arrow = refl
 
 word_no_count : (w : List ℕ) → is_count (word_terminal w) ≡ false
 unfolding word_terminal
-word_no_count w = never is_count (rows ++ event_words) w refl refl
+word_no_count w = never is_count (rows ++ free_words) w refl refl
 
 this_no_count : (place : Place) → is_count (this_terminal place) ≡ false
 this_no_count place_of.Script = refl
 this_no_count place_of.Class = refl
+this_no_count place_of.Change = refl
 this_no_count place_of.Anywhere = refl
 
 reference_no_count : (place : Place) → is_count (reference_terminal place) ≡ false
 reference_no_count place_of.Script = refl
 reference_no_count place_of.Class = refl
+reference_no_count place_of.Change = refl
 reference_no_count place_of.Anywhere = refl
 
 text_no_count : (o : Option ℤ) → is_count (instant_terminal o) ≡ false

@@ -15,7 +15,7 @@ use Rattle.ode_heights.specs.declared.height.Height.{Height}
 use Rattle.ode_heights.specs.Heights.{above, leaf}
 use Rattle.ode_terminals.specs.declared.seen.Place.{Place}
 use Rattle.ode_terminals.specs.Seen.{between_quotes, instant_terminal, number_terminal, reference_terminal, seen, this_terminal}
-use Rattle.ode_terminals.specs.Words.{event_words, looked_up, rows, word_terminal}
+use Rattle.ode_terminals.specs.Words.{free_words, looked_up, rows, word_terminal}
 use Rattle.ode_timer.specs.Dates.{instant_of}
 use Rattle.ode_value.specs.Limits.{choose_limit}
 use Rattle.ode_value.specs.Decimal.{digits_of}
@@ -186,13 +186,14 @@ named_either : (c : Bool) (x y : Terminal) → as_name x ≡ terminal.Name → a
 named_either true x y e f = e
 named_either false x y e f = f
 
-event_word_named : (w : List ℕ) → as_name (looked_up event_words w) ≡ terminal.Name
-event_word_named w =
-    named_either (bytes_eq (codes "faabs") w) _ _ refl (named_either (bytes_eq (codes "pipe") w) _ _ refl (named_either (bytes_eq (codes "relplus") w) _ _ refl refl))
+free_words_named : (w : List ℕ) → as_name (looked_up free_words w) ≡ terminal.Name
+free_words_named w =
+    named_either (bytes_eq (codes "change") w) _ _ refl
+    (named_either (bytes_eq (codes "faabs") w) _ _ refl (named_either (bytes_eq (codes "pipe") w) _ _ refl (named_either (bytes_eq (codes "relplus") w) _ _ refl refl)))
 
 free_is_name : (w : List ℕ) → list_any (λ x. bytes_eq x w) reserved ≡ false → as_name (word_terminal w) ≡ terminal.Name
 unfolding word_terminal
-free_is_name w e = ap as_name (not_looked_up rows event_words w (sym (words_reserved w) ∙ e)) ∙ event_word_named w
+free_is_name w e = ap as_name (not_looked_up rows free_words w (sym (words_reserved w) ∙ e)) ∙ free_words_named w
 
 pub turned : (a b : List ℕ) → bytes_eq a b ≡ false → bytes_eq b a ≡ false
 turned a b e = cases (bytes_eq b a) refl

@@ -13,7 +13,7 @@ use Rattle.ode_heights.specs.Heights.{leaf}
 use Rattle.ode_terminals.specs.declared.seen.Place.{Place}
 use Rattle.ode_terminals.specs.declared.seen.Place.TheVariants as place_of
 use Rattle.ode_terminals.specs.Seen.{mark_terminal, seen, this_terminal}
-use Rattle.ode_terminals.specs.Words.{event_words, looked_up, rows, word_terminal}
+use Rattle.ode_terminals.specs.Words.{free_words, looked_up, rows, word_terminal}
 use Rattle.ode_value.specs.declared.statement.Expr.{Expr}
 use Rattle.ode_value.specs.declared.statement.Expr.TheVariants as expr
 use Rattle.ode_value.specs.declared.value.Value.TheVariants as value
@@ -59,17 +59,17 @@ leaf_word (r ∷ rs) w e = cases (bytes_eq r.0 w) refl e (λ f. leaf_word rs w f
 among_leaves : (w : List ℕ) → is_leaf (word_terminal w) ≡ true
     → (bytes_eq (codes "false") w || (bytes_eq (codes "null") w || (bytes_eq (codes "this") w || (bytes_eq (codes "true") w || false)))) ≡ true
 unfolding word_terminal
-among_leaves w e = leaf_word (rows ++ event_words) w e
+among_leaves w e = leaf_word (rows ++ free_words) w e
 
 -- where `this` is none
-foreign_word : (bytes : List ℕ) (c d f : Bool) → bytes_eq bytes (codes "true") ≡ c → bytes_eq bytes (codes "false") ≡ d → bytes_eq bytes (codes "null") ≡ f
+foreign_word : (place : Place) (bytes : List ℕ) (c d f : Bool) → bytes_eq bytes (codes "true") ≡ c → bytes_eq bytes (codes "false") ≡ d → bytes_eq bytes (codes "null") ≡ f
     → bytes_eq bytes (codes "this") ≡ false
     → (bytes_eq (codes "false") bytes || (bytes_eq (codes "null") bytes || (bytes_eq (codes "this") bytes || (bytes_eq (codes "true") bytes || false)))) ≡ true
-    → Good place_of.Script (cond c (expr.Lit (value.Bool true)) (cond d (expr.Lit (value.Bool false)) (cond f (word_leaf (codes "null")) expr.This))) leaf
-foreign_word bytes true d f x y z t h = true_good place_of.Script
-foreign_word bytes false true f x y z t h = false_good place_of.Script
-foreign_word bytes false false true x y z t h = null_good place_of.Script
-foreign_word bytes false false false x y z t h =
+    → Good place (cond c (expr.Lit (value.Bool true)) (cond d (expr.Lit (value.Bool false)) (cond f (word_leaf (codes "null")) expr.This))) leaf
+foreign_word place bytes true d f x y z t h = true_good place
+foreign_word place bytes false true f x y z t h = false_good place
+foreign_word place bytes false false true x y z t h = null_good place
+foreign_word place bytes false false false x y z t h =
     let yes = bytes_eq (codes "true") bytes in
     let this = bytes_eq (codes "this") bytes in
     let null = bytes_eq (codes "null") bytes in
@@ -78,21 +78,23 @@ foreign_word bytes false false false x y z t h =
     ∙ (no_left this (yes || false) (turned bytes (codes "this") t) ∙ no_left yes false (turned bytes (codes "true") x))) in
     absurd (false≢true (sym none ∙ h))
 
-script_word : (k : Terminal) (bytes : List ℕ) → is_leaf k ≡ true → k ≡ seen place_of.Script bytes kind.Word → Good place_of.Script (word_leaf bytes) leaf
-script_word k bytes e s = cases (bytes_eq bytes (codes "this")) refl (ap is_leaf (sym s) ∙ e)
+foreign_place : (place : Place) → this_terminal place ≡ terminal.Stray → (k : Terminal) (bytes : List ℕ) → is_leaf k ≡ true → k ≡ seen place bytes kind.Word
+    → Good place (word_leaf bytes) leaf
+foreign_place place stray k bytes e s = cases (bytes_eq bytes (codes "this")) refl (ap is_leaf (sym s) ∙ e)
   where
-    cases : (c : Bool) → bytes_eq bytes (codes "this") ≡ c → is_leaf (cond c terminal.Stray (word_terminal bytes)) ≡ true → Good place_of.Script (word_leaf bytes) leaf
-    cases true f h = absurd (false≢true h)
-    cases false f h = foreign_word bytes (bytes_eq bytes (codes "true")) (bytes_eq bytes (codes "false")) (bytes_eq bytes (codes "null")) refl refl refl f (among_leaves bytes h)
+    cases : (c : Bool) → bytes_eq bytes (codes "this") ≡ c → is_leaf (cond c (this_terminal place) (word_terminal bytes)) ≡ true → Good place (word_leaf bytes) leaf
+    cases true f h = absurd (false≢true (sym (ap is_leaf stray) ∙ h))
+    cases false f h = foreign_word place bytes (bytes_eq bytes (codes "true")) (bytes_eq bytes (codes "false")) (bytes_eq bytes (codes "null")) refl refl refl f (among_leaves bytes h)
 
 word_good : (place : Place) (k : Terminal) (bytes : List ℕ) → is_leaf k ≡ true → k ≡ seen place bytes kind.Word → Good place (word_leaf bytes) leaf
-word_good place_of.Script k bytes e s = script_word k bytes e s
+word_good place_of.Script k bytes e s = foreign_place place_of.Script refl k bytes e s
+word_good place_of.Change k bytes e s = foreign_place place_of.Change refl k bytes e s
 word_good place_of.Class k bytes e s = own_word place_of.Class refl bytes
 word_good place_of.Anywhere k bytes e s = own_word place_of.Anywhere refl bytes
 
 -- ---- all leaves
 
-is_a_text : (bytes : List ℕ) → is_text (text_of bytes) ≡ true
+pub is_a_text : (bytes : List ℕ) → is_text (text_of bytes) ≡ true
 is_a_text bytes = cases (is_text bytes) refl
   where
     cases : (c : Bool) → is_text bytes ≡ c → is_text (cond c bytes []) ≡ true

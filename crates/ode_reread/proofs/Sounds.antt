@@ -21,7 +21,7 @@ use Rattle.ode_grammar.proofs.TerminalLaws.{stands_for-exactly, stands_for-itsel
 use Rattle.ode_terminals.specs.declared.seen.Place.{Place}
 use Rattle.ode_terminals.specs.declared.seen.Place.TheVariants as place_of
 use Rattle.ode_terminals.specs.Seen.{instant_terminal, number_terminal, reference_terminal, seen, terminal_of, this_terminal}
-use Rattle.ode_terminals.specs.Words.{event_words, looked_up, rows, word_terminal}
+use Rattle.ode_terminals.specs.Words.{free_words, looked_up, rows, word_terminal}
 use Rattle.ode_value.specs.Limits.{choose_limit}
 use Rattle.ode_value.specs.References.{IsRef}
 use Rattle.ode_value.specs.Text.{is_name_byte}
@@ -218,16 +218,18 @@ never p (r ∷ rs) w e f =
 
 word_no_operator : (w : List ℕ) → is_operator (word_terminal w) ≡ false
 unfolding word_terminal
-word_no_operator w = never is_operator (rows ++ event_words) w refl refl
+word_no_operator w = never is_operator (rows ++ free_words) w refl refl
 
 this_no_operator : (place : Place) → is_operator (this_terminal place) ≡ false
 this_no_operator place_of.Script = refl
 this_no_operator place_of.Class = refl
+this_no_operator place_of.Change = refl
 this_no_operator place_of.Anywhere = refl
 
 reference_no_operator : (place : Place) → is_operator (reference_terminal place) ≡ false
 reference_no_operator place_of.Script = refl
 reference_no_operator place_of.Class = refl
+reference_no_operator place_of.Change = refl
 reference_no_operator place_of.Anywhere = refl
 
 number_no_operator : (n : ℤ) → is_operator (number_terminal n) ≡ false

@@ -19,6 +19,7 @@ use Rattle.ode_reread.proofs.Effects.{spelt}
 use Rattle.ode_reread.proofs.Prints.{nothing}
 use Rattle.ode_reread.proofs.Readings.{kept_so}
 use Rattle.ode_reread.proofs.Sounds.{sound_so, Sounds}
+use Rattle.ode_reread_classes.proofs.ChangeRows.{additions_rows, literal_rows, negative_rows, no_additions}
 use Rattle.ode_reread_classes.proofs.Does.{old, parted, Changes, Does, GoodMembers, News, RowDoes}
 use Rattle.ode_reread_classes.proofs.MemberRows.{class_rows, second_param_rows, third_param_rows, fourth_param_rows, fifth_param_rows, sixth_param_rows, seventh_param_rows, eighth_param_rows, ninth_param_rows, tenth_param_rows, eleventh_param_rows, twelfth_param_rows, thirteenth_param_rows, fourteenth_param_rows, fifteenth_param_rows, sixteenth_param_rows, field_or_method_rows, initial_rows, lasting_rows, members_rows, mode_rows, more_kinds_rows, no_initial, no_lasting, no_mode, no_parent, no_scope, params_rows, parent_rows, scope_rows, sort_rows}
 use Rattle.ode_reread_classes.proofs.Puts.{with_body, with_members}
@@ -77,6 +78,9 @@ all_rows place part.Class k = class_rows place k
 all_rows place part.ScriptRhs k = script_rhs_rows place k
 all_rows place part.ClockText k = clock_text_rows place k
 all_rows place part.Statement k = statement_rows place k
+all_rows place part.Literal k = literal_rows place k
+all_rows place part.Negative k = negative_rows place k
+all_rows place part.Additions k = additions_rows place k
 all_rows place other k = any_row place other k (row_of other k) (λ b w. tt)
 
 news_does : (place : Place) (p : Part) (k : Terminal) (row : List Item) → after p k ≡ Some row → RowDoes place p (standing p k) row
@@ -100,6 +104,7 @@ left place part.Initial a b e = done_as place part.Initial b action.NotInitial a
 left place part.Lasting a b e = done_as place part.Lasting b action.Once a (no_lasting place b) e
 left place part.Scope a b e = done_as place part.Scope b action.Committed a (no_scope place b) e
 left place part.Mode a b e = done_as place part.Mode b action.Immediate a (no_mode place b) e
+left place part.Additions a b e = done_as place part.Additions b action.Nothing a (no_additions place b) e
 left place part.Args a b e = absurd (none-some a e)
 left place part.MoreArgs a b e = absurd (none-some a e)
 left place part.Sets a b e = absurd (none-some a e)
@@ -135,6 +140,8 @@ left place part.Class a b e = absurd (none-some a e)
 left place part.ScriptRhs a b e = absurd (none-some a e)
 left place part.ClockText a b e = absurd (none-some a e)
 left place part.Statement a b e = absurd (none-some a e)
+left place part.Literal a b e = absurd (none-some a e)
+left place part.Negative a b e = absurd (none-some a e)
 left place other a b e = tt
 
 -- ---- whole texts

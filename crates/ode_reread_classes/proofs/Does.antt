@@ -1,5 +1,6 @@
 -- What a text of each part does to the trees and heights: it adds something good, or replaces what is on top by something good.
 use Rattle.std.proofs.Common.{◌≡◌, ◌≤◌, ℕ, true, List, [], ◌∷◌, ◌++◌, length, Some, refl, sym, subst}
+use Rattle.ode_lex.specs.declared.token.Mark.{Mark}
 use Rattle.ode_lex.specs.declared.token.TokenKind.{TokenKind}
 use Rattle.ode_grammar.specs.declared.item.Item.{Item}
 use Rattle.ode_grammar.specs.declared.item.Item.TheVariants as item
@@ -10,6 +11,7 @@ use Rattle.ode_grammar.specs.Grammar.{row_of}
 use Rattle.ode_heights.specs.declared.height.Height.{Height}
 use Rattle.ode_terminals.specs.declared.seen.Place.{Place}
 use Rattle.ode_value.specs.Words.{is_free}
+use Rattle.ode_value.specs.declared.change.Change.{Change}
 use Rattle.ode_value.specs.declared.event.Kind.{Kind}
 use Rattle.ode_value.specs.declared.binding.Param.{Param}
 use Rattle.ode_value.specs.declared.statement.Expr.{Expr}
@@ -19,16 +21,17 @@ use Rattle.ode_reread.proofs.AllRows.{row_is}
 use Rattle.ode_reread.proofs.Both.{Both, keep, make}
 use Rattle.ode_reread.proofs.Effects.{spelt, Adds, Effect, Leads, Replaces}
 use Rattle.ode_reread.proofs.Goods.{Good}
-use Rattle.ode_reread.proofs.Marked.{with_expr, with_name}
+use Rattle.ode_reread.proofs.Marked.{with_expr, with_mark_on, with_name}
 use Rattle.ode_reread.proofs.Sounds.{Sound}
 use Rattle.ode_value.specs.declared.statement.Statement.{Statement}
 use Rattle.ode_value.specs.declared.statement.Statement.TheVariants as statement
 use Rattle.ode_reread.proofs.EventPrints.{with_leaf_on}
+use Rattle.ode_reread_classes.proofs.Additions.{GoodChange, GoodLeaf}
 use Rattle.ode_reread_classes.proofs.Classes.{GoodClass, GoodParent}
 use Rattle.ode_reread_classes.proofs.Lists.{Each}
 use Rattle.ode_reread_classes.proofs.Members.{GoodKinds, GoodMember, GoodParam, GoodParams, GoodSort}
 use Rattle.ode_reread_classes.proofs.Parts.{GoodArgs, GoodOwned, GoodRight, GoodSets}
-use Rattle.ode_reread_classes.proofs.Puts.{with_args, with_body, with_class, with_flag, with_kinds, with_members, with_mode, with_params, with_parent, with_right, with_script, with_sets, with_sort, with_stmt}
+use Rattle.ode_reread_classes.proofs.Puts.{with_args, with_body, with_change, with_class, with_flag, with_kinds, with_members, with_mode, with_params, with_parent, with_right, with_script, with_sets, with_sort, with_stmt}
 use Rattle.ode_reread_classes.proofs.Statements.{GoodAlone, GoodBody, GoodElse, GoodStmt}
 
 -- one more that is good
@@ -140,6 +143,9 @@ News place part.FieldOrMethod b w =
 News place part.Class b w = Raises with_class (GoodClass place) b w
 News place part.ClockText b w = (x : Expr) × (w ≡ with_leaf_on x b)
 News place part.Statement b w = AddsScript place b w
+News place part.Literal b w = Gives with_leaf_on GoodLeaf b w
+News place part.Negative b w = (m : Mark) (c : Both) → b ≡ with_mark_on m c → Gives with_leaf_on GoodLeaf c w
+News place part.Additions b w = (x : Change) (c : Both) → b ≡ with_change x c → GoodChange x → Gives with_change GoodChange c w
 News place other b w = Unit {0}
 
 -- what items do, one after the other

@@ -10,11 +10,13 @@ pub mod Sides
 pub mod SideForms
 pub mod Statements
 pub mod Members
+pub mod Additions
 pub mod Classes
 pub mod Does
 pub mod SideRows
 pub mod StatementRows
 pub mod MemberRows
+pub mod ChangeRows
 pub mod ScriptRows
 pub mod AllParts
 pub mod Readings

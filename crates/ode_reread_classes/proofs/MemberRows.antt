@@ -44,7 +44,7 @@ use Rattle.ode_reread_classes.proofs.Statements.{body_up}
 
 -- ---- sorts
 
-a_sort : (bytes : List ℕ) → GoodSort (sort_of bytes)
+pub a_sort : (bytes : List ℕ) → GoodSort (sort_of bytes)
 a_sort bytes = either (bytes_eq bytes (codes "int")) sort.Int (cond (bytes_eq bytes (codes "bool")) sort.Bool sort.Text) tt (either (bytes_eq bytes (codes "bool")) sort.Bool sort.Text tt tt)
   where
     either : (c : Bool) (x y : Sort) → GoodSort x → GoodSort y → GoodSort (cond c x y)
@@ -59,11 +59,11 @@ as_result (sort.Reference class) g = g
 as_result sort.Void g = tt
 
 -- the word of a sort
-worded_sort : (kd : TokenKind) (bytes : List ℕ) (b : Both) → make action.Sort (keep (spelt terminal.SortWord kd bytes) b) ≡ with_sort (sort_of bytes) b
+pub worded_sort : (kd : TokenKind) (bytes : List ℕ) (b : Both) → make action.Sort (keep (spelt terminal.SortWord kd bytes) b) ≡ with_sort (sort_of bytes) b
 unfolding kept_as built built_right_side built_statement built_event built_kind built_class built_member built_script raised
 worded_sort kd bytes b = refl
 
-ref_sort : (name : List ℕ) (b : Both) → make action.RefSort (with_name name b) ≡ with_sort (sort.Reference name) b
+pub ref_sort : (name : List ℕ) (b : Both) → make action.RefSort (with_name name b) ≡ with_sort (sort.Reference name) b
 unfolding built built_right_side built_statement built_event built_kind built_class raised
 ref_sort name b = refl
 

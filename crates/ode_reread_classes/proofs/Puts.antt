@@ -1,6 +1,7 @@
 -- Trees and heights with one more of a sort on top.
 use Rattle.std.proofs.Common.{ℕ, Bool, List, ◌∷◌, Option}
 use Rattle.ode_value.specs.declared.binding.Param.{Param}
+use Rattle.ode_value.specs.declared.change.Change.{Change}
 use Rattle.ode_value.specs.declared.event.Kind.{Kind}
 use Rattle.ode_value.specs.declared.event.Mode.{Mode}
 use Rattle.ode_value.specs.declared.statement.ClassDecl.{ClassDecl}
@@ -87,3 +88,6 @@ with_mode m b = record { trees = record b.trees { modes = m ∷ b.trees.modes };
 
 abbrev pub with_parent : Option (List ℕ) → Both → Both
 with_parent p b = record { trees = record b.trees { parents = p ∷ b.trees.parents }; heights = b.heights }
+
+abbrev pub with_change : Change → Both → Both
+with_change c b = record { trees = record b.trees { changes = c ∷ b.trees.changes }; heights = b.heights }

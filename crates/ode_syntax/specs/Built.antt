@@ -1,5 +1,5 @@
 -- What is made of the parts of a text: its trees. Words and trees stand on a stack for each sort; where one is empty, its reader gives a default.
-use Rattle.std.specs.Prelude.{ℕ, ◌^◌, ℤ, pos, nat_lt, List, [], ◌∷◌, ◌++◌, Bool, true, false, Option, Some, None, codes, cond}
+use Rattle.std.specs.Prelude.{ℕ, ◌^◌, ℤ, pos, ◌-ℤ◌, int_lt, nat_lt, List, [], ◌∷◌, ◌++◌, Bool, true, false, Option, Some, None, codes, cond}
 use Rattle.ode_grammar.specs.declared.item.Action.{Action}
 use Rattle.ode_grammar.specs.declared.item.Action.TheVariants as action
 use Rattle.ode_grammar.specs.Stacks.{top, rest}
@@ -7,6 +7,7 @@ use Rattle.ode_lex.specs.declared.token.Mark.{Mark}
 use Rattle.ode_lex.specs.declared.token.Mark.TheVariants as mark
 use Rattle.ode_timer.specs.Dates.{instant_of}
 use Rattle.ode_value.specs.declared.binding.Var.TheVariants as var
+use Rattle.ode_value.specs.declared.change.Change.{Change}
 use Rattle.ode_value.specs.declared.event.EventExpr.{EventExpr}
 use Rattle.ode_value.specs.declared.event.EventExpr.TheVariants as event
 use Rattle.ode_value.specs.declared.event.Kind.{Kind}
@@ -29,6 +30,7 @@ use Rattle.ode_value.specs.declared.statement.Statement.{Statement}
 use Rattle.ode_value.specs.declared.statement.Statement.TheVariants as statement
 use Rattle.ode_value.specs.declared.statement.Stmt.{Stmt}
 use Rattle.ode_value.specs.declared.statement.Stmt.TheVariants as stmt
+use Rattle.ode_value.specs.declared.value.Value.{Value}
 use Rattle.ode_value.specs.declared.value.Value.TheVariants as value
 use Rattle.ode_syntax.specs.declared.trees.Trees.{Trees}
 
@@ -62,7 +64,32 @@ kind_on kinds = top kind.Create kinds
 abbrev pub sort_on : List Sort → Sort
 sort_on sorts = top sort.Void sorts
 
--- ---- statements of a script
+-- ---- statements of a script, and changes of classes
+
+abbrev pub change_tree : List Change → Change
+change_tree changes = top (record { class = codes "x"; fields = [] }) changes
+
+-- behind the class's name: the word `change` was kept as one
+abbrev pub without_change : List (List ℕ) → List (List ℕ)
+without_change names = rest (rest names)
+
+-- one field more
+abbrev pub change_with : List ℕ × Sort × Value → List Change → List Change
+change_with field changes =
+    (record { class = (change_tree changes).class; fields = (change_tree changes).fields ++ field ∷ [] }) ∷ rest changes
+
+-- a number on the other side of zero, where it stands above
+abbrev pub below_zero : ℤ → ℤ
+below_zero n = cond (int_lt n (pos 0)) n (pos 0 -ℤ n)
+
+-- a leaf with a minus before it, and the value that a leaf says
+abbrev pub negative : Expr → Expr
+negative (expr.Lit (value.Int n)) = expr.Lit (value.Int (below_zero n))
+negative other = other
+
+abbrev pub value_of : Expr → Value
+value_of (expr.Lit v) = v
+value_of other = value.Int (pos 0)
 
 abbrev pub with_script : Statement → Trees → Trees
 with_script s v = record v { scripts = s ∷ v.scripts }
@@ -83,6 +110,15 @@ built_script action.Abort v = with_script statement.Abort v
 built_script action.Clock v = record v { leaves = rest v.leaves; scripts = statement.Clock (clock_text (tree v.leaves)) ∷ v.scripts }
 built_script action.Simple v = record v { statements = rest v.statements; scripts = statement.Simple (stmt_tree v.statements) ∷ v.scripts }
 built_script action.Empty v = with_script statement.Empty v
+built_script action.Change v = record v { names = without_change v.names; changes = (record { class = name v.names; fields = [] }) ∷ v.changes }
+built_script action.Negative v = record v { marks = rest v.marks; leaves = negative (tree v.leaves) ∷ rest v.leaves }
+built_script action.Addition v =
+    record v {
+      names = rest v.names;
+      sorts = rest v.sorts;
+      leaves = rest v.leaves;
+      changes = change_with (name v.names, sort_on v.sorts, value_of (tree v.leaves)) v.changes;
+    }
 built_script other v = v
 
 -- ---- members and classes

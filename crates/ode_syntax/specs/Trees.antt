@@ -33,6 +33,7 @@ no_trees =
       modes = [];
       members = [];
       classes = [];
+      changes = [];
       scripts = [];
     }
 

@@ -1,12 +1,14 @@
-//! Classes, their members, and statements of a script, and what each action makes.
+//! Classes, their members, statements of a script and changes of classes, and what each action makes.
 ghost use Rattle.std.specs.Prelude.{◌≡◌, OnOk, IfOk, [], false};
 ghost use Rattle.ode_grammar.specs.Stacks.{rest, top};
 ghost use Rattle.ode_syntax.specs.Built.{built_class, built_member, built_script, clock_text, declared, event_tree, name, sort_on, tree};
 
+use crate::change_trees::{add_field, begin_change, negate, take_value};
 use crate::top::{add, take, take_event, take_expr, take_list, take_name, take_statement};
 use crate::trees::Trees;
 use crate::words::text_of;
 use ode_grammar::{Action, Stack};
+use ode_lex::Mark;
 use ode_value::{
     ClassDecl, Constraint, Expr, Kind, List, Member, Method, Mode, OdeText, Param, Sort, Statement,
     TriggerDecl, Value,
@@ -179,7 +181,7 @@ impl Trees {
         }
     }
 
-    // Makes what an action of a script's statements says.
+    // Makes what an action of a script's statements and of changes of classes says.
     #[tactic(auto, unfolding(crate::specs::Built::built_script))]
     fn build_script(&mut self, alloc: Global, action: Action) -> Result<(), AllocError>
         ensures { OnOk result (self.new ≡ built_script action self.old) }
@@ -201,6 +203,17 @@ impl Trees {
                 self.scripts.push(Statement::Simple(statement))
             }
             Action::Empty => self.scripts.push(Statement::Empty),
+            Action::Change => begin_change(alloc, &mut self.names, &mut self.changes),
+            Action::Negative => {
+                take(&mut self.marks, Mark::Plus);
+                negate(&mut self.leaves)
+            }
+            Action::Addition => {
+                let name = take_name(alloc, &mut self.names)?;
+                let sort = take(&mut self.sorts, Sort::Void);
+                let value = take_value(&mut self.leaves);
+                add_field(alloc, &mut self.changes, (name, sort, value))
+            }
             _ => Ok(()),
         }
     }

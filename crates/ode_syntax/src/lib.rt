@@ -1,6 +1,7 @@
 //! Syntax trees of texts of the grammar.
 #![tactic(auto)]
 
+mod change_trees;
 mod class_trees;
 mod content;
 mod event_trees;

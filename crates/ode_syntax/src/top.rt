@@ -1,11 +1,11 @@
 //! What stands on top of a stack.
 ghost use Rattle.std.specs.Prelude.{◌≡◌, ◌++◌, ◌∷◌, [], IfOk, None, OnOk, codes};
 ghost use Rattle.ode_grammar.specs.Stacks.{rest, top};
-ghost use Rattle.ode_syntax.specs.Built.{class_tree, name, tree, event_tree, right, stmt_tree};
+ghost use Rattle.ode_syntax.specs.Built.{change_tree, class_tree, name, tree, event_tree, right, stmt_tree};
 
 use crate::words::name_of;
 use ode_grammar::Stack;
-use ode_value::{Boxed, ClassDecl, EventExpr, Expr, List, Name, Rhs, Stmt};
+use ode_value::{Boxed, Change, ClassDecl, EventExpr, Expr, List, Name, Rhs, Stmt};
 use std::alloc::{AllocError, Global};
 
 /// Takes what is on top away. `none` stands for it where the stack is empty.
@@ -119,5 +119,27 @@ pub fn take_class(alloc: Global, classes: &mut Stack<ClassDecl>) -> Result<Class
     match classes.pop() {
         Some(class) => Ok(class),
         None => empty_class(alloc),
+    }
+}
+
+// A change with no fields.
+fn empty_change(alloc: Global) -> Result<Change, AllocError>
+    ensures { IfOk result (λ change. change ≡ record { class = codes "x"; fields = [] }) }
+{
+    let class = name_of(alloc, b"x")?;
+    Ok(Change {
+        class,
+        fields: List::new(alloc),
+    })
+}
+
+/// Takes the change on top away.
+pub fn take_change(alloc: Global, changes: &mut Stack<Change>) -> Result<Change, AllocError>
+    ensures top { IfOk result (λ change. change ≡ change_tree changes.old) }
+    ensures rest { changes.new ≡ rest changes.old }
+{
+    match changes.pop() {
+        Some(change) => Ok(change),
+        None => empty_change(alloc),
     }
 }

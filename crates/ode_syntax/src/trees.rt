@@ -1,13 +1,14 @@
 //! What is made of the parts of a text.
 ghost use Rattle.std.specs.Prelude.{◌≡◌, IfOk};
-ghost use Rattle.ode_syntax.specs.Built.{class_tree, event_tree, script_tree, tree};
+ghost use Rattle.ode_syntax.specs.Built.{change_tree, class_tree, event_tree, script_tree, tree};
 ghost use Rattle.ode_syntax.specs.Trees.{no_trees};
 
-use crate::top::{take, take_class, take_event, take_expr};
+use crate::top::{take, take_change, take_class, take_event, take_expr};
 use ode_grammar::Stack;
 use ode_lex::Mark;
 use ode_value::{
-    ClassDecl, EventExpr, Expr, Kind, List, Member, Mode, Name, Param, Rhs, Sort, Statement, Stmt,
+    Change, ClassDecl, EventExpr, Expr, Kind, List, Member, Mode, Name, Param, Rhs, Sort,
+    Statement, Stmt,
 };
 use std::alloc::{AllocError, Global};
 
@@ -34,6 +35,7 @@ pub struct Trees {
     pub modes: Stack<Mode>,
     pub members: Stack<List<Member>>,
     pub classes: Stack<ClassDecl>,
+    pub changes: Stack<Change>,
     pub scripts: Stack<Statement>,
 }
 
@@ -62,13 +64,14 @@ impl Trees {
             modes: Stack::new(alloc),
             members: Stack::new(alloc),
             classes: Stack::new(alloc),
+            changes: Stack::new(alloc),
             scripts: Stack::new(alloc),
         }
     }
 }
 
 impl Trees {
-    /// Lets all trees go, so that the twenty stacks are dropped at one place.
+    /// Lets all trees go, so that the many stacks are dropped at one place.
     pub(crate) fn let_go(self) {}
 
     /// The expression on top.
@@ -99,6 +102,16 @@ impl Trees {
         let class = take_class(alloc, &mut made.classes);
         made.let_go();
         class
+    }
+
+    /// The change of a class on top.
+    pub fn into_change(self, alloc: Global) -> Result<Change, AllocError>
+        ensures { IfOk result (λ change. change ≡ change_tree self.changes) }
+    {
+        let mut made = self;
+        let change = take_change(alloc, &mut made.changes);
+        made.let_go();
+        change
     }
 
     /// The statement of a script on top.

@@ -1,5 +1,5 @@
 -- What the grammar sees of a token of a text.
-use Rattle.std.specs.Prelude.{ℕ, ◌-◌, ◌^◌, ◌==◌, ◌||◌, ℤ, pos, negsuc, nat_le, cond, codes, List, [], ◌∷◌, take, drop, length, Option, None, Some}
+use Rattle.std.specs.Prelude.{ℕ, ◌-◌, ◌^◌, ◌==◌, ◌||◌, ◌&&◌, Bool, false, ℤ, pos, negsuc, nat_le, cond, codes, List, [], ◌∷◌, take, drop, length, Option, None, Some}
 use Rattle.std.specs.Str.{bytes_eq}
 use Rattle.ode_value.specs.Limits.{choose_limit}
 use Rattle.ode_timer.specs.Dates.{instant_of}
@@ -11,7 +11,7 @@ use Rattle.ode_lex.specs.declared.token.TokenKind.TheVariants as kind
 use Rattle.ode_grammar.specs.declared.terminal.Terminal.{Terminal}
 use Rattle.ode_grammar.specs.declared.terminal.Terminal.TheVariants as terminal
 use Rattle.ode_terminals.specs.declared.seen.Place.{Place}
-use Rattle.ode_terminals.specs.declared.seen.Place.TheVariants.{Class, Script}
+use Rattle.ode_terminals.specs.declared.seen.Place.TheVariants.{Change, Class, Script}
 use Rattle.ode_terminals.specs.Words.{word_terminal}
 
 abbrev pub mark_terminal : Mark → Terminal
@@ -46,13 +46,15 @@ number_terminal (pos n) =
     cond (n == 0 || nat_le (2 ^ 32) n) terminal.Number (cond (nat_le n choose_limit) terminal.Count terminal.Seconds)
 number_terminal (negsuc n) = terminal.Number
 
--- `this` stands in no statement of a script, and a reference in no class
+-- `this` stands in no statement of a script, a reference in no class, and neither in a change of one
 abbrev pub this_terminal : Place → Terminal
 this_terminal Script = terminal.Stray
+this_terminal Change = terminal.Stray
 this_terminal other = terminal.Leaf
 
 abbrev pub reference_terminal : Place → Terminal
 reference_terminal Class = terminal.Stray
+reference_terminal Change = terminal.Stray
 reference_terminal other = terminal.Leaf
 
 -- what stands between the quotes of a text
@@ -81,3 +83,8 @@ terminal_of place text token = seen place (slice_of text token) token.kind
 abbrev pub place_of : List ℕ → List Token → Place
 place_of text [] = Script
 place_of text (token ∷ tokens) = cond (bytes_eq (slice_of text token) (codes "class")) Class Script
+
+-- a piece that begins with the words `change class` is a change of a class
+abbrev pub begins_change : List ℕ → List Token → Bool
+begins_change text (first ∷ second ∷ tokens) = bytes_eq (slice_of text first) (codes "change") && bytes_eq (slice_of text second) (codes "class")
+begins_change text _ = false

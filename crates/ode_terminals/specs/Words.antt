@@ -69,9 +69,10 @@ rows =
     ∷ (codes "whole", terminal.Scope)
     ∷ []
 
--- the words that begin an event expression and aren't reserved
-abbrev pub event_words : List (List ℕ × Terminal)
-event_words = (codes "faabs", terminal.FaAbs) ∷ (codes "pipe", terminal.Pipe) ∷ (codes "relplus", terminal.RelPlus) ∷ []
+-- the words that begin a change of a class or an event expression and aren't reserved
+abbrev pub free_words : List (List ℕ × Terminal)
+free_words =
+    (codes "change", terminal.Change) ∷ (codes "faabs", terminal.FaAbs) ∷ (codes "pipe", terminal.Pipe) ∷ (codes "relplus", terminal.RelPlus) ∷ []
 
 -- what a word has in a table, and a name where it isn't there
 abbrev pub looked_up : List (List ℕ × Terminal) → List ℕ → Terminal
@@ -79,4 +80,4 @@ looked_up [] word = terminal.Name
 looked_up (row ∷ rows) word = cond (bytes_eq row.0 word) row.1 (looked_up rows word)
 
 unfoldable pub word_terminal : List ℕ → Terminal
-word_terminal word = looked_up (rows ++ event_words) word
+word_terminal word = looked_up (rows ++ free_words) word

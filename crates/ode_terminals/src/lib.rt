@@ -4,5 +4,5 @@
 mod seen;
 mod words;
 
-pub use seen::{Place, place_of, terminal_of, terminals};
+pub use seen::{Place, begins_change, place_of, terminal_of, terminals};
 pub use words::words_are_reserved;

@@ -1,7 +1,7 @@
 //! Tokens as the grammar sees them.
 ghost use Rattle.std.specs.Prelude.{◌≡◌, IfOk, map, length};
 ghost use Rattle.ode_timer.specs.Dates.{instant_of};
-ghost use Rattle.ode_terminals.specs.Seen.{between_quotes, instant_terminal, mark_terminal, number_terminal, place_of, reference_terminal, seen, terminal_of, this_terminal};
+ghost use Rattle.ode_terminals.specs.Seen.{begins_change, between_quotes, instant_terminal, mark_terminal, number_terminal, place_of, reference_terminal, seen, terminal_of, this_terminal};
 
 use crate::words::word_terminal;
 use ode_grammar::Terminal;
@@ -10,11 +10,12 @@ use ode_timer::instant;
 use ode_value::limits::CHOOSE_LIMIT;
 use std::alloc::{AllocError, Global};
 
-/// Where a text stands: in a class, among a script's own statements, or where nothing is known of it.
+/// Where a text stands: in a class, in a change of one, among a script's own statements, or where nothing is known of it.
 #[derive(Clone, Copy, Debug, PartialEq, Eq)]
 pub enum Place {
     Anywhere,
     Class,
+    Change,
     Script,
 }
 
@@ -65,7 +66,7 @@ fn this_terminal(place: Place) -> Terminal
     ensures { result ≡ this_terminal place }
 {
     match place {
-        Place::Script => Terminal::Stray,
+        Place::Script | Place::Change => Terminal::Stray,
         _ => Terminal::Leaf,
     }
 }
@@ -74,7 +75,7 @@ fn reference_terminal(place: Place) -> Terminal
     ensures { result ≡ reference_terminal place }
 {
     match place {
-        Place::Class => Terminal::Stray,
+        Place::Class | Place::Change => Terminal::Stray,
         _ => Terminal::Leaf,
     }
 }
@@ -140,5 +141,18 @@ pub fn place_of(text: &[u8], tokens: &[Token]) -> Place
     match tokens {
         [first, ..] if slice_of(text, *first) == b"class".as_slice() => Place::Class,
         _ => Place::Script,
+    }
+}
+
+/// Whether a piece is a change of a class: it begins with the words `change class`.
+pub fn begins_change(text: &[u8], tokens: &[Token]) -> bool
+    ensures { result ≡ begins_change text.now tokens.now }
+{
+    match tokens {
+        [first, second, ..] => {
+            slice_of(text, *first) == b"change".as_slice()
+                && slice_of(text, *second) == b"class".as_slice()
+        }
+        _ => false,
     }
 }

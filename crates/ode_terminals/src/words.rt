@@ -5,8 +5,8 @@ ghost use Rattle.ode_terminals.specs.Words.{looked_up, rows, word_terminal};
 
 use ode_grammar::Terminal;
 
-/// The reserved words, each with what the grammar sees of it, and those that begin an event expression and aren't reserved.
-const ROWS: [(&[u8], Terminal); 63] = [
+/// The reserved words, each with what the grammar sees of it, and those that have a place of their own and aren't reserved.
+const ROWS: [(&[u8], Terminal); 64] = [
     (b"abort", Terminal::Abort),
     (b"activate", Terminal::Activate),
     (b"after", Terminal::After),
@@ -67,6 +67,7 @@ const ROWS: [(&[u8], Terminal); 63] = [
     (b"version", Terminal::Version),
     (b"void", Terminal::Void),
     (b"whole", Terminal::Scope),
+    (b"change", Terminal::Change),
     (b"faabs", Terminal::FaAbs),
     (b"pipe", Terminal::Pipe),
     (b"relplus", Terminal::RelPlus),
@@ -91,7 +92,7 @@ pub fn word_terminal(word: &[u8]) -> Terminal
     look_up(&ROWS, word)
 }
 
-/// The words of the table but the last three are the reserved ones, in their order.
+/// The words of the table but the last four are the reserved ones, in their order.
 #[tactic(auto, unfolding(ode_value::specs::Words::reserved))]
 pub fn words_are_reserved()
     ensures { map (λ row. row.0) rows ≡ reserved }
