@@ -4,3 +4,4 @@ pub mod First
 pub mod Again
 pub mod Numbered
 pub mod Parameters
+pub mod Changed

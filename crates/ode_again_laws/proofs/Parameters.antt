@@ -1,8 +1,9 @@
 -- The triggers of a class that is read have few parameters.
-use Rattle.std.proofs.Common.{◌≡◌, ℕ, ◌<◌, ◌≤◌, ◌^◌, List, [], ◌∷◌, ◌++◌, length, fold, Ok, subst, arith}
+use Rattle.std.proofs.Common.{◌≡◌, ℕ, ◌<◌, ◌≤◌, ◌^◌, List, [], ◌∷◌, ◌++◌, length, fold, Ok, ap, sym, ◌∙◌, subst, arith}
 use Rattle.std.specs.Prelude.{is_none}
 use Rattle.std.specs.List.{AllByRecursion}
 use Rattle.ode_terminals.specs.declared.seen.Place.{Place}
+use Rattle.ode_value.specs.declared.change.Added.{Added}
 use Rattle.ode_value.specs.declared.class.Class.{Class}
 use Rattle.ode_value.specs.declared.member.TriggerDecl.{TriggerDecl}
 use Rattle.ode_value.specs.declared.reason.CheckError.TheVariants.{Duplicate}
@@ -14,15 +15,16 @@ use Rattle.ode_value.specs.declared.statement.Statement.TheVariants as statement
 use Rattle.ode_language.specs.Languages.{statement_of}
 use Rattle.ode_types.specs.Bodies.{body}
 use Rattle.ode_types.specs.Checks.{◌>>=◌, each, needs}
-use Rattle.ode_types.specs.Declaring.{begins, declared, numbered, parent_in, with_member, without_members}
+use Rattle.ode_types.specs.Declaring.{begins, numbered, parent_in, with_member, without_members}
 use Rattle.ode_types.specs.Events.{listed}
 use Rattle.ode_types.specs.Families.{class_named}
 use Rattle.ode_types.specs.Scopes.{member_scope}
-use Rattle.ode_types.specs.Static.{check_class, checked_member, completed, constraint_checked, method_checked, trigger_checked}
-use Rattle.ode_types.proofs.CheckedClasses.{bind-ok}
+use Rattle.ode_types.specs.Static.{check_grown, checked_member, constraint_checked, method_checked, trigger_checked}
+use Rattle.ode_types.proofs.CheckedClasses.{bind-ok, came_of}
 use Rattle.ode_types.proofs.KeptEvents.{all_more}
 use Rattle.ode_reread_classes.proofs.Does.{GoodMembers}
 use Rattle.ode_reread_classes.proofs.Members.{GoodMember}
+use Rattle.ode_compile.proofs.NumberLaws.{grown_triggers}
 use Rattle.ode_again_laws.proofs.Numbered.{piece_good}
 
 abbrev pub HasFew : TriggerDecl → Type 0
@@ -98,19 +100,17 @@ begins_without known d start h =
     let is : without_members third.0 d.name second.0 ≡ start = cc (third.2) in
     subst (λ (x : Class). AllByRecursion HasFew x.triggers) is tt
 
-few_kept : (known : List Class) (d : ClassDecl) (c : Class) → check_class known d ≡ Ok c → AllByRecursion HasFewIn d.members → AllByRecursion HasFew c.triggers
-unfolding check_class completed
-few_kept known d c h has =
-    let first = bind-ok (begins known d) (λ start. declared known d start >>= (λ draft. completed (known ++ draft ∷ []) draft d start)) c h in
-    let second = bind-ok (declared known d first.0) (λ draft. completed (known ++ draft ∷ []) draft d first.0) c first.2 in
-    let third = bind-ok (each (checked_member (known ++ second.0 ∷ []) second.0) d.members) (λ ms. Ok (fold with_member first.0 ms)) c second.2 in
-    let made : fold with_member first.0 third.0 ≡ c = cc (third.2) in
-    subst (λ (x : Class). AllByRecursion HasFew x.triggers) made
-    (all_with third.0 first.0 (begins_without known d first.0 first.1) (members_kept (known ++ second.0 ∷ []) second.0 d.members third.0 third.1 has))
+few_kept : (known : List Class) (added : List Added) (d : ClassDecl) (c : Class) → check_grown known added d ≡ Ok c → AllByRecursion HasFewIn d.members
+    → AllByRecursion HasFew c.triggers
+few_kept known added d c h has =
+    let came = came_of known added d c h in
+    subst (AllByRecursion HasFew) (sym (grown_triggers added (fold with_member came.start came.members)) ∙ ap (λ (x : Class). x.triggers) came.made)
+    (all_with came.members came.start (begins_without known d came.start came.begun) (members_kept (known ++ came.draft ∷ []) came.draft d.members came.members came.checked has))
 
 -- ---- a class that is read
 
-pub few_parameters : (piece : List ℕ) (d : ClassDecl) (known : List Class) (c : Class) → statement_of piece ≡ Ok (statement.Class d) → check_class known d ≡ Ok c → AllByRecursion HasFew c.triggers
-few_parameters piece d known c read checked =
+pub few_parameters : (piece : List ℕ) (d : ClassDecl) (known : List Class) (added : List Added) (c : Class) → statement_of piece ≡ Ok (statement.Class d)
+    → check_grown known added d ≡ Ok c → AllByRecursion HasFew c.triggers
+few_parameters piece d known added c read checked =
     let good = piece_good piece d read in
-    few_kept known d c checked (members_few good.0 good.1 d.members good.2.members)
+    few_kept known added d c checked (members_few good.0 good.1 d.members good.2.members)

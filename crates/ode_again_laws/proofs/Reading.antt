@@ -7,6 +7,7 @@ use Rattle.std.proofs.lemmas.List.{append-nil}
 use Rattle.std.proofs.lemmas.Option.{none-some, same_Some}
 use Rattle.std.proofs.lemmas.Simd.{map-map}
 use Rattle.ode_value.specs.Answers.{Answer, ◌>>=◌}
+use Rattle.ode_value.specs.declared.change.Change.{Change}
 use Rattle.ode_value.specs.declared.reason.Refusal.TheVariants as refusal
 use Rattle.ode_value.specs.declared.statement.Statement.{Statement}
 use Rattle.ode_lex.specs.Tokens.{Lexed, lexed, NoToken, Tokens}
@@ -26,13 +27,14 @@ use Rattle.ode_heights.specs.Heights.{heights, highest, none}
 use Rattle.ode_heights.specs.Lowest.{lowest}
 use Rattle.ode_heights.proofs.Depths.{starts_reading, text_within}
 use Rattle.ode_terminals.specs.declared.seen.Place.{Place}
-use Rattle.ode_terminals.specs.Seen.{place_of}
+use Rattle.ode_terminals.specs.declared.seen.Place.TheVariants as place_in
+use Rattle.ode_terminals.specs.Seen.{begins_change, place_of}
 use Rattle.ode_syntax.specs.declared.trees.Trees.{Trees}
-use Rattle.ode_syntax.specs.Built.{script_tree}
+use Rattle.ode_syntax.specs.Built.{change_tree, script_tree}
 use Rattle.ode_syntax.specs.Kept.{Spelled, spelled}
 use Rattle.ode_syntax.specs.Trees.{Makes, no_trees, trees}
 use Rattle.ode_eventsyn.specs.Parsing.{AreTree, byte_of, seen}
-use Rattle.ode_language.specs.Languages.{statement_by, statement_of}
+use Rattle.ode_language.specs.Languages.{change_by, change_in, change_of, statement_by, statement_of}
 use Rattle.ode_language.specs.Reading.{deep_at, is_deep, is_text, read, trees_of, wrong_at}
 
 pub ok_same : {X : Type 0} (x y : X) → ◌≡◌ {A = Answer X} (Ok x) (Ok y) → x ≡ y
@@ -141,3 +143,34 @@ statement_is text s e = by_lexed (lexed text) refl e where
   by_lexed : (l : Lexed) → lexed text ≡ l → statement_by text l ≡ Ok s → IsStatement text s
   by_lexed (NoToken at) is e = absurd (cc)
   by_lexed (Tokens tokens) is e = by_read tokens is (read start.Statement (place_of text tokens) text tokens) refl e
+
+-- ---- a change of a class
+
+pub record IsChange (text : List ℕ) (c : Change) : Type 0 where
+  pub tokens : List Token
+  pub lexed_as : lexed text ≡ Tokens tokens
+  pub made : Trees
+  pub is_tree : AreTree start.Change place_in.Change text tokens made
+  pub same : change_tree made.changes ≡ c
+
+pub change_is : (text : List ℕ) (c : Change) → change_of text ≡ Some (Ok c) → IsChange text c
+change_is text c e = by_lexed (lexed text) refl e where
+  by_read : (tokens : List Token) → lexed text ≡ Tokens tokens → (a : Answer Trees) → read start.Change place_in.Change text tokens ≡ a
+      → (a >>= λ (made : Trees). Ok (change_tree made.changes)) ≡ Ok c → IsChange text c
+  by_read tokens is (Ok made) r e =
+      record {
+        tokens = tokens;
+        lexed_as = is;
+        made = made;
+        is_tree = read_is_tree start.Change place_in.Change text tokens made r;
+        same = ok_same (change_tree made.changes) c e;
+      }
+  by_read tokens is (Err why) r e = absurd (cc)
+
+  by_begin : (tokens : List Token) → lexed text ≡ Tokens tokens → (b : Bool) → cond b (Some (change_in text tokens)) None ≡ Some (Ok c) → IsChange text c
+  by_begin tokens is true e = by_read tokens is (read start.Change place_in.Change text tokens) refl (same_Some (change_in text tokens) (Ok c) e)
+  by_begin tokens is false e = absurd (none-some (Ok c) e)
+
+  by_lexed : (l : Lexed) → lexed text ≡ l → change_by text l ≡ Some (Ok c) → IsChange text c
+  by_lexed (NoToken at) is e = absurd (none-some (Ok c) e)
+  by_lexed (Tokens tokens) is e = by_begin tokens is (begins_change text tokens) e

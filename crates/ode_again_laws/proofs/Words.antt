@@ -13,7 +13,7 @@ use Rattle.ode_grammar.specs.declared.terminal.Terminal.TheVariants as terminal
 use Rattle.ode_terminals.specs.declared.seen.Place.{Place}
 use Rattle.ode_terminals.specs.declared.seen.Place.TheVariants as place_of
 use Rattle.ode_terminals.specs.Seen.{between_quotes, instant_terminal, mark_terminal, number_terminal, reference_terminal, seen, this_terminal}
-use Rattle.ode_terminals.specs.Words.{event_words, looked_up, rows, word_terminal}
+use Rattle.ode_terminals.specs.Words.{free_words, looked_up, rows, word_terminal}
 use Rattle.ode_timer.specs.Dates.{instant_of}
 use Rattle.ode_value.specs.Limits.{choose_limit}
 use Rattle.ode_reread.proofs.Sounds.{either}
@@ -55,12 +55,14 @@ pub data Shown (p : Terminal → Bool) (bytes : List ℕ) : TokenKind → Type 0
 module _ (p : Terminal → Bool) (is : IsSpecial p) where
   this_none : (place : Place) → p (this_terminal place) ≡ false
   this_none place_of.Script = is.stray
+  this_none place_of.Change = is.stray
   this_none place_of.Class = is.leaf
   this_none place_of.Anywhere = is.leaf
 
   reference_none : (place : Place) → p (reference_terminal place) ≡ false
   reference_none place_of.Script = is.leaf
   reference_none place_of.Class = is.stray
+  reference_none place_of.Change = is.stray
   reference_none place_of.Anywhere = is.leaf
 
   number_none : (n : ℤ) → p (number_terminal n) ≡ false
@@ -98,7 +100,7 @@ no_class_mark other = refl
 
 class_shown : (bytes : List ℕ) {k : TokenKind} → Shown is_class bytes k → bytes_eq bytes (codes "class") ≡ true
 unfolding word_terminal
-class_shown bytes (AWord e) = looked_test is_class (λ w. bytes_eq w (codes "class")) (rows ++ event_words) bytes refl refl e
+class_shown bytes (AWord e) = looked_test is_class (λ w. bytes_eq w (codes "class")) (rows ++ free_words) bytes refl refl e
 class_shown bytes (AMark n e) = absurd (false≢true (sym (no_class_mark n) ∙ e))
 
 pub class_bytes : (place : Place) (bytes : List ℕ) (k : TokenKind) → seen place bytes k ≡ terminal.Class → bytes_eq bytes (codes "class") ≡ true

@@ -4,8 +4,9 @@ ghost use Rattle.std.specs.List.{AllByRecursion};
 ghost use Rattle.ode_classyn.specs.Texts.{IsClassOf};
 ghost use Rattle.ode_compile.specs.Compiling.{HaveNumbers};
 ghost use Rattle.ode_language.specs.Languages.{statement_of};
-ghost use Rattle.ode_types.specs.Static.{check_class};
+ghost use Rattle.ode_types.specs.Static.{check_grown};
 ghost use Rattle.ode_value.specs.PrintedClasses.{decl_text};
+ghost use Rattle.ode_value.specs.declared.change.Added.{Added};
 ghost use Rattle.ode_value.specs.declared.class.Class.{Class as Checked};
 ghost use Rattle.ode_value.specs.declared.member.TriggerDecl.{TriggerDecl};
 ghost use Rattle.ode_value.specs.declared.statement.ClassDecl.{ClassDecl};
@@ -24,8 +25,9 @@ pub fn numbers_of_classes_are_in_range()
     ensures text { (text : Items ℕ) (d : ClassDecl) → IsClassOf text d → HaveNumbers d }
 {}
 
-/// The triggers of a class that is read and keeps the static rules have few parameters, so that a record can count them.
+/// The triggers of a class that is read and keeps the static rules, with fields that were added to it, have few parameters, so that a record
+/// can count them.
 pub fn parameters_of_classes_are_few()
-    ensures { (piece : Items ℕ) (d : ClassDecl) (known : Items Checked) (c : Checked) → statement_of piece ≡ Ok (Class d) → check_class known d ≡ Ok c
+    ensures { (piece : Items ℕ) (d : ClassDecl) (known : Items Checked) (added : Items Added) (c : Checked) → statement_of piece ≡ Ok (Class d) → check_grown known added d ≡ Ok c
         → AllByRecursion (λ (t : TriggerDecl). length t.params < 2 ^ 8) c.triggers }
 {}

@@ -1,8 +1,9 @@
 -- The second pass over a class keeps the numbers of its events.
-use Rattle.std.proofs.Common.{◌≡◌, ℕ, List, [], ◌∷◌, ◌++◌, fold, Bool, true, Option, Ok, ap, sym, ◌∙◌, subst}
+use Rattle.std.proofs.Common.{◌≡◌, ℕ, List, [], ◌∷◌, ◌++◌, fold, Bool, true, Option, Ok, refl, ap, sym, ◌∙◌, subst}
 use Rattle.std.specs.Prelude.{◌&&◌, is_none}
 use Rattle.std.specs.List.{AllByRecursion}
 use Rattle.ode_value.specs.Numbers.{has_numbers, in_range, numbers_of}
+use Rattle.ode_value.specs.declared.change.Added.{Added}
 use Rattle.ode_value.specs.declared.class.Class.{Class}
 use Rattle.ode_value.specs.declared.event.EventExpr.{EventExpr, roll-EventExpr, map-EventExpr, fold-roll-EventExpr, ind-EventExpr, the_lemmas}
 use Rattle.ode_value.specs.declared.event.EventExpr.TheOpen as event
@@ -18,13 +19,13 @@ use Rattle.ode_value.specs.declared.statement.Sort.TheVariants as sort
 use Rattle.ode_value.proofs.LeafLaws.{numbers_out}
 use Rattle.ode_types.specs.Bodies.{body}
 use Rattle.ode_types.specs.Checks.{◌>>=◌, each, needs}
-use Rattle.ode_types.specs.Declaring.{begins, declared, numbered, parent_in, with_member, without_members}
+use Rattle.ode_types.specs.Declaring.{begins, numbered, parent_in, with_added, with_member, without_members}
 use Rattle.ode_types.specs.Events.{Listing, is_listed, leaf_listed, listed, listing_of, mask, masked}
 use Rattle.ode_types.specs.Families.{class_named}
 use Rattle.ode_types.specs.Scopes.{Scope, member_scope, plain_scope, wrong}
 use Rattle.ode_types.specs.Typing.{fitting}
-use Rattle.ode_types.specs.Static.{check_class, checked_member, completed, constraint_checked, method_checked, trigger_checked}
-use Rattle.ode_types.proofs.CheckedClasses.{bind-ok}
+use Rattle.ode_types.specs.Static.{check_grown, checked_member, constraint_checked, method_checked, trigger_checked}
+use Rattle.ode_types.proofs.CheckedClasses.{bind-ok, came_of}
 use Rattle.ode_types.proofs.KeptEvents.{all_more}
 use Rattle.ode_compile.specs.Compiling.{HasNumbers, HaveNumbers}
 
@@ -227,13 +228,15 @@ begins_without known d start h =
     let is : without_members third.0 d.name second.0 ≡ start = cc (third.2) in
     subst (λ (x : Class). AllByRecursion IsNumbered x.triggers) is tt
 
+-- added fields are no triggers
+pub grown_triggers : (added : List Added) (c : Class) → (fold with_added c added).triggers ≡ c.triggers
+grown_triggers [] c = refl
+grown_triggers (a ∷ added) c = grown_triggers added (with_added c a)
+
 -- the triggers of a checked class have the numbers of its tree
-pub numbers_kept : (known : List Class) (d : ClassDecl) (c : Class) → check_class known d ≡ Ok c → HaveNumbers d → AllByRecursion (λ (t : TriggerDecl). has_numbers t.event ≡ true) c.triggers
-unfolding check_class completed
-numbers_kept known d c h has =
-    let first = bind-ok (begins known d) (λ start. declared known d start >>= (λ draft. completed (known ++ draft ∷ []) draft d start)) c h in
-    let second = bind-ok (declared known d first.0) (λ draft. completed (known ++ draft ∷ []) draft d first.0) c first.2 in
-    let third = bind-ok (each (checked_member (known ++ second.0 ∷ []) second.0) d.members) (λ ms. Ok (fold with_member first.0 ms)) c second.2 in
-    let made : fold with_member first.0 third.0 ≡ c = cc (third.2) in
-    subst (λ (x : Class). AllByRecursion IsNumbered x.triggers) made
-    (all_with third.0 first.0 (begins_without known d first.0 first.1) (members_kept (known ++ second.0 ∷ []) second.0 d.members third.0 third.1 has))
+pub numbers_kept : (known : List Class) (added : List Added) (d : ClassDecl) (c : Class) → check_grown known added d ≡ Ok c → HaveNumbers d
+    → AllByRecursion (λ (t : TriggerDecl). has_numbers t.event ≡ true) c.triggers
+numbers_kept known added d c h has =
+    let came = came_of known added d c h in
+    subst (AllByRecursion IsNumbered) (sym (grown_triggers added (fold with_member came.start came.members)) ∙ ap (λ (x : Class). x.triggers) came.made)
+    (all_with came.members came.start (begins_without known d came.start came.begun) (members_kept (known ++ came.draft ∷ []) came.draft d.members came.members came.checked has))

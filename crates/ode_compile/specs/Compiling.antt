@@ -9,6 +9,7 @@ use Rattle.ode_value.specs.Symbols.{Alphabet, symbol_count, alphabet}
 use Rattle.ode_value.specs.Tables.{Means, Table}
 use Rattle.ode_value.specs.TreeCount.{tree_count}
 use Rattle.ode_value.specs.Worlds.{Declared}
+use Rattle.ode_value.specs.declared.change.Added.{Added}
 use Rattle.ode_value.specs.declared.class.Class.{Class}
 use Rattle.ode_value.specs.declared.member.TriggerDecl.{TriggerDecl}
 use Rattle.ode_value.specs.declared.reason.Refusal.TheVariants as refusal
@@ -17,7 +18,7 @@ use Rattle.ode_value.specs.declared.statement.Member.{Member}
 use Rattle.ode_value.specs.declared.statement.Member.TheVariants as member
 use Rattle.ode_minimal.specs.Minimal.{AnswersAs, IsMinimal, IsReached}
 use Rattle.ode_table.specs.Whole.{IsWhole}
-use Rattle.ode_types.specs.Static.{check_class}
+use Rattle.ode_types.specs.Static.{check_grown}
 
 -- ---- which declarations
 
@@ -32,11 +33,16 @@ HaveNumbers d = AllByRecursion HasNumbers d.members
 
 -- ---- what is answered
 
--- the checked class of a declaration behind those that are known, within the limits; or the first refusal
-abbrev pub compiled : List Class → ClassDecl → Answer Declared
-compiled known d = do
-  c ← checks (check_class known d)
+-- the checked class of a declaration with fields that were added to it, behind those that are known, within the limits; or the first
+-- refusal
+abbrev pub compiled_grown : List Class → List Added → ClassDecl → Answer Declared
+compiled_grown known added d = do
+  c ← checks (check_grown known added d)
   limits_class (record { class = c; tree = d })
+
+-- the same of a class as it is declared
+abbrev pub compiled : List Class → ClassDecl → Answer Declared
+compiled known d = compiled_grown known [] d
 
 -- the limits by one
 abbrev pub few_symbols : TriggerDecl → Answer (Unit {0})

@@ -3,4 +3,4 @@
 
 mod reading;
 
-pub use reading::{ReadStop, read_statement};
+pub use reading::{Piece, ReadStop, read_piece, read_statement};

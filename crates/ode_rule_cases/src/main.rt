@@ -1,5 +1,5 @@
-//! Answers what the static rules say of each text on standard input: `ok`, or the first rule that it breaks. A line is a class, which the ones
-//! below it know where it is accepted, or a statement; `== WORDS` is a heading, and `object REFERENCE CLASS` says what a reference's object is.
+//! Answers what the static rules say of each text on standard input: `ok`, or the first rule that it breaks. A line is a class or a change of
+//! one, which the ones below it know where it is accepted, or a statement; `== WORDS` is a heading, and `object REFERENCE CLASS` says what a reference's object is.
 //! A line `value EXPRESSION` is answered with what the expression comes to where no object is there.
 #![tactic(auto)]
 
@@ -11,8 +11,9 @@ mod valuing;
 
 use literal::literal_of;
 use ode_classyn::{parse_class, parse_statement};
+use ode_evolve::{change_class, parse_change, with_change};
 use ode_types::{CheckStop, Classes, check_class, check_statement};
-use ode_value::{ClassDecl, List, Ref, Statement, Stmt};
+use ode_value::{Added, Change, ClassDecl, List, Ref, Statement, Stmt};
 use ruling::{Ruling, print_ruling};
 use std::alloc::{AllocError, Global};
 use std::io;
@@ -22,6 +23,8 @@ use valuing::{print_valuing, shown_value};
 #[derive(Drop)]
 struct Known {
     classes: Classes,
+    decls: List<ClassDecl>,
+    added: List<Added>,
     literals: List<(Ref, u32)>,
 }
 
@@ -35,10 +38,59 @@ fn ruling_of<T: Drop>(answer: Result<T, CheckStop>) -> Ruling {
 fn rule_class(alloc: Global, known: &mut Known, class: &ClassDecl) -> Ruling {
     match check_class(alloc, &known.classes, class) {
         Ok(checked) => match known.classes.add(checked) {
-            Ok(()) => Ruling::Accepted,
+            Ok(()) => stored(put_class(alloc, &mut known.decls, class)),
             Err(_) => Ruling::Stopped(CheckStop::Memory),
         },
         Err(stop) => Ruling::Stopped(stop),
+    }
+}
+
+fn put_class(
+    alloc: Global,
+    decls: &mut List<ClassDecl>,
+    class: &ClassDecl,
+) -> Result<(), AllocError> {
+    let class = class.copy(alloc)?;
+    decls.push(class)
+}
+
+// What was accepted, where it is known to the lines below.
+fn stored(answer: Result<(), AllocError>) -> Ruling {
+    match answer {
+        Ok(()) => Ruling::Accepted,
+        Err(_) => Ruling::Stopped(CheckStop::Memory),
+    }
+}
+
+// The classes behind a change are those that are known from now on.
+fn put_change(
+    alloc: Global,
+    known: &mut Known,
+    classes: Classes,
+    change: &Change,
+) -> Result<(), AllocError> {
+    let number = match classes.named(&change.class) {
+        Some(class) => class.number,
+        None => return Ok(()),
+    };
+    known.added = with_change(alloc, &known.added, number, change)?;
+    known.classes = classes;
+    Ok(())
+}
+
+fn rule_change(alloc: Global, known: &mut Known, change: &Change) -> Ruling {
+    match change_class(alloc, &known.decls, &known.added, change) {
+        Ok(classes) => stored(put_change(alloc, known, classes, change)),
+        Err(stop) => Ruling::Stopped(stop),
+    }
+}
+
+fn rule_change_text(alloc: Global, known: &mut Known, text: &[u8]) -> Ruling
+    requires { length text.now < 2 ^ 32 }
+{
+    match parse_change(alloc, text) {
+        Ok(change) => rule_change(alloc, known, &change),
+        Err(_) => Ruling::Unread,
     }
 }
 
@@ -106,6 +158,8 @@ fn rule(alloc: Global, known: &mut Known, text: &[u8]) -> Ruling {
         Ruling::Unread
     } else if text.starts_with(b"class ") {
         rule_class_text(alloc, known, text)
+    } else if text.starts_with(b"change class ") {
+        rule_change_text(alloc, known, text)
     } else {
         match rule_statement_text(alloc, known, text) {
             Ok(ruling) => ruling,
@@ -148,6 +202,8 @@ fn main(rt: HostRuntime) -> io::Result<()> {
     let lines = io::read_to_string(alloc, rt.reader())?;
     let mut known = Known {
         classes: Classes::new(alloc),
+        decls: List::new(alloc),
+        added: List::new(alloc),
         literals: List::new(alloc),
     };
     for line in lines.as_str().lines() {

@@ -7,6 +7,7 @@ use Rattle.std.specs.Str.{bytes_eq}
 use Rattle.std.proofs.lemmas.Bool.Decides.{nat_tests}
 use Rattle.std.proofs.lemmas.List.{length-map, map-append}
 use Rattle.std.proofs.lemmas.List.Folds.{find-append}
+use Rattle.ode_value.specs.declared.change.Added.{Added}
 use Rattle.ode_value.specs.declared.class.Class.{Class}
 use Rattle.ode_value.specs.declared.event.Kind.{Kind}
 use Rattle.ode_value.specs.declared.member.TriggerDecl.{TriggerDecl}
@@ -19,13 +20,14 @@ use Rattle.ode_value.specs.Same.{same_kind}
 use Rattle.ode_types.specs.Bodies.{body}
 use Rattle.ode_types.specs.Checked.{IsChecked}
 use Rattle.ode_types.specs.Checks.{◌>>=◌, ◌>>◌, each, needs, through}
-use Rattle.ode_types.specs.Declaring.{begins, declared, declares, has_method, is_callable, is_small, kind_word, knows_method, knows_params, knows_trigger, knows_value, lists, numbered, parent_in, with_member, without_members}
+use Rattle.ode_types.specs.Declaring.{adds, begins, declared, declares, has_method, is_callable, is_small, kind_word, knows_method, knows_params, knows_trigger, knows_value, lists, numbered, parent_in, with_added, with_member, without_members}
 use Rattle.ode_types.specs.Events.{kind_method, listed}
 use Rattle.ode_types.specs.Families.{ancestors_of, class_named, constraint_named, field_named, line_of, trigger_named}
 use Rattle.ode_types.specs.Limits.{field_limit, trigger_limit, ancestor_limit}
 use Rattle.ode_types.specs.Scopes.{member_scope}
-use Rattle.ode_types.specs.Static.{check_class, checked_member, completed, constraint_checked, method_checked, trigger_checked}
-use Rattle.ode_types.proofs.CheckedClasses.{bind-ok, needs-ok}
+use Rattle.ode_types.specs.Static.{checked_member, constraint_checked, method_checked, trigger_checked}
+use Rattle.ode_types.proofs.CheckedClasses.{bind-ok, came_of, needs-ok}
+use Rattle.ode_types.proofs.KeptClasses.{declared-adds}
 use Rattle.ode_laws.proofs.Each.{all-append}
 
 -- ---- the names of triggers
@@ -64,6 +66,15 @@ same_parent c (member.Trigger t) = refl
 same_parents : (ms : List Member) (c : Class) → (fold with_member c ms).parent ≡ c.parent
 same_parents [] c = refl
 same_parents (m ∷ ms) c = same_parents ms (with_member c m) ∙ same_parent c m
+
+-- added fields change neither its parent nor its triggers
+grown_parent : (added : List Added) (c : Class) → (fold with_added c added).parent ≡ c.parent
+grown_parent [] c = refl
+grown_parent (a ∷ added) c = grown_parent added (with_added c a)
+
+grown_names : (added : List Added) (c : Class) → names_of (fold with_added c added).triggers ≡ names_of c.triggers
+grown_names [] c = refl
+grown_names (a ∷ added) c = grown_names added (with_added c a)
 
 -- ---- the first pass
 
@@ -156,16 +167,18 @@ module _ (known : List Class) (d : ClassDecl) where
       }
 
   record IsDeclared (start draft : Class) : Type 0 where
-    all : AddAll start d.members draft
+    fresh : AllByRecursion (IsFresh known start) (flat_map names_in d.members)
     small : is_small known draft ≡ true
 
-  declared-adds : (start draft : Class) → declared known d start ≡ Ok draft → IsDeclared start draft
+  declared-fresh : (added : List Added) (start draft : Class) → declared known d added start ≡ Ok draft → IsDeclared start draft
   unfolding declared
-  declared-adds start draft h =
-      let p = bind-ok (through (declares known d) start d.members) (λ c. needs (TooMany d.name) (is_small known c) >> Ok c) draft h in
-      let q = bind-ok (needs (TooMany d.name) (is_small known p.0)) (λ _. Ok p.0) draft p.2 in
-      let same : p.0 ≡ draft = cc (q.2) in
-      subst (IsDeclared start) same (record { all = all-add d.members start p.0 p.1; small = needs-ok (TooMany d.name) (is_small known p.0) q.0 q.1 })
+  declared-fresh added start draft h =
+      let p = bind-ok (through (declares known d) start d.members) (λ c. through (adds known d) c added >>= (λ e. needs (TooMany d.name) (is_small known e) >> Ok e)) draft h in
+      let q = bind-ok (through (adds known d) p.0 added) (λ e. needs (TooMany d.name) (is_small known e) >> Ok e) draft p.2 in
+      let r = bind-ok (needs (TooMany d.name) (is_small known q.0)) (λ _. Ok q.0) draft q.2 in
+      let same : q.0 ≡ draft = cc (r.2) in
+      let all : AddAll start d.members p.0 = all-add d.members start p.0 p.1 in
+      subst (IsDeclared start) same (record { fresh = all.fresh; small = needs-ok (TooMany d.name) (is_small known q.0) r.0 r.1 })
 
 -- ---- the second pass
 
@@ -223,30 +236,26 @@ pub record HasOwnTriggers (known : List Class) (c : Class) : Type 0 where
   pub fresh : AllByRecursion (IsFresh known c) (names_of c.triggers)
 
 pub own_triggers_checked : (known : List Class) (c : Class) → IsChecked known c → HasOwnTriggers known c
-unfolding check_class completed
 own_triggers_checked known c is =
     let d = is.tree in
-    let first = bind-ok (begins known d) (λ start. declared known d start >>= (λ draft. completed (known ++ draft ∷ []) draft d start)) c is.checks in
-    let start = first.0 in
-    let second = bind-ok (declared known d start) (λ draft. completed (known ++ draft ∷ []) draft d start) c first.2 in
-    let draft = second.0 in
+    let came = came_of known is.added d c is.checks in
+    let start = came.start in
+    let draft = came.draft in
     let cs = known ++ draft ∷ [] in
-    let third = bind-ok (each (checked_member cs draft) d.members) (λ ms. Ok (fold with_member start ms)) c second.2 in
-    let made : fold with_member start third.0 ≡ c = cc (third.2) in
-    let passed = declared-adds known d start draft second.1 in
-    let bare : start.triggers ≡ [] = begins-bare known d start first.1 in
-    let none : names_of start.triggers ≡ [] = ap names_of bare in
+    let passed = declared-fresh known d is.added start draft came.drafted in
+    let none : names_of start.triggers ≡ [] = ap names_of (begins-bare known d start came.begun) in
     let of_c : names_of c.triggers ≡ flat_map names_in d.members =
-    ap (λ (x : Class). names_of x.triggers) (sym made) ∙ fold-names third.0 start
-    ∙ ap (λ (l : List (List ℕ)). l ++ flat_map names_in third.0) none ∙ all-names cs draft d.members third.0 third.1 in
+    ap (λ (x : Class). names_of x.triggers) (sym came.made) ∙ grown_names is.added (fold with_member start came.members) ∙ fold-names came.members start
+    ∙ ap (λ (l : List (List ℕ)). l ++ flat_map names_in came.members) none ∙ all-names cs draft d.members came.members came.checked in
     let of_draft : names_of draft.triggers ≡ flat_map names_in d.members =
-    ap (λ (x : Class). names_of x.triggers) (sym passed.all.made) ∙ fold-names d.members start
-    ∙ ap (λ (l : List (List ℕ)). l ++ flat_map names_in d.members) none in
+    ap (λ (x : Class). names_of x.triggers) (sym (declared-adds known d is.added start draft came.drafted)) ∙ grown_names is.added (fold with_member start d.members)
+    ∙ fold-names d.members start ∙ ap (λ (l : List (List ℕ)). l ++ flat_map names_in d.members) none in
     let many : length c.triggers ≡ length draft.triggers =
     sym (length-map c.triggers (λ (t : TriggerDecl). t.name)) ∙ ap (λ (l : List (List ℕ)). length l) (of_c ∙ sym of_draft) ∙ length-map draft.triggers (λ (t : TriggerDecl). t.name) in
     let few : length draft.triggers ≤ trigger_limit = few_by (length draft.fields) (length draft.triggers) (length (ancestors_of known draft)) passed.small in
-    let parent : c.parent ≡ start.parent = ap (λ (x : Class). x.parent) (sym made) ∙ same_parents third.0 start in
+    let parent : c.parent ≡ start.parent =
+    ap (λ (x : Class). x.parent) (sym came.made) ∙ grown_parent is.added (fold with_member start came.members) ∙ same_parents came.members start in
     record {
       few = omega (arith, many, few);
-      fresh = subst (AllByRecursion (IsFresh known c)) (sym of_c) (all-fresh known c start parent (flat_map names_in d.members) passed.all.fresh);
+      fresh = subst (AllByRecursion (IsFresh known c)) (sym of_c) (all-fresh known c start parent (flat_map names_in d.members) passed.fresh);
     }

@@ -1,5 +1,5 @@
 -- What a program is: the classes as they were checked, with the tables and the alphabets of their triggers.
-use Rattle.std.specs.Prelude.{◌≡◌, ◌<◌, ◌^◌, ◌+◌, ℕ, zero, suc, max, List, [], reverse, false, Option, Some, None, slice_get, slice_index_or}
+use Rattle.std.specs.Prelude.{◌≡◌, ◌<◌, ◌^◌, ◌+◌, ℕ, zero, suc, max, List, [], ◌∷◌, length, reverse, false, Option, Some, None, slice_get, slice_index_or}
 use Rattle.std.specs.List.{flat_map}
 use Rattle.std.specs.Option.{option_and_then, option_map, option_map_or, unwrap_or}
 use denote.Param.Weighed.{most}
@@ -69,6 +69,15 @@ first_place maps (suc n) = slice_get maps n
 -- the place of a trigger's table and alphabet
 abbrev pub table_place : List ℕ → ℕ → ℕ → Option ℕ
 table_place maps class place = option_map (λ first. first + place) (first_place maps class)
+
+-- for each class the place of its first table, from a place on, where they follow one another
+abbrev pub places_from : ℕ → List Class → List ℕ
+places_from at [] = []
+places_from at (c ∷ cs) = at ∷ places_from (at + length c.triggers) cs
+
+-- how many triggers classes declare
+abbrev pub trigger_count : List Class → ℕ
+trigger_count classes = length (flat_map (λ (c : Class). c.triggers) classes)
 
 -- a trigger's table
 abbrev pub table_by : List Table → List ℕ → ℕ → ℕ → Table

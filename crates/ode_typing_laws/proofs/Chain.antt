@@ -1,9 +1,10 @@
 -- Classes that were checked one behind the other are typed by all of them.
-use Rattle.std.proofs.Common.{◌≡◌, ◌≤◌, ◌<◌, ℕ, ◌+◌, List, [], ◌∷◌, ◌++◌, fold, length, Bool, Option, Some, None, Ok, refl, ap, sym, ◌∙◌, subst, arith, append-nil, append_assoc, length-append}
+use Rattle.std.proofs.Common.{◌≡◌, ◌≤◌, ◌<◌, ℕ, ◌+◌, List, [], ◌∷◌, ◌++◌, fold, length, Option, Some, None, Ok, refl, ap, sym, ◌∙◌, subst, arith, append-nil, append_assoc, length-append}
 use Rattle.std.specs.Prelude.{is_none}
 use Rattle.std.specs.List.{AllByRecursion}
 use Rattle.std.specs.Option.{option_map, unwrap_or}
 use Rattle.std.specs.Str.{bytes_eq}
+use Rattle.ode_value.specs.declared.change.Added.{Added}
 use Rattle.ode_value.specs.declared.class.Class.{Class}
 use Rattle.ode_value.specs.declared.reason.CheckError.TheVariants.{Duplicate, UnknownName}
 use Rattle.ode_value.specs.declared.statement.ClassDecl.{ClassDecl}
@@ -11,12 +12,11 @@ use Rattle.ode_value.specs.declared.statement.Member.{Member}
 use Rattle.ode_value.specs.declared.statement.Member.TheVariants as member
 use Rattle.ode_types.specs.Checked.{IsChecked}
 use Rattle.ode_types.specs.Checked.{AreChecked, AreCheckedBehind}
-use Rattle.ode_types.specs.Checks.{Check, ◌>>=◌, ◌>>◌, each, found, needs}
-use Rattle.ode_types.specs.Declaring.{begins, declared, numbered, parent_in, with_member, without_members}
+use Rattle.ode_types.specs.Checks.{◌>>=◌, found, needs}
+use Rattle.ode_types.specs.Declaring.{begins, numbered, parent_in, with_added, with_member, without_members}
 use Rattle.ode_types.specs.Families.{class_named}
 use Rattle.ode_types.specs.Kept.{IsTypedClass}
-use Rattle.ode_types.specs.Static.{check_class, checked_member, completed}
-use Rattle.ode_types.proofs.CheckedClasses.{bind-ok, checked-next}
+use Rattle.ode_types.proofs.CheckedClasses.{bind-ok, came_of, checked-next}
 use Rattle.ode_types.proofs.KeptClasses.{typed_class}
 use Rattle.ode_types.proofs.KeptEvents.{all_more}
 use Rattle.ode_types.proofs.KeptLaws.{found-ok}
@@ -40,6 +40,11 @@ same_parents : (ms : List Member) (c : Class) → (fold with_member c ms).parent
 same_parents [] c = refl
 same_parents (m ∷ ms) c = same_parents ms (with_member c m) ∙ same_parent c m
 
+-- nor do added fields
+grown_parent : (added : List Added) (c : Class) → (fold with_added c added).parent ≡ c.parent
+grown_parent [] c = refl
+grown_parent (a ∷ added) c = grown_parent added (with_added c a)
+
 -- the parent is among the classes that are known
 low_parent : (known : List Class) (n : ℕ) → AllByRecursion (IsLow n) known → (name : Option (List ℕ)) (parent : Option Class) → parent_in known name ≡ Ok parent → unwrap_or (option_map (λ (p : Class). p.number) parent) 0 ≤ n
 low_parent known n low None parent h =
@@ -62,13 +67,11 @@ begins_low known n low d start h =
     subst (λ (x : Class). unwrap_or x.parent 0 ≤ n) is (low_parent known n low d.parent second.0 second.1)
 
 pub checked_low : (known : List Class) (n : ℕ) → AllByRecursion (IsLow n) known → (c : Class) → IsChecked known c → unwrap_or c.parent 0 ≤ n
-unfolding check_class completed
 checked_low known n low c is =
-    let first = bind-ok (begins known is.tree) (λ start. declared known is.tree start >>= (λ draft. completed (known ++ draft ∷ []) draft is.tree start)) c is.checks in
-    let second = bind-ok (declared known is.tree first.0) (λ draft. completed (known ++ draft ∷ []) draft is.tree first.0) c first.2 in
-    let third = bind-ok (each (checked_member (known ++ second.0 ∷ []) second.0) is.tree.members) (λ ms. Ok (fold with_member first.0 ms)) c second.2 in
-    let made : fold with_member first.0 third.0 ≡ c = cc (third.2) in
-    subst (λ (x : Class). unwrap_or x.parent 0 ≤ n) made (subst (λ o. unwrap_or o 0 ≤ n) (sym (same_parents third.0 first.0)) (begins_low known n low is.tree first.0 first.1))
+    let came = came_of known is.added is.tree c is.checks in
+    let members : Class = fold with_member came.start came.members in
+    let parent : c.parent ≡ came.start.parent = sym (ap (λ (x : Class). x.parent) came.made) ∙ grown_parent is.added members ∙ same_parents came.members came.start in
+    subst (λ o. unwrap_or o 0 ≤ n) (sym parent) (begins_low known n low is.tree came.start came.begun)
 
 -- the same with a greater number
 pub all_low : (m n : ℕ) → m ≤ n → (cs : List Class) → AllByRecursion (IsLow m) cs → AllByRecursion (IsLow n) cs
@@ -95,7 +98,7 @@ chain (c ∷ cs) known low typed checked =
     let parent : unwrap_or c.parent 0 ≤ n = checked_low known n low c checked.0 in
     let here : IsLow (length next) c = record { number = omega (arith, longer, is.number); parent = omega (arith, longer, parent) } in
     let lower : AllByRecursion (IsLow (length next)) next = all_more (IsLow (length next)) known (c ∷ []) (all_low n (length next) (omega (arith, longer)) known low) (here, tt) in
-    let one : IsTypedClass next c = typed_class known checked.0.tree c checked.0.checks in
+    let one : IsTypedClass next c = typed_class known checked.0.added checked.0.tree c checked.0.checks in
     let all : AllByRecursion (IsTypedClass next) next = all_more (IsTypedClass next) known (c ∷ []) (all_stay known c above known above typed) (one, tt) in
     subst (λ (es : List Class). AllByRecursion (IsTypedClass es) es) (append_assoc known (c ∷ []) cs) (chain cs next lower all checked.1)
 
