@@ -1,6 +1,7 @@
 -- The numbers of a good world tell its parts apart.
 use Rattle.std.proofs.Common.{◌≡◌, ℕ, ◌+◌, ◌<◌, ◌≤◌, List, [], ◌∷◌, ◌++◌, map, length, arith}
 use Rattle.std.proofs.lemmas.List.{length-append}
+use Rattle.ode_value.specs.declared.change.Added.{Added}
 use Rattle.ode_value.specs.GoodWorlds.{RiseFrom, AreClasses, IsActivation, IsObject, IsEntry, IsGood}
 use Rattle.ode_value.specs.Language.{Language, ListWorld}
 use Rattle.ode_value.specs.Objects.{Activation}
@@ -9,11 +10,11 @@ use Rattle.ode_laws.specs.Counted.{HasLast, IsQueued, AreCounted}
 use Rattle.ode_laws.specs.Numbered.{HasNumbers, AreNumbered}
 use Rattle.ode_laws.proofs.Each.{all-then}
 
-classes_rise : (l : Language) (earlier cs : List Declared) (low : ℕ) → low ≤ length earlier + 1 → AreClasses l earlier cs → RiseFrom low (map (λ (d : Declared). d.class.number) cs)
-classes_rise l earlier [] low less are = tt
-classes_rise l earlier (c ∷ cs) low less are =
+classes_rise : (l : Language) (added : List Added) (earlier cs : List Declared) (low : ℕ) → low ≤ length earlier + 1 → AreClasses l added earlier cs → RiseFrom low (map (λ (d : Declared). d.class.number) cs)
+classes_rise l added earlier [] low less are = tt
+classes_rise l added earlier (c ∷ cs) low less are =
     let is : c.class.number ≡ length earlier + 1 = are.0.number in
-    (omega arith, classes_rise l (earlier ++ c ∷ []) cs (c.class.number + 1) (omega (arith, length-append earlier (c ∷ []))) are.1)
+    (omega arith, classes_rise l added (earlier ++ c ∷ []) cs (c.class.number + 1) (omega (arith, length-append earlier (c ∷ []))) are.1)
 
 object_numbers : (b : Bones) (o : Object) → IsObject b o → HasNumbers b.next o
 object_numbers b o is = record {
@@ -24,7 +25,7 @@ object_numbers b o is = record {
 
 pub good_numbered : (l : Language) (w : ListWorld) → IsGood l w → AreNumbered w.bones
 good_numbered l w good = record {
-  classes = classes_rise l [] w.bones.classes 0 (omega arith) good.bones.classes;
+  classes = classes_rise l w.bones.added [] w.bones.classes 0 (omega arith) good.bones.classes;
   rising = good.bones.rising;
   objects = all-then (IsObject w.bones) (HasNumbers w.bones.next) (object_numbers w.bones) w.bones.objects good.bones.objects;
 }

@@ -1,11 +1,11 @@
 //! Lines that stand alone: where there is no memory for one, no text has a part of it.
 ghost use Rattle.std.specs.Prelude.{◌≡◌, IfOk};
 ghost use Rattle.ode_value.specs.Expressions.{text_in};
-ghost use Rattle.ode_value.specs.Texts.{aborted_line, active_line, class_line, committed_line, dropped_line, fired_line, new_line, said_line, value_line, version_line};
+ghost use Rattle.ode_value.specs.Texts.{aborted_line, active_line, changed_line, class_line, committed_line, dropped_line, fired_line, new_line, said_line, value_line, version_line};
 
 use ode_script::{
-    put_aborted, put_active, put_class, put_committed, put_dropped, put_fired, put_new, put_said,
-    put_value, put_version,
+    put_aborted, put_active, put_changed, put_class, put_committed, put_dropped, put_fired,
+    put_new, put_said, put_value, put_version,
 };
 use ode_value::{List, Name, Reason, Ref, Value};
 use std::alloc::{AllocError, Global};
@@ -16,6 +16,15 @@ pub fn class_line(alloc: Global, name: &Name) -> Result<List<u8>, AllocError>
 {
     let mut text = Vec::new(alloc);
     put_class(&mut text, name)?;
+    Ok(List::from_vec(text))
+}
+
+/// The line of a class that got fields.
+pub fn changed_line(alloc: Global, name: &Name) -> Result<List<u8>, AllocError>
+    ensures { IfOk result (λ text. text ≡ changed_line name.now) }
+{
+    let mut text = Vec::new(alloc);
+    put_changed(&mut text, name)?;
     Ok(List::from_vec(text))
 }
 

@@ -1,5 +1,6 @@
 -- What a piece comes to: one refusal, and nothing changed, or the session behind it with the transactions that it settled.
 use Rattle.std.specs.Prelude.{ℕ, ℤ, List, [], Option, Some, None, Ok}
+use Rattle.ode_value.specs.declared.change.Change.{Change}
 use Rattle.ode_value.specs.declared.reason.Reason.TheVariants.{Asked, End}
 use Rattle.ode_value.specs.declared.statement.Statement.{Statement}
 use Rattle.ode_value.specs.declared.statement.Statement.TheVariants as statement
@@ -13,13 +14,13 @@ use Rattle.ode_value.specs.Draining.{with_drain, world_after}
 use Rattle.ode_timer.specs.Due.{behind}
 use Rattle.ode_value.specs.Executing.{commands}
 use Rattle.ode_value.specs.Limits.{drain_limit}
-use Rattle.ode_machine.specs.Refusals.{placed, checked_in, declared_in, ticks_in}
+use Rattle.ode_machine.specs.Refusals.{placed, placed_change, changed_in, checked_in, declared_in, ticks_in}
 use Rattle.ode_value.specs.Language.{ListWorld, ListTx, Settlings, Language}
 use Rattle.ode_machine.specs.Sessions.{Session, closed, opened}
 use Rattle.ode_value.specs.Answers.{Answer, ◌>>=◌, ◌>>◌}
 use Rattle.ode_value.specs.Settling.{Settled, transaction, settle, abort}
 use Rattle.ode_value.specs.Transactions.{Script, begun}
-use Rattle.ode_machine.specs.Works.{declares, clock_run}
+use Rattle.ode_machine.specs.Works.{changes_class, declares, clock_run}
 
 -- the session behind a piece, and the transactions that it settled, in order
 abbrev pub Step : Type 0
@@ -61,6 +62,10 @@ commits x = settle lists (completes lists x)
 abbrev pub does_class : ListWorld → Declared → Step
 does_class w c = settles (transaction lists Script (declares c) w)
 
+-- a class gets fields, and these are the classes then
+abbrev pub does_change : ListWorld → List Declared → Change → Step
+does_change w classes c = settles (transaction lists Script (changes_class lists classes c) w)
+
 -- the clock comes to an instant, by these ticks
 abbrev pub does_clock : ListWorld → ℤ × List Position → Step
 does_clock w (t, ps) = after w (clock_run lists ps (behind t) drain_limit w)
@@ -82,12 +87,26 @@ module _ (l : Language) where
     checked ← checked_in l (bones_now session session.open_tx) s
     Ok (does_simple session session.open_tx checked)
 
-  -- a piece
-  abbrev pub command : Session → List ℕ → Answer Step
-  command session piece = do
-    s ← l.statement_of piece
+  -- a change of a class
+  abbrev pub changes : Session → Change → Answer Step
+  changes session c = do
+    placed_change session
+    classes ← changed_in l session.world.bones c
+    Ok (does_change session.world classes c)
+
+  -- a statement
+  abbrev pub states : Session → Statement → Answer Step
+  states session s = do
     placed session s
     carried session s
+
+  -- a piece, which may be a change, or is a statement
+  abbrev pub read_piece : Session → List ℕ → Option (Answer Change) → Answer Step
+  read_piece session piece None = l.statement_of piece >>= states session
+  read_piece session piece (Some read) = read >>= changes session
+
+  abbrev pub command : Session → List ℕ → Answer Step
+  command session piece = read_piece session piece (l.change_of piece)
 
 -- the end of the input: an open transaction is aborted
 abbrev pub finish : Session → Step

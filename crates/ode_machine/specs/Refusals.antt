@@ -1,6 +1,7 @@
 -- Why a piece is refused: the first of these reasons, in this order.
 use Rattle.std.specs.Prelude.{ℕ, ℤ, int_lt, List, [], ◌∷◌, map, length, Bool, true, false, cond, not, ◌&&◌, nat_lt, is_some, Option, Some, None, Ok, Err}
 use Rattle.std.specs.Option.{ok_or}
+use Rattle.ode_value.specs.declared.change.Change.{Change}
 use Rattle.ode_value.specs.declared.class.Class.{Class}
 use Rattle.ode_value.specs.declared.reason.Refusal.TheVariants as refusal
 use Rattle.ode_value.specs.declared.statement.ClassDecl.{ClassDecl}
@@ -44,6 +45,12 @@ placed session s = do
   place_of s (is_some session.open_tx)
   refuses (spends session s && not (nat_lt session.world.bones.transaction number_limit)) refusal.NumbersSpent
 
+-- a change of a class stands outside a transaction, and takes a number for one
+abbrev pub placed_change : Session → Answer (Unit {0})
+placed_change session = do
+  refuses (is_some session.open_tx) refusal.InTransaction
+  refuses (not (nat_lt session.world.bones.transaction number_limit)) refusal.NumbersSpent
+
 -- the class of a literal, which denotes a version
 abbrev pub class_behind : Ref → Option Object → Answer ℕ
 class_behind r None = Err (refusal.NoObject r.object)
@@ -70,8 +77,22 @@ checked_in l b s = do
 -- a class: the static rules, and then the limits
 abbrev pub declared_in : Language → Bones → ClassDecl → Answer Declared
 declared_in l b d = do
-  c ← checks (l.class_of (classes_in b) d)
+  c ← checks (l.class_of (classes_in b) [] d)
   limits_class (record { class = c; tree = d })
+
+-- the trees of the classes, and these classes as they were checked anew
+abbrev pub trees_in : Bones → List ClassDecl
+trees_in b = map (λ (c : Declared). c.tree) b.classes
+
+abbrev pub declared_anew : List Class → List Declared → List Declared
+declared_anew (c ∷ classes) (d ∷ more) = record d { class = c } ∷ declared_anew classes more
+declared_anew _ _ = []
+
+-- a change of a class: the classes with the fields that it adds
+abbrev pub changed_in : Language → Bones → Change → Answer (List Declared)
+changed_in l b c = do
+  classes ← checks (l.changed (trees_in b) b.added c)
+  Ok (declared_anew classes b.classes)
 
 -- few clock events are due
 abbrev pub few : List Position → Answer (List Position)

@@ -1,23 +1,35 @@
--- The work of transactions that no simple statement makes: a class declaration, and those of the clock.
-use Rattle.std.specs.Prelude.{ℕ, ◌-◌, List, [], ◌∷◌, ◌++◌, length, cond, is_some, slice_get}
+-- The work of transactions that no simple statement makes: a class declaration, a change of a class, and those of the clock.
+use Rattle.std.specs.Prelude.{ℕ, ◌-◌, List, [], ◌∷◌, ◌++◌, length, cond, nat_le, is_some, slice_get}
+use Rattle.ode_value.specs.declared.change.Change.{Change}
+use Rattle.ode_value.specs.declared.reason.Reason.TheVariants.{Space}
 use Rattle.ode_value.specs.Pasts.{Past}
-use Rattle.ode_value.specs.Texts.{class_line}
+use Rattle.ode_value.specs.Texts.{changed_line, class_line}
 use Rattle.ode_value.specs.Worlds.{Declared, Position, World}
-use Rattle.ode_value.specs.Acts.{Deed, ◌>>=◌, ◌>>◌, finds, alters, prints, nothing}
+use Rattle.ode_value.specs.Acts.{Deed, ◌>>=◌, ◌>>◌, needs, finds, alters, turns, prints, nothing}
 use Rattle.ode_value.specs.Changes.{object, lives}
+use Rattle.ode_value.specs.Changing.{changed_bones, changed_world}
 use Rattle.ode_value.specs.Draining.{with_drain, world_after}
 use Rattle.ode_machine.specs.TimeRows.{kinds_of}
 use Rattle.ode_value.specs.Executing.{first_actions}
+use Rattle.ode_value.specs.Limits.{weight_limit}
 use Rattle.ode_value.specs.Posting.{posts, touches}
 use Rattle.ode_value.specs.Settling.{Settled, transaction}
 use Rattle.ode_value.specs.Transactions.{Clock}
 use Rattle.ode_value.specs.Denoting.{object_at}
+use Rattle.ode_value.specs.Weights.{weight}
 
 -- a class is declared
 abbrev pub declares : {O A : Type 0} → Declared → Deed O A
 declares c = alters (λ b. record b { classes = b.classes ++ c ∷ [] }) >> prints (class_line c.class.name)
 
 module _ {O A : Type 0} (past : Past O A) where
+  -- a class gets fields, where the world isn't too heavy with them, and these are the classes then
+  abbrev pub changes_class : List Declared → Change → Deed O A
+  changes_class classes c = do
+    prints (changed_line c.class)
+    needs Space (λ x. nat_le (weight (changed_bones x.now.bones c classes)) weight_limit)
+    turns (changed_world past classes c)
+
   -- what happens at a position of the clock: its object's point of the kind at its place
   abbrev pub ticks : Position → Deed O A
   ticks p = do

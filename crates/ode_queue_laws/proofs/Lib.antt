@@ -1,3 +1,4 @@
+pub mod ChangeMoves
 pub mod Collecting
 pub mod Lookups
 pub mod Moves

@@ -2,6 +2,7 @@
 use Rattle.std.proofs.Common.{◌≡◌, inl, ℕ, zero, suc, ◌+◌, ◌-◌, ◌<◌, Bool, true, false, cond, List, [], ◌∷◌, ◌++◌, map, length, Option, Some, None, Ok, Err, refl, sym, ap, ◌∙◌, subst}
 use Rattle.std.specs.Prelude.{nat_le, is_some, take}
 use Rattle.std.specs.List.{AllByRecursion}
+use Rattle.ode_value.specs.declared.change.Change.{Change}
 use Rattle.ode_value.specs.declared.reason.Reason.TheVariants.{Asked, End, Output}
 use Rattle.ode_value.specs.declared.statement.Statement.{Statement}
 use Rattle.ode_value.specs.declared.statement.Statement.TheVariants as statement
@@ -22,10 +23,10 @@ use Rattle.ode_value.specs.Texts.{class_line}
 use Rattle.ode_value.specs.Transactions.{Script, Clock, begun}
 use Rattle.ode_value.specs.Worlds.{Declared, Entry, Position}
 use Rattle.ode_timer.specs.Due.{behind}
-use Rattle.ode_machine.specs.Commands.{Step, after, settles, goes_on, does_simple, ends_open, commits, does_class, does_clock, carried, command, finish, bones_now}
-use Rattle.ode_machine.specs.Refusals.{placed, checked_in, declared_in, ticks_in}
+use Rattle.ode_machine.specs.Commands.{Step, after, settles, goes_on, does_simple, ends_open, commits, does_class, does_change, does_clock, carried, changes, states, read_piece, command, finish, bones_now}
+use Rattle.ode_machine.specs.Refusals.{placed, placed_change, changed_in, checked_in, declared_in, ticks_in}
 use Rattle.ode_machine.specs.Sessions.{Session, closed, opened}
-use Rattle.ode_machine.specs.Works.{declares, ticks, tick, move, then_rest, clock_run}
+use Rattle.ode_machine.specs.Works.{changes_class, declares, ticks, tick, move, then_rest, clock_run}
 use Rattle.ode_script.specs.Cutting.{Pieces, Then, Ended, Ending, pieces}
 use Rattle.ode_script.specs.Cutting as cutting
 use Rattle.ode_machine.specs.Runs.{Item, Settles, Refuses, item_of, answered, ending_items, followed_by, pieces_items, trace, world_at}
@@ -37,6 +38,7 @@ use Rattle.ode_laws.proofs.Sides.{EndsBy}
 use Rattle.ode_run_laws.proofs.Ticks.{ticks_alike}
 use Rattle.ode_queue_laws.specs.Entries.{HasNumberedQueue, IsUsedOnce, MoveQueue}
 use Rattle.ode_queue_laws.specs.Stops.{settled_in, StoppedRun, settled_by}
+use Rattle.ode_queue_laws.proofs.ChangeMoves.{change_moves}
 use Rattle.ode_queue_laws.proofs.Collecting.{Leaves, Collecting, begun_collecting, collected_by, Stays, abort_leaves, settle_leaves, transaction_leaves}
 use Rattle.ode_queue_laws.proofs.Moves.{Moves, IsNumbered, after_numbered, all_numbered, append_moves, take_moves, drain_moves, with_drain_moves}
 use Rattle.ode_queue_laws.proofs.Once.{used_once}
@@ -161,15 +163,29 @@ carried_well l s fine (statement.Clock text) =
     answer_then s (ticks_in l s.world.bones text) (does_clock s.world) (λ t. after_well s (clock_run lists t.1 (behind t.0) drain_limit s.world) fine (clock_moves t.1 (behind t.0) drain_limit s.world fine.numbered))
 carried_well l s fine (statement.Simple t) = answer_then s (checked_in l (bones_now s s.open_tx) t) (does_simple s s.open_tx) (simple_well s fine)
 
-command_well : (l : Language) (s : Session) → IsFine s → (piece : List ℕ) → AnswersWell s (command l s piece)
-command_well l s fine piece = by_statement (l.statement_of piece) where
-  by_place : (a : Answer (Unit {0})) (t : Statement) → AnswersWell s (then_answer a (λ u. carried l s t))
-  by_place (Ok u) t = carried_well l s fine t
-  by_place (Err refusal) t = tt
+-- a piece that is a statement
+states_well : (l : Language) (s : Session) → IsFine s → (a : Answer Statement) → AnswersWell s (then_answer a (states l s))
+states_well l s fine (Ok t) = by_place (placed s t) where
+  by_place : (a : Answer (Unit {0})) → AnswersWell s (then_answer a (λ u. carried l s t))
+  by_place (Ok u) = carried_well l s fine t
+  by_place (Err refusal) = tt
+states_well l s fine (Err refusal) = tt
 
-  by_statement : (a : Answer Statement) → AnswersWell s (then_answer a (λ t. then_answer (placed s t) (λ u. carried l s t)))
-  by_statement (Ok t) = by_place (placed s t) t
-  by_statement (Err refusal) = tt
+-- and one that is a change of a class
+changes_well : (l : Language) (s : Session) → IsFine s → (a : Answer Change) → AnswersWell s (then_answer a (changes l s))
+changes_well l s fine (Ok c) = by_place (placed_change s) where
+  by_place : (a : Answer (Unit {0})) → AnswersWell s (then_answer a (λ u. then_answer (changed_in l s.world.bones c) (λ classes. Ok (does_change s.world classes c))))
+  by_place (Ok u) =
+      answer_then s (changed_in l s.world.bones c) (λ classes. does_change s.world classes c)
+      (λ classes. settles_well s (transaction lists Script (changes_class lists classes c) s.world) fine (change_moves classes c s.world))
+  by_place (Err refusal) = tt
+changes_well l s fine (Err refusal) = tt
+
+command_well : (l : Language) (s : Session) → IsFine s → (piece : List ℕ) → AnswersWell s (command l s piece)
+command_well l s fine piece = by_piece (l.change_of piece) where
+  by_piece : (o : Option (Answer Change)) → AnswersWell s (read_piece l s piece o)
+  by_piece None = states_well l s fine (l.statement_of piece)
+  by_piece (Some read) = changes_well l s fine read
 
 -- ---- runs
 

@@ -1,5 +1,6 @@
 pub mod AlikeClasses
 pub mod AlikeClocks
+pub mod FollowChanges
 pub mod FollowLaws
 pub mod FollowRuns
 pub mod FollowSettling

@@ -33,7 +33,7 @@ fields_same stamp number fields v = by_test (v.number == number) where
   by_test true = refl
   by_test false = refl
 
-mapped_some : {X : Type 0} (e : X → X) (xs : List X) → 0 < length xs → 0 < length (map e xs)
+pub mapped_some : {X : Type 0} (e : X → X) (xs : List X) → 0 < length xs → 0 < length (map e xs)
 mapped_some e [] less = less
 mapped_some e (x ∷ xs) less = omega arith
 

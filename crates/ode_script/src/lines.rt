@@ -1,7 +1,7 @@
 //! The lines that a run prints.
 ghost use Rattle.std.specs.Prelude.{◌≡◌, ◌++◌, codes, OnOk};
 ghost use Rattle.ode_value.specs.Decimal.{digits_of};
-ghost use Rattle.ode_value.specs.Texts.{aborted_line, active_line, class_line, committed_line, dropped_line, fired_line, new_line, said_line, value_line, version_line};
+ghost use Rattle.ode_value.specs.Texts.{aborted_line, active_line, changed_line, class_line, committed_line, dropped_line, fired_line, new_line, said_line, value_line, version_line};
 
 use crate::texts::{put_name, put_number, put_reason, put_ref};
 use ode_print::put_value as put_value_text;
@@ -13,6 +13,15 @@ pub fn put_class(text: &mut Vec<u8>, name: &Name) -> Result<(), AllocError>
     ensures { OnOk result (text.new.items ≡ text.old.items ++ class_line name.now) }
 {
     text.extend_from_slice(b"class ")?;
+    text.extend_from_slice(name.as_bytes())?;
+    text.extend_from_slice(b"\n")
+}
+
+/// `changed C`
+pub fn put_changed(text: &mut Vec<u8>, name: &Name) -> Result<(), AllocError>
+    ensures { OnOk result (text.new.items ≡ text.old.items ++ changed_line name.now) }
+{
+    text.extend_from_slice(b"changed ")?;
     text.extend_from_slice(name.as_bytes())?;
     text.extend_from_slice(b"\n")
 }
