@@ -10,7 +10,7 @@ use ode_gate::{PAGES, SLOT_LEN, read_header};
 use ode_gen::{TextSource, gen_script};
 use ode_host::{MemHost, Plan, Status};
 use ode_make::initialise;
-use ode_opened::Opened;
+use ode_opened::{Opened, RUN_FORMAT};
 use ode_opening_records::{Base, open_records};
 use ode_pagemap::PageMap;
 use ode_trace::run_script;
@@ -47,7 +47,7 @@ fn open(alloc: Global, host: &mut MemHost, cache: u32) -> Option<Opened<PageMap>
         return None;
     }
     let mut keeper = PageMap::start(alloc, host, &header, cache).ok()?;
-    let Ok(base) = open_records(alloc, &mut keeper, host) else {
+    let Ok(base) = open_records(alloc, &mut keeper, host, false) else {
         return None;
     };
     let Base {
@@ -64,6 +64,7 @@ fn open(alloc: Global, host: &mut MemHost, cache: u32) -> Option<Opened<PageMap>
         alphabets,
         maps,
         bytes,
+        format: RUN_FORMAT,
     })
 }
 

@@ -1,5 +1,6 @@
 -- Where the tally of records is taken, every record decodes.
 use Rattle.std.proofs.Common.{◌≡◌, ℕ, [], ◌∷◌, Bool, true, false, Option, Some, None, Ok, Err, refl}
+use Rattle.std.specs.Prelude.{◌||◌, not}
 use Rattle.std.specs.List.{AllByRecursion}
 use Rattle.std.specs.Option.{is_some}
 use Rattle.ode_codec.specs.FirstFormat.{is_of_first}
@@ -20,7 +21,7 @@ Decode es = AllByRecursion (λ (e : Row). is_some (record_under e.0 e.1) ≡ tru
 
 -- a record more
 abbrev more : Tally → Row → Record → Tally
-more t e r = record { total = counted t.total e; counters = counters_or t.counters r }
+more t e r = record { first = t.first; total = counted t.total e; counters = counters_or t.counters r }
 
 decode_at : (t : Tally) (e : Row) (es : Entries) (s : Tally) (b : Bool) (o : Option Record) → ((u : Tally) → through tallied u es ≡ Ok s → Decode es)
     → ((needs (cause.Record e.0) b >>= λ _. found (cause.Record e.0) o >>= λ r. Ok (more t e r)) >>= λ u. through tallied u es) ≡ Ok s → (is_some o ≡ true) × Decode es
@@ -30,13 +31,13 @@ decode_at t e es s true (Some r) rest ran = (refl, rest (more t e r) ran)
 
 decode : (es : Entries) (t s : Tally) → through tallied t es ≡ Ok s → Decode es
 decode [] t s ran = tt
-decode (e ∷ es) t s ran = decode_at t e es s (is_of_first e.0 e.1) (record_under e.0 e.1) (λ u goes. decode es u s goes) ran
+decode (e ∷ es) t s ran = decode_at t e es s (not t.first || is_of_first e.0 e.1) (record_under e.0 e.1) (λ u goes. decode es u s goes) ran
 
-decode_all : (entries : Entries) (x : Counters × ℕ) (all_of : Ruled Tally) → through tallied no_tally (all entries) ≡ all_of
+decode_all : (first : Bool) (entries : Entries) (x : Counters × ℕ) (all_of : Ruled Tally) → through tallied (no_tally first) (all entries) ≡ all_of
     → (all_of >>= λ t. found (cause.Missing counters_key) t.counters >>= λ c. Ok (c, t.total)) ≡ Ok x → AreRecords entries
-decode_all entries x (Ok t) is ran = decode (all entries) no_tally t is
-decode_all entries x (Err why) is ran = absurd (cc (ran))
+decode_all first entries x (Ok t) is ran = decode (all entries) (no_tally first) t is
+decode_all first entries x (Err why) is ran = absurd (cc (ran))
 
-pub tallied_are_records : (entries : Entries) (x : Counters × ℕ) → tally_in entries ≡ Ok x → AreRecords entries
+pub tallied_are_records : (first : Bool) (entries : Entries) (x : Counters × ℕ) → tally_in first entries ≡ Ok x → AreRecords entries
 unfolding tally_in
-tallied_are_records entries x ran = decode_all entries x (through tallied no_tally (all entries)) refl ran
+tallied_are_records first entries x ran = decode_all first entries x (through tallied (no_tally first) (all entries)) refl ran

@@ -6,11 +6,11 @@ use Rattle.std.proofs.lemmas.Bool.Decides.{nat_tests}
 use Rattle.std.proofs.lemmas.Grind.{flat_map-append}
 use Rattle.std.proofs.lemmas.List.{append-nil, map-append}
 use Rattle.std.proofs.lemmas.List.Sums.{sum_by-cons}
-use Rattle.ode_compile.specs.Compiling.{AreCompiled, compiled, tree_counts}
+use Rattle.ode_compile.specs.Compiling.{AreCompiled, compiled_grown, tree_counts}
 use Rattle.ode_compile.specs.declared.compiling.Compiled.{Compiled}
 use Rattle.ode_opening.specs.Building.{AreBuilt, HasFewTriggers, IsBuilt, triggers_of}
 use Rattle.ode_opening.specs.declared.accepted.Accepted.{Accepted}
-use Rattle.ode_types.specs.Static.{check_class}
+use Rattle.ode_types.specs.Static.{check_grown}
 use Rattle.ode_value.specs.Answers.{Answer, ◌>>◌, ◌>>=◌, checks, refuses}
 use Rattle.ode_value.specs.ClassLimits.{limits_class, limits_triggers}
 use Rattle.ode_value.specs.Lengths.{table_records}
@@ -20,6 +20,7 @@ use Rattle.ode_value.specs.Tables.{Table}
 use Rattle.ode_value.specs.TreeCount.{tree_count}
 use Rattle.ode_value.specs.Weights.{record_count, table_size}
 use Rattle.ode_value.specs.Worlds.{Declared}
+use Rattle.ode_value.specs.declared.change.Added.{Added}
 use Rattle.ode_value.specs.declared.class.Class.{Class}
 use Rattle.ode_value.specs.declared.member.TriggerDecl.{TriggerDecl}
 use Rattle.ode_value.specs.declared.reason.Refusal.TheVariants as refusal
@@ -49,8 +50,8 @@ within_limits c x is = by (limits_triggers c.class.triggers) (nat_lt class_limit
     by (Err why) b test e = absurd (cc (e))
 
 -- and so has one that compiles
-pub few_triggers : (known : List Class) (d : ClassDecl) (x : Declared) → compiled known d ≡ Ok x → HasFewTriggers x.class
-few_triggers known d x is = by (checks (check_class known d)) is
+pub few_triggers : (known : List Class) (added : List Added) (d : ClassDecl) (x : Declared) → compiled_grown known added d ≡ Ok x → HasFewTriggers x.class
+few_triggers known added d x is = by (checks (check_grown known added d)) is
   where
     by : (m : Answer Class) → (m >>= λ c. limits_class (record { class = c; tree = d })) ≡ Ok x → HasFewTriggers x.class
     by (Ok c) e = within_limits (record { class = c; tree = d }) x e

@@ -4,7 +4,7 @@ use Rattle.std.specs.Option.{unwrap_or}
 use Rattle.std.specs.Str.{bytes_eq}
 use Rattle.ode_codec.specs.declared.record.Record.{Record}
 use Rattle.ode_codec.specs.declared.record.Record.TheVariants as of
-use Rattle.ode_compile.specs.Compiling.{compiled}
+use Rattle.ode_compile.specs.Compiling.{compiled_grown}
 use Rattle.ode_value.specs.Answers.{Answer}
 use Rattle.ode_value.specs.Language.{Language}
 use Rattle.ode_value.specs.Lengths.{piece_count}
@@ -17,6 +17,8 @@ use Rattle.ode_value.specs.Worlds.{Declared}
 use Rattle.ode_value.specs.declared.statement.ClassDecl.{ClassDecl}
 use Rattle.ode_value.specs.declared.statement.Statement.{Statement}
 use Rattle.ode_value.specs.declared.statement.Statement.TheVariants as statement
+use Rattle.ode_opening.specs.Births.{own_added}
+use Rattle.ode_value.specs.declared.change.Added.{Added}
 use Rattle.ode_passes.specs.Complete.{class_count, of_head}
 use Rattle.ode_passes.specs.Records.{Found}
 use Rattle.ode_passes.specs.Rules.{Ruled, ◌>>=◌, found, needs, through}
@@ -64,12 +66,12 @@ agrees (of.ClassHead class name parent text_length triggers) c =
     class == c.number && (bytes_eq name c.name && (parent == unwrap_or c.parent 0 && triggers == length c.triggers))
 agrees _ c = false
 
--- a text that is read so declares a class
-abbrev pub declares_as : Option ClassDecl → List Class → ℕ → Record → List ℕ → Ruled Class
-declares_as read known number head text = do
+-- a text that is read so declares a class, to which these fields were added
+abbrev pub declares_as : Option ClassDecl → List Class → List Added → ℕ → Record → List ℕ → Ruled Class
+declares_as read known added number head text = do
   d ← found (cause.Class number) read
   _ ← needs (cause.Class number) (bytes_eq (decl_text d) text)
-  c ← found (cause.Class number) (accepted_in (compiled known d))
+  c ← found (cause.Class number) (accepted_in (compiled_grown known added d))
   _ ← needs (cause.Class number) (agrees head c)
   Ok c
 
@@ -79,20 +81,24 @@ module _ (l : Language) where
   read_in text = cond (is_short text) (class_in (l.statement_of (text ++ codes ";"))) None
 
   -- one more class
-  abbrev pub adds : List Class → ℕ → Record → List ℕ → Ruled (List Class)
-  adds known number head text = declares_as (read_in text) known number head text >>= λ c. Ok (known ++ c ∷ [])
+  abbrev pub adds : List Class → List Added → ℕ → Record → List ℕ → Ruled (List Class)
+  adds known added number head text = declares_as (read_in text) known added number head text >>= λ c. Ok (known ++ c ∷ [])
 
   -- the same where a record is a head, and the records behind its pieces
-  abbrev pub declares_by : Option (ℕ × ℕ) → Record → List Class × Found → Ruled (List Class × Found)
-  declares_by None row s = Ok s
-  declares_by (Some head) row s = do
+  abbrev pub declares_by : Option (ℕ × ℕ) → List Added → Record → List Class × Found → Ruled (List Class × Found)
+  declares_by None added row s = Ok s
+  declares_by (Some head) added row s = do
     text ← text_in head.0 head.1 s.1
-    classes ← adds s.0 head.0 row text.0
+    classes ← adds s.0 added head.0 row text.0
     Ok (classes, text.1)
 
-  abbrev pub declares_next : List Class × Found → Key × Record → Ruled (List Class × Found)
-  declares_next s f = declares_by (of_head f.1) f.1 s
+  -- with the fields that were added to it, which come first, and those behind them
+  abbrev pub declares_own : List Added → List Added → Key × Record → List Class × Found → Ruled ((List Class × Found) × List Added)
+  declares_own own added f s = declares_by (of_head f.1) own f.1 s >>= λ t. Ok (t, drop (length own) added)
+
+  abbrev pub declares_next : (List Class × Found) × List Added → Key × Record → Ruled ((List Class × Found) × List Added)
+  declares_next s f = declares_own (own_added (of_head f.1) s.1) s.1 f s.0
 
   -- all classes, whose pieces stand behind their heads
-  unfoldable pub declared_in : Found → Ruled (List Class)
-  declared_in records = through declares_next ([], drop (class_count records) records) records >>= λ s. Ok s.0
+  unfoldable pub declared_in : List Added → Found → Ruled (List Class)
+  declared_in added records = through declares_next (([], drop (class_count records) records), added) records >>= λ s. Ok s.0.0

@@ -11,6 +11,7 @@ ghost use Rattle.ode_opening.specs.Classes.{classes_in};
 ghost use Rattle.std.specs.Prelude.{◌≡◌};
 
 use crate::accepted::Accepted;
+use crate::births::read_added;
 use crate::declaring::declare_all;
 use ode_host::Host;
 use ode_keep::Keep;
@@ -18,17 +19,18 @@ use ode_passes::{Found, OpenError, complete, walk};
 use ode_value::{Key, List};
 use std::alloc::Global;
 
-/// The classes of the records of a keeper, with a table and an alphabet for each of their triggers, as they are built; or the first rule
-/// that their records break. Nothing is written.
+/// The classes of the records of a keeper with the fields that were added to them, of which there are to be so many, and with a table and
+/// an alphabet for each of their triggers, as they are built; or the first rule that their records break. Nothing is written.
 #[tactic(auto, unfolding(crate::specs::Classes::classes_in))]
 pub fn read_classes<H: Host, K: Keep<H>>(
     alloc: Global,
     keeper: &mut K,
     host: &mut H,
+    added: u32,
 ) -> Result<Accepted, OpenError>
     requires live { IsTrue (K.live keeper.old) }
     ensures meant { (entries : Entries) → K.holds keeper.old (H.view host.old) entries
-        → Accepts (classes_in ode entries) result }
+        → Accepts (classes_in ode added entries) result }
     ensures built { IfOk result AreBuilt }
     ensures holds { UnlessFault result ((entries : Entries) → K.holds keeper.old (H.view host.old) entries
         → K.holds keeper.new (H.view host.new) entries) }
@@ -46,5 +48,6 @@ pub fn read_classes<H: Host, K: Keep<H>>(
         &mut records,
     )?;
     complete(records.as_slice())?;
-    declare_all(alloc, records.as_slice())
+    let added = read_added(alloc, keeper, host, records.as_slice(), added)?;
+    declare_all(alloc, records.as_slice(), added.as_slice())
 }

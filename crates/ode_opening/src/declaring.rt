@@ -1,7 +1,7 @@
 //! The classes that records declare.
 ghost use Rattle.std.specs.Prelude.{◌≡◌, ◌<◌, ◌≤◌, ◌^◌, ◌+◌, ◌++◌, ◌∷◌, [], drop, length, slice_get, true, Ok, Some, IfErr, IfOk, IfSome, IsErrOf, OnOk};
 ghost use Rattle.std.specs.Option.{option_and_then, option_copied, option_map};
-ghost use Rattle.ode_compile.specs.Compiling.{HaveNumbers, compiled};
+ghost use Rattle.ode_compile.specs.Compiling.{HaveNumbers, compiled_grown};
 ghost use Rattle.ode_compile.specs.declared.compiling.Compiled.{Compiled as Made};
 ghost use Rattle.ode_types.specs.Checked.{IsChecked};
 ghost use Rattle.ode_value.specs.PrintedClasses.{decl_text};
@@ -10,10 +10,12 @@ ghost use Rattle.ode_passes.specs.Answers.{Leaves, is_usable};
 ghost use Rattle.ode_opening.specs.Accepting.{Accepts, Compiles};
 ghost use Rattle.ode_opening.specs.Building.{AreBuilt, IsBuilt};
 ghost use Rattle.ode_opening.specs.Declaring.{accepted_in, adds, agrees, class_among, class_in, declared_in, declares_as, declares_by, is_short, piece_in, read_in, text_in};
+ghost use Rattle.ode_opening.specs.Births.{own_added};
 ghost use Rattle.ode_passes.specs.Complete.{of_head};
 ghost use Rattle.ode_opening.specs.Cutting.{Cuts, Declares};
 
 use crate::accepted::Accepted;
+use crate::births::count_of;
 use ode_again_laws::numbers_of_classes_are_in_range;
 use ode_codec::Record;
 use ode_compile::{CompileStop, Compiled, build_class};
@@ -23,7 +25,7 @@ use ode_symbols::Alphabet;
 use ode_table::Table;
 use ode_types::Classes;
 use ode_value::limits::{CLASS_LIMIT, VALUE_LIMIT};
-use ode_value::{Class, ClassDecl, Key, List, Statement};
+use ode_value::{Added, Class, ClassDecl, Key, List, Statement};
 use std::alloc::{AllocError, Global};
 
 // ---- the text of a class
@@ -57,7 +59,7 @@ fn next_piece(records: &[(Key, Record)], at: usize, left: usize) -> Option<&[u8]
 }
 
 // A text of so many bytes whose pieces stand from a place on, and the place behind them.
-fn text_in(
+pub(crate) fn text_in(
     alloc: Global,
     records: &[(Key, Record)],
     at: usize,
@@ -84,7 +86,7 @@ fn text_in(
 // ---- the class of a text
 
 // The class that a statement is.
-fn class_among(statement: &Option<Statement>) -> Option<&ClassDecl>
+pub(crate) fn class_among(statement: &Option<Statement>) -> Option<&ClassDecl>
     ensures { option_copied result ≡ class_among statement.now }
 {
     match statement {
@@ -117,7 +119,7 @@ fn parsed(alloc: Global, text: &[u8]) -> Result<Option<Statement>, AllocError>
 }
 
 // How a class's text is read, which is a statement's but for its semicolon.
-fn read_in(alloc: Global, text: &[u8]) -> Result<Option<Statement>, AllocError>
+pub(crate) fn read_in(alloc: Global, text: &[u8]) -> Result<Option<Statement>, AllocError>
     ensures class { IfOk result (λ read. class_among read ≡ read_in ode text.now) }
     ensures numbers { IfOk result (λ read. IfSome (class_among read) HaveNumbers) }
 {
@@ -129,19 +131,20 @@ fn read_in(alloc: Global, text: &[u8]) -> Result<Option<Statement>, AllocError>
     parsed(alloc, statement.as_slice())
 }
 
-// The class, compiled, where it is accepted after these.
+// The class, compiled with the fields that were added to it, where it is accepted after these.
 fn accepted(
     alloc: Global,
     known: &Classes,
+    added: &[Added],
     decl: &ClassDecl,
 ) -> Result<Option<Compiled>, AllocError>
     requires { HaveNumbers decl.now }
-    ensures class { IfOk result (λ found. option_map (λ (made : Made). made.class) found ≡ accepted_in (compiled known.now decl.now)) }
+    ensures class { IfOk result (λ found. option_map (λ (made : Made). made.class) found ≡ accepted_in (compiled_grown known.now added.now decl.now)) }
     ensures checked { IfOk result (λ found. IfSome found (λ made. IsChecked known.now made.class)) }
     ensures text { IfOk result (λ found. IfSome found (λ made. made.text ≡ decl_text decl.now)) }
     ensures built { IfOk result (λ found. IfSome found IsBuilt) }
 {
-    match build_class(alloc, known, decl) {
+    match build_class(alloc, known, added, decl) {
         Ok(made) => Ok(Some(made)),
         Err(CompileStop::Memory) => Err(AllocError),
         Err(CompileStop::Refused(_)) => Ok(None),
@@ -179,13 +182,14 @@ fn broken<T>(number: u32) -> Result<T, OpenError>
 fn declare_as(
     alloc: Global,
     known: &Classes,
+    added: &[Added],
     number: u32,
     head: &Record,
     text: &[u8],
     read: Option<&ClassDecl>,
 ) -> Result<Compiled, OpenError>
     requires { IfSome (option_copied read) HaveNumbers }
-    ensures meant { Compiles (declares_as (option_copied read.entry) known.now number head.now text.now) result }
+    ensures meant { Compiles (declares_as (option_copied read.entry) known.now added.now number head.now text.now) result }
     ensures checked { IfOk result (λ made. IsChecked known.now made.class) }
     ensures built { IfOk result IsBuilt }
     ensures calm { IsErrOf result OpenError.DiskFault → ⊥ }
@@ -193,7 +197,7 @@ fn declare_as(
     let Some(decl) = read else {
         return broken(number);
     };
-    let Some(made) = accepted(alloc, known, decl)? else {
+    let Some(made) = accepted(alloc, known, added, decl)? else {
         return broken(number);
     };
     if made.text.as_slice() != text {
@@ -262,11 +266,12 @@ fn put_class(accepted: &mut Accepted, made: Compiled) -> Result<(), OpenError>
 fn add(
     alloc: Global,
     accepted: &mut Accepted,
+    added: &[Added],
     number: u32,
     head: &Record,
     text: &[u8],
 ) -> Result<(), OpenError>
-    ensures meant { Leaves (adds ode accepted.old.classes number head.now text.now) accepted.new.classes result }
+    ensures meant { Leaves (adds ode accepted.old.classes added.now number head.now text.now) accepted.new.classes result }
     ensures built { OnOk result (AreBuilt accepted.old → AreBuilt accepted.new) }
     ensures calm { IsErrOf result OpenError.DiskFault → ⊥ }
 {
@@ -274,6 +279,7 @@ fn add(
     let made = declare_as(
         alloc,
         &accepted.classes,
+        added,
         number,
         head,
         text,
@@ -287,36 +293,60 @@ fn add(
 fn declare(
     alloc: Global,
     accepted: &mut Accepted,
+    added: &[Added],
     records: &[(Key, Record)],
     at: usize,
     head: &Record,
     number: u32,
     length: u32,
 ) -> Result<usize, OpenError>
-    ensures meant { Declares (declares_by ode (Some (number, length)) head.now (accepted.old.classes, drop at records.now)) accepted.new.classes records.now result }
+    ensures meant { Declares (declares_by ode (Some (number, length)) added.now head.now (accepted.old.classes, drop at records.now)) accepted.new.classes records.now result }
     ensures built { OnOk result (AreBuilt accepted.old → AreBuilt accepted.new) }
     ensures calm { IsErrOf result OpenError.DiskFault → ⊥ }
 {
     let cut = text_in(alloc, records, at, number, length)?;
     let (text, next) = cut;
-    add(alloc, accepted, number, head, text.as_slice())?;
+    add(alloc, accepted, added, number, head, text.as_slice())?;
     Ok(next)
+}
+
+// How many of these fields are the first ones and were added to a class that has this head.
+fn own_count(added: &[Added], row: &Record) -> usize
+    ensures count { result ≡ length (own_added (of_head row.now) added.now) }
+    ensures inside { result ≤ length added.now }
+{
+    match of_head(row) {
+        Some((number, _)) => count_of(added, number),
+        None => 0,
+    }
+}
+
+// These fields, and those behind them.
+#[tactic(auto, using(crate::proofs::Listing::own_first))]
+fn own_fields<'a>(added: &'a [Added], row: &Record) -> (&'a [Added], &'a [Added])
+    ensures own { result.0.now ≡ own_added (of_head row.now) added.now }
+    ensures behind { result.1.now ≡ drop (length (own_added (of_head row.now) added.now)) added.now }
+{
+    added.split_at(own_count(added, row))
 }
 
 // The same where a record is a head.
 fn declare_next(
     alloc: Global,
     accepted: &mut Accepted,
+    added: &[Added],
     records: &[(Key, Record)],
     at: usize,
     row: &Record,
 ) -> Result<usize, OpenError>
-    ensures meant { Declares (declares_by ode (of_head row.now) row.now (accepted.old.classes, drop at records.now)) accepted.new.classes records.now result }
+    ensures meant { Declares (declares_by ode (of_head row.now) added.now row.now (accepted.old.classes, drop at records.now)) accepted.new.classes records.now result }
     ensures built { OnOk result (AreBuilt accepted.old → AreBuilt accepted.new) }
     ensures calm { IsErrOf result OpenError.DiskFault → ⊥ }
 {
     match of_head(row) {
-        Some((number, length)) => declare(alloc, accepted, records, at, row, number, length),
+        Some((number, length)) => {
+            declare(alloc, accepted, added, records, at, row, number, length)
+        }
         None => Ok(at),
     }
 }
@@ -335,16 +365,23 @@ fn none_accepted(alloc: Global) -> Accepted
 
 /// The classes that the records of classes declare, with what is built of them. Each was compiled behind those before it.
 #[tactic(auto, unfolding(crate::specs::Declaring::declared_in))]
-pub(crate) fn declare_all(alloc: Global, records: &[(Key, Record)]) -> Result<Accepted, OpenError>
-    ensures meant { Accepts (declared_in ode records.now) result }
+pub(crate) fn declare_all(
+    alloc: Global,
+    records: &[(Key, Record)],
+    added: &[Added],
+) -> Result<Accepted, OpenError>
+    ensures meant { Accepts (declared_in ode added.now records.now) result }
     ensures built { IfOk result AreBuilt }
     ensures calm { IsErrOf result OpenError.DiskFault → ⊥ }
     ensures usable { is_usable result ≡ true }
 {
     let mut accepted = none_accepted(alloc);
     let mut at = class_count(records);
+    let mut rest = added;
     for found in records {
-        at = declare_next(alloc, &mut accepted, records, at, &found.1)?;
+        let own = own_fields(rest, &found.1);
+        at = declare_next(alloc, &mut accepted, own.0, records, at, &found.1)?;
+        rest = own.1;
     }
     Ok(accepted)
 }

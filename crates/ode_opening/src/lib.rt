@@ -2,8 +2,11 @@
 #![tactic(auto)]
 
 mod accepted;
+mod births;
 mod classes;
 mod declaring;
+mod trees;
 
 pub use accepted::Accepted;
 pub use classes::read_classes;
+pub use trees::read_trees;

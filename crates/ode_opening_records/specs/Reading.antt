@@ -1,5 +1,5 @@
 -- What records are opened to: all rules, one behind the other.
-use Rattle.std.specs.Prelude.{◌≡◌, ◌+◌, ℕ, List, Ok}
+use Rattle.std.specs.Prelude.{◌≡◌, ◌+◌, ℕ, Bool, List, Ok}
 use Rattle.ode_codec.specs.declared.record.Counters.{Counters}
 use Rattle.ode_keep.specs.Entries.{Entries}
 use Rattle.ode_opening.specs.Building.{triggers_of}
@@ -25,19 +25,19 @@ parts_in b = record { classes = b.classes; tables = b.tables; alphabets = b.alph
 
 -- Every record decodes and there are counters, the classes are complete and declared, the tables are what they come to, the objects with
 -- their activations and the queue keep their rules, and the bytes are within their limit.
-unfoldable pub opened_by : Language → Ruled (List Table) → Entries → Ruled Base
-opened_by l tables entries = do
-  tally ← tally_in entries
-  classes ← classes_in l entries
+unfoldable pub opened_by : Bool → Language → Ruled (List Table) → Entries → Ruled Base
+opened_by first l tables entries = do
+  tally ← tally_in first entries
+  classes ← classes_in l tally.0.added entries
   own ← tables
   _ ← objects_keep tally.0 (is_reached_in own (places_from 0 classes)) classes entries
-  _ ← is_light tally.1
+  _ ← is_light first tally.1
   Ok (base_of classes own tally.1)
 
 -- Records are opened to this, or to the first rule that they break. What the rule on tables comes to, where it is come to, is no function
 -- of them, since it speaks of all words; but it is one thing alone.
-pub record AreOpened (l : Language) (entries : Entries) (opened : Ruled Base) : Type 0 where
+pub record AreOpened (first : Bool) (l : Language) (entries : Entries) (opened : Ruled Base) : Type 0 where
   pub tables : Ruled (List Table)
-  pub come_to : (tally : Counters × ℕ) (classes : List Class) → tally_in entries ≡ Ok tally → classes_in l entries ≡ Ok classes
-      → TablesIn entries (all_triggers classes) tables
-  pub is : opened ≡ opened_by l tables entries
+  pub come_to : (tally : Counters × ℕ) (classes : List Class) → tally_in first entries ≡ Ok tally
+      → classes_in l tally.0.added entries ≡ Ok classes → TablesIn entries (all_triggers classes) tables
+  pub is : opened ≡ opened_by first l tables entries

@@ -1,5 +1,5 @@
 //! What is opened is one thing alone: a law of definitions, carried by the contract of a function that does nothing.
-ghost use Rattle.std.specs.Prelude.{◌≡◌};
+ghost use Rattle.std.specs.Prelude.{◌≡◌, Bool, Ok, false};
 ghost use Rattle.ode_keep.specs.Entries.{Entries};
 ghost use Rattle.ode_opening_records.specs.Reading.{AreOpened};
 ghost use Rattle.ode_opening_records.specs.declared.base.Base.{Base};
@@ -10,7 +10,12 @@ use ode_opening_tables::tables_come_to_one_thing;
 
 /// Records are opened to one thing alone.
 pub fn records_are_opened_to_one_thing()
-    ensures { (l : Language) (entries : Entries) (opened other : Ruled Base) → AreOpened l entries opened → AreOpened l entries other → opened ≡ other }
+    ensures { (first : Bool) (l : Language) (entries : Entries) (opened other : Ruled Base) → AreOpened first l entries opened → AreOpened first l entries other → opened ≡ other }
 {
     tables_come_to_one_thing();
 }
+
+/// Records that are opened as those of the first format are opened to the same as others.
+pub fn records_of_the_first_format_are_opened_alike()
+    ensures { (first : Bool) (l : Language) (entries : Entries) (base : Base) → AreOpened first l entries (Ok base) → AreOpened false l entries (Ok base) }
+{}

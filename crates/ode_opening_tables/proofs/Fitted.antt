@@ -7,11 +7,11 @@ use Rattle.ode_compile.proofs.TriggerLaws.{counts_level}
 use Rattle.ode_opening.specs.Building.{AreBuilt, triggers_of}
 use Rattle.ode_opening.specs.declared.accepted.Accepted.{Accepted}
 use Rattle.ode_opening_tables.proofs.BuiltLaws.{alphabets_are, as_many, spare_is}
-use Rattle.ode_opening_tables.proofs.Placing.{are_fit, are_numbered, as_many_places}
+use Rattle.ode_opening_tables.proofs.Placing.{are_fit, are_numbered}
 use Rattle.ode_opening_tables.specs.Answers.{AreBeside, parts_of}
 use Rattle.ode_opening_tables.specs.Tables.{places_from, spare_in}
 use Rattle.ode_passes.specs.declared.error.OpenError.{OpenError}
-use Rattle.ode_schema.specs.Parts.{AreFit}
+use Rattle.ode_schema.specs.Parts.{AreFit, trigger_count}
 use Rattle.ode_value.specs.Symbols.{alphabet}
 use Rattle.ode_types.specs.Checked.{AreChecked}
 use Rattle.ode_value.specs.Tables.{Table}
@@ -38,9 +38,9 @@ module _ (a : Accepted) (built : AreBuilt a) where
   pub few_counts : length a.tables < 2 ^ 32 → length a.counts < 2 ^ 32
   few_counts few = subst (λ (n : ℕ). n < 2 ^ 32) (sym (counts_level (triggers_of a.classes) a.tables a.counts a.alphabets built.compiled built.counts)) few
 
-  pub all_aligned : (r : Answer) → IfOk r (λ x. x.1 ≡ places_from 0 a.classes) → IfOk r (λ x. length x.0 ≡ length (triggers_of a.classes))
-      → IfOk r (λ x. (length x.1 ≡ length a.classes) × (length a.alphabets ≡ length x.0))
-  all_aligned (Ok x) maps count =
+  pub all_aligned : (r : Answer) → IfOk r (λ x. length x.0 ≡ length (triggers_of a.classes))
+      → IfOk r (λ x. (length x.0 ≡ trigger_count a.classes) × (length a.alphabets ≡ length x.0))
+  all_aligned (Ok x) count =
       let own = alphabets_are (triggers_of a.classes) a.tables a.alphabets built.compiled in
-      (ap length maps ∙ as_many_places 0 a.classes, ap length own ∙ length-map (triggers_of a.classes) (λ (t : TriggerDecl). alphabet t.event) ∙ sym count)
-  all_aligned (Err e) maps count = tt
+      (count, ap length own ∙ length-map (triggers_of a.classes) (λ (t : TriggerDecl). alphabet t.event) ∙ sym count)
+  all_aligned (Err e) count = tt

@@ -131,7 +131,3 @@ module _ (classes : List Class) (numbered : AreNumbered classes) (built stored :
       let c = found_class classes (suc n) place t (class_numbered classes (suc n)) refl is in
       let spot : n ≡ suc n - 1 = omega arith in
       fits_at n place c.0 t (numbered-at classes (suc n) n numbered (omega arith) spot ∙ c.1) c.2
-
-pub as_many_places : (first : ℕ) (cs : List Class) → length (places_from first cs) ≡ length cs
-as_many_places first [] = refl
-as_many_places first (c ∷ cs) = ap suc (as_many_places (first + length c.triggers) cs)

@@ -1,5 +1,5 @@
 -- The tables of the triggers of classes, as records have them; or the first trigger that has none.
-use Rattle.std.specs.Prelude.{◌≡◌, ◌<◌, ◌^◌, ◌+◌, ◌-◌, ℕ, List, [], ◌∷◌, ◌++◌, map, length, Some, Ok, Err}
+use Rattle.std.specs.Prelude.{◌≡◌, ◌<◌, ◌^◌, ◌+◌, ◌-◌, ℕ, List, ◌∷◌, ◌++◌, map, Some, Ok, Err}
 use Rattle.std.specs.List.{AllByRecursion, AllZip, flat_map}
 use Rattle.ode_codec.specs.StoredRows.{table_head, table_pieces}
 use Rattle.ode_keep.specs.Entries.{Entries, value_under}
@@ -7,6 +7,7 @@ use Rattle.ode_opening.specs.Building.{triggers_of}
 use Rattle.ode_passes.specs.Rules.{Ruled}
 use Rattle.ode_passes.specs.declared.cause.Cause.{Cause}
 use Rattle.ode_passes.specs.declared.cause.Cause.TheVariants as cause
+use Rattle.ode_schema.specs.Parts as parts
 use Rattle.ode_table.specs.Whole.{IsWhole}
 use Rattle.ode_value.specs.Classes.{Trigger, own_triggers}
 use Rattle.ode_value.specs.Lengths.{trigger_length}
@@ -51,8 +52,7 @@ alphabets_of classes = map (λ (t : TriggerDecl). alphabet t.event) (triggers_of
 
 -- for each class the place of its first table, from a place on
 abbrev pub places_from : ℕ → List Class → List ℕ
-places_from at [] = []
-places_from at (c ∷ cs) = at ∷ places_from (at + length c.triggers) cs
+places_from at classes = parts.places_from at classes
 
 -- a trigger has no table, and each one before it has its own
 pub record LackTable (entries : Entries) (triggers : List Trigger) (why : Cause) : Type 0 where

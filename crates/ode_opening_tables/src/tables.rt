@@ -10,7 +10,7 @@ ghost use Rattle.ode_opening.specs.Building.{AreBuilt, HasFewTriggers, triggers_
 ghost use Rattle.ode_opening_tables.specs.Answers.{AreBeside, AreBuiltFrom, ReadsTo, TableFor, Tells, parts_of};
 ghost use Rattle.ode_opening_tables.specs.Tables.{all_triggers, places_from, spare_in};
 ghost use Rattle.ode_passes.specs.Answers.{UnlessFault, is_usable};
-ghost use Rattle.ode_schema.specs.Parts.{AreFit};
+ghost use Rattle.ode_schema.specs.Parts.{AreFit, trigger_count};
 ghost use Rattle.ode_value.specs.Classes.{Trigger, own_triggers};
 ghost use Rattle.ode_value.specs.Tables.{Means};
 
@@ -176,7 +176,7 @@ pub fn read_tables<H: Host, K: Keep<H>>(
         → Tells entries (all_triggers accepted.now.classes) result }
     ensures maps { IfOk result (λ r. r.1 ≡ places_from 0 accepted.now.classes) }
     ensures fit { IfOk result (λ r. AreFit (parts_of accepted.now r)) }
-    ensures aligned { IfOk result (λ r. (length r.1 ≡ length accepted.now.classes) × (length accepted.now.alphabets ≡ length r.0)) }
+    ensures aligned { IfOk result (λ r. (length r.0 ≡ trigger_count accepted.now.classes) × (length accepted.now.alphabets ≡ length r.0)) }
     ensures spare { IfOk result (λ r. spare_beside accepted.now.counts r.0 ≡ spare_in (triggers_of accepted.now.classes) r.0) }
     ensures few { OnOk result (length accepted.now.tables < 2 ^ 32) }
     ensures counted { OnOk result (length accepted.now.counts < 2 ^ 32) }

@@ -6,7 +6,7 @@ ghost use Rattle.ode_keep.specs.Entries.{AreBytes, Entries};
 ghost use Rattle.ode_value.specs.Keys.{counters_key};
 ghost use Rattle.ode_passes.specs.Answers.{Answers, Leaves, UnlessFault, is_usable};
 ghost use Rattle.ode_passes.specs.Rules.{found};
-ghost use Rattle.ode_passes.specs.Tally.{counted, counters_behind, counters_in, counters_or, is_light, tally_in};
+ghost use Rattle.ode_passes.specs.Tally.{counted, counters_behind, counters_in, counters_or, has_form, is_light, limit_of, tally_in};
 ghost use Rattle.ode_passes.specs.Walking.{within};
 ghost use Rattle.ode_passes.specs.declared.cause.Cause.TheVariants as cause;
 
@@ -18,12 +18,14 @@ use ode_codec::{Counters, Record, is_of_first, is_record, one_spelling};
 use ode_host::Host;
 use ode_keep::{KEY_LEN, Keep};
 use ode_value::Key;
-use ode_value::limits::WEIGHT_LIMIT;
+use ode_value::limits::{FIRST_WEIGHT_LIMIT, WEIGHT_LIMIT};
 use std::alloc::Global;
 
-/// What the records so far come to.
+/// What the records so far come to, which may be of the first format.
 #[derive(Clone, Copy, Debug)]
 pub struct Tally {
+    /// Whether they are.
+    first: bool,
     /// Their bytes, the entries of the queue not counted.
     total: u64,
     /// The counters, where their record was there.
@@ -61,17 +63,25 @@ fn counters_behind(
     }
 }
 
-// The same where the record has no stamp and is no added field.
+// Whether a record has no stamp and is no added field, where it is of the first format.
+fn has_form(first: bool, key: Key, value: &[u8]) -> bool
+    ensures { result ≡ has_form first (key, value.now) }
+{
+    !first || is_of_first(key, value)
+}
+
+// The counters behind a record that may stand there.
 fn counters_in(
+    first: bool,
     before: Option<Counters>,
     alloc: Global,
     key: Key,
     value: &[u8],
 ) -> Result<Option<Counters>, OpenError>
-    ensures meant { Answers (counters_in before (key, value.now)) result }
+    ensures meant { Answers (counters_in first before (key, value.now)) result }
     ensures calm { IsErrOf result OpenError.DiskFault → ⊥ }
 {
-    if is_of_first(key, value) {
+    if has_form(first, key, value) {
         counters_behind(before, alloc, key, value)
     } else {
         Err(OpenError::BadFile(Cause::Record(key)))
@@ -95,7 +105,7 @@ impl Pass for Tally {
     ghost takes = { tallied };
 
     fn take(&mut self, alloc: Global, key: Key, value: &[u8]) -> Result<(), OpenError> {
-        self.counters = counters_in(self.counters, alloc, key, value)?;
+        self.counters = counters_in(self.first, self.counters, alloc, key, value)?;
         self.total = counted(self.total, key, value);
         Ok(())
     }
@@ -115,17 +125,18 @@ fn counters_of(tally: Tally) -> Result<Counters, Cause>
     }
 }
 
-/// The counters, and the bytes of all records but for the queue's entries; or the first record that doesn't decode or has a stamp or an
-/// added field, or that there are no counters. All values are bytes. Nothing is written.
+/// The counters, and the bytes of all records but for the queue's entries; or the first record that doesn't decode, or has a form that
+/// the first format doesn't know where the records are of that, or that there are no counters. All values are bytes. Nothing is written.
 #[tactic(auto, unfolding(crate::specs::Tally::tally_in))]
 pub fn read_tally<H: Host, K: Keep<H>>(
     alloc: Global,
     keeper: &mut K,
     host: &mut H,
+    first: bool,
 ) -> Result<(Counters, u64), OpenError>
     requires live { IsTrue (K.live keeper.old) }
     ensures meant { (entries : Entries) → K.holds keeper.old (H.view host.old) entries
-        → Answers (tally_in entries) result }
+        → Answers (tally_in first entries) result }
     ensures bytes { OnOk result ((entries : Entries) → K.holds keeper.old (H.view host.old) entries → AreBytes (within 0 255 entries)) }
     ensures holds { UnlessFault result ((entries : Entries) → K.holds keeper.old (H.view host.old) entries
         → K.holds keeper.new (H.view host.new) entries) }
@@ -134,6 +145,7 @@ pub fn read_tally<H: Host, K: Keep<H>>(
     ensures cause { RoseIf (IsErrOf result OpenError.DiskFault) (H.view host.old).disk_faults (H.view host.new).disk_faults }
 {
     let mut tally = Tally {
+        first,
         total: 0,
         counters: None,
     };
@@ -142,11 +154,22 @@ pub fn read_tally<H: Host, K: Keep<H>>(
     Ok((counters, tally.total))
 }
 
-/// Whether so many bytes are within the limit.
-pub fn is_light(total: u64) -> Result<(), Cause>
-    ensures { result ≡ is_light total }
+// How many bytes records may have, which may be of the first format.
+fn limit_of(first: bool) -> u64
+    ensures { result ≡ limit_of first }
 {
-    if total <= WEIGHT_LIMIT {
+    if first {
+        FIRST_WEIGHT_LIMIT
+    } else {
+        WEIGHT_LIMIT
+    }
+}
+
+/// Whether so many bytes are within the limit of records, which may be of the first format.
+pub fn is_light(first: bool, total: u64) -> Result<(), Cause>
+    ensures { result ≡ is_light first total }
+{
+    if total <= limit_of(first) {
         Ok(())
     } else {
         Err(Cause::Size(total))

@@ -8,5 +8,5 @@ use Rattle.ode_opening.proofs.declaring.declare_all.Given as goal
 
 abbrev pub invariant-loop-found : goal.invariant-loop-found
 invariant-loop-found l =
-    (through (declares_next ode) (l.accepted.classes, drop l.at l.records) (drop l.found-index l.records)
-    ≡ through (declares_next ode) ([], drop (class_count l.records) l.records) l.records) × AreBuilt l.accepted
+    (through (declares_next ode) ((l.accepted.classes, drop l.at l.records), l.rest) (drop l.found-index l.records)
+    ≡ through (declares_next ode) (([], drop (class_count l.records) l.records), l.added) l.records) × AreBuilt l.accepted

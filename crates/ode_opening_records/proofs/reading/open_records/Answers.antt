@@ -8,14 +8,14 @@ use Rattle.ode_opening_records.proofs.reading.open_records.Goals as goal
 pub returns-in_err-counters-clause-meant : goal.returns-in_err-counters-clause-meant
 returns-in_err-counters-clause-meant g c = λ entries holds.
     let p = err_from_is_err_and c.from_residual.result c.from_residual.ensures.1 in
-    rw (p.1, p.2) (tally_fails entries c.in_err-counters.field-0.0 (c.in_err-counters.ensures.meant entries holds))
+    rw (p.1, p.2) (tally_fails c.args.first entries c.in_err-counters.field-0.0 (c.in_err-counters.ensures.meant entries holds))
 
 pub returns-in_err-accepted-clause-meant : goal.returns-in_err-accepted-clause-meant
 returns-in_err-accepted-clause-meant g c = λ entries holds.
     let p = err_from_is_err_and c.from_residual-in_err-accepted.result c.from_residual-in_err-accepted.ensures.1 in
     let holds_1 = c.in_ok-counters.ensures.holds entries holds in
     rw (p.1, p.2)
-    (classes_fail entries (c.in_ok-counters.counters, c.in_ok-counters.bytes) (c.in_ok-counters.ensures.meant entries holds) c.in_err-accepted.field-0.0 (c.in_err-accepted.ensures.meant entries holds_1))
+    (classes_fail c.args.first entries (c.in_ok-counters.counters, c.in_ok-counters.bytes) (c.in_ok-counters.ensures.meant entries holds) c.in_err-accepted.field-0.0 (c.in_err-accepted.ensures.meant entries holds_1))
 
 pub returns-in_err-tables-clause-meant : goal.returns-in_err-tables-clause-meant
 returns-in_err-tables-clause-meant g c = λ entries holds.
@@ -23,7 +23,7 @@ returns-in_err-tables-clause-meant g c = λ entries holds.
     let holds_1 = c.in_ok-counters.ensures.holds entries holds in
     let holds_2 = c.in_ok-accepted.ensures.holds entries holds_1 in
     rw (p.1, p.2)
-    (tables_fail entries (c.in_ok-counters.counters, c.in_ok-counters.bytes) (c.in_ok-counters.ensures.meant entries holds) c.in_ok-accepted.accepted.classes
+    (tables_fail c.args.first entries (c.in_ok-counters.counters, c.in_ok-counters.bytes) (c.in_ok-counters.ensures.meant entries holds) c.in_ok-accepted.accepted.classes
     (c.in_ok-accepted.ensures.meant entries holds_1) c.in_err-tables.field-0.0 (c.in_err-tables.ensures.meant entries holds_2))
 
 pub returns-in_err-check_objects-clause-meant : goal.returns-in_err-check_objects-clause-meant
@@ -33,7 +33,7 @@ returns-in_err-check_objects-clause-meant g c = λ entries holds.
     let holds_2 = c.in_ok-accepted.ensures.holds entries holds_1 in
     let holds_3 = c.in_ok-tables.ensures.holds entries holds_2 in
     rw (p.1, p.2)
-    (objects_fail entries (c.in_ok-counters.counters, c.in_ok-counters.bytes) (c.in_ok-counters.ensures.meant entries holds) c.in_ok-accepted.accepted.classes
+    (objects_fail c.args.first entries (c.in_ok-counters.counters, c.in_ok-counters.bytes) (c.in_ok-counters.ensures.meant entries holds) c.in_ok-accepted.accepted.classes
     (c.in_ok-accepted.ensures.meant entries holds_1) c.in_ok-tables.tables (c.in_ok-tables.ensures.meant entries holds_2) c.in_ok-tables.maps c.in_ok-tables.ensures.maps c.in_err-check_objects.field-0.0
     (c.in_err-check_objects.ensures.meant entries holds_3))
 
@@ -44,7 +44,7 @@ returns-in_err-is_light-clause-meant g c = λ entries holds.
     let holds_2 = c.in_ok-accepted.ensures.holds entries holds_1 in
     let holds_3 = c.in_ok-tables.ensures.holds entries holds_2 in
     rw (p.1, p.2)
-    (light_fails entries (c.in_ok-counters.counters, c.in_ok-counters.bytes) (c.in_ok-counters.ensures.meant entries holds) c.in_ok-accepted.accepted.classes
+    (light_fails c.args.first entries (c.in_ok-counters.counters, c.in_ok-counters.bytes) (c.in_ok-counters.ensures.meant entries holds) c.in_ok-accepted.accepted.classes
     (c.in_ok-accepted.ensures.meant entries holds_1) c.in_ok-tables.tables (c.in_ok-tables.ensures.meant entries holds_2) c.in_ok-tables.maps c.in_ok-tables.ensures.maps
     (c.in_ok-check_objects.ensures.meant entries holds_3) c.in_err-is_light.field-0.0 (sym c.in_err-is_light.ensures))
 
@@ -58,7 +58,7 @@ returns-clause-meant g c = λ entries holds.
     ∙ ap (spare_beside c.in_ok-accepted.accepted.counts) c.as_slice-2.ensures ∙ c.in_ok-tables.ensures.spare in
     let is = base_is c.in_ok-accepted.accepted c.in_ok-tables.tables c.in_ok-tables.maps c.in_ok-counters.bytes c.spare-spare.result c.in_ok-accepted.ensures.built c.in_ok-tables.ensures.maps spare in
     rw is
-    (all_opens entries (c.in_ok-counters.counters, c.in_ok-counters.bytes) (c.in_ok-counters.ensures.meant entries holds) c.in_ok-accepted.accepted.classes
+    (all_opens c.args.first entries (c.in_ok-counters.counters, c.in_ok-counters.bytes) (c.in_ok-counters.ensures.meant entries holds) c.in_ok-accepted.accepted.classes
     (c.in_ok-accepted.ensures.meant entries holds_1) c.in_ok-tables.tables (c.in_ok-tables.ensures.meant entries holds_2) c.in_ok-tables.maps c.in_ok-tables.ensures.maps
     (c.in_ok-check_objects.ensures.meant entries holds_3) (sym c.in_ok-is_light.ensures))
 

@@ -33,9 +33,8 @@ returns-clause-fit g c =
 pub returns-clause-aligned : goal.returns-clause-aligned
 returns-clause-aligned g c =
     let a = c.args.accepted.now in
-    let maps = subst (λ (cs : List Class). IfOk c.read_all.result (λ r. r.1 ≡ places_from 0 cs)) c.as_slice.ensures.all c.read_all.ensures.maps in
     let count = subst (λ (cs : List Class). IfOk c.read_all.result (λ r. length r.0 ≡ length (triggers_of cs))) c.as_slice.ensures.all c.read_all.ensures.count in
-    all_aligned a c.requires.built c.read_all.result maps count
+    all_aligned a c.requires.built c.read_all.result count
 
 pub returns-clause-spare : goal.returns-clause-spare
 returns-clause-spare g c =
