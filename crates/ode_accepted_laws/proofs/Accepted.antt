@@ -44,7 +44,7 @@ upward_is n (d ∷ ds) = by_test (d.class.number == n) (upward_is (unwrap_or d.c
   by_test true here past = ap (λ l. d.class ∷ l) here
   by_test false here past = past
 
-line_is : (cs : List Declared) (n : ℕ) → machine.line_of cs n ≡ upward n (reverse (checked_classes cs))
+pub line_is : (cs : List Declared) (n : ℕ) → machine.line_of cs n ≡ upward n (reverse (checked_classes cs))
 line_is cs n = upward_is n (reverse cs) ∙ ap (upward n) (map-reverse (λ (d : Declared). d.class) cs)
 
 numbered_is : (n : ℕ) (cs : List Declared) → worlds.class_numbered n cs ≡ class_numbered (checked_classes cs) n

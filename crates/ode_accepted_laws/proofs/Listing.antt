@@ -6,19 +6,21 @@ use Rattle.std.specs.Option.{IfSome}
 use Rattle.std.specs.Str.{bytes_eq}
 use Rattle.std.proofs.lemmas.List.{append-nil, append_assoc, length-append, length-map, map-append}
 use Rattle.std.proofs.lemmas.List.Sums.{sum_by_push}
+use Rattle.ode_value.specs.declared.change.Added.{Added}
 use Rattle.ode_value.specs.declared.class.Class.{Class}
 use Rattle.ode_value.specs.declared.event.Kind.{Kind}
 use Rattle.ode_value.specs.declared.statement.ClassDecl.{ClassDecl}
 use Rattle.ode_value.specs.declared.statement.Member.{Member}
 use Rattle.ode_value.specs.declared.statement.Member.TheVariants as member
+use Rattle.ode_value.specs.Changing.{added_to}
 use Rattle.ode_value.specs.Language.{Language}
 use Rattle.ode_value.specs.PrintedClasses.{decl_text, in_braces, member_text, parent_text}
 use Rattle.ode_value.specs.Printing.{kind_text, with_commas}
 use Rattle.ode_value.specs.Worlds.{Declared}
 use Rattle.ode_types.specs.Checks.{◌>>=◌, each}
-use Rattle.ode_types.specs.Declaring.{begins, declared, with_member}
-use Rattle.ode_types.specs.Static.{check_class, checked_member, completed, constraint_checked, method_checked, trigger_checked}
-use Rattle.ode_types.proofs.CheckedClasses.{bind-ok}
+use Rattle.ode_types.specs.Declaring.{with_added, with_member}
+use Rattle.ode_types.specs.Static.{check_grown, checked_member, constraint_checked, method_checked, trigger_checked}
+use Rattle.ode_types.proofs.CheckedClasses.{bind-ok, came_of}
 use Rattle.ode_laws.proofs.Each.{all-append, all-find, all-map, all-then}
 use Rattle.ode_sound_laws.specs.Sound.{checked_classes}
 use Rattle.ode_accepted_laws.specs.Languages.{AreAccepted, HasStaticRules, text_size}
@@ -143,18 +145,20 @@ record HasKinds (known : List Class) (d : ClassDecl) (c : Class) : Type 0 where
   are : c.kinds ≡ kinds_of parent ++ flat_map kinds_in d.members
   few : length c.kinds ≤ length (kinds_of parent) + length (decl_text d)
 
-has_kinds : (known : List Class) (d : ClassDecl) (c : Class) → check_class known d ≡ Ok c → HasKinds known d c
-unfolding check_class completed
-has_kinds known d c h =
-    let first = bind-ok (begins known d) (λ start. declared known d start >>= (λ draft. completed (known ++ draft ∷ []) draft d start)) c h in
-    let start = first.0 in
-    let second = bind-ok (declared known d start) (λ draft. completed (known ++ draft ∷ []) draft d start) c first.2 in
-    let draft = second.0 in
-    let third = bind-ok (each (checked_member (known ++ draft ∷ []) draft) d.members) (λ ms. Ok (fold with_member start ms)) c second.2 in
-    let made : fold with_member start third.0 ≡ c = cc (third.2) in
-    let begin = begun known d start first.1 in
+-- fields that are added change no kinds
+grown_kinds : (added : List Added) (c : Class) → (fold with_added c added).kinds ≡ c.kinds
+grown_kinds [] c = refl
+grown_kinds (a ∷ added) c = grown_kinds added (with_added c a)
+
+has_kinds : (known : List Class) (added : List Added) (d : ClassDecl) (c : Class) → check_grown known added d ≡ Ok c → HasKinds known d c
+has_kinds known added d c h =
+    let came = came_of known added d c h in
+    let ms = came.members in
+    let begin = begun known d came.start came.begun in
+    let cs = known ++ came.draft ∷ [] in
     let is : c.kinds ≡ kinds_of begin.parent ++ flat_map kinds_in d.members =
-    sym (ap (λ (k : Class). k.kinds) made) ∙ fold_kinds third.0 start ∙ ap (λ ks. ks ++ flat_map kinds_in third.0) begin.kinds ∙ ap (λ ks. kinds_of begin.parent ++ ks) (all_kinds (known ++ draft ∷ []) draft d.members third.0 third.1) in
+    sym (ap (λ (k : Class). k.kinds) came.made) ∙ grown_kinds added (fold with_member came.start ms) ∙ fold_kinds ms came.start ∙ ap (λ ks. ks ++ flat_map kinds_in ms) begin.kinds
+    ∙ ap (λ ks. kinds_of begin.parent ++ ks) (all_kinds cs came.draft d.members ms came.checked) in
     let both : length (kinds_of begin.parent ++ flat_map kinds_in d.members) ≡ length (kinds_of begin.parent) + length (flat_map kinds_in d.members) = length-append (kinds_of begin.parent) (flat_map kinds_in d.members) in
     let own = decl_long d in
     let long : length c.kinds ≡ length (kinds_of begin.parent ++ flat_map kinds_in d.members) = ap (λ ks. length ks) is in
@@ -169,21 +173,26 @@ parent_few : (n : ℕ) (known : List Class) → AllByRecursion (Few n) known →
 parent_few n known all None there = omega arith
 parent_few n known all (Some p) there = all-find (Few n) (λ (c : Class). bytes_eq c.name there.0) known all p there.1
 
-module _ (l : Language) (rules : HasStaticRules l) where
-  pub kinds_few : (earlier cs : List Declared) → AllByRecursion (λ (c : Declared). Few (sum_by text_size earlier) c.class) earlier → AreAccepted l (checked_classes earlier) cs
+module _ (l : Language) (rules : HasStaticRules l) (added : List Added) where
+  -- a class that is accepted behind others
+  class_kinds : (earlier : List Declared) (c : Declared) → l.class_of (checked_classes earlier) (added_to c.class.number added) c.tree ≡ Ok c.class → HasKinds (checked_classes earlier) c.tree c.class
+  class_kinds earlier c is =
+      let own = added_to c.class.number added in has_kinds (checked_classes earlier) own c.tree c.class (ap (λ f. f (checked_classes earlier) own c.tree) (sym rules.class_of) ∙ is)
+
+  pub kinds_few : (earlier cs : List Declared) → AllByRecursion (λ (c : Declared). Few (sum_by text_size earlier) c.class) earlier → AreAccepted l added (checked_classes earlier) cs
       → AllByRecursion (λ (c : Declared). Few (sum_by text_size (earlier ++ cs)) c.class) (earlier ++ cs)
   kinds_few earlier [] all accepted = subst (λ (es : List Declared). AllByRecursion (λ (c : Declared). Few (sum_by text_size es) c.class) es) (sym (append-nil earlier)) all
   kinds_few earlier (c ∷ cs) all accepted =
       let n = sum_by text_size earlier in
       let more : List Declared = earlier ++ c ∷ [] in
       let total : sum_by text_size more ≡ n + text_size c = sum_by_push text_size earlier c in
-      let has = has_kinds (checked_classes earlier) c.tree c.class (ap (λ f. f (checked_classes earlier) c.tree) (sym rules.class_of) ∙ accepted.0) in
+      let has = class_kinds earlier c accepted.0 in
       let above : length (kinds_of has.parent) ≤ n = parent_few n (checked_classes earlier) (all-map (Few n) (λ (d : Declared). d.class) earlier all) has.parent has.there in
       let here : Few (sum_by text_size more) c.class = omega (arith, total, above, has.few) in
       let old : AllByRecursion (λ (d : Declared). Few (sum_by text_size more) d.class) earlier =
       all-then (λ (d : Declared). Few n d.class) (λ (d : Declared). Few (sum_by text_size more) d.class) (λ d few. omega (arith, total, few)) earlier all in
       let both : AllByRecursion (λ (d : Declared). Few (sum_by text_size more) d.class) more = all-append (λ (d : Declared). Few (sum_by text_size more) d.class) earlier (c ∷ []) old (here, tt) in
-      let next : AreAccepted l (checked_classes more) cs = subst (λ es. AreAccepted l es cs) (sym (map-append (λ (d : Declared). d.class) earlier (c ∷ []))) accepted.1 in
+      let next : AreAccepted l added (checked_classes more) cs = subst (λ es. AreAccepted l added es cs) (sym (map-append (λ (d : Declared). d.class) earlier (c ∷ []))) accepted.1 in
       subst (λ (es : List Declared). AllByRecursion (λ (d : Declared). Few (sum_by text_size es) d.class) es) (append_assoc earlier (c ∷ []) cs) (kinds_few more cs both next)
 
 -- ---- what all kinds have
@@ -200,15 +209,15 @@ parent_all P known all None there = tt
 parent_all P known all (Some p) there = all-find (HasAll P) (λ (c : Class). bytes_eq c.name there.0) known all p there.1
 
 -- the kinds of accepted classes have it too, those that they inherit among them
-module _ (l : Language) (rules : HasStaticRules l) (P : Kind → Type 0) where
-  pub kinds_have : (earlier cs : List Declared) → AllByRecursion (λ (c : Declared). HasAll P c.class) earlier → AreAccepted l (checked_classes earlier) cs
+module _ (l : Language) (rules : HasStaticRules l) (added : List Added) (P : Kind → Type 0) where
+  pub kinds_have : (earlier cs : List Declared) → AllByRecursion (λ (c : Declared). HasAll P c.class) earlier → AreAccepted l added (checked_classes earlier) cs
       → AllByRecursion (λ (c : Declared). ListsAll P c.tree) cs → AllByRecursion (λ (c : Declared). HasAll P c.class) (earlier ++ cs)
   kinds_have earlier [] all accepted listed = subst (λ (es : List Declared). AllByRecursion (λ (c : Declared). HasAll P c.class) es) (sym (append-nil earlier)) all
   kinds_have earlier (c ∷ cs) all accepted listed =
       let more : List Declared = earlier ++ c ∷ [] in
-      let has = has_kinds (checked_classes earlier) c.tree c.class (ap (λ f. f (checked_classes earlier) c.tree) (sym rules.class_of) ∙ accepted.0) in
+      let has = class_kinds l rules added earlier c accepted.0 in
       let above : AllByRecursion P (kinds_of has.parent) = parent_all P (checked_classes earlier) (all-map (HasAll P) (λ (d : Declared). d.class) earlier all) has.parent has.there in
       let here : HasAll P c.class = subst (AllByRecursion P) (sym has.are) (all-append P (kinds_of has.parent) (flat_map kinds_in c.tree.members) above listed.0) in
       let both : AllByRecursion (λ (d : Declared). HasAll P d.class) more = all-append (λ (d : Declared). HasAll P d.class) earlier (c ∷ []) all (here, tt) in
-      let next : AreAccepted l (checked_classes more) cs = subst (λ es. AreAccepted l es cs) (sym (map-append (λ (d : Declared). d.class) earlier (c ∷ []))) accepted.1 in
+      let next : AreAccepted l added (checked_classes more) cs = subst (λ es. AreAccepted l added es cs) (sym (map-append (λ (d : Declared). d.class) earlier (c ∷ []))) accepted.1 in
       subst (λ (es : List Declared). AllByRecursion (λ (d : Declared). HasAll P d.class) es) (append_assoc earlier (c ∷ []) cs) (kinds_have more cs both next listed.1)

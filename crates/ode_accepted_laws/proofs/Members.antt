@@ -10,6 +10,7 @@ use Rattle.std.proofs.lemmas.Bool.Decides.{Decides-eqb, nat_tests}
 use Rattle.std.proofs.lemmas.List.{length-append, take_all}
 use Rattle.std.proofs.lemmas.List.Folds.{find-append}
 use Rattle.ode_value.specs.declared.binding.Param.{Param}
+use Rattle.ode_value.specs.declared.change.Added.{Added}
 use Rattle.ode_value.specs.declared.class.Class.{Class}
 use Rattle.ode_value.specs.declared.class.Field.{Field}
 use Rattle.ode_value.specs.declared.event.Kind.{Kind}
@@ -22,18 +23,19 @@ use Rattle.ode_value.specs.declared.statement.Member.{Member}
 use Rattle.ode_value.specs.declared.statement.Member.TheVariants as member
 use Rattle.ode_value.specs.declared.statement.Sort.{Sort}
 use Rattle.ode_value.specs.declared.statement.Sort.TheVariants as sort
+use Rattle.ode_value.specs.Fields.{field_of}
 use Rattle.ode_value.specs.Same.{same_kind}
 use Rattle.ode_types.specs.Bodies.{body}
 use Rattle.ode_types.specs.Checked.{IsChecked}
 use Rattle.ode_types.specs.Checks.{◌>>=◌, ◌>>◌, each, found, needs, through}
-use Rattle.ode_types.specs.Declaring.{begins, declared, declares, has_method, inherits_shape, is_callable, is_small, kind_word, knows_method, knows_param, knows_params, knows_sort, knows_trigger, knows_value, lists, next_param, numbered, parent_in, same_shape, with_member, without_members}
+use Rattle.ode_types.specs.Declaring.{adds, begins, declared, declares, has_method, inherits_shape, is_callable, is_small, kind_word, knows_method, knows_param, knows_params, knows_sort, knows_trigger, knows_value, lists, next_param, numbered, parent_in, same_shape, with_added, with_member, without_members}
 use Rattle.ode_types.specs.Events.{kind_method, listed}
 use Rattle.ode_types.specs.Families.{ancestors_of, class_named, constraint_named, field_named, line_of, method_named, trigger_named, upward}
 use Rattle.ode_types.specs.Limits.{ancestor_limit, field_limit, slot_limit, trigger_limit}
 use Rattle.ode_types.specs.Scopes.{member_scope}
 use Rattle.ode_types.specs.Sorts.{is_void}
-use Rattle.ode_types.specs.Static.{check_class, checked_member, completed, constraint_checked, method_checked, trigger_checked}
-use Rattle.ode_types.proofs.CheckedClasses.{bind-ok, needs-ok}
+use Rattle.ode_types.specs.Static.{checked_member, constraint_checked, method_checked, trigger_checked}
+use Rattle.ode_types.proofs.CheckedClasses.{bind-ok, came_of, needs-ok}
 use Rattle.ode_types.proofs.FamilyLaws.{trigger_named-next}
 use Rattle.ode_types.proofs.KeptLaws.{found-ok}
 use Rattle.ode_laws.proofs.Each.{all-append, all-find}
@@ -171,6 +173,22 @@ module _ (known : List Class) (d : ClassDecl) where
     above_is : (c : Class) → c.parent ≡ start.parent → ancestors_of known c ≡ above
     above_is c same = ap (λ p. upward (unwrap_or p 0) (reverse known)) same
 
+    -- one more field, of a new name
+    with_field : (c e : Class) → Goes c e → (g : Field) → IsFieldSort g.sort → field_named c.fields g.name ≡ None → Goes (record c { fields = c.fields ++ g ∷ [] }) (record e { fields = e.fields ++ g ∷ [] })
+    with_field c e goes g fits none =
+        let here : field_named e.fields g.name ≡ None = ap (λ fs. field_named fs g.name) goes.fields ∙ none in
+        record {
+          fields = ap (λ (fs : List Field). fs ++ g ∷ []) goes.fields;
+          parent = goes.parent;
+          own = goes.own;
+          has = record {
+            begins = λ place f at. get-left e.fields (g ∷ []) place f (goes.has.begins place f at);
+            fields = fields_more e.fields g goes.has.fields fits here;
+            methods = goes.has.methods;
+            triggers = goes.has.triggers;
+          };
+        }
+
     field_goes : (c e : Class) → Goes c e → (name : List ℕ) (s : Sort) (k n : Class) → declares known d c (member.Field name s) ≡ Ok k → with_member e (member.Field name s) ≡ n → Goes k n
     field_goes c e goes name s k n h is =
         let g : Field = record { name = name; sort = s; birth = 0; literal = None } in
@@ -180,19 +198,25 @@ module _ (known : List Class) (d : ClassDecl) where
         let q = bind-ok (needs (Duplicate name) new) (λ _. Ok made) k p.2 in
         let same : made ≡ k = cc (q.2) in
         let none : field_named c.fields name ≡ None = none_is (field_named c.fields name) (needs-ok (Duplicate name) new q.0 q.1) in
-        let here : field_named e.fields name ≡ None = ap (λ fs. field_named fs name) goes.fields ∙ none in
-        let then : Goes made (with_member e (member.Field name s)) = record {
-          fields = ap (λ (fs : List Field). fs ++ g ∷ []) goes.fields;
-          parent = goes.parent;
-          own = goes.own;
-          has = record {
-            begins = λ place f at. get-left e.fields (g ∷ []) place f (goes.has.begins place f at);
-            fields = fields_more e.fields g goes.has.fields (value_known name s p.0 p.1) here;
-            methods = goes.has.methods;
-            triggers = goes.has.triggers;
-          };
-        } in
+        let then : Goes made (with_member e (member.Field name s)) = with_field c e goes g (value_known name s p.0 p.1) none in
         subst (λ (j : Class). Goes j n) same (subst (Goes made) is then)
+
+    added_goes : (c e : Class) → Goes c e → (a : Added) (k : Class) → adds known d c a ≡ Ok k → Goes k (with_added e a)
+    added_goes c e goes a k h =
+        let new = is_none (field_named c.fields a.name) in
+        let made = with_added c a in
+        let p = bind-ok (knows_value known d a.name a.sort) (λ _. needs (Duplicate a.name) new >> Ok made) k h in
+        let q = bind-ok (needs (Duplicate a.name) new) (λ _. Ok made) k p.2 in
+        let same : made ≡ k = cc (q.2) in
+        let none : field_named c.fields a.name ≡ None = none_is (field_named c.fields a.name) (needs-ok (Duplicate a.name) new q.0 q.1) in
+        let then : Goes made (with_added e a) = with_field c e goes (field_of a) (value_known a.name a.sort p.0 p.1) none in
+        subst (λ (j : Class). Goes j (with_added e a)) same then
+
+    all_added : (added : List Added) (c e : Class) → Goes c e → (k : Class) → through (adds known d) c added ≡ Ok k → Goes k (fold with_added e added)
+    all_added [] c e goes k h = let same : c ≡ k = cc in subst (λ (j : Class). Goes j e) same goes
+    all_added (a ∷ added) c e goes k h =
+        let p = bind-ok (adds known d c a) (λ j. through (adds known d) j added) k h in
+        all_added added p.0 (with_added e a) (added_goes c e goes a p.0 p.1) k p.2
 
     method_goes : (c e : Class) → Goes c e → (m : Method) (k : Class) (n : Member) → declares known d c (member.Method m) ≡ Ok k → checked_member cs x (member.Method m) ≡ Ok n → Goes k (with_member e n)
     unfolding method_checked
@@ -373,20 +397,18 @@ small_fields known c h =
       at_most m n is = grind (arith, nat_tests)
 
 pub accepted : (known : List Class) → AllByRecursion (λ (c : Class). AreFields c.fields) known → (c : Class) → IsChecked known c → IsAccepted known c
-unfolding check_class declared completed
+unfolding declared
 accepted known all c is =
     let d = is.tree in
-    let first = bind-ok (begins known d) (λ start. declared known d start >>= (λ draft. completed (known ++ draft ∷ []) draft d start)) c is.checks in
-    let start = first.0 in
-    let second = bind-ok (declared known d start) (λ draft. completed (known ++ draft ∷ []) draft d start) c first.2 in
-    let draft = second.0 in
+    let came = came_of known is.added d c is.checks in
+    let start = came.start in
+    let draft = came.draft in
     let cs = known ++ draft ∷ [] in
-    let third = bind-ok (each (checked_member cs draft) d.members) (λ ms. Ok (fold with_member start ms)) c second.2 in
-    let made : fold with_member start third.0 ≡ c = cc (third.2) in
-    let run = bind-ok (through (declares known d) start d.members) (λ k. needs (TooMany d.name) (is_small known k) >> Ok k) draft second.1 in
-    let test = bind-ok (needs (TooMany d.name) (is_small known run.0)) (λ _. Ok run.0) draft run.2 in
-    let few : length run.0.fields ≤ field_limit = small_fields known run.0 (needs-ok (TooMany d.name) (is_small known run.0) test.0 test.1) in
-    let begin = begun known d start first.1 in
+    let run = bind-ok (through (declares known d) start d.members) (λ ms. through (adds known d) ms is.added >>= (λ k. needs (TooMany d.name) (is_small known k) >> Ok k)) draft came.drafted in
+    let grown = bind-ok (through (adds known d) run.0 is.added) (λ k. needs (TooMany d.name) (is_small known k) >> Ok k) draft run.2 in
+    let test = bind-ok (needs (TooMany d.name) (is_small known grown.0)) (λ _. Ok grown.0) draft grown.2 in
+    let few : length grown.0.fields ≤ field_limit = small_fields known grown.0 (needs-ok (TooMany d.name) (is_small known grown.0) test.0 test.1) in
+    let begin = begun known d start came.begun in
     let fields : AreFields start.fields = subst AreFields (sym begin.fields) (parent_fields known all begin.parent begin.there) in
     let goes : Goes known d cs draft start start start = record {
       fields = refl;
@@ -399,7 +421,9 @@ accepted known all c is =
         triggers = subst (AllByRecursion (IsFresh (ancestors_of known start))) (sym begin.triggers) tt;
       };
     } in
-    let went : Goes known d cs draft start run.0 c = subst (Goes known d cs draft start run.0) made (members_go known d cs draft start d.members third.0 start start goes run.0 run.1 third.1) in
+    let members : Goes known d cs draft start run.0 (fold with_member start came.members) = members_go known d cs draft start d.members came.members start start goes run.0 run.1 came.checked in
+    let went : Goes known d cs draft start grown.0 c =
+    subst (Goes known d cs draft start grown.0) came.made (all_added known d cs draft start is.added run.0 (fold with_member start came.members) members grown.0 grown.1) in
     record {
       parent = begin.parent;
       there = begin.there;

@@ -1,11 +1,11 @@
 -- A whole transaction from a good world leaves a good one.
-use Rattle.std.proofs.Common.{◌≡◌, ◌+◌, ℕ, zero, suc, ◌<◌, ◌≤◌, Bool, true, false, cond, List, [], ◌∷◌, Option, Some, None, refl, sym, ap, ◌∙◌, subst, arith}
+use Rattle.std.proofs.Common.{◌≡◌, ◌+◌, ◌^◌, ℕ, zero, suc, ◌<◌, ◌≤◌, Bool, true, false, cond, List, [], ◌∷◌, length, Option, Some, None, refl, sym, ap, subst, arith}
 use Rattle.std.specs.Prelude.{nat_lt}
 use Rattle.std.specs.List.{AllByRecursion, AllZip}
 use Rattle.std.specs.Option.{IfSome, IsSome, IsSomeAnd}
 use Rattle.std.proofs.lemmas.Bool.{ltb-true}
+use Rattle.ode_value.specs.declared.change.Added.{Added}
 use Rattle.ode_value.specs.declared.class.Class.{Class}
-use Rattle.ode_value.specs.declared.class.Field.{Field}
 use Rattle.ode_value.specs.declared.statement.Stmt.{Stmt}
 use Rattle.ode_value.specs.declared.value.Ref.{Ref}
 use Rattle.ode_value.specs.Acts.{Outcome, Done, Aborted, Deed, go_on, nothing}
@@ -14,9 +14,8 @@ use Rattle.ode_value.specs.Completing.{completes}
 use Rattle.ode_value.specs.Denoting.{object_at}
 use Rattle.ode_value.specs.Draining.{runs_entry, entry_settled, front, drain}
 use Rattle.ode_value.specs.Executing.{commands}
-use Rattle.ode_value.specs.Fields.{AreDeclared}
-use Rattle.ode_value.specs.Fitting.{FitsSort, FitFields, HaveTrigger, trigger_in}
-use Rattle.ode_value.specs.GoodWorlds.{IsPast, AreClasses, IsVersion, IsActivation, IsObject, activation_of, IsEntry, IsPosition}
+use Rattle.ode_value.specs.Fitting.{FitFields, HaveTrigger, trigger_in}
+use Rattle.ode_value.specs.GoodWorlds.{IsPast, AreAdded, AreBones, AreClasses, IsVersion, IsActivation, IsObject, activation_of, IsEntry, IsPosition}
 use Rattle.ode_value.specs.Keeping.{kept_bones}
 use Rattle.ode_value.specs.Language.{Language, ListWorld, ListTx}
 use Rattle.ode_value.specs.Limits.{number_limit, transaction_limit, weight_limit}
@@ -26,12 +25,11 @@ use Rattle.ode_value.specs.Settling.{Settled, clock_after, settle, transaction}
 use Rattle.ode_value.specs.Transactions.{Origin, Script, Queue, Clock, begun}
 use Rattle.ode_value.specs.Versions.{Version}
 use Rattle.ode_value.specs.Weights.{weight}
-use Rattle.ode_value.specs.Worlds.{Entry, Position, Object, Bones, class_numbered}
+use Rattle.ode_value.specs.Worlds.{Declared, Entry, Position, Object, Bones, class_numbered}
 use Rattle.ode_machine.specs.Works.{ticks, tick}
 use Rattle.ode_laws.specs.Counted.{IsQueued, AreCounted, CountsOn}
 use Rattle.ode_laws.specs.Numbered.{HasNumbers}
 use Rattle.ode_laws.proofs.Alone.{Keeps, Alone, alone}
-use Rattle.ode_laws.proofs.BornLaws.{class_declared, have_literals}
 use Rattle.ode_laws.proofs.CountLaws.{Counting, counting_keeps, begun_counted, commit_counted, abort_counted}
 use Rattle.ode_laws.proofs.Each.{all-then}
 use Rattle.ode_laws.proofs.GoodNumbers.{good_numbered, good_counted}
@@ -73,20 +71,18 @@ module _ (b : Bones) (typed : IsTypedWorld b) (ordered : IsOrdered b) (counted :
   same : all_alive b ≡ b
   same = ap (λ os. record b { objects = os }) (alive_same b.objects live)
 
-  version_good : (c : Class) (last : ℕ) (v : Version) → AreDeclared c → FitsVersion b c last v → IsVersion b c last v
-  version_good c last v declared h =
-      let fits : FitFields b c.fields v.fields = subst (λ d. FitFields d c.fields v.fields) same h.fields in
-      record { number = h.number; parent = h.parent; stamp = h.stamp; fields = fits; later = have_literals (λ (f : Field). FitsSort b f.sort) v.stamp c.fields v.fields declared fits }
+  version_good : (c : Class) (last : ℕ) (v : Version) → FitsVersion b c last v → IsVersion b c last v
+  version_good c last v h = record { number = h.number; parent = h.parent; stamp = h.stamp; fields = subst (λ d. FitFields d c.fields v.fields) same h.fields; later = h.later }
 
-  object_good : ((n : ℕ) (c : Class) → class_numbered n b.classes ≡ Some c → AreDeclared c) → (o : Object) → FitsWorld b o → IsWhole o → HasNumbers b.next o → HasVersions o → IsObject b o
-  object_good declared o h whole has versions = record {
+  object_good : (o : Object) → FitsWorld b o → IsWhole o → HasNumbers b.next o → HasVersions o → IsObject b o
+  object_good o h whole has versions = record {
     number = h.number;
     class = some_is (class_numbered o.class b.classes) h.class h.known;
     live = whole.live;
     last = h.last;
     some = versions.some;
     rising = versions.rising;
-    versions = if_some (λ c. AllByRecursion (IsVersion b c o.last) o.versions) (class_numbered o.class b.classes) h.class h.known (all-then (FitsVersion b h.class o.last) (IsVersion b h.class o.last) (λ v. version_good h.class o.last v (declared o.class h.class h.known)) o.versions h.versions);
+    versions = if_some (λ c. AllByRecursion (IsVersion b c o.last) o.versions) (class_numbered o.class b.classes) h.class h.known (all-then (FitsVersion b h.class o.last) (IsVersion b h.class o.last) (version_good h.class o.last) o.versions h.versions);
     rising_activations = has.rising;
     activations = all-then (λ (a : Activation). (HaveTrigger (all_alive b) a.args (trigger_in b.classes o.class a) × (a.on ≡ true)) × (a.number < b.next)) (IsActivation b o.class)
         (λ a g. record { trigger = subst (λ d. HaveTrigger d a.args (trigger_in b.classes o.class a)) same g.0.0; number = g.1; on = g.0.1 }) o.activations
@@ -94,9 +90,9 @@ module _ (b : Bones) (typed : IsTypedWorld b) (ordered : IsOrdered b) (counted :
         (both (λ (a : Activation). HaveTrigger (all_alive b) a.args (trigger_in b.classes o.class a)) (λ (a : Activation). a.on ≡ true) o.activations h.activations whole.on) has.activations);
   }
 
-  objects_good : ((n : ℕ) (c : Class) → class_numbered n b.classes ≡ Some c → AreDeclared c) → AllByRecursion (IsObject b) b.objects
-  objects_good declared =
-      all-then (λ (o : Object). (FitsWorld b o × IsWhole o) × (HasNumbers b.next o × HasVersions o)) (IsObject b) (λ o h. object_good declared o h.0.0 h.0.1 h.1.0 h.1.1) b.objects
+  objects_good : AllByRecursion (IsObject b) b.objects
+  objects_good =
+      all-then (λ (o : Object). (FitsWorld b o × IsWhole o) × (HasNumbers b.next o × HasVersions o)) (IsObject b) (λ o h. object_good o h.0.0 h.0.1 h.1.0 h.1.1) b.objects
       (both (λ (o : Object). FitsWorld b o × IsWhole o) (λ (o : Object). HasNumbers b.next o × HasVersions o) b.objects
       (both (FitsWorld b) IsWhole b.objects typed.fit.objects typed.whole) (both (HasNumbers b.next) HasVersions b.objects ordered.numbered.objects ordered.versions))
 
@@ -133,6 +129,15 @@ light_of (Aborted r y) x e = absurd (cc)
 
 -- ---- what a transaction leaves, by what it has kept
 
+-- classes, and the fields that were added to them
+pub record HaveClasses (l : Language) (cs : List Declared) (added : List Added) : Type 0 where
+  pub classes : AreClasses l added [] cs
+  pub births : AreAdded cs 1 added
+  pub few : length added < 2 ^ 32
+
+pub good_classes : (l : Language) (b : Bones) → AreBones l b → HaveClasses l b.classes b.added
+good_classes l b good = record { classes = good.classes; births = good.added; few = good.few_added }
+
 module _ (w : ListWorld) (origin : Origin) where
   -- a transaction from a world has kept its classes, its numbers, its bounds and its pasts
   pub record HasKept (x : ListTx) : Type 0 where
@@ -167,20 +172,22 @@ module _ (w : ListWorld) (origin : Origin) where
     pasts = abort_pasts r x kept.0.pasts kept.0.within.distinct.next;
   }
 
-  module _ (l : Language) (classes : AreClasses l [] w.bones.classes) (none : w.bones.added ≡ []) (left : w.bones.transaction < transaction_limit) (clock : IfSome (clock_after origin w.bones.clock) IsPosition) where
+  module _ (l : Language) (classes : HaveClasses l w.bones.classes w.bones.added) (left : w.bones.transaction < transaction_limit) (clock : IfSome (clock_after origin w.bones.clock) IsPosition) where
     pub settled_again : (p : Outcome Histories Starts (Unit {0})) → KeepsAll p → IsOrdered (settle lists p).0.bones → IsTypedWorld (settle lists p).0.bones → IsWell l (settle lists p).0
     settled_again p kept ordered typed =
         let b = (settle lists p).0.bones in
         let rest = left_over p kept in
         let leaves = rest.leaves in
-        let again : AreClasses l [] b.classes = subst (AreClasses l []) (sym leaves.classes) classes in
+        let again : HaveClasses l b.classes b.added =
+        subst (λ cs. HaveClasses l cs b.added) (sym leaves.classes) (subst (HaveClasses l w.bones.classes) (sym leaves.added) classes) in
         record {
           good = record {
             bones = record {
-              classes = again;
-              added = leaves.added ∙ none;
+              classes = again.classes;
+              added = again.births;
+              few_added = again.few;
               rising = typed.fit.rising;
-              objects = objects_good b typed ordered rest.counted (class_declared l [] b.classes again);
+              objects = objects_good b typed ordered rest.counted;
               numbers = leaves.distinct.distinct;
               next = typed.fit.next;
               transaction = record { some = omega (arith, leaves.transaction); bounded = omega (arith, leaves.transaction, left) };
@@ -227,7 +234,7 @@ module _ (l : Language) (w : ListWorld) (h : IsWell l w) (left : w.bones.transac
     pub well_again : IsTypedWorld (transaction lists origin (work lists) w).0.bones → IsWell l (transaction lists origin (work lists) w).0
     unfolding transaction
     well_again typed =
-        settled_again w origin l h.good.bones.classes h.good.bones.added left clock outcome kept_all
+        settled_again w origin l (good_classes l w.bones h.good.bones) left clock outcome kept_all
         (transaction_follows lists w.bones (good_ordered l w h.good) origin n (work lists) w refl (λ cs. each (followed lists w.bones (good_ordered l w h.good) cs))).ordered typed
 
     -- its number is the next one

@@ -92,7 +92,7 @@ due_in_few t row =
 due_at_few : (rows : List TimeRow) (t : ℤ) → length (due_at rows t) ≤ kind_count rows
 due_at_few rows t = subst (λ n. n ≤ kind_count rows) (sym (length-flat_map (due_in t) rows)) (sum_by-le-sum_by (λ (row : TimeRow). length (due_in t row)) (λ (row : TimeRow). length row.kinds) rows (due_in_few t))
 
-all_few : (rows : List TimeRow) → kind_count rows ≤ 2 ^ 46 → (ts : List ℤ) → length (flat_map (due_at rows) ts) ≤ 2 ^ 46 * length ts
+all_few : (rows : List TimeRow) → kind_count rows ≤ 2 ^ 56 → (ts : List ℤ) → length (flat_map (due_at rows) ts) ≤ 2 ^ 56 * length ts
 all_few rows few [] = omega arith
 all_few rows few (t ∷ ts) =
     let both : length (due_at rows t ++ flat_map (due_at rows) ts) ≡ length (due_at rows t) + length (flat_map (due_at rows) ts) = length-append (due_at rows t) (flat_map (due_at rows) ts) in
@@ -111,7 +111,7 @@ seconds_few from to low high =
     by_order true h = gap_few from to low high (below_last from to h)
 
 -- a counter of 128 bits counts all that is due of few kinds
-pub due_few : (rows : List TimeRow) → kind_count rows ≤ 2 ^ 46 → (old : Position) → IsPosition old → (t : ℤ) → FitsSigned w64 t → length (due rows old t) < 2 ^ 128
+pub due_few : (rows : List TimeRow) → kind_count rows ≤ 2 ^ 56 → (old : Position) → IsPosition old → (t : ℤ) → FitsSigned w64 t → length (due rows old t) < 2 ^ 128
 unfolding due
 due_few rows few old is t fits =
     let above = filter_few (is_above old) (flat_map (due_at rows) (seconds old.instant t)) in

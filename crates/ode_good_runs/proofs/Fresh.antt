@@ -1,5 +1,5 @@
 -- A fresh database is a good world.
-use Rattle.std.proofs.Common.{[], arith, refl}
+use Rattle.std.proofs.Common.{[], arith}
 use Rattle.std.specs.Prelude.{nat_eq}
 use Rattle.std.specs.List.{IsDistinct}
 use Rattle.ode_value.specs.GoodWorlds.{IsGood}
@@ -18,7 +18,8 @@ unfolding weight
 fresh_good l = record {
   bones = record {
     classes = tt;
-    added = refl;
+    added = tt;
+    few_added = omega arith;
     rising = tt;
     objects = tt;
     numbers = no_numbers;
@@ -35,4 +36,4 @@ fresh_good l = record {
 }
 
 pub fresh_well : (l : Language) → HasSoundRules l → IsWell l empty_world
-fresh_well l rules = record { good = fresh_good l; sound = rules.accepted [] tt; ones = tt }
+fresh_well l rules = record { good = fresh_good l; sound = rules.accepted [] [] tt; ones = tt }

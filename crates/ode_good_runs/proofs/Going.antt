@@ -1,5 +1,5 @@
 -- A transaction that goes on, from a world that it may begin in.
-use Rattle.std.proofs.Common.{◌≡◌, ◌+◌, ℕ, true, List, [], length, refl, ◌<◌, ◌≤◌}
+use Rattle.std.proofs.Common.{◌≡◌, ◌+◌, ℕ, true, List, length, refl, ◌<◌, ◌≤◌}
 use Rattle.std.specs.Prelude.{nat_le}
 use Rattle.std.specs.List.{AllByRecursion, AllZip}
 use Rattle.std.specs.Option.{IfSome}
@@ -8,7 +8,7 @@ use Rattle.ode_value.specs.declared.value.Ref.{Ref}
 use Rattle.ode_value.specs.Acts.{Outcome, Done, Aborted, Deed, with_line}
 use Rattle.ode_value.specs.Completing.{completes}
 use Rattle.ode_value.specs.Executing.{commands}
-use Rattle.ode_value.specs.GoodWorlds.{AreClasses, IsPast, IsPosition}
+use Rattle.ode_value.specs.GoodWorlds.{IsPast, IsPosition}
 use Rattle.ode_value.specs.Keeping.{kept_bones}
 use Rattle.ode_value.specs.Language.{Language, ListWorld, ListTx}
 use Rattle.ode_value.specs.Limits.{output_limit, transaction_limit, weight_limit}
@@ -40,12 +40,11 @@ use Rattle.ode_sound_laws.proofs.WorldLaws.{begun_typed, completion_typed, good_
 use Rattle.ode_good_laws.specs.Distinct.{AreDistinct}
 use Rattle.ode_good_laws.specs.Well.{IsWell}
 use Rattle.ode_good_laws.proofs.DistinctLaws.{Withins, begun_distinct, good_distinct, within_keeps}
-use Rattle.ode_good_laws.proofs.GoodAgain.{HasKept, KeepsAll, settled_again}
+use Rattle.ode_good_laws.proofs.GoodAgain.{HasKept, HaveClasses, KeepsAll, settled_again}
 use Rattle.ode_good_laws.proofs.PastLaws.{Pastings, begun_pasts, pasts_keep}
 
--- a world that a transaction may begin in, whatever its classes and its weight are; no field was added
+-- a world that a transaction may begin in, whatever its classes and its weight are
 pub record IsFirst (w : ListWorld) : Type 0 where
-  pub added : w.bones.added ≡ []
   pub typed : IsTypedWorld w.bones
   pub ordered : IsOrdered w.bones
   pub numbered : AreNumbered w.bones
@@ -55,7 +54,6 @@ pub record IsFirst (w : ListWorld) : Type 0 where
 
 pub well_first : (l : Language) (w : ListWorld) → IsWell l w → IsFirst w
 well_first l w h = record {
-  added = h.good.bones.added;
   typed = good_typed l w h.good h.sound h.ones;
   ordered = good_ordered l w h.good;
   numbered = good_numbered l w h.good;
@@ -151,10 +149,10 @@ module _ (w : ListWorld) (first : IsFirst w) where
   all_of (Done r x) goes light = (goes.kept, light)
   all_of (Aborted r x) goes light = (goes.kept, light)
 
-  module _ (l : Language) (classes : AreClasses l [] w.bones.classes) (left : w.bones.transaction < transaction_limit) (clock : IfSome w.bones.clock IsPosition) where
+  module _ (l : Language) (classes : HaveClasses l w.bones.classes w.bones.added) (left : w.bones.transaction < transaction_limit) (clock : IfSome w.bones.clock IsPosition) where
     pub settles_well : (p : Outcome Histories Starts (Unit {0})) → Goes p → IsLight p → IsWell l (settle lists p).0
     settles_well p goes light =
-        settled_again w Script l classes first.added left clock p (all_of p goes light) (settle_follows lists w.bones first.ordered w.bones.classes p (held_of p goes)).ordered
+        settled_again w Script l classes left clock p (all_of p goes light) (settle_follows lists w.bones first.ordered w.bones.classes p (held_of p goes)).ordered
         (settle_typed lists p (typed_of p goes))
 
     -- its commit, from a world that is light itself

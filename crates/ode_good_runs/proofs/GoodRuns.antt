@@ -7,6 +7,7 @@ use Rattle.std.proofs.lemmas.List.Sums.{sum_by-cons}
 use Rattle.std.specs.Option.{IfSome, ok_or, option_map_or}
 use Rattle.std.proofs.lemmas.Bool.{ltb-true}
 use Rattle.std.proofs.lemmas.Bool.Decides.{nat_tests}
+use Rattle.ode_value.specs.declared.change.Change.{Change}
 use Rattle.ode_value.specs.declared.class.Class.{Class}
 use Rattle.ode_value.specs.declared.reason.CheckError.{CheckError}
 use Rattle.ode_value.specs.declared.reason.Reason.TheVariants.{Asked, End}
@@ -29,11 +30,11 @@ use Rattle.ode_value.specs.References.{IsRef}
 use Rattle.ode_value.specs.Settling.{Settled, abort, transaction}
 use Rattle.ode_value.specs.Transactions.{Script}
 use Rattle.ode_value.specs.Worlds.{Bones, Declared, Object, Position, class_numbered}
-use Rattle.ode_machine.specs.Commands.{Step, after, settles, bones_now, goes_on, does_simple, ends_open, commits, does_class, does_clock, carried, command, finish}
-use Rattle.ode_machine.specs.Refusals.{classes_behind, classes_in, checked_in, declared_in, due_from, few, is_lone, place_of, placed, spends, ticks_in}
+use Rattle.ode_machine.specs.Commands.{Step, after, settles, bones_now, goes_on, does_simple, ends_open, commits, does_change, does_class, does_clock, carried, changes, command, finish, read_piece}
+use Rattle.ode_machine.specs.Refusals.{changed_in, classes_behind, classes_in, checked_in, declared_in, due_from, few, is_lone, place_of, placed, placed_change, spends, ticks_in}
 use Rattle.ode_machine.specs.Sessions.{Session, closed}
 use Rattle.ode_machine.specs.TimeRows.{kinds_of, time_row, time_rows}
-use Rattle.ode_machine.specs.Works.{declares, clock_run}
+use Rattle.ode_machine.specs.Works.{changes_class, declares, clock_run}
 use Rattle.ode_script.specs.Cutting.{Ending, Pieces, Then, Ended, pieces}
 use Rattle.ode_script.specs.Cutting as cutting
 use Rattle.ode_timer.specs.declared.clock.TimeRow.{TimeRow}
@@ -46,10 +47,12 @@ use Rattle.ode_accepted_laws.specs.Languages.{HasSoundRules, text_size}
 use Rattle.ode_laws.proofs.Each.{all-append, all-map, all-then}
 use Rattle.ode_run_laws.proofs.JoinLaws.{worlds_join}
 use Rattle.ode_sound_laws.specs.Sound.{checked_classes}
+use Rattle.ode_good_laws.specs.Changed.{HasSoundChanges}
 use Rattle.ode_good_laws.specs.Well.{IsWell}
 use Rattle.ode_good_laws.proofs.ClockRuns.{clock_well}
-use Rattle.ode_good_laws.proofs.GoodAgain.{drain_well, statement_well}
+use Rattle.ode_good_laws.proofs.GoodAgain.{drain_well, good_classes, statement_well}
 use Rattle.ode_good_runs.specs.Reading.{ReadsWell}
+use Rattle.ode_good_runs.proofs.Changing.{change_well}
 use Rattle.ode_good_runs.proofs.Declaring.{class_well, classes_accepted, declared_is}
 use Rattle.ode_good_runs.proofs.DueLaws.{FitsRow, behind_fits, due_few, due_fits, kind_count}
 use Rattle.ode_good_runs.proofs.Going.{Goes, IsFirst, IsGoing, begun_going, commits_well, settles_well, statement_goes, well_first}
@@ -130,10 +133,10 @@ module _ (l : Language) (rules : HasSoundRules l) (reads : ReadsWell l) where
     by_open (Some x) goes = step_well (how x) (well x goes)
 
   abort_well : (w : ListWorld) (well : IsWell l w) → HasRoom w → (reason : _) (x : ListTx) → IsGoing w (well_first l w well) x → IsWell l (abort lists reason x).0
-  abort_well w well left reason x going = settles_well w (well_first l w well) l well.good.bones.classes left well.good.bones.clock (Aborted reason x) going well.good.bones.light
+  abort_well w well left reason x going = settles_well w (well_first l w well) l (good_classes l w.bones well.good.bones) left well.good.bones.clock (Aborted reason x) going well.good.bones.light
 
   commit_well : (w : ListWorld) (well : IsWell l w) (x : ListTx) → IsOpened w well x → IsWell l (commits x).0
-  commit_well w well x opened_tx = commits_well w (well_first l w well) l well.good.bones.classes opened_tx.left well.good.bones.clock well.good.bones.light x opened_tx.going
+  commit_well w well x opened_tx = commits_well w (well_first l w well) l (good_classes l w.bones well.good.bones) opened_tx.left well.good.bones.clock well.good.bones.light x opened_tx.going
 
   -- a statement in it
   goes_well : (w : ListWorld) (well : IsWell l w) → HasRoom w → (p : Outcome Histories Starts (Unit {0})) → Goes w (well_first l w well) p → GoesWell (goes_on w p)
@@ -180,7 +183,7 @@ module _ (l : Language) (rules : HasSoundRules l) (reads : ReadsWell l) where
   kinds_light : (w : ListWorld) → IsGood l w → AllByRecursion (λ (c : Declared). length c.class.kinds ≤ weight_limit) w.bones.classes
   kinds_light w h =
       all-then (λ (c : Declared). length c.class.kinds ≤ sum_by text_size w.bones.classes) (λ (c : Declared). length c.class.kinds ≤ weight_limit) (λ c few. omega (arith, few, texts_light w.bones, h.bones.light)) w.bones.classes
-      (rules.kinds w.bones.classes (classes_accepted l [] w.bones.classes h.bones.classes))
+      (rules.kinds w.bones.added w.bones.classes (classes_accepted l w.bones.added [] w.bones.classes h.bones.classes))
 
   few_kinds : (n : ℕ) (cs : List Declared) → AllByRecursion (λ (c : Declared). length c.class.kinds ≤ weight_limit) cs → length (kinds_of cs n) ≤ weight_limit
   few_kinds n [] all = omega arith
@@ -294,7 +297,7 @@ module _ (l : Language) (rules : HasSoundRules l) (reads : ReadsWell l) where
 
   class_steps : (s : Session) → IsFine s → HasRoom s.world → (piece : List ℕ) (d : ClassDecl) → l.statement_of piece ≡ Ok (statement.Class d) → (a : Answer Declared) → declared_in l s.world.bones d ≡ a
       → AnswersWell (then_answer a (λ c. Ok (does_class s.world c)))
-  class_steps s fine left piece d read (Ok c) e = step_well (transaction lists Script (declares c) s.world) (class_well l rules s.world fine.world left c (declared_is l rules reads piece d read s.world.bones c fine.world.good.bones.classes e))
+  class_steps s fine left piece d read (Ok c) e = step_well (transaction lists Script (declares c) s.world) (class_well l rules s.world fine.world left c (declared_is l rules reads piece d read s.world.bones c (good_classes l s.world.bones fine.world.good.bones) e))
   class_steps s fine left piece d read (Err refusal) e = tt
 
   carried_well : (s : Session) → IsFine s → (piece : List ℕ) (t : Statement) → l.statement_of piece ≡ Ok t → IsPlaced s t → AnswersWell (carried l s t)
@@ -313,43 +316,71 @@ module _ (l : Language) (rules : HasSoundRules l) (reads : ReadsWell l) where
   carried_well s fine piece (statement.Simple t) e place =
       simple_well s fine (λ none. more_room s.world (number_outside s (statement.Simple t) none refl place)) t (reads.literals piece t e)
 
-  command_well : (s : Session) → IsFine s → (piece : List ℕ) → AnswersWell (command l s piece)
-  command_well s fine piece = by_statement (l.statement_of piece) refl where
-    by_place : (t : Statement) → l.statement_of piece ≡ Ok t → (a : Answer (Unit {0})) → placed s t ≡ a → AnswersWell (then_answer a (λ u. carried l s t))
-    by_place t e (Ok u) is = carried_well s fine piece t e (placed_is s t u is)
-    by_place t e (Err refusal) is = tt
+  -- a change of a class, which takes a number
+  change_number : (s : Session) (u : Unit {0}) → placed_change s ≡ Ok u → s.world.bones.transaction < number_limit
+  change_number s u e =
+      let outside = then_ok (refuses (is_some s.open_tx) refusal.InTransaction) (λ _. refuses (not (nat_lt s.world.bones.transaction number_limit)) refusal.NumbersSpent) u e in
+      by_number (nat_lt s.world.bones.transaction number_limit) refl outside.2
+    where
+      by_number : (b : Bool) → nat_lt s.world.bones.transaction number_limit ≡ b → refuses (not b) refusal.NumbersSpent ≡ Ok u → s.world.bones.transaction < number_limit
+      by_number true is f = ltb-true s.world.bones.transaction number_limit is
+      by_number false is f = absurd (cc)
 
-    by_statement : (a : Answer Statement) → l.statement_of piece ≡ a → AnswersWell (then_answer a (λ t. then_answer (placed s t) (λ u. carried l s t)))
-    by_statement (Ok t) e = by_place t e (placed s t) refl
-    by_statement (Err refusal) e = tt
+  module _ (changing : HasSoundChanges l) where
+    change_steps : (s : Session) → IsFine s → HasRoom s.world → (piece : List ℕ) (c : Change) → l.change_of piece ≡ Some (Ok c) → (a : Answer (List Declared)) → changed_in l s.world.bones c ≡ a
+        → AnswersWell (then_answer a (λ classes. Ok (does_change s.world classes c)))
+    change_steps s fine left piece c read (Ok classes) e =
+        step_well (transaction lists Script (changes_class lists classes c) s.world) (change_well l s.world fine.world left classes c (changing.changed piece c read s.world fine.world classes e))
+    change_steps s fine left piece c read (Err refusal) e = tt
 
-  -- ---- runs
+    changes_well : (s : Session) → IsFine s → (piece : List ℕ) (c : Change) → l.change_of piece ≡ Some (Ok c) → AnswersWell (changes l s c)
+    changes_well s fine piece c read = by_place (placed_change s) refl where
+      by_place : (a : Answer (Unit {0})) → placed_change s ≡ a → AnswersWell (then_answer a (λ u. then_answer (changed_in l s.world.bones c) (λ classes. Ok (does_change s.world classes c))))
+      by_place (Ok u) is = change_steps s fine (more_room s.world (change_number s u is)) piece c read (changed_in l s.world.bones c) refl
+      by_place (Err refusal) is = tt
 
-  abbrev AllWorlds : List ListWorld → Type 0
-  AllWorlds ws = AllByRecursion (IsWell l) ws
+    command_well : (s : Session) → IsFine s → (piece : List ℕ) → AnswersWell (command l s piece)
+    command_well s fine piece = by_read (l.change_of piece) refl where
+      by_place : (t : Statement) → l.statement_of piece ≡ Ok t → (a : Answer (Unit {0})) → placed s t ≡ a → AnswersWell (then_answer a (λ u. carried l s t))
+      by_place t e (Ok u) is = carried_well s fine piece t e (placed_is s t u is)
+      by_place t e (Err refusal) is = tt
 
-  worlds_of : (settled : Settlings) → AllWell settled → AllWorlds (worlds (map item_of settled))
-  worlds_of [] all = tt
-  worlds_of (s ∷ settled) all = (all.0, worlds_of settled all.1)
+      by_statement : (a : Answer Statement) → l.statement_of piece ≡ a → AnswersWell (then_answer a (λ t. then_answer (placed s t) (λ u. carried l s t)))
+      by_statement (Ok t) e = by_place t e (placed s t) refl
+      by_statement (Err refusal) e = tt
 
-  items_well : (settled : Settlings) (items : List Item) → AllWell settled → AllWorlds (worlds items) → AllWorlds (worlds (map item_of settled ++ items))
-  items_well settled items all rest = subst AllWorlds (sym (worlds_join (map item_of settled) items)) (all-append (IsWell l) (worlds (map item_of settled)) (worlds items) (worlds_of settled all) rest)
+      by_read : (o : Option (Answer Change)) → l.change_of piece ≡ o → AnswersWell (read_piece l s piece o)
+      by_read None e = by_statement (l.statement_of piece) refl
+      by_read (Some (Ok c)) e = changes_well s fine piece c e
+      by_read (Some (Err refusal)) e = tt
 
-  ending_well : (s : Session) → IsFine s → (ending : Ending) → AllWorlds (worlds (ending_items l s ending))
-  ending_well s fine cutting.End = worlds_of (finish s).1 (ends_well s fine (abort lists End) (λ x opened_tx. abort_well s.world fine.world opened_tx.left End x opened_tx.going)).all
-  ending_well s fine cutting.LongStatement = tt
-  ending_well s fine cutting.LongScript = tt
+    -- ---- runs
 
-  pieces_well : (ps : Pieces) (s : Session) → IsFine s → AllWorlds (worlds (pieces_items l ps s))
-  unfolding pieces_items
-  pieces_well (Ended ending) s fine = ending_well s fine ending
-  pieces_well (Then line text rest) s fine = by_answer (command l s text) (command_well s fine text) (pieces_well rest) where
-    by_answer : (a : Answer Step) → AnswersWell a → ((t : Session) → IsFine t → AllWorlds (worlds (pieces_items l rest t))) → AllWorlds (worlds (followed_by l (answered s line a) (pieces_items l rest)))
-    by_answer (Err refusal) well later = later s fine
-    by_answer (Ok step) well later = items_well step.1 (pieces_items l rest step.0) well.all (later step.0 well.fine)
+    abbrev AllWorlds : List ListWorld → Type 0
+    AllWorlds ws = AllByRecursion (IsWell l) ws
 
-  pub run_well : (w : ListWorld) → IsWell l w → (script : List ℕ) → AllWorlds (worlds (trace l w script))
-  run_well w h script =
-      let opening = after_well w (drain lists drain_limit w) h (drain_well l drain_limit w h) in
-      items_well (drain lists drain_limit w) (pieces_items l (pieces script) (closed (world_after w (drain lists drain_limit w)))) opening.all
-      (pieces_well (pieces script) (closed (world_after w (drain lists drain_limit w))) opening.fine)
+    worlds_of : (settled : Settlings) → AllWell settled → AllWorlds (worlds (map item_of settled))
+    worlds_of [] all = tt
+    worlds_of (s ∷ settled) all = (all.0, worlds_of settled all.1)
+
+    items_well : (settled : Settlings) (items : List Item) → AllWell settled → AllWorlds (worlds items) → AllWorlds (worlds (map item_of settled ++ items))
+    items_well settled items all rest = subst AllWorlds (sym (worlds_join (map item_of settled) items)) (all-append (IsWell l) (worlds (map item_of settled)) (worlds items) (worlds_of settled all) rest)
+
+    ending_well : (s : Session) → IsFine s → (ending : Ending) → AllWorlds (worlds (ending_items l s ending))
+    ending_well s fine cutting.End = worlds_of (finish s).1 (ends_well s fine (abort lists End) (λ x opened_tx. abort_well s.world fine.world opened_tx.left End x opened_tx.going)).all
+    ending_well s fine cutting.LongStatement = tt
+    ending_well s fine cutting.LongScript = tt
+
+    pieces_well : (ps : Pieces) (s : Session) → IsFine s → AllWorlds (worlds (pieces_items l ps s))
+    unfolding pieces_items
+    pieces_well (Ended ending) s fine = ending_well s fine ending
+    pieces_well (Then line text rest) s fine = by_answer (command l s text) (command_well s fine text) (pieces_well rest) where
+      by_answer : (a : Answer Step) → AnswersWell a → ((t : Session) → IsFine t → AllWorlds (worlds (pieces_items l rest t))) → AllWorlds (worlds (followed_by l (answered s line a) (pieces_items l rest)))
+      by_answer (Err refusal) well later = later s fine
+      by_answer (Ok step) well later = items_well step.1 (pieces_items l rest step.0) well.all (later step.0 well.fine)
+
+    pub run_well : (w : ListWorld) → IsWell l w → (script : List ℕ) → AllWorlds (worlds (trace l w script))
+    run_well w h script =
+        let opening = after_well w (drain lists drain_limit w) h (drain_well l drain_limit w h) in
+        items_well (drain lists drain_limit w) (pieces_items l (pieces script) (closed (world_after w (drain lists drain_limit w)))) opening.all
+        (pieces_well (pieces script) (closed (world_after w (drain lists drain_limit w))) opening.fine)

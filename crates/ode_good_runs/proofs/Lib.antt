@@ -1,3 +1,4 @@
+pub mod Changing
 pub mod Declaring
 pub mod DueLaws
 pub mod Fresh

@@ -165,7 +165,7 @@ module _ (b c : Bones) (f : Follows b c) where
   }
 
   version_follows : (class : Class) (last : ℕ) (v : Version) → FitsVersion b class last v → FitsVersion c class last v
-  version_follows class last v h = record { some = h.some; number = h.number; parent = h.parent; stamp = subst (λ fs. v.stamp ≤ length fs) (sym f.added) h.stamp; fields = fields_follow class.fields v.fields h.fields }
+  version_follows class last v h = record { some = h.some; number = h.number; parent = h.parent; stamp = subst (λ fs. v.stamp ≤ length fs) (sym f.added) h.stamp; fields = fields_follow class.fields v.fields h.fields; later = h.later }
 
   pub object_follows : (o : Object) → FitsWorld b o → FitsWorld c o
   object_follows o h = record {

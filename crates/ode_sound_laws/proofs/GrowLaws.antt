@@ -5,12 +5,14 @@ use Rattle.std.specs.List.{AllByRecursion}
 use Rattle.std.proofs.lemmas.Bool.{eqb-true, ltb-true}
 use Rattle.std.proofs.lemmas.List.{map-append}
 use Rattle.ode_value.specs.declared.class.Class.{Class}
+use Rattle.ode_value.specs.declared.class.Field.{Field}
 use Rattle.ode_value.specs.declared.value.Value.{Value}
 use Rattle.ode_value.specs.Changes.{has_number}
 use Rattle.ode_value.specs.Classes.{Trigger}
 use Rattle.ode_value.specs.Denoting.{object_numbered}
+use Rattle.ode_value.specs.Fields.{AreBorn}
 use Rattle.ode_value.specs.Firings.{after_firings, object_after}
-use Rattle.ode_value.specs.Fitting.{FitFields, FitTrigger, HaveTrigger, trigger_in}
+use Rattle.ode_value.specs.Fitting.{FitFields, FitTrigger, FitsSort, HaveTrigger, trigger_in}
 use Rattle.ode_value.specs.GoodWorlds.{IsNext, RiseFrom}
 use Rattle.ode_value.specs.Limits.{number_limit, version_limit}
 use Rattle.ode_value.specs.Making.{stamp_now, with_fields, switched_off, derived_from, object_with, with_activation, drawn}
@@ -19,13 +21,14 @@ use Rattle.ode_value.specs.Transactions.{Firing}
 use Rattle.ode_value.specs.Versions.{Version}
 use Rattle.ode_value.specs.Worlds.{Object, Bones, class_numbered, with_object}
 use Rattle.ode_laws.proofs.AlikePairs.{altered_bones, ids_same, all_with, all_found}
+use Rattle.ode_laws.proofs.BornLaws.{class_born, have_literals}
 use Rattle.ode_laws.proofs.Each.{all-append, all-then, all-map, all-filter}
 use Rattle.ode_laws.proofs.Numbers.{rise_more}
 use Rattle.ode_laws.proofs.Rows.{id_of, find-with, numbered-append}
 use Rattle.ode_laws.proofs.Sides.{set_in, dropped_from, removed, off_in}
 use Rattle.ode_sound_laws.specs.Fits.{all_alive, FitsVersion, FitsWorld, AreFit}
 use Rattle.ode_sound_laws.specs.Growing.{Follows, StillThere, Grows}
-use Rattle.ode_sound_laws.specs.Sound.{IsSoundTrigger}
+use Rattle.ode_sound_laws.specs.Sound.{IsSoundTrigger, checked_classes}
 use Rattle.ode_sound_laws.proofs.Basics.{same_some}
 use Rattle.ode_sound_laws.proofs.FitLaws.{follows_itself, follows_on, object_follows, fields_follow, args_follow}
 
@@ -103,6 +106,7 @@ pub altered_fit : (b : Bones) (id : ℕ) (f : Object → Object) → IsMild f �
 altered_fit b id f mild keeps fit = record {
   next = fit.next;
   rising = subst (RiseFrom 0) (sym (ids_same id f mild.id b.objects)) fit.rising;
+  born = fit.born;
   objects =
       all_with (FitsWorld (altered_bones id f b)) id f (keeps (altered_bones id f b)) b.objects
       (same_fit b (altered_bones id f b) (mild_grows b id f mild).follows fit.objects);
@@ -114,7 +118,7 @@ changed_fit b id f mild o there keeps fit =
     let c = altered_bones id f b in
     let follows = (mild_grows b id f mild).follows in
     let all : AllByRecursion (FitsWorld c) b.objects = same_fit b c follows fit.objects in
-    record { next = fit.next; rising = subst (RiseFrom 0) (sym (ids_same id f mild.id b.objects)) fit.rising; objects = all_found_with (FitsWorld c) id f o (keeps c follows (all_found (FitsWorld c) id b.objects all o there)) b.objects there all }
+    record { next = fit.next; rising = subst (RiseFrom 0) (sym (ids_same id f mild.id b.objects)) fit.rising; born = fit.born; objects = all_found_with (FitsWorld c) id f o (keeps c follows (all_found (FitsWorld c) id b.objects all o there)) b.objects there all }
 
 -- ---- the changes
 
@@ -164,12 +168,17 @@ after_fits firings c o h = record {
 pub stamp_follows : (b c : Bones) → Follows b c → stamp_now b ≤ length c.added
 stamp_follows b c f = subst (λ fs. length b.added ≤ length fs) (sym f.added) (omega arith)
 
+-- at which all fields of its class were there
+pub born_follows : (b c : Bones) → Follows b c → AllByRecursion (AreBorn (length b.added)) (checked_classes b.classes) → (o : Object) → (h : FitsWorld c o) → AreBorn (stamp_now b) h.class
+born_follows b c f born o h = class_born (length b.added) b.classes born o.class h.class (ap (class_numbered o.class) (sym f.classes) ∙ h.known)
+
 pub set_mild : (stamp : ℕ) (v : Version) (place : ℕ) (value : Value) → IsMild (set_in stamp v place value)
 set_mild stamp v place value = record { id = λ o. refl; class = λ o. refl; last = λ o. omega arith }
 
-pub set_fits : (c : Bones) (o : Object) (stamp : ℕ) (v : Version) (place : ℕ) (value : Value) → (h : FitsWorld c o) → stamp ≤ length c.added → FitFields (all_alive c) h.class.fields (slice_set v.fields place value)
+pub set_fits : (c : Bones) (o : Object) (stamp : ℕ) (v : Version) (place : ℕ) (value : Value) → (h : FitsWorld c o) → stamp ≤ length c.added → AreBorn stamp h.class
+    → FitFields (all_alive c) h.class.fields (slice_set v.fields place value)
     → FitsWorld c (set_in stamp v place value o)
-set_fits c o stamp v place value h now fits = record {
+set_fits c o stamp v place value h now born fits = record {
   number = h.number;
   class = h.class;
   known = h.known;
@@ -180,25 +189,35 @@ set_fits c o stamp v place value h now fits = record {
 }
   where
     by_test : (w : Version) → FitsVersion c h.class o.last w → (t : Bool) → FitsVersion c h.class o.last (cond t (record w { fields = slice_set v.fields place value; stamp = stamp }) w)
-    by_test w is true = record { some = is.some; number = is.number; parent = is.parent; stamp = now; fields = fits }
+    by_test w is true = record { some = is.some; number = is.number; parent = is.parent; stamp = now; fields = fits; later = have_literals (λ (f : Field). FitsSort (all_alive c) f.sort) stamp h.class.fields (slice_set v.fields place value) born fits }
     by_test w is false = is
 
 pub derived_mild : (stamp : ℕ) (v : Version) → IsMild (derived_from stamp v)
 derived_mild stamp v = record { id = λ o. refl; class = λ o. refl; last = λ o. omega arith }
 
 later_version : (c : Bones) (class : Class) (last : ℕ) (v : Version) → FitsVersion c class last v → FitsVersion c class (last + 1) v
-later_version c class last v is = record { some = is.some; number = let less : v.number ≤ last = is.number in omega arith; parent = is.parent; stamp = is.stamp; fields = is.fields }
+later_version c class last v is = record { some = is.some; number = let less : v.number ≤ last = is.number in omega arith; parent = is.parent; stamp = is.stamp; fields = is.fields; later = is.later }
 
-pub derived_fits : (c : Bones) (o : Object) (stamp : ℕ) (v : Version) → (h : FitsWorld c o) → stamp ≤ length c.added → FitsVersion c h.class o.last v → o.last + 1 < 2 ^ 32 → FitsWorld c (derived_from stamp v o)
-derived_fits c o stamp v h now is last =
+pub derived_fits : (c : Bones) (o : Object) (stamp : ℕ) (v : Version) → (h : FitsWorld c o) → stamp ≤ length c.added → AreBorn stamp h.class → FitsVersion c h.class o.last v → o.last + 1 < 2 ^ 32
+    → FitsWorld c (derived_from stamp v o)
+derived_fits c o stamp v h now born is last =
     let new : Version = record { number = o.last + 1; parent = Some v.number; stamp = stamp; fields = v.fields } in
     record {
       number = h.number;
       class = h.class;
       known = h.known;
       last = last;
-      versions = all-append (FitsVersion c h.class (o.last + 1)) o.versions (new ∷ []) (all-then (FitsVersion c h.class o.last) (FitsVersion c h.class (o.last + 1)) (later_version c h.class o.last) o.versions h.versions)
-          (record { some = omega arith; number = omega arith; parent = (is.some, let less : v.number ≤ o.last = is.number in omega arith); stamp = now; fields = is.fields }, tt);
+      versions = all-append (FitsVersion c h.class (o.last + 1)) o.versions (new ∷ []) (all-then (FitsVersion c h.class o.last) (FitsVersion c h.class (o.last + 1)) (later_version c h.class o.last) o.versions h.versions) (
+        record {
+          some = omega arith;
+          number = omega arith;
+          parent = (is.some, let less : v.number ≤ o.last = is.number in omega arith);
+          stamp = now;
+          fields = is.fields;
+          later = have_literals (λ (f : Field). FitsSort (all_alive c) f.sort) stamp h.class.fields v.fields born is.fields;
+        },
+        tt,
+      );
       activations = h.activations;
     }
 
@@ -258,19 +277,31 @@ pub new_fit : (b : Bones) (c : Class) (fields : List Value) → class_numbered c
 new_fit b c fields known fits left fit =
     let d = new_bones c.number fields b in
     let follows = (new_grows b c.number fields).follows in
+    let here : FitFields (all_alive d) c.fields fields = fields_follow b d follows c.fields fields fits in
     record {
       next = next_more b.next fit.next left;
       rising =
           subst (RiseFrom 0) (sym (map-append id_of b.objects (object_with (stamp_now b) b.next c.number fields ∷ [])))
           (rise_more 0 b.next (map id_of b.objects) (omega arith) fit.rising
           (all-map (λ m. m < b.next) id_of b.objects (all-then (FitsWorld b) (λ (o : Object). o.id < b.next) (λ o h. h.number) b.objects fit.objects)));
+      born = fit.born;
       objects = all-append (FitsWorld d) b.objects (object_with (stamp_now b) b.next c.number fields ∷ []) (same_fit b d follows fit.objects) (
         record {
           number = omega arith;
           class = c;
           known = known;
           last = omega arith;
-          versions = (record { some = omega arith; number = omega arith; parent = tt; stamp = stamp_follows b d follows; fields = fields_follow b d follows c.fields fields fits }, tt);
+          versions = (
+            record {
+              some = omega arith;
+              number = omega arith;
+              parent = tt;
+              stamp = stamp_follows b d follows;
+              fields = here;
+              later = have_literals (λ (f : Field). FitsSort (all_alive d) f.sort) (stamp_now b) c.fields fields (class_born (length b.added) b.classes fit.born c.number c known) here;
+            },
+            tt,
+          );
           activations = tt;
         },
         tt,
@@ -302,6 +333,7 @@ active_fit b id t args o there sound fits left fit =
     record {
       next = next_more b.next fit.next left;
       rising = subst (RiseFrom 0) (sym (ids_same id (with_activation t args b.next) (active_mild t args b.next).id b.objects)) fit.rising;
+      born = fit.born;
       objects = all_found_with (FitsWorld c) id (with_activation t args b.next) o (record {
         number = h.number;
         class = h.class;

@@ -97,6 +97,7 @@ kept_fit b fit =
     record {
       next = fit.next;
       rising = subst (RiseFrom 0) (sym (ids_map kept_object (λ o. refl) (filter is_there b.objects))) (rise_filter id_of is_there 0 b.objects fit.rising);
+      born = fit.born;
       objects = all-map (FitsWorld c) kept_object (filter is_there b.objects)
           (all-filter (λ o. FitsWorld c (kept_object o)) is_there b.objects
           (all-then (FitsWorld b) (λ o. FitsWorld c (kept_object o)) (λ o h. kept_one c o (object_follows b c (kept_follows b fit.rising) o h)) b.objects fit.objects));
@@ -143,7 +144,7 @@ later_last c o last less low h = record {
   class = h.class;
   known = h.known;
   last = low;
-  versions = all-then (FitsVersion c h.class o.last) (FitsVersion c h.class last) (λ v is. record { some = is.some; number = let one : v.number ≤ o.last = is.number in omega arith; parent = is.parent; stamp = is.stamp; fields = is.fields }) o.versions h.versions;
+  versions = all-then (FitsVersion c h.class o.last) (FitsVersion c h.class last) (λ v is. record { some = is.some; number = let one : v.number ≤ o.last = is.number in omega arith; parent = is.parent; stamp = is.stamp; fields = is.fields; later = is.later }) o.versions h.versions;
   activations = h.activations;
 }
 
@@ -276,7 +277,7 @@ module _ {O A : Type 0} where
       let fit = kept_fit x.now.bones h.now in
       record {
         sound = h.sound;
-        fit = record { next = fit.next; rising = fit.rising; objects = all-then (FitsWorld k) (FitsWorld s) (object_follows k s same) k.objects fit.objects };
+        fit = record { next = fit.next; rising = fit.rising; born = fit.born; objects = all-then (FitsWorld k) (FitsWorld s) (object_follows k s same) k.objects fit.objects };
         whole = kept_whole x.now.bones.objects;
         queue = all-append (λ (q : ℕ × Entry). FitsEntry s q.1) (waiting x.origin x.first.bones.queue) (enumerate_from x.first.bones.next_entry (map entry_in x.collected))
             (waiting_fit s x.origin x.first.bones.queue (all-then (λ (q : ℕ × Entry). FitsEntry x.first.bones q.1) (λ (q : ℕ × Entry). FitsEntry s q.1) (λ q. entry_follows x.first.bones s (follows_on x.first.bones x.now.bones s h.follows all) q.1) x.first.bones.queue h.waiting))
@@ -353,6 +354,7 @@ module _ {O A : Type 0} where
     back_fit x h = record {
       next = h.now.next;
       rising = subst (RiseFrom 0) (sym (ids_map (with_last x.now.bones) (λ o. refl) x.first.bones.objects)) h.first.rising;
+      born = h.first.born;
       objects = all-map (FitsWorld (back_bones x)) (with_last x.now.bones) x.first.bones.objects
           (all-then (λ (o : Object). (object_numbered o.id x.first.bones.objects ≡ Some o) × FitsWorld x.first.bones o) (λ o. FitsWorld (back_bones x) (with_last x.now.bones o)) (λ o g. back_one x h o g.0 g.1) x.first.bones.objects
           (both (λ (o : Object). object_numbered o.id x.first.bones.objects ≡ Some o) (FitsWorld x.first.bones) x.first.bones.objects (all_numbered x.first.bones.objects h.first.rising) h.first.objects));

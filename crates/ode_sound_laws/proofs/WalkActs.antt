@@ -31,7 +31,7 @@ use Rattle.ode_sound_laws.specs.Sound.{AreSound, IsKnown}
 use Rattle.ode_sound_laws.proofs.Basics.{same_some}
 use Rattle.ode_sound_laws.proofs.ExprLaws.{denotes_fit, version_all}
 use Rattle.ode_sound_laws.proofs.FitLaws.{sort_follows, entry_follows, firing_follows}
-use Rattle.ode_sound_laws.proofs.GrowLaws.{grows_itself, grows_on, IsMild, mild_grows, altered_fit, changed_fit, removed_mild, removed_fits, off_mild, off_fits, stamp_follows, set_mild, set_fits, dropped_mild, dropped_fits}
+use Rattle.ode_sound_laws.proofs.GrowLaws.{grows_itself, grows_on, IsMild, mild_grows, altered_fit, changed_fit, removed_mild, removed_fits, off_mild, off_fits, stamp_follows, born_follows, set_mild, set_fits, dropped_mild, dropped_fits}
 
 -- nothing is said of the answer
 abbrev pub Any : (X : Type 0) → Bones → X → Type 0
@@ -177,7 +177,7 @@ module _ {O A : Type 0} where
       let known_class : class_numbered d.object.class x.now.bones.classes ≡ Some o.class = ap (class_numbered d.object.class) (sym follows.classes) ∙ o.known in
       let field : slice_get o.class.fields place ≡ Some f = h.sound.fields d.object.class c o.class known d.is known_class place f at in
       let version : FitsVersion b o.class d.object.last w = version_all (FitsVersion b o.class d.object.last) r.version d.object.versions o.versions w d.of in
-      set_fits b d.object now w place v o (stamp_follows x.now.bones b follows) (zip_set (λ (g : Field). FitsSort (all_alive b) g.sort) o.class.fields w.fields version.fields place f v field (sort_follows x.now.bones b follows f.sort v is))) h.now) in
+      set_fits b d.object now w place v o (stamp_follows x.now.bones b follows) (born_follows x.now.bones b follows h.now.born d.object o) (zip_set (λ (g : Field). FitsSort (all_alive b) g.sort) o.class.fields w.fields version.fields place f v field (sort_follows x.now.bones b follows f.sort v is))) h.now) in
       (done.0, done.1, tt)))
     where
       now : ℕ

@@ -37,7 +37,7 @@ use Rattle.ode_sound_laws.specs.Sound.{AreSound, IsKnown, IsSoundTrigger}
 use Rattle.ode_sound_laws.proofs.Basics.{if_some_from, found_same}
 use Rattle.ode_sound_laws.proofs.ExprLaws.{denotes_fit, version_all}
 use Rattle.ode_sound_laws.proofs.FitLaws.{of_alive, ref_follows}
-use Rattle.ode_sound_laws.proofs.GrowLaws.{IsMild, changed_fit, stamp_follows, derived_mild, derived_fits, derived_last, new_bones, new_grows, new_fit, active_bones, active_grows, active_fit}
+use Rattle.ode_sound_laws.proofs.GrowLaws.{IsMild, changed_fit, stamp_follows, born_follows, derived_mild, derived_fits, derived_last, new_bones, new_grows, new_fit, active_bones, active_grows, active_fit}
 use Rattle.ode_sound_laws.proofs.WalkActs.{Any, typed_now, Ends, ends_from, ends_then, ends_done, found_ends, valued_ends, needs_ends, changes_ends, prints_ends, alters_found}
 
 -- what a change leaves at its number
@@ -133,7 +133,7 @@ module _ {O A : Type 0} where
           let last : o.last + 1 < 2 ^ 32 = derived_last o more in
           let done = alters_found o.id (derived_from now v) (derived_mild now v) (holding (keys_of o) x) held
           (changed_fit x.now.bones o.id (derived_from now v) (derived_mild now v) o found (λ b follows g.
-          derived_fits b o now v g (stamp_follows x.now.bones b follows) (version_all (FitsVersion b g.class o.last) r.version o.versions g.versions v of) last) h.now) in
+          derived_fits b o now v g (stamp_follows x.now.bones b follows) (born_follows x.now.bones b follows h.now.born o g) (version_all (FitsVersion b g.class o.last) r.version o.versions g.versions v of) last) h.now) in
           let ref : FitsRef (all_alive c) class (next_version o) = record {
             is = record { object = subst (λ n. n < 2 ^ 64) (sym number) fits.is.object; version = (not_zero o.id (ap (λ n. n == 0) number ∙ d.some), omega arith, last) };
             drawn = subst (λ n. n < x.now.bones.next) (sym number) fits.drawn;

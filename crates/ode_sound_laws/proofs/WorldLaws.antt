@@ -26,6 +26,7 @@ use Rattle.ode_value.specs.Transactions.{Tx, Firing, Origin, Queue, begun}
 use Rattle.ode_value.specs.Versions.{Version}
 use Rattle.ode_value.specs.Worlds.{Entry, Object, Bones, World, class_numbered, empty_bones}
 use Rattle.ode_laws.proofs.AlikePairs.{all_found}
+use Rattle.ode_laws.proofs.BornLaws.{classes_born}
 use Rattle.ode_laws.proofs.Each.{all-then}
 use Rattle.ode_sound_laws.specs.Fits.{alive, all_alive, FitsVersion, FitsWorld, FitsEntry, FitsFiring, FitsLiteral}
 use Rattle.ode_types.specs.Kept.{IsTypedStatement}
@@ -51,7 +52,7 @@ some_class None is = absurd (cc)
 
 module _ (b : Bones) (live : all_alive b ≡ b) where
   version_fits : (c : Class) (last : ℕ) (v : Version) → 0 < v.number → IsVersion b c last v → FitsVersion b c last v
-  version_fits c last v some is = record { some = some; number = is.number; parent = is.parent; stamp = is.stamp; fields = subst (λ d. FitFields d c.fields v.fields) (sym live) is.fields }
+  version_fits c last v some is = record { some = some; number = is.number; parent = is.parent; stamp = is.stamp; fields = subst (λ d. FitFields d c.fields v.fields) (sym live) is.fields; later = is.later }
 
   object_fits : (o : Object) → IsObject b o → AllByRecursion (λ (v : Version). 0 < v.number) o.versions → FitsWorld b o
   object_fits o is some =
@@ -92,6 +93,7 @@ good_typed l w good sound ones =
       fit = record {
         next = good.bones.next;
         rising = good.bones.rising;
+        born = classes_born l w.bones.added [] w.bones.classes good.bones.classes;
         objects = all-then (λ (o : Object). IsObject w.bones o × AllByRecursion (λ (v : Version). 0 < v.number) o.versions) (FitsWorld w.bones) (λ o h. object_fits w.bones same o h.0 h.1) w.bones.objects
             (both (IsObject w.bones) (λ (o : Object). AllByRecursion (λ (v : Version). 0 < v.number) o.versions) w.bones.objects good.bones.objects ones);
       };
@@ -118,7 +120,7 @@ sound_none = record {
 }
 
 pub fresh_typed : IsTypedWorld empty_bones
-fresh_typed = record { sound = sound_none; fit = record { next = record { some = omega arith; bounded = omega arith }; rising = tt; objects = tt }; whole = tt; queue = tt }
+fresh_typed = record { sound = sound_none; fit = record { next = record { some = omega arith; bounded = omega arith }; rising = tt; born = tt; objects = tt }; whole = tt; queue = tt }
 
 -- ---- acts
 

@@ -11,6 +11,7 @@ use Rattle.ode_value.specs.declared.value.Value.TheVariants as value
 use Rattle.ode_value.specs.Classes.{trigger_at}
 use Rattle.ode_value.specs.Denoting.{object_numbered, object_of}
 use Rattle.ode_value.specs.Evaluation.{Frame}
+use Rattle.ode_value.specs.Fields.{AreBorn, HasLiterals}
 use Rattle.ode_value.specs.Fitting.{IsDrawn, FitsRef, FitsSort, FitFields, HaveTrigger, trigger_in}
 use Rattle.ode_value.specs.GoodWorlds.{IsNext, RiseFrom, activation_of}
 use Rattle.ode_value.specs.Limits.{number_limit}
@@ -60,13 +61,14 @@ pub record FitsFrame (b : Bones) (at : Setting) (frame : Frame) : Type 0 where
   pub slots : FitSlots b at.slots frame.locals
   pub literals : AllByRecursion (FitsLiteral b) at.literals
 
--- a version: a drawn number from 1, an earlier parent, a stamp, fields that fit
+-- a version: a drawn number from 1, an earlier parent, a stamp, fields that fit, those that came later with their literals
 pub record FitsVersion (b : Bones) (c : Class) (last : ℕ) (v : Version) : Type 0 where
   pub some : 0 < v.number
   pub number : v.number ≤ last
   pub parent : IfSome v.parent (λ p. (0 < p) × (p < v.number))
   pub stamp : v.stamp ≤ length b.added
   pub fields : FitFields (all_alive b) c.fields v.fields
+  pub later : HasLiterals v.stamp c.fields v.fields
 
 -- an object of a known class, with versions and activations that fit
 pub record FitsWorld (b : Bones) (o : Object) : Type 0 where
@@ -88,10 +90,11 @@ pub record FitsFiring (b : Bones) (f : Firing) : Type 0 where
   pub entry : FitsEntry b (entry_of 0 f)
   pub trigger : trigger_at b.classes f.trigger.class f.trigger.place ≡ Some f.trigger
 
--- all objects fit, their numbers rise, and the next number is in its range
+-- all objects fit, their numbers rise, the next number is in its range, and no field is above the newest stamp
 pub record AreFit (b : Bones) : Type 0 where
   pub next : IsNext number_limit b.next
   pub rising : RiseFrom 0 (map (λ (o : Object). o.id) b.objects)
+  pub born : AllByRecursion (AreBorn (length b.added)) (checked_classes b.classes)
   pub objects : AllByRecursion (FitsWorld b) b.objects
 
 -- where an expression is typed, in a world whose objects fit and with a frame that fits

@@ -1,11 +1,11 @@
 -- With one more class a world fits as before.
-use Rattle.std.proofs.Common.{◌≡◌, ℕ, Bool, true, false, cond, List, [], ◌∷◌, ◌++◌, reverse, ◌==◌, Option, Some, None, refl, sym, ap, ◌∙◌, subst}
+use Rattle.std.proofs.Common.{◌≡◌, ℕ, length, Bool, true, false, cond, List, [], ◌∷◌, ◌++◌, reverse, ◌==◌, Option, Some, None, refl, sym, ap, ◌∙◌, subst}
 use Rattle.std.specs.Prelude.{slice_get}
-use Rattle.std.specs.List.{find, list_any, flat_map}
+use Rattle.std.specs.List.{AllByRecursion, find, list_any, flat_map}
 use Rattle.std.specs.Option.{IsSomeAnd, option_map, option_and_then, unwrap_or}
 use Rattle.std.specs.Str.{bytes_eq}
 use Rattle.std.proofs.lemmas.Bool.{eqb-true}
-use Rattle.std.proofs.lemmas.List.{reverse-append}
+use Rattle.std.proofs.lemmas.List.{map-append, reverse-append}
 use Rattle.ode_value.specs.declared.binding.Param.{Param}
 use Rattle.ode_value.specs.declared.class.Class.{Class}
 use Rattle.ode_value.specs.declared.class.Field.{Field}
@@ -17,6 +17,7 @@ use Rattle.ode_value.specs.declared.value.Value.{Value}
 use Rattle.ode_value.specs.declared.value.Value.TheVariants as value
 use Rattle.ode_value.specs.Classes.{Trigger, upward, line_of, is_a, own_triggers, trigger_of, trigger_at}
 use Rattle.ode_value.specs.Denoting.{object_of}
+use Rattle.ode_value.specs.Fields.{AreBorn}
 use Rattle.ode_value.specs.Firings.{is_of}
 use Rattle.ode_value.specs.Fitting.{FitsObject, FitsRef, FitsSort, HaveTrigger, trigger_in}
 use Rattle.ode_value.specs.GoodWorlds.{activation_of}
@@ -24,15 +25,16 @@ use Rattle.ode_value.specs.Objects.{Activation}
 use Rattle.ode_value.specs.Versions.{Version}
 use Rattle.ode_value.specs.Worlds.{Declared, Entry, Object, Bones, class_numbered}
 use Rattle.ode_laws.proofs.AlikePairs.{zip_then, all_found}
-use Rattle.ode_laws.proofs.Each.{all-then}
+use Rattle.ode_laws.proofs.Each.{all-append, all-then}
 use Rattle.ode_run_laws.proofs.AlikeClasses.{more_found, more_classes}
 use Rattle.ode_sound_laws.specs.Fits.{all_alive, FitsVersion, FitsWorld, FitsEntry, AreFit}
+use Rattle.ode_sound_laws.specs.Sound.{checked_classes}
 use Rattle.ode_sound_laws.specs.Typed.{IsTypedWorld}
 use Rattle.ode_sound_laws.proofs.Basics.{if_some_at, if_some_from, map_some, then_some}
 use Rattle.ode_sound_laws.proofs.FitLaws.{of_alive}
 use Rattle.ode_sound_runs.specs.Adding.{AddsSoundly}
 
-module _ (b : Bones) (fit : AreFit b) (c : Declared) (adds : AddsSoundly b.classes c) where
+module _ (b : Bones) (fit : AreFit b) (c : Declared) (adds : AddsSoundly b c) where
   abbrev more : List Declared
   more = b.classes ++ c ∷ []
 
@@ -98,6 +100,7 @@ module _ (b : Bones) (fit : AreFit b) (c : Declared) (adds : AddsSoundly b.class
     parent = h.parent;
     stamp = h.stamp;
     fields = zip_then (λ (g : Field). FitsSort (all_alive b) g.sort) (λ (g : Field). FitsSort (all_alive d) g.sort) (λ g v fits. sort_more g.sort v fits) class.fields v.fields h.fields;
+    later = h.later;
   }
 
   object_more : (o : Object) → FitsWorld b o → FitsWorld d o
@@ -124,10 +127,17 @@ module _ (b : Bones) (fit : AreFit b) (c : Declared) (adds : AddsSoundly b.class
       by_trigger None at fits = absurd fits
       by_trigger (Some t) at fits = subst (HaveTrigger (all_alive d) e.args) (sym (at_more e.class e.trigger t at)) (args_more e.args (Some t) fits)
 
-pub class_added : (b : Bones) (c : Declared) → IsTypedWorld b → AddsSoundly b.classes c → IsTypedWorld (more_classes c b)
+pub class_added : (b : Bones) (c : Declared) → IsTypedWorld b → AddsSoundly b c → IsTypedWorld (more_classes c b)
 class_added b c h adds = record {
   sound = adds.sound;
-  fit = record { next = h.fit.next; rising = h.fit.rising; objects = all-then (FitsWorld b) (FitsWorld (more_classes c b)) (object_more b h.fit c adds) b.objects h.fit.objects };
+  fit = record {
+    next = h.fit.next;
+    rising = h.fit.rising;
+    born =
+        subst (AllByRecursion (AreBorn (length b.added))) (sym (map-append (λ (d : Declared). d.class) b.classes (c ∷ [])))
+        (all-append (AreBorn (length b.added)) (checked_classes b.classes) (c.class ∷ []) h.fit.born (adds.born, tt));
+    objects = all-then (FitsWorld b) (FitsWorld (more_classes c b)) (object_more b h.fit c adds) b.objects h.fit.objects;
+  };
   whole = h.whole;
   queue = all-then (λ (q : ℕ × Entry). FitsEntry b q.1) (λ (q : ℕ × Entry). FitsEntry (more_classes c b) q.1) (λ q. entry_more b h.fit c adds q.1) b.queue h.queue;
 }

@@ -87,7 +87,7 @@ clock_typed (p ∷ ps) last most w h = by_live (is_some (object_at w.bones p.obj
 
 -- ---- a class
 
-module _ (c : Declared) (w : ListWorld) (h : IsTypedWorld w.bones) (adds : AddsSoundly w.bones.classes c) where
+module _ (c : Declared) (w : ListWorld) (h : IsTypedWorld w.bones) (adds : AddsSoundly w.bones c) where
   -- a transaction whose first world has the class already
   abbrev begun_with : ListTx
   begun_with = with_line (class_line c.class.name) (begun Script (record w { bones = more_classes c w.bones }))

@@ -17,5 +17,5 @@ pub fn clocks_and_classes_stay_typed()
     ensures tick { (p : Position) (w : ListWorld) → IsTypedWorld w.bones → IsTypedWorld (tick lists p w).0.bones }
     ensures clock { (ps : Items Position) (last : Position) (most : ℕ) (w : ListWorld) → IsTypedWorld w.bones →
         AllByRecursion (λ (s : Settled Histories Starts). IsTypedWorld s.0.bones) (clock_run lists ps last most w) }
-    ensures class { (c : Declared) (w : ListWorld) → IsTypedWorld w.bones → AddsSoundly w.bones.classes c → IsTypedWorld (transaction lists Script (declares c) w).0.bones }
+    ensures class { (c : Declared) (w : ListWorld) → IsTypedWorld w.bones → AddsSoundly w.bones c → IsTypedWorld (transaction lists Script (declares c) w).0.bones }
 {}
