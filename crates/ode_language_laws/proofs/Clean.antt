@@ -29,7 +29,7 @@ use Rattle.ode_grammar.specs.declared.terminal.Terminal.{Terminal}
 use Rattle.ode_grammar.specs.declared.terminal.Terminal.TheVariants as terminal
 use Rattle.ode_grammar.specs.Stacks.{rest, top}
 use Rattle.ode_syntax.specs.declared.trees.Trees.{Trees}
-use Rattle.ode_syntax.specs.Built.{built, built_class, built_event, built_kind, built_member, built_right_side, built_script, built_statement, declared, right, stmt_tree, tree}
+use Rattle.ode_syntax.specs.Built.{below_zero, built, built_class, built_event, built_kind, built_member, built_right_side, built_script, built_statement, declared, negative, right, stmt_tree, tree}
 use Rattle.ode_syntax.specs.Kept.{kept_as, leaf_of, word_leaf}
 use Rattle.ode_types.specs.Literals.{all_refs, expr_refs, literals, optional_refs, rhs_refs, value_refs}
 use Rattle.ode_types.proofs.LiteralLaws.{expr_refs_out, flat_map-literals, literals_out}
@@ -254,6 +254,14 @@ declared_clean : (classes : List ClassDecl) → CleanScript (declared classes)
 declared_clean [] = tt
 declared_clean (c ∷ cs) = tt
 
+-- a number has no references
+negative_clean : (e : Expr) → CleanExpr e → CleanExpr (negative e)
+negative_clean (expr.Lit (value.Int n)) h = same_refs (expr_refs (expr.Lit (value.Int (below_zero n)))) [] (lit_refs (value.Int (below_zero n))) tt
+negative_clean (expr.Lit (value.Bool b)) h = h
+negative_clean (expr.Lit (value.Text t)) h = h
+negative_clean (expr.Lit (value.Reference r)) h = h
+negative_clean other h = h
+
 script_clean : (a : Action) (v : Trees) → IsClean v → IsClean (built_script a v)
 unfolding built_script
 script_clean action.Declare v h = on_scripts h (declared v.classes ∷ v.scripts) (declared_clean v.classes, h.scripts_are)
@@ -263,6 +271,9 @@ script_clean action.Abort v h = on_scripts h (statement.Abort ∷ v.scripts) (tt
 script_clean action.Clock v h = on_scripts (without_leaf v h) _ (tt, h.scripts_are)
 script_clean action.Simple v h = on_scripts (on_statements h (rest v.statements) (all-rest CleanStmt v.statements h.statements_are)) (statement.Simple (stmt_tree v.statements) ∷ v.scripts) (top_stmt v h, h.scripts_are)
 script_clean action.Empty v h = on_scripts h (statement.Empty ∷ v.scripts) (tt, h.scripts_are)
+script_clean action.Change v h = h
+script_clean action.Negative v h = on_leaves h (negative (tree v.leaves) ∷ rest v.leaves) (negative_clean (tree v.leaves) (top_leaf v h), all-rest CleanExpr v.leaves h.leaves_are)
+script_clean action.Addition v h = without_leaf v h
 script_clean _ v h = h
 
 member_clean : (a : Action) (v : Trees) → IsClean v → IsClean (built_member a v)

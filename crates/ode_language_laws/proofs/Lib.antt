@@ -1,5 +1,9 @@
+pub mod AnewAll
+pub mod ChangedFields
 pub mod Clean
 pub mod LanguageRuns
+pub mod ReadChanges
 pub mod ReadRefs
 pub mod Recurring
 pub mod Seconds
+pub mod SoundChanges

@@ -5,6 +5,7 @@ use Rattle.std.specs.Option.{option_map_or}
 use Rattle.std.specs.Prelude.{◌==◌, ◌<◌, ◌^◌, ℤ, FitsSigned, length}
 use Rattle.std.specs.Int.{w64}
 use Rattle.std.proofs.lemmas.List.Elements.{All-cons, All-from_recursion, All-nil}
+use Rattle.ode_value.specs.declared.change.Added.{Added}
 use Rattle.ode_value.specs.declared.class.Class.{Class}
 use Rattle.ode_value.specs.declared.event.Kind.{Kind}
 use Rattle.ode_value.specs.declared.statement.ClassDecl.{ClassDecl}
@@ -55,13 +56,14 @@ read_recurs piece d is = let read = good_read piece d (class_read piece d is) in
 
 -- ---- a good world
 
-trees_recur : (earlier cs : List Declared) → AreClasses ode earlier cs → AllByRecursion (λ (c : Declared). ListsAll Recurs c.tree) cs
-trees_recur earlier [] all = tt
-trees_recur earlier (c ∷ cs) all = (read_recurs (decl_text c.tree ++ codes ";") c.tree all.0.text, trees_recur (earlier ++ c ∷ []) cs all.1)
+trees_recur : (added : List Added) (earlier cs : List Declared) → AreClasses ode added earlier cs → AllByRecursion (λ (c : Declared). ListsAll Recurs c.tree) cs
+trees_recur added earlier [] all = tt
+trees_recur added earlier (c ∷ cs) all = (read_recurs (decl_text c.tree ++ codes ";") c.tree all.0.text, trees_recur added (earlier ++ c ∷ []) cs all.1)
 
 classes_recur : (w : ListWorld) → IsGood ode w → AllByRecursion (λ (c : Declared). HasAll Recurs c.class) w.bones.classes
 classes_recur w good =
-    kinds_have ode (record { class_of = refl; checked = refl }) Recurs [] w.bones.classes tt (classes_accepted ode [] w.bones.classes good.bones.classes) (trees_recur [] w.bones.classes good.bones.classes)
+    kinds_have ode (record { class_of = refl; checked = refl }) w.bones.added Recurs [] w.bones.classes tt (classes_accepted ode w.bones.added [] w.bones.classes good.bones.classes)
+    (trees_recur w.bones.added [] w.bones.classes good.bones.classes)
 
 kinds_recur : (cs : List Declared) → AllByRecursion (λ (c : Declared). HasAll Recurs c.class) cs → (n : ℕ) → AllByRecursion Recurs (kinds_of cs n)
 kinds_recur [] all n = tt

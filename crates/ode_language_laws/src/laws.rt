@@ -2,18 +2,22 @@
 ghost use Rattle.std.specs.Prelude.{◌≡◌, ◌<◌, ◌^◌, FitsSigned, ℕ, ℤ, List as Items, Ok, Some, length};
 ghost use Rattle.std.specs.Int.{w64};
 ghost use Rattle.std.specs.List.{All, AllByRecursion};
+ghost use Rattle.ode_value.specs.declared.change.Change.{Change};
 ghost use Rattle.ode_value.specs.declared.statement.Statement.TheVariants.{Simple};
 ghost use Rattle.ode_value.specs.declared.statement.Stmt.{Stmt};
 ghost use Rattle.ode_value.specs.GoodWorlds.{IsGood, IsPosition};
 ghost use Rattle.ode_value.specs.Language.{ListWorld};
 ghost use Rattle.ode_value.specs.References.{IsRef};
-ghost use Rattle.ode_value.specs.Worlds.{Position, empty_world};
+ghost use Rattle.ode_value.specs.Worlds.{Declared, Position, empty_world};
 ghost use Rattle.ode_timer.specs.Dates.{instant_of};
 ghost use Rattle.ode_timer.specs.Due.{AllRecur, HasPlaces, due};
+ghost use Rattle.ode_machine.specs.Refusals.{changed_in};
 ghost use Rattle.ode_machine.specs.TimeRows.{time_rows};
 ghost use Rattle.ode_machine.specs.Runs.{trace, worlds};
 ghost use Rattle.ode_types.specs.Literals.{literals};
 ghost use Rattle.ode_accepted_laws.specs.Languages.{HasSoundRules};
+ghost use Rattle.ode_change_laws.specs.Behind.{IsBehind};
+ghost use Rattle.ode_good_laws.specs.Changed.{HasSoundChanges};
 ghost use Rattle.ode_good_laws.specs.Well.{IsWell};
 ghost use Rattle.ode_good_runs.specs.Reading.{ReadsWell};
 ghost use Rattle.ode_language.specs.Languages.{ode, statement_of};
@@ -42,6 +46,18 @@ pub fn clock_events_are_in_range()
 /// text, and instants have 64 bits.
 pub fn language_reads_well()
     ensures { ReadsWell ode }
+{}
+
+/// A change of a class that was read, and is accepted over a well world, leaves a well world where that isn't too heavy.
+pub fn language_has_sound_changes()
+    ensures { HasSoundChanges ode }
+{}
+
+/// Behind such a change the classes are good ones, each as it was but for the new fields where it gets them, its bodies and the places in
+/// its masks; all added fields are good; and each activation watches for what it did.
+pub fn changes_are_behind()
+    ensures { (piece : Items ℕ) (c : Change) → ode.change_of piece ≡ Some (Ok c) → (w : ListWorld) → IsWell ode w → (classes : Items Declared) → changed_in ode w.bones c ≡ Ok classes
+        → IsBehind ode w.bones c classes }
 {}
 
 /// A run of any script from a fresh database, or from a good world whose versions' numbers begin at 1, has good worlds alone, of sound

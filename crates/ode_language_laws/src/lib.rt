@@ -5,6 +5,7 @@
 mod laws;
 
 pub use laws::{
-    clock_events_are_in_range, language_has_sound_rules, language_reads_well,
-    runs_of_the_language_stay_good, what_is_read_is_in_range,
+    changes_are_behind, clock_events_are_in_range, language_has_sound_changes,
+    language_has_sound_rules, language_reads_well, runs_of_the_language_stay_good,
+    what_is_read_is_in_range,
 };

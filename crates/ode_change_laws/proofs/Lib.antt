@@ -1,0 +1,12 @@
+pub mod BornStill
+pub mod FoundStill
+pub mod GoodStill
+pub mod HeldStill
+pub mod MovedMachines
+pub mod MovedPasts
+pub mod MovedTables
+pub mod PlainClasses
+pub mod RowsStill
+pub mod StandingStill
+pub mod WatchedStill
+pub mod WeighsStill
