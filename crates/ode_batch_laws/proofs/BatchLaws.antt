@@ -31,7 +31,7 @@ batch_holds l base changes v w x y held rising first stands numbered classes for
     let front : Climb (counters_row (settled_world y).bones ∷ class_rows s.tables s.world.bones.classes) = front_climbs s (subst HasRisingKeys held.rows rising) in
     let bones : AreBones l (settled_world y).bones = subst (AreBones l) (sym left.bones) good.bones in
     let rises : HasRisingKeys (rows after) =
-    rows_rise l after bones
+    rows_rise l after bones numbered.classes
     (subst (λ (cs : List Declared). Climb (counters_row (settled_world y).bones ∷ class_rows s.tables cs)) (sym (classes ∙ ap (λ (u : NumberWorld). u.bones.classes) first)) front) in (
       record {
         stored = after;

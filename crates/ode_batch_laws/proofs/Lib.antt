@@ -1,4 +1,5 @@
-mod ClimbLaws
-mod RowLaws
+pub mod ClimbLaws
+pub mod AddedLaws
+pub mod RowLaws
 mod BatchLaws
 mod PostedLaws

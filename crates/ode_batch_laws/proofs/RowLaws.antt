@@ -1,8 +1,9 @@
 -- The records of a stored database stand in rising order of their keys.
-use Rattle.std.proofs.Common.{◌≡◌, ℕ, ◌<◌, ◌≤◌, List, [], ◌∷◌, ◌++◌, map, refl, sym, ap, subst, ◌∙◌, append-nil, arith}
+use Rattle.std.proofs.Common.{◌≡◌, ℕ, ◌<◌, ◌≤◌, List, ◌∷◌, ◌++◌, map, sym, subst, arith}
 use Rattle.std.proofs.lemmas.Bool.Decides.{nat_tests}
 use Rattle.std.specs.List.{AllByRecursion, flat_map}
 use Rattle.std.specs.declared.cmp.Ordering.TheVariants.{Less}
+use Rattle.ode_batch_laws.proofs.AddedLaws.{added_climb}
 use Rattle.ode_batch_laws.proofs.ClimbLaws.{AllBefore, AreBelow, AreFrom, Climb, all_before, all_flat, all_map, climb_flat, climb_front, climb_join, climb_map, climb_rises, rising_climbs}
 use Rattle.ode_codec.specs.StoredRows.{Stored, activation_row, activation_rows, added_row, counters_row, entry_row, head_row, object_row, pieces_of, places_of, rows, state_of, table_bytes, table_head, table_heads, table_pieces, table_row, table_rows, text_row, text_rows, version_rows}
 use Rattle.ode_keep.specs.Entries.{HasRisingKeys}
@@ -11,7 +12,7 @@ use Rattle.ode_laws.proofs.Rows.{id_of}
 use Rattle.ode_settling_laws.proofs.KindLaws.{class_rows, six}
 use Rattle.ode_value.specs.Changing.{added_to}
 use Rattle.ode_value.specs.Fields.{fields_of}
-use Rattle.ode_value.specs.GoodWorlds.{AreBones, IsObject}
+use Rattle.ode_value.specs.GoodWorlds.{AreBones, IsObject, RiseFrom}
 use Rattle.ode_value.specs.Keys.{activation_key, entry_key, key_cmp, object_key, version_key}
 use Rattle.ode_value.specs.Language.{Language}
 use Rattle.ode_value.specs.Objects.{Activation}
@@ -84,18 +85,13 @@ grouped s =
     six (counters_row b) (map head_row b.classes) (flat_map text_rows b.classes) (flat_map (table_heads s.tables) b.classes) (flat_map (table_rows s.tables) b.classes)
     (objects_of b) (versions_of b) (activations_of s) (entries_of b) (added_of b.classes b.added)
 
--- no field was added
-none_added : (classes cs : List Declared) → flat_map (λ (c : Declared). map (added_row classes) (added_to c.class.number [])) cs ≡ []
-none_added classes [] = refl
-none_added classes (c ∷ cs) = none_added classes cs
-
 -- the counters and the classes of one whose records rise
 pub front_climbs : (s : Stored) → HasRisingKeys (rows s) → Climb (counters_row s.world.bones ∷ class_rows s.tables s.world.bones.classes)
 front_climbs s rising =
     climb_front (counters_row s.world.bones ∷ class_rows s.tables s.world.bones.classes)
     (objects_of s.world.bones ++ (versions_of s.world.bones ++ (activations_of s ++ last_of s.world.bones))) (subst Climb (grouped s) (rising_climbs (rows s) rising))
 
-module _ (l : Language) (s : Stored) (good : AreBones l s.world.bones) where
+module _ (l : Language) (s : Stored) (good : AreBones l s.world.bones) (rising : RiseFrom 0 (map (λ (c : Declared). c.class.number) s.world.bones.classes)) where
   abbrev b : Bones
   b = s.world.bones
 
@@ -158,42 +154,55 @@ module _ (l : Language) (s : Stored) (good : AreBones l s.world.bones) where
   entries_from : (k : ℕ) → k ≤ 9 → AreFrom k (entries_of b)
   entries_from k most = all_map (λ (e : Row). k ≤ e.0.kind) entry_row (λ q. most) b.queue
 
+  entries_below : AreBelow 10 (entries_of b)
+  entries_below = all_map (λ (e : Row). e.0.kind < 10) entry_row (λ q. omega arith) b.queue
+
+  abbrev added : List Row
+  added = added_of b.classes b.added
+
+  added_from : (k : ℕ) → k ≤ 10 → AreFrom k added
+  added_from k most =
+      all_flat (λ (e : Row). k ≤ e.0.kind) (λ (c : Declared). map (added_row b.classes) (added_to c.class.number b.added))
+      (λ c. all_map (λ (e : Row). k ≤ e.0.kind) (added_row b.classes) (λ a. most) (added_to c.class.number b.added)) b.classes
+
   -- ---- all of them
 
-  last_climb : Climb (activations_of s ++ entries_of b)
-  last_climb = climb_join (activations_of s) (entries_of b) activations_climb entries_climb (all_before 9 (activations_of s) (entries_of b) activations_below (entries_from 9 (omega arith)))
+  ends_climb : Climb (last_of b)
+  ends_climb = climb_join (entries_of b) added entries_climb (added_climb b.classes b.added rising good.added) (all_before 10 (entries_of b) added entries_below (added_from 10 (omega arith)))
 
-  last_from : (k : ℕ) → k ≤ 8 → AreFrom k (activations_of s ++ entries_of b)
-  last_from k most = all-append (λ (e : Row). k ≤ e.0.kind) (activations_of s) (entries_of b) (activations_from k most) (entries_from k (omega (arith, most)))
+  ends_from : (k : ℕ) → k ≤ 9 → AreFrom k (last_of b)
+  ends_from k most = all-append (λ (e : Row). k ≤ e.0.kind) (entries_of b) added (entries_from k most) (added_from k (omega (arith, most)))
 
-  parts_climb : Climb (versions_of b ++ (activations_of s ++ entries_of b))
+  last_climb : Climb (activations_of s ++ last_of b)
+  last_climb = climb_join (activations_of s) (last_of b) activations_climb ends_climb (all_before 9 (activations_of s) (last_of b) activations_below (ends_from 9 (omega arith)))
+
+  last_from : (k : ℕ) → k ≤ 8 → AreFrom k (activations_of s ++ last_of b)
+  last_from k most = all-append (λ (e : Row). k ≤ e.0.kind) (activations_of s) (last_of b) (activations_from k most) (ends_from k (omega (arith, most)))
+
+  parts_climb : Climb (versions_of b ++ (activations_of s ++ last_of b))
   parts_climb =
-      climb_join (versions_of b) (activations_of s ++ entries_of b) versions_climb last_climb
-      (all_before 8 (versions_of b) (activations_of s ++ entries_of b) versions_kind.0 (last_from 8 (omega arith)))
+      climb_join (versions_of b) (activations_of s ++ last_of b) versions_climb last_climb
+      (all_before 8 (versions_of b) (activations_of s ++ last_of b) versions_kind.0 (last_from 8 (omega arith)))
 
-  parts_from : (k : ℕ) → k ≤ 8 → AreFrom k (versions_of b) → AreFrom k (versions_of b ++ (activations_of s ++ entries_of b))
-  parts_from k most versions = all-append (λ (e : Row). k ≤ e.0.kind) (versions_of b) (activations_of s ++ entries_of b) versions (last_from k most)
+  parts_from : (k : ℕ) → k ≤ 8 → AreFrom k (versions_of b) → AreFrom k (versions_of b ++ (activations_of s ++ last_of b))
+  parts_from k most versions = all-append (λ (e : Row). k ≤ e.0.kind) (versions_of b) (activations_of s ++ last_of b) versions (last_from k most)
 
   abbrev things : List Row
-  things = objects_of b ++ (versions_of b ++ (activations_of s ++ entries_of b))
+  things = objects_of b ++ (versions_of b ++ (activations_of s ++ last_of b))
 
   things_climb : Climb things
   things_climb =
-      climb_join (objects_of b) (versions_of b ++ (activations_of s ++ entries_of b)) objects_climb parts_climb
-      (all_before 7 (objects_of b) (versions_of b ++ (activations_of s ++ entries_of b)) objects_kind.0 (parts_from 7 (omega arith) versions_kind.1))
+      climb_join (objects_of b) (versions_of b ++ (activations_of s ++ last_of b)) objects_climb parts_climb
+      (all_before 7 (objects_of b) (versions_of b ++ (activations_of s ++ last_of b)) objects_kind.0 (parts_from 7 (omega arith) versions_kind.1))
 
   things_from : AreFrom 6 things
   things_from =
-      all-append (λ (e : Row). 6 ≤ e.0.kind) (objects_of b) (versions_of b ++ (activations_of s ++ entries_of b)) objects_kind.1 (parts_from 6 (omega arith) versions_kind.2)
-
-  -- nothing stands behind the entries
-  last_is : last_of b ≡ entries_of b
-  last_is = ap (λ (added : List Added). entries_of b ++ added_of b.classes added) good.added ∙ ap (λ (es : List Row). entries_of b ++ es) (none_added b.classes b.classes) ∙ append-nil (entries_of b)
+      all-append (λ (e : Row). 6 ≤ e.0.kind) (objects_of b) (versions_of b ++ (activations_of s ++ last_of b)) objects_kind.1 (parts_from 6 (omega arith) versions_kind.2)
 
   -- behind counters and classes that rise
   pub rows_rise : Climb (counters_row b ∷ class_rows s.tables b.classes) → HasRisingKeys (rows s)
   rows_rise front =
       climb_rises (rows s)
-      (subst Climb (sym (grouped s ∙ ap (λ (es : List Row). counters_row b ∷ (class_rows s.tables b.classes ++ (objects_of b ++ (versions_of b ++ (activations_of s ++ es))))) last_is))
+      (subst Climb (sym (grouped s))
       (climb_join (counters_row b ∷ class_rows s.tables b.classes) things front things_climb
       (all_before 6 (counters_row b ∷ class_rows s.tables b.classes) things (omega arith, low_classes s.tables b.classes) things_from)))

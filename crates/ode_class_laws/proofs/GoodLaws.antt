@@ -11,6 +11,7 @@ use Rattle.ode_laws.proofs.AlikePairs.{all_found, zip_then}
 use Rattle.ode_laws.proofs.Each.{all-then}
 use Rattle.ode_laws.proofs.Rows.{at_numbered}
 use Rattle.ode_value.specs.declared.binding.Param.{Param}
+use Rattle.ode_value.specs.declared.change.Added.{Added}
 use Rattle.ode_value.specs.declared.class.Class.{Class}
 use Rattle.ode_value.specs.declared.class.Field.{Field}
 use Rattle.ode_value.specs.declared.member.TriggerDecl.{TriggerDecl}
@@ -23,29 +24,30 @@ use Rattle.ode_value.specs.Classes.{Trigger, is_a, line_of, own_triggers, trigge
 use Rattle.ode_value.specs.Denoting.{object_at, object_of}
 use Rattle.ode_value.specs.Firings.{is_of}
 use Rattle.ode_value.specs.Fitting.{FitsObject, FitsRef, FitsSort, HaveTrigger, trigger_in}
-use Rattle.ode_value.specs.GoodWorlds.{AreClasses, IsActivation, IsClass, IsEntry, IsGood, IsObject, IsVersion, activation_of}
+use Rattle.ode_value.specs.GoodWorlds.{AreAdded, AreClasses, IsActivation, IsClass, IsEntry, IsGood, IsKnownSort, IsObject, IsVersion, activation_of}
 use Rattle.ode_value.specs.Language.{Language, ListWorld}
 use Rattle.ode_value.specs.Limits.{weight_limit}
 use Rattle.ode_value.specs.Objects.{Activation}
 use Rattle.ode_value.specs.Versions.{Version}
 use Rattle.ode_value.specs.Weights.{weight}
-use Rattle.ode_value.specs.Worlds.{Bones, Declared, Entry, Object, class_numbered}
+use Rattle.ode_value.specs.Worlds.{Bones, Declared, Entry, Object, class_named, class_numbered}
 use Rattle.ode_class_laws.specs.Declaring.{AreBefore, bones_with, world_with}
 
 -- ---- numbers of classes
 
-before_from : (l : Language) (top : ℕ) (cs earlier : List Declared) → AreClasses l earlier cs → length earlier + length cs < top → AreBefore top cs
-before_from l top [] earlier all less = tt
-before_from l top (c ∷ cs) earlier all less =
-    (omega (arith, all.0.number, less), before_from l top cs (earlier ++ c ∷ []) all.1 (omega (arith, length-append earlier (c ∷ []), less)))
+before_from : (l : Language) (added : List Added) (top : ℕ) (cs earlier : List Declared) → AreClasses l added earlier cs → length earlier + length cs < top → AreBefore top cs
+before_from l added top [] earlier all less = tt
+before_from l added top (c ∷ cs) earlier all less =
+    (omega (arith, all.0.number, less), before_from l added top cs (earlier ++ c ∷ []) all.1 (omega (arith, length-append earlier (c ∷ []), less)))
 
-pub classes_before : (l : Language) (cs : List Declared) (c : Declared) → AreClasses l [] cs → IsClass l cs c → AreBefore c.class.number cs
-classes_before l cs c all is = before_from l c.class.number cs [] all (omega (arith, is.number))
+pub classes_before : (l : Language) (added : List Added) (cs : List Declared) (c : Declared) → AreClasses l added [] cs → IsClass l added cs c → AreBefore c.class.number cs
+classes_before l added cs c all is = before_from l added c.class.number cs [] all (omega (arith, is.number))
 
-classes_more : (l : Language) (earlier cs : List Declared) (c : Declared) → AreClasses l earlier cs → IsClass l (earlier ++ cs) c → AreClasses l earlier (cs ++ c ∷ [])
-classes_more l earlier [] c all is = (subst (λ es. IsClass l es c) (append-nil earlier) is, tt)
-classes_more l earlier (d ∷ cs) c all is =
-    (all.0, classes_more l (earlier ++ d ∷ []) cs c all.1 (subst (λ es. IsClass l es c) (sym (append_assoc earlier (d ∷ []) cs)) is))
+classes_more : (l : Language) (added : List Added) (earlier cs : List Declared) (c : Declared) → AreClasses l added earlier cs → IsClass l added (earlier ++ cs) c
+    → AreClasses l added earlier (cs ++ c ∷ [])
+classes_more l added earlier [] c all is = (subst (λ es. IsClass l added es c) (append-nil earlier) is, tt)
+classes_more l added earlier (d ∷ cs) c all is =
+    (all.0, classes_more l added (earlier ++ d ∷ []) cs c all.1 (subst (λ es. IsClass l added es c) (sym (append_assoc earlier (d ∷ []) cs)) is))
 
 pub found_more : (n : ℕ) (cs more : List Declared) (k : Class) → class_numbered n cs ≡ Some k → class_numbered n (cs ++ more) ≡ Some k
 found_more n [] more k is = absurd (cc)
@@ -54,12 +56,42 @@ found_more n (c ∷ cs) more k is = by_test (c.class.number == n) is (found_more
   by_test true e rest = e
   by_test false e rest = rest e
 
-low_number : (top n : ℕ) (cs : List Declared) (k : Class) → AreBefore top cs → class_numbered n cs ≡ Some k → n < top
+pub low_number : (top n : ℕ) (cs : List Declared) (k : Class) → AreBefore top cs → class_numbered n cs ≡ Some k → n < top
 low_number top n [] k before is = absurd (cc)
 low_number top n (c ∷ cs) k before is = by_test (c.class.number == n) (eqb-true c.class.number n) is (low_number top n cs k before.1) where
   by_test : (b : Bool) → (b ≡ true → c.class.number ≡ n) → cond b (Some c.class) (class_numbered n cs) ≡ Some k → (class_numbered n cs ≡ Some k → n < top) → n < top
   by_test true same e later = omega (arith, same refl, before.0)
   by_test false same e later = later e
+
+-- ---- added fields
+
+pub named_more : (name : List ℕ) (cs more : List Declared) (k : Class) → class_named name cs ≡ Some k → class_named name (cs ++ more) ≡ Some k
+named_more name [] more k is = absurd (cc)
+named_more name (c ∷ cs) more k is = by_test (bytes_eq c.class.name name) is (named_more name cs more k) where
+  by_test : (b : Bool) → cond b (Some c.class) (class_named name cs) ≡ Some k → (class_named name cs ≡ Some k → class_named name (cs ++ more) ≡ Some k) → cond b (Some c.class) (class_named name (cs ++ more)) ≡ Some k
+  by_test true e rest = e
+  by_test false e rest = rest e
+
+-- what is there is some
+pub some_of : (m : Option Class) → IsSome m → (k : Class) × (m ≡ Some k)
+some_of (Some k) some = (k, refl)
+some_of None some = absurd (cc)
+
+sort_known : (cs : List Declared) (c : Declared) (s : Sort) → IsKnownSort cs s → IsKnownSort (cs ++ c ∷ []) s
+sort_known cs c (sort.Reference name) known =
+    let it = some_of (class_named name cs) known in subst IsSome (sym (named_more name cs (c ∷ []) it.0 it.1)) refl
+sort_known cs c sort.Int known = tt
+sort_known cs c sort.Bool known = tt
+sort_known cs c sort.Text known = tt
+sort_known cs c sort.Void known = tt
+
+-- they stay those of known classes
+pub added_more : (cs : List Declared) (c : Declared) (birth : ℕ) (added : List Added) → AreAdded cs birth added → AreAdded (cs ++ c ∷ []) birth added
+added_more cs c birth [] all = tt
+added_more cs c birth (a ∷ added) all =
+    let it = some_of (class_numbered a.class cs) all.1.class in
+    let class : IsSome (class_numbered a.class (cs ++ c ∷ [])) = subst IsSome (sym (found_more a.class cs (c ∷ []) it.0 it.1)) refl in
+    (all.0, record { class = class; name = all.1.name; sort = sort_known cs c a.sort all.1.sort; literal = all.1.literal }, added_more cs c (birth + 1) added all.2)
 
 -- ---- what fits still does
 
@@ -185,14 +217,15 @@ module _ (b : Bones) (objects : AllByRecursion (IsObject b) b.objects) (c : Decl
 
 -- ---- the whole
 
-pub good_with : (l : Language) (w : ListWorld) (c : Declared) → IsGood l w → IsClass l w.bones.classes c → weight (bones_with c w.bones) ≤ weight_limit → IsGood l (world_with c w)
+pub good_with : (l : Language) (w : ListWorld) (c : Declared) → IsGood l w → IsClass l w.bones.added w.bones.classes c → weight (bones_with c w.bones) ≤ weight_limit → IsGood l (world_with c w)
 good_with l w c good is light =
     let b = w.bones in
-    let before = classes_before l b.classes c good.bones.classes is in
+    let before = classes_before l b.added b.classes c good.bones.classes is in
     record {
       bones = record {
-        classes = classes_more l [] b.classes c good.bones.classes is;
-        added = good.bones.added;
+        classes = classes_more l b.added [] b.classes c good.bones.classes is;
+        added = added_more b.classes c 1 b.added good.bones.added;
+        few_added = good.bones.few_added;
         rising = good.bones.rising;
         objects = all-then (IsObject b) (IsObject (bones_with c b)) (object_more b good.bones.objects c before) b.objects good.bones.objects;
         numbers = good.bones.numbers;

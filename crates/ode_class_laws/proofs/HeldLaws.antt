@@ -14,7 +14,7 @@ use Rattle.ode_laws.proofs.Each.{all-then}
 use Rattle.ode_laws.proofs.GoodNumbers.{good_numbered}
 use Rattle.ode_value.specs.Answers.{Answer, ◌>>=◌, ◌>>◌, refuses}
 use Rattle.ode_value.specs.ClassLimits.{limits_class, limits_triggers}
-use Rattle.ode_value.specs.GoodWorlds.{IsClass, IsObject}
+use Rattle.ode_value.specs.GoodWorlds.{AreAdded, IsClass, IsObject}
 use Rattle.ode_value.specs.Language.{Language, ListWorld}
 use Rattle.ode_value.specs.Lengths.{class_records, table_records}
 use Rattle.ode_value.specs.Limits.{class_limit, weight_limit}
@@ -70,16 +70,16 @@ own_sized c own alphabets all limits =
     sized_of_few c.class.triggers own alphabets all (omega (arith, few, fewer))
 
 pub class_held : (l : Language) (records : List Row) (w : ListWorld) (held : HoldsWorld l records w) (c : Declared) (own : List Table) (alphabets : List Alphabet)
-    → IsClass l w.bones.classes c → AreCompiled c.class.triggers own alphabets → weight (bones_with c w.bones) ≤ weight_limit
+    → IsClass l w.bones.added w.bones.classes c → AreCompiled c.class.triggers own alphabets → weight (bones_with c w.bones) ≤ weight_limit
     → (after : HoldsWorld l (applied (puts (class_rows (stored_with c own held.stored).tables c)) records) (world_with c w)) × (after.stored ≡ stored_with c own held.stored)
 class_held l records w held c own alphabets is made light =
     let s : Stored = held.stored in
-    let before = classes_before l w.bones.classes c held.good.bones.classes is in
+    let before = classes_before l w.bones.added w.bones.classes c held.good.bones.classes is in
     let stored_before = subst (λ b. AllByRecursion (λ (d : Declared). d.class.number < c.class.number) b.classes) (sym held.stands.bones) before in
     let known : AreOf w.bones.classes w.bones.objects =
     all-then (IsObject w.bones) (λ (o : Object). IsSome (class_numbered o.class w.bones.classes)) (λ o object. object.class) w.bones.objects held.good.bones.objects in
     let stored_known = subst (λ (b : Bones). AreOf b.classes b.objects) (sym held.stands.bones) known in
-    let added : s.world.bones.added ≡ [] = ap (λ (b : Bones). b.added) held.stands.bones ∙ held.good.bones.added in (
+    let added = subst (λ (b : Bones). AreAdded b.classes 1 b.added) (sym held.stands.bones) held.good.bones.added in (
       record {
         stored = stored_with c own s;
         rows =

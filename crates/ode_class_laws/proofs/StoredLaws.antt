@@ -1,5 +1,5 @@
 -- The rows of a stored database with one more class.
-use Rattle.std.proofs.Common.{◌≡◌, ◌<◌, ◌≤◌, ℕ, ◌+◌, ◌*◌, cond, true, List, [], ◌∷◌, ◌++◌, length, map, ◌==◌, Option, Some, None, length-append, refl, sym, ◌∙◌, ap, arith, append_assoc, subst}
+use Rattle.std.proofs.Common.{◌≡◌, ◌<◌, ◌≤◌, ℕ, ◌+◌, ◌*◌, cond, Bool, true, false, List, [], ◌∷◌, ◌++◌, length, map, ◌==◌, Option, Some, None, length-append, refl, sym, ◌∙◌, ap, arith, append_assoc, subst}
 use Rattle.std.proofs.lemmas.Bool.Decides.{Decides-eqb}
 use Rattle.std.proofs.lemmas.Grind.{flat_map-append}
 use Rattle.std.proofs.lemmas.List.{append-nil, map-append}
@@ -7,28 +7,31 @@ use Rattle.std.specs.Prelude.{slice_index_or}
 use Rattle.std.specs.List.{AllByRecursion, enumerate_from, flat_map, range_with_len}
 use Rattle.std.specs.Option.{IsSome, option_map_or}
 use Rattle.ode_codec.specs.declared.record.TheConstants.{TABLE_PLACES}
-use Rattle.ode_codec.specs.StoredRows.{Stored, activation_rows, added_row, added_rows, counters_row, entry_row, head_row, object_row, pieces_of, places_of, rows, table_bytes, table_head, table_heads, table_pieces, table_row, table_rows, text_row, text_rows, version_rows, activation_row, state_of}
+use Rattle.ode_codec.specs.StoredRows.{Stored, activation_rows, added_row, added_rows, counters_row, entry_row, head_row, object_row, pieces_of, places_of, referred, rows, sort_number, table_bytes, table_head, table_heads, table_pieces, table_row, table_rows, text_row, text_rows, u32, version_rows, activation_row, state_of}
 use Rattle.ode_keep.specs.Entries.{Entries, applied}
 use Rattle.ode_laws.proofs.Each.{all-append}
 use Rattle.ode_laws.proofs.Numbers.{apart}
 use Rattle.ode_value.specs.Changing.{added_to}
 use Rattle.ode_value.specs.Fields.{fields_of}
-use Rattle.ode_value.specs.Keys.{class_head_kind, class_piece_kind, table_head_kind, table_piece_kind}
+use Rattle.ode_value.specs.GoodWorlds.{AreAdded, IsAdded, IsKnownSort}
+use Rattle.ode_value.specs.Keys.{added_key, class_head_kind, class_piece_kind, table_head_kind, table_piece_kind}
 use Rattle.ode_value.specs.Lengths.{piece_count}
 use Rattle.ode_value.specs.PrintedClasses.{decl_text}
-use Rattle.ode_value.specs.Records.{Row, version_row}
+use Rattle.ode_value.specs.Records.{Row, byte, spelled_value, version_row}
 use Rattle.ode_value.specs.Tables.{Table}
 use Rattle.ode_value.specs.Objects.{Activation}
-use Rattle.ode_value.specs.Worlds.{Bones, Declared, Entry, Object, World, class_numbered}
+use Rattle.ode_value.specs.Worlds.{Bones, Declared, Entry, Object, World, class_named, class_numbered}
 use Rattle.ode_value.specs.declared.change.Added.{Added}
 use Rattle.ode_value.specs.declared.class.Class.{Class}
 use Rattle.ode_value.specs.declared.class.Field.{Field}
+use Rattle.ode_value.specs.declared.statement.Sort.{Sort}
+use Rattle.ode_value.specs.declared.statement.Sort.TheVariants as sort
 use Rattle.ode_class_records.specs.ClassRows.{IsSized, IsStoredBy, class_rows, head_at, pieces_at}
 use Rattle.ode_class_records.specs.Puts.{puts}
 use Rattle.ode_class_records.proofs.ClimbLaws.{Climbs}
 use Rattle.ode_class_records.proofs.RowLaws.{heads_climb, heads_stored, tables_climb, tables_stored, text_climbs}
-use Rattle.ode_class_laws.specs.Declaring.{AreBefore, AreOf, stored_with, tables_with}
-use Rattle.ode_class_laws.proofs.GoodLaws.{found_more}
+use Rattle.ode_class_laws.specs.Declaring.{AreBefore, AreOf, bones_with, stored_with, tables_with}
+use Rattle.ode_class_laws.proofs.GoodLaws.{found_more, low_number, named_more, some_of}
 use Rattle.ode_class_laws.proofs.Insertion.{Earlier, Higher, Lower, applied_both, behind_earlier, higher_earlier, lower_climbs, lower_earlier}
 
 -- ---- tables by class and place
@@ -175,24 +178,62 @@ versions_same cs c (o ∷ os) known =
     ap (λ (fields : List Field). map (version_row o.id fields) o.versions ++ flat_map (version_rows (cs ++ c ∷ [])) os) (fields_more cs c o.class known.0)
     ∙ ap (λ rs. version_rows cs o ++ rs) (versions_same cs c os known.1)
 
--- where no field was added, there is no row of one
-none_added : (b : Bones) → b.added ≡ [] → (cs : List Declared) → flat_map (added_rows b) cs ≡ []
-none_added b none [] = refl
-none_added b none (c ∷ cs) =
-    ap (λ (all : List Added). map (added_row b.classes) (added_to c.class.number all) ++ flat_map (added_rows b) cs) none ∙ none_added b none cs
+-- ---- added fields, whose classes are there
 
-without_added : (es : Entries) (b : Bones) → b.added ≡ [] → (cs : List Declared) → es ++ flat_map (added_rows b) cs ≡ es
-without_added es b none cs = ap (λ rs. es ++ rs) (none_added b none cs) ∙ append-nil es
+referred_more : (cs : List Declared) (c : Declared) (s : Sort) → IsKnownSort cs s → referred (cs ++ c ∷ []) s ≡ referred cs s
+referred_more cs c (sort.Reference name) known =
+    let it = some_of (class_named name cs) known in
+    let number = λ (found : Option Class). option_map_or (λ (k : Class). k.number) found 0 in
+    ap number (named_more name cs (c ∷ []) it.0 it.1) ∙ ap number (sym it.1)
+referred_more cs c sort.Int known = refl
+referred_more cs c sort.Bool known = refl
+referred_more cs c sort.Text known = refl
+referred_more cs c sort.Void known = refl
 
--- eight lists, grouped from the right
-regroup : (a t h p o v x q : Entries) → a ++ t ++ h ++ p ++ o ++ v ++ x ++ q ≡ a ++ (t ++ (h ++ (p ++ (o ++ (v ++ (x ++ q))))))
-regroup a t h p o v x q =
-    append_assoc (a ++ t ++ h ++ p ++ o ++ v) x q
-    ∙ append_assoc (a ++ t ++ h ++ p ++ o) v (x ++ q)
-    ∙ append_assoc (a ++ t ++ h ++ p) o (v ++ (x ++ q))
-    ∙ append_assoc (a ++ t ++ h) p (o ++ (v ++ (x ++ q)))
-    ∙ append_assoc (a ++ t) h (p ++ (o ++ (v ++ (x ++ q))))
-    ∙ append_assoc a t (h ++ (p ++ (o ++ (v ++ (x ++ q)))))
+row_more : (cs : List Declared) (c : Declared) (a : Added) → IsAdded cs a → added_row (cs ++ c ∷ []) a ≡ added_row cs a
+row_more cs c a is =
+    ap (λ (n : ℕ). (added_key a.class a.birth, byte (length a.name) ++ a.name ++ byte (sort_number a.sort) ++ u32 n ++ spelled_value a.value)) (referred_more cs c a.sort is.sort)
+
+own_more : (cs : List Declared) (c : Declared) (class birth : ℕ) (xs : List Added) → AreAdded cs birth xs → map (added_row (cs ++ c ∷ [])) (added_to class xs) ≡ map (added_row cs) (added_to class xs)
+own_more cs c class birth [] are = refl
+own_more cs c class birth (a ∷ xs) are = by (a.class == class) (own_more cs c class (birth + 1) xs are.2)
+  where
+    by : (b : Bool) → map (added_row (cs ++ c ∷ [])) (added_to class xs) ≡ map (added_row cs) (added_to class xs)
+        → map (added_row (cs ++ c ∷ [])) (cond b (a ∷ added_to class xs) (added_to class xs)) ≡ map (added_row cs) (cond b (a ∷ added_to class xs) (added_to class xs))
+    by true more =
+        ap (λ (e : Row). e ∷ map (added_row (cs ++ c ∷ [])) (added_to class xs)) (row_more cs c a are.1)
+        ∙ ap (λ (es : Entries). added_row cs a ∷ es) more
+    by false more = more
+
+fields_same : (b : Bones) (c : Declared) → AreAdded b.classes 1 b.added → (ds : List Declared) → flat_map (added_rows (bones_with c b)) ds ≡ flat_map (added_rows b) ds
+fields_same b c are [] = refl
+fields_same b c are (d ∷ ds) =
+    ap (λ (es : Entries). es ++ flat_map (added_rows (bones_with c b)) ds) (own_more b.classes c d.class.number 1 b.added are)
+    ∙ ap (λ (es : Entries). added_rows b d ++ es) (fields_same b c are ds)
+
+-- a class that wasn't there has none
+none_own : (cs : List Declared) (n birth : ℕ) (xs : List Added) → AreBefore n cs → AreAdded cs birth xs → added_to n xs ≡ []
+none_own cs n birth [] before are = refl
+none_own cs n birth (a ∷ xs) before are =
+    let it = some_of (class_numbered a.class cs) are.1.class in
+    ap (λ (b : Bool). cond b (a ∷ added_to n xs) (added_to n xs)) (apart a.class n (low_number n a.class cs it.0 before it.1)) ∙ none_own cs n (birth + 1) xs before are.2
+
+fields_high : (b : Bones) (ds : List Declared) → Higher table_piece_kind (flat_map (added_rows b) ds)
+fields_high b [] = tt
+fields_high b (d ∷ ds) =
+    all-append (λ (e : Row). table_piece_kind < e.0.kind) (added_rows b d) (flat_map (added_rows b) ds)
+    (all_mapped (λ (e : Row). table_piece_kind < e.0.kind) (added_row b.classes) (λ a. omega arith) (added_to d.class.number b.added)) (fields_high b ds)
+
+-- nine lists, grouped from the right
+regroup : (a t h p o v x q r : Entries) → a ++ t ++ h ++ p ++ o ++ v ++ x ++ q ++ r ≡ a ++ (t ++ (h ++ (p ++ (o ++ (v ++ (x ++ (q ++ r)))))))
+regroup a t h p o v x q r =
+    append_assoc (a ++ t ++ h ++ p ++ o ++ v ++ x) q r
+    ∙ append_assoc (a ++ t ++ h ++ p ++ o ++ v) x (q ++ r)
+    ∙ append_assoc (a ++ t ++ h ++ p ++ o) v (x ++ (q ++ r))
+    ∙ append_assoc (a ++ t ++ h ++ p) o (v ++ (x ++ (q ++ r)))
+    ∙ append_assoc (a ++ t ++ h) p (o ++ (v ++ (x ++ (q ++ r))))
+    ∙ append_assoc (a ++ t) h (p ++ (o ++ (v ++ (x ++ (q ++ r)))))
+    ∙ append_assoc a t (h ++ (p ++ (o ++ (v ++ (x ++ (q ++ r))))))
 
 raise : (low top : ℕ) (es : Entries) → low ≤ top → Higher top es → Higher low es
 raise low top [] le all = tt
@@ -202,7 +243,7 @@ one_flat : {X : Type 0} (f : X → List Row) (xs : List X) (x : X) → flat_map 
 one_flat f xs x = flat_map-append f xs (x ∷ []) ∙ ap (λ rs. flat_map f xs ++ rs) (append-nil (f x))
 
 module _ (s : Stored) (c : Declared) (own : List Table) (same : length own ≡ length c.class.triggers) (sized : AllByRecursion IsSized own)
-    (before : AreBefore c.class.number s.world.bones.classes) (known : AreOf s.world.bones.classes s.world.bones.objects) (none : s.world.bones.added ≡ []) where
+    (before : AreBefore c.class.number s.world.bones.classes) (known : AreOf s.world.bones.classes s.world.bones.objects) (fields : AreAdded s.world.bones.classes 1 s.world.bones.added) where
   abbrev n : ℕ
   n = c.class.number
 
@@ -239,8 +280,11 @@ module _ (s : Stored) (c : Declared) (own : List Table) (same : length own ≡ l
   abbrev Q : Entries
   Q = map entry_row s.world.bones.queue
 
+  abbrev R : Entries
+  R = flat_map (added_rows s.world.bones) cs
+
   abbrev Z : Entries
-  Z = O ++ (V ++ (A ++ Q))
+  Z = O ++ (V ++ (A ++ (Q ++ R)))
 
   abbrev h : List Row
   h = head_row c ∷ []
@@ -257,8 +301,9 @@ module _ (s : Stored) (c : Declared) (own : List Table) (same : length own ≡ l
   behind_high : Higher table_piece_kind Z
   behind_high =
       let test = λ (e : Row). table_piece_kind < e.0.kind in
-      all-append test O (V ++ (A ++ Q)) (objects_high s.world.bones.objects)
-      (all-append test V (A ++ Q) (versions_high cs s.world.bones.objects) (all-append test A Q (activations_high s.world s.world.bones.objects) (entries_high s.world.bones.queue)))
+      all-append test O (V ++ (A ++ (Q ++ R))) (objects_high s.world.bones.objects)
+      (all-append test V (A ++ (Q ++ R)) (versions_high cs s.world.bones.objects)
+      (all-append test A (Q ++ R) (activations_high s.world s.world.bones.objects) (all-append test Q R (entries_high s.world.bones.queue) (fields_high s.world.bones cs))))
 
   tables_high : Higher table_head_kind (P ++ Z)
   tables_high =
@@ -343,6 +388,14 @@ module _ (s : Stored) (c : Declared) (own : List Table) (same : length own ≡ l
   now_versions : flat_map (version_rows (cs ++ c ∷ [])) s.world.bones.objects ≡ V
   now_versions = versions_same cs c s.world.bones.objects known
 
+  now_fields : flat_map (added_rows after.world.bones) (cs ++ c ∷ []) ≡ R
+  now_fields =
+      let own_rows : added_rows after.world.bones c ≡ [] = ap (map (added_row (cs ++ c ∷ []))) (none_own cs n 1 s.world.bones.added before fields) in
+      one_flat (added_rows after.world.bones) cs c
+      ∙ ap (λ rs. flat_map (added_rows after.world.bones) cs ++ rs) own_rows
+      ∙ append-nil (flat_map (added_rows after.world.bones) cs)
+      ∙ fields_same s.world.bones c fields cs
+
   abbrev now_classes : Entries
   now_classes = F ++ map head_row (cs ++ c ∷ []) ++ flat_map text_rows (cs ++ c ∷ []) ++ flat_map (table_heads by) (cs ++ c ∷ []) ++ flat_map (table_rows by) (cs ++ c ∷ [])
 
@@ -353,22 +406,22 @@ module _ (s : Stored) (c : Declared) (own : List Table) (same : length own ≡ l
       ∙ ap (λ x. (F ++ map head_row (cs ++ c ∷ []) ++ flat_map text_rows (cs ++ c ∷ []) ++ x ++ (P ++ p)) ++ Z) (sym now_table_heads)
       ∙ ap (λ x. (F ++ map head_row (cs ++ c ∷ []) ++ flat_map text_rows (cs ++ c ∷ []) ++ flat_map (table_heads by) (cs ++ c ∷ []) ++ x) ++ Z) (sym now_tables)
       ∙ sym (to_right now_classes)
-      ∙ ap (λ x. now_classes ++ O ++ x ++ A ++ Q) (sym now_versions)
-      ∙ sym (without_added (now_classes ++ O ++ flat_map (version_rows (cs ++ c ∷ [])) s.world.bones.objects ++ A ++ Q) after.world.bones none (cs ++ c ∷ []))
+      ∙ ap (λ x. now_classes ++ O ++ x ++ A ++ Q ++ R) (sym now_versions)
+      ∙ ap (λ x. now_classes ++ O ++ flat_map (version_rows (cs ++ c ∷ [])) s.world.bones.objects ++ A ++ Q ++ x) (sym now_fields)
     where
-      to_right : (a : Entries) → a ++ O ++ V ++ A ++ Q ≡ a ++ Z
-      to_right a = append_assoc (a ++ O ++ V) A Q ∙ append_assoc (a ++ O) V (A ++ Q) ∙ append_assoc a O (V ++ (A ++ Q))
+      to_right : (a : Entries) → a ++ O ++ V ++ A ++ Q ++ R ≡ a ++ Z
+      to_right a =
+          append_assoc (a ++ O ++ V ++ A) Q R ∙ append_assoc (a ++ O ++ V) A (Q ++ R) ∙ append_assoc (a ++ O) V (A ++ (Q ++ R)) ∙ append_assoc a O (V ++ (A ++ (Q ++ R)))
 
   abbrev plain : Entries
-  plain = F ++ H ++ T ++ I ++ P ++ O ++ V ++ A ++ Q
+  plain = F ++ H ++ T ++ I ++ P ++ O ++ V ++ A ++ Q ++ R
 
   pub class_stored : applied (puts (class_rows by c)) (rows s) ≡ rows after
   class_stored =
-      ap (applied (puts (class_rows by c))) (without_added plain s.world.bones none cs)
-      ∙ applied_both (head_row c ∷ t ++ i) p plain
+      applied_both (head_row c ∷ t ++ i) p plain
       ∙ ap (applied (puts p)) (applied_both (head_row c ∷ t) i plain)
       ∙ ap (λ es. applied (puts p) (applied (puts i) es)) (applied_both h t plain)
-      ∙ ap (λ es. applied (puts p) (applied (puts i) (applied (puts t) (applied (puts h) es)))) (regroup (F ++ H) T I P O V A Q ∙ append_assoc F H (T ++ (I ++ (P ++ Z))))
+      ∙ ap (λ es. applied (puts p) (applied (puts i) (applied (puts t) (applied (puts h) es)))) (regroup (F ++ H) T I P O V A Q R ∙ append_assoc F H (T ++ (I ++ (P ++ Z))))
       ∙ ap (λ es. applied (puts p) (applied (puts i) (applied (puts t) es))) with_head
       ∙ ap (λ es. applied (puts p) (applied (puts i) es)) with_texts
       ∙ ap (applied (puts p)) with_heads

@@ -9,4 +9,5 @@ mod tables;
 mod weighing;
 
 pub use class::class_changes;
+pub use putting::put;
 pub use weighing::spare;

@@ -9,7 +9,7 @@ use ode_keep::Batch;
 use std::alloc::{AllocError, Global};
 
 /// Puts what a record is spelled as.
-pub(crate) fn put(alloc: Global, batch: &mut Batch, one: &Record) -> Result<(), AllocError>
+pub fn put(alloc: Global, batch: &mut Batch, one: &Record) -> Result<(), AllocError>
     requires { IsCounted one.now }
     ensures { OnOk result (batch.new ≡ with_rows (spelled one.now ∷ []) batch.old) }
 {

@@ -1,7 +1,7 @@
 -- A program with one more class: where the tables stand.
 use Rattle.std.proofs.Common.{◌≡◌, ◌<◌, ℕ, zero, suc, ◌+◌, ◌==◌, ◌^◌, Bool, true, false, cond, List, [], ◌∷◌, ◌++◌, map, length, Option, Some, None, refl, sym, ap, ◌∙◌, subst, arith, length-append}
 use Rattle.std.specs.Prelude.{slice_get, slice_index_or}
-use Rattle.std.specs.List.{AllByRecursion, enumerate_from}
+use Rattle.std.specs.List.{AllByRecursion, enumerate_from, flat_map}
 use Rattle.std.specs.Option.{option_and_then, option_map, option_map_or, option_or}
 use Rattle.std.proofs.lemmas.Bool.{eq-eqb, eqb-true}
 use Rattle.std.proofs.lemmas.List.Folds.{find-append}
@@ -12,7 +12,7 @@ use Rattle.ode_class_laws.specs.Declaring.{tables_with}
 use Rattle.ode_compile.specs.Compiling.{AreCompiled, IsCompiled}
 use Rattle.ode_declared_laws.specs.Adding.{AreAligned, parts_with, tables_in}
 use Rattle.ode_laws.specs.Alike.{AgreesOn}
-use Rattle.ode_schema.specs.Parts.{AreFit, IsFit, Parts, table_by, table_place}
+use Rattle.ode_schema.specs.Parts.{AreFit, IsFit, Parts, places_from, table_by, table_place, trigger_count}
 use Rattle.ode_states.specs.Advance.{no_table}
 use Rattle.ode_types.proofs.CheckedClasses.{checked-next}
 use Rattle.ode_types.specs.Checked.{AreChecked, IsChecked}
@@ -56,6 +56,27 @@ table_is : (tables : List Table) (maps : List ℕ) (class place at : ℕ) (table
 table_is tables maps class place at table is has =
     ap (λ (o : Option ℕ). option_map_or (λ n. slice_index_or tables n no_table) o no_table) is ∙ get_or_from_slice_get tables at table no_table has
 
+-- each class has one
+as_many_places : (at : ℕ) (cs : List Class) → length (places_from at cs) ≡ length cs
+as_many_places at [] = refl
+as_many_places at (c ∷ cs) = ap suc (as_many_places (at + length c.triggers) cs)
+
+-- one class more begins behind the tables of the others
+places_more : (at : ℕ) (cs : List Class) (c : Class) → places_from at (cs ++ c ∷ []) ≡ places_from at cs ++ (at + trigger_count cs) ∷ []
+places_more at [] c = let same : at ≡ at + 0 = omega arith in ap (λ (n : ℕ). n ∷ []) same
+places_more at (k ∷ cs) c =
+    let long = length-append k.triggers (flat_map (λ (x : Class). x.triggers) cs) in
+    let same : at + length k.triggers + trigger_count cs ≡ at + length (k.triggers ++ flat_map (λ (x : Class). x.triggers) cs) = omega (arith, long) in
+    ap (λ (ns : List ℕ). at ∷ ns) (places_more (at + length k.triggers) cs c ∙ ap (λ (n : ℕ). places_from (at + length k.triggers) cs ++ n ∷ []) same)
+
+triggers_more : (cs : List Class) (c : Class) → trigger_count (cs ++ c ∷ []) ≡ trigger_count cs + length c.triggers
+triggers_more [] c = let none = length-append c.triggers [] in omega (arith, none)
+triggers_more (k ∷ cs) c =
+    let rest = triggers_more cs c in
+    let before = length-append k.triggers (flat_map (λ (x : Class). x.triggers) cs) in
+    let behind = length-append k.triggers (flat_map (λ (x : Class). x.triggers) (cs ++ c ∷ [])) in
+    omega (arith, rest, before, behind)
+
 -- a compiled trigger has its table and alphabet at its place
 compiled_at : (ts : List TriggerDecl) (own : List Table) (alphabets : List Alphabet) → AreCompiled ts own alphabets → (k : ℕ) (t : TriggerDecl) → slice_get ts k ≡ Some t
     → (table : Table) × (rows : Alphabet) × (slice_get own k ≡ Some table) × (slice_get alphabets k ≡ Some rows) × IsCompiled t table rows
@@ -65,6 +86,14 @@ compiled_at (u ∷ ts) (x ∷ xs) [] all k t is = absurd all
 compiled_at (u ∷ ts) (x ∷ xs) (rows ∷ more) all zero t is =
     let same : u ≡ t = cc in (x, rows, refl, refl, subst (λ (v : TriggerDecl). IsCompiled v x rows) same all.0)
 compiled_at (u ∷ ts) (x ∷ xs) (rows ∷ more) all (suc k) t is = compiled_at ts xs more all.1 k t is
+
+as_many_triggers : (ts : List TriggerDecl) (own : List Table) (alphabets : List Alphabet) → AreCompiled ts own alphabets → length own ≡ length ts
+as_many_triggers [] [] [] all = refl
+as_many_triggers [] [] (rows ∷ more) all = absurd all
+as_many_triggers [] (x ∷ xs) alphabets all = absurd all
+as_many_triggers (t ∷ ts) [] alphabets all = absurd all
+as_many_triggers (t ∷ ts) (x ∷ xs) [] all = absurd all
+as_many_triggers (t ∷ ts) (x ∷ xs) (rows ∷ more) all = ap suc (as_many_triggers ts xs more all.1)
 
 as_many_tables : (ts : List TriggerDecl) (own : List Table) (alphabets : List Alphabet) → AreCompiled ts own alphabets → length alphabets ≡ length own
 as_many_tables [] [] [] all = refl
@@ -109,7 +138,7 @@ module _ (p : Parts) (fit : AreFit p) (aligned : AreAligned p) (c : Class) (numb
   -- ---- one of the class has its own
 
   own_place : (place : ℕ) → table_place after.maps c.number place ≡ Some (length p.tables + place)
-  own_place place = place_last p.maps (length p.tables) c.number place (let same = aligned.places in omega (arith, same, number))
+  own_place place = place_last p.maps (length p.tables) c.number place (let same = ap length aligned.places ∙ as_many_places 0 p.classes in omega (arith, same, number))
 
   own_there : (place : ℕ) (table : Table) → slice_get own place ≡ Some table → tables_in after c.number place ≡ table
   own_there place table has =
@@ -192,10 +221,15 @@ program_fits p c own alphabets fit aligned is made few = fits_with p fit aligned
 pub program_aligned : (p : Parts) (c : Class) (own : List Table) (alphabets : List Alphabet) → AreAligned p → AreCompiled c.triggers own alphabets → AreAligned (parts_with c own alphabets p)
 program_aligned p c own alphabets aligned made =
     let same = as_many_tables c.triggers own alphabets made in
-    let places = aligned.places in
+    let count = as_many_triggers c.triggers own alphabets made in
     let level = aligned.alphabets in
+    let many = aligned.tables in
+    let before = length-append p.tables own in
+    let behind = triggers_more p.classes c in
+    let first : length p.tables ≡ 0 + trigger_count p.classes = omega (arith, many) in
     record {
-      places = length-append p.maps (length p.tables ∷ []) ∙ ap (λ (n : ℕ). n + 1) places ∙ sym (length-append p.classes (c ∷ []));
+      places = ap (λ (ns : List ℕ). ns ++ length p.tables ∷ []) aligned.places ∙ ap (λ (n : ℕ). places_from 0 p.classes ++ n ∷ []) first ∙ sym (places_more 0 p.classes c);
+      tables = omega (arith, many, count, before, behind);
       alphabets = length-append p.alphabets alphabets ∙ ap (λ (n : ℕ). n + length alphabets) level ∙ ap (λ (n : ℕ). length p.tables + n) same ∙ sym (length-append p.tables own);
     }
 

@@ -29,7 +29,7 @@ all_active b class [] all = refl
 all_active b class (a ∷ more) all =
     ap (λ (t : Bool). cond t (a ∷ filter is_active more) (filter is_active more)) all.0.on ∙ ap (λ (rest : List Activation). a ∷ rest) (all_active b class more all.1)
 
-all_there : (b : Bones) (os : List Object) → AllByRecursion (IsObject b) os → map kept_object (filter is_there os) ≡ os
+pub all_there : (b : Bones) (os : List Object) → AllByRecursion (IsObject b) os → map kept_object (filter is_there os) ≡ os
 all_there b [] all = refl
 all_there b (o ∷ os) all =
     ap (λ (t : Bool). map kept_object (cond t (o ∷ filter is_there os) (filter is_there os))) all.0.live

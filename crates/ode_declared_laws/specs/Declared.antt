@@ -18,7 +18,7 @@ use Rattle.ode_value.specs.Worlds.{Declared}
 
 -- a class that is accepted behind those of a world, and compiled, with parts that a record can count and room for its records
 pub record IsDeclared (l : Language) (w : ListWorld) (c : Declared) (own : List Table) (alphabets : List Alphabet) : Type 0 where
-  pub is : IsClass l w.bones.classes c
+  pub is : IsClass l w.bones.added w.bones.classes c
   pub compiled : AreCompiled c.class.triggers own alphabets
   pub few : HasFewParts c
   pub light : weight (bones_with c w.bones) ≤ weight_limit

@@ -15,12 +15,13 @@ ghost use Rattle.ode_heap_laws.specs.Few.{HasFewParams, HasFewParts, HoldsCounte
 ghost use Rattle.ode_keep.specs.Entries.{Changes, Entries, HasRisingKeys, applied, value_under};
 ghost use Rattle.ode_keep.specs.Growth.{put_bytes};
 ghost use Rattle.ode_laws.specs.Alike.{AgreesOn};
-ghost use Rattle.ode_machine.specs.Works.{declares};
+ghost use Rattle.ode_machine.specs.Works.{changes_class, declares};
 ghost use Rattle.ode_overlay.specs.After.{stands_after};
 ghost use Rattle.ode_overlay.specs.declared.origin.Origin.TheVariants as from;
 ghost use Rattle.ode_schema.specs.Parts.{AreFit, Parts};
 ghost use Rattle.ode_types.specs.Checked.{AreChecked, IsChecked};
 ghost use Rattle.ode_value.specs.Acts.{with_line};
+ghost use Rattle.ode_value.specs.Changing.{changed_bones, changed_world};
 ghost use Rattle.ode_value.specs.GoodWorlds.{IsGood};
 ghost use Rattle.ode_value.specs.Language.{Language, ListWorld};
 ghost use Rattle.ode_value.specs.Limits.{name_limit, weight_limit};
@@ -29,10 +30,11 @@ ghost use Rattle.ode_value.specs.PrintedClasses.{decl_text};
 ghost use Rattle.ode_value.specs.Settling.{abort, commit, transaction};
 ghost use Rattle.ode_value.specs.Symbols.{Alphabet};
 ghost use Rattle.ode_value.specs.Tables.{Table};
-ghost use Rattle.ode_value.specs.Texts.{class_line};
+ghost use Rattle.ode_value.specs.Texts.{changed_line, class_line, committed_line};
 ghost use Rattle.ode_value.specs.Transactions.{Script, begun};
 ghost use Rattle.ode_value.specs.Weights.{class_weight, weight};
 ghost use Rattle.ode_value.specs.Worlds.{Declared};
+ghost use Rattle.ode_value.specs.declared.change.Change.{Change};
 ghost use Rattle.ode_value.specs.declared.class.Class.{Class};
 ghost use Rattle.ode_value.specs.declared.key.Key.{Key};
 ghost use Rattle.ode_value.specs.declared.reason.Reason.TheVariants.{Space};
@@ -73,6 +75,22 @@ pub fn declarations_settle()
         → transaction lists Script (declares c) w ≡ commit lists (with_line (class_line c.class.name) (begun Script (world_with c w))) }
     ensures heavy { (l : Language) (w : ListWorld) (c : Declared) → IsGood l w → length c.class.name ≤ name_limit → weight_limit < weight (bones_with c w.bones)
         → transaction lists Script (declares c) w ≡ abort lists Space (with_line (class_line c.class.name) (begun Script w)) }
+{}
+
+/// A change of a class settles so too: where its world isn't too heavy, as a transaction that begins with that world and prints its line,
+/// which leaves as much weight where that world is good.
+pub fn changes_settle()
+    ensures light { (w : ListWorld) (c : Change) (classes : Items Declared) → length c.class ≤ name_limit → weight (changed_bones w.bones c classes) ≤ weight_limit
+        → transaction lists Script (changes_class lists classes c) w ≡ commit lists (with_line (changed_line c.class) (begun Script (changed_world lists classes c w))) }
+    ensures heavy { (w : ListWorld) (c : Change) (classes : Items Declared) → length c.class ≤ name_limit → weight_limit < weight (changed_bones w.bones c classes)
+        → transaction lists Script (changes_class lists classes c) w ≡ abort lists Space (with_line (changed_line c.class) (begun Script w)) }
+    ensures weighs { (l : Language) (v : ListWorld) → IsGood l v → (text : Items ℕ) → weight (commit lists (with_line text (begun Script v))).0.bones ≡ weight v.bones }
+{}
+
+/// A transaction that does nothing to a good world but print a text leaves all of it, and takes its number.
+pub fn commits_of_nothing_keep_all()
+    ensures { (l : Language) (v : ListWorld) → IsGood l v → (text : Items ℕ) → commit lists (with_line text (begun Script v))
+        ≡ (record v { bones = record v.bones { transaction = v.bones.transaction + 1 } }, text ++ committed_line v.bones.transaction) }
 {}
 
 /// Over records that hold a world, changes that put a declared class's records, and then do what a transaction does that began with this

@@ -3,7 +3,7 @@ use Rattle.std.proofs.Common.{◌≡◌, ◌==◌, ℕ, List, [], ◌∷◌, ◌
 use Rattle.std.proofs.lemmas.Bool.{eqb-true, false≢true}
 use Rattle.std.specs.List.{find, fold, list_any}
 use Rattle.ode_formed_laws.proofs.AmongLaws.{active_at, first_out, none_active}
-use Rattle.ode_formed_laws.proofs.FormedLaws.{after_by, by_few, by_live, by_need, by_number, formed_then, put_here, put_others, was_formed}
+use Rattle.ode_formed_laws.proofs.FormedLaws.{after_by, by_few, by_live, by_need, by_number, formed_then, put_here, put_others, was_formed, was_newest}
 use Rattle.ode_formed_laws.proofs.ObjectLaws.{by_form, held_actives, own_active, own_actives}
 use Rattle.ode_formed_laws.proofs.SpelledLaws.{same_active, same_object, same_version}
 use Rattle.ode_formed_laws.specs.Staying.{IsStored, StaysFormed}
@@ -86,8 +86,8 @@ module _ (classes : List Declared) (base : Entries) (x : Layer) (id : ℕ) (new 
       let a = new_active x.next class trigger args in
       let o = activated a t.current in
       let keys = fold with_key x.keys (one_key x.next) in
-      formed_then classes base x (next_drawn (with_now id new o keys x)) id o (one_key x.next) formed (own_active id x.next, tt) refl
-      (put_here x id new o keys) (put_others x id new o keys)
+      formed_then classes base x (next_drawn (with_now id new o keys x)) id o (one_key x.next) formed (own_active id x.next, tt) refl refl
+      (put_here x id new o keys (was_newest classes base x id new formed read) (was_newest classes base x id new formed read t found).0) (put_others x id new o keys)
       (unheld t found (t.current.activations ++ a ∷ []) (one_key x.next) (λ n out. found_pushed n t.current.activations a (other_number x.next n out)))
       (held_one o x.next)
 
@@ -108,8 +108,8 @@ module _ (classes : List Declared) (base : Entries) (x : Layer) (id : ℕ) (new 
   off_so number t found =
       let o = switched_off number t.current in
       let keys = fold with_key x.keys (one_key number) in
-      formed_then classes base x (with_now id new o keys x) id o (one_key number) formed (own_active id number, tt) refl
-      (put_here x id new o keys) (put_others x id new o keys)
+      formed_then classes base x (with_now id new o keys x) id o (one_key number) formed (own_active id number, tt) refl refl
+      (put_here x id new o keys (was_newest classes base x id new formed read) (was_newest classes base x id new formed read t found).0) (put_others x id new o keys)
       (unheld t found (map (turned_off number) t.current.activations) (one_key number) (λ n out. found_turned n number t.current.activations (other_number number n out)))
       (held_one o number)
 
@@ -129,8 +129,8 @@ module _ (classes : List Declared) (base : Entries) (x : Layer) (id : ℕ) (new 
   put_so rs t found =
       let o = with_states rs t.current in
       let keys = fold with_key x.keys (activation_keys id t.current.activations) in
-      formed_then classes base x (with_now id new o keys x) id o (activation_keys id t.current.activations) formed (own_actives id t.current.activations) refl
-      (put_here x id new o keys) (put_others x id new o keys)
+      formed_then classes base x (with_now id new o keys x) id o (activation_keys id t.current.activations) formed (own_actives id t.current.activations) refl refl
+      (put_here x id new o keys (was_newest classes base x id new formed read) (was_newest classes base x id new formed read t found).0) (put_others x id new o keys)
       (unheld t found (taken_over rs t.current.activations) (activation_keys id t.current.activations)
       (λ n out. let none = none_active id n t.current.activations out in found_taken n rs t.current.activations none ∙ sym none))
       (held_actives classes base id o t.current.activations)

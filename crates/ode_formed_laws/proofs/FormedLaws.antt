@@ -15,8 +15,11 @@ use Rattle.ode_formed_laws.specs.Staying.{IsStored, StaysFormed}
 use Rattle.ode_keep.proofs.Maps.{lookup_put}
 use Rattle.ode_keep.specs.Entries.{Entries, value_under}
 use Rattle.ode_objects.specs.Records.{object_becomes}
+use Rattle.ode_objects.specs.Tracked.{as_first}
 use Rattle.ode_objects.specs.Values.{are_args, are_fields}
 use Rattle.ode_objects.specs.declared.object.Object.{Object}
+use Rattle.ode_objects.specs.declared.tracked.First.{First}
+use Rattle.ode_objects.specs.declared.tracked.First.TheVariants.{Same, Other, Absent}
 use Rattle.ode_objects.specs.declared.tracked.Tracked.{Tracked}
 use Rattle.ode_overlay.specs.After.{held_after, is_among, value_after}
 use Rattle.ode_overlay.specs.Answers.{Answer, ◌>>=◌}
@@ -28,7 +31,7 @@ use Rattle.ode_overlay.specs.declared.error.OverlayError.{OverlayError}
 use Rattle.ode_overlay.specs.declared.error.OverlayError.TheVariants.{NoNumber, NoObject, TooLong, TooManyChanges}
 use Rattle.ode_overlay.specs.declared.origin.Origin.{Origin}
 use Rattle.ode_overlay_laws.proofs.AlteredLaws.{now_current}
-use Rattle.ode_settling_laws.specs.Formed.{IsFormed, IsOwn, value_in}
+use Rattle.ode_settling_laws.specs.Formed.{AreNewest, HasNewest, IsFormed, IsOwn, WereNewest, value_in}
 use Rattle.ode_value.specs.Changes.{with_key}
 use Rattle.ode_value.specs.Limits.{change_limit, number_limit}
 use Rattle.ode_value.specs.Worlds.{Declared}
@@ -74,7 +77,7 @@ abbrev pub after_by : Layer → Key → Object → Bytes → Bytes
 after_by x q o below = cond (is_among q x.keys) (value_after (object_becomes q o) below) below
 
 module _ (classes : List Declared) (base : Entries) (x then : Layer) (id : ℕ) (o : Object) (ks : List Key) (formed : IsFormed classes base x) (own : AllByRecursion (IsOf id) ks) (keys : then.keys ≡ fold with_key x.keys ks)
-    (here : (t : Tracked) → tracked_at id then ≡ Some t → t.current ≡ o) (others : (n : ℕ) → (n == id) ≡ false → tracked_at n then ≡ tracked_at n x)
+    (first : then.first ≡ x.first) (here : (t : Tracked) → tracked_at id then ≡ Some t → (t.current ≡ o) × HasNewest x.first.added t) (others : (n : ℕ) → (n == id) ≡ false → tracked_at n then ≡ tracked_at n x)
     (unheld : (q : Key) → IsOwn q → q.a ≡ id → is_among q ks ≡ false → after_by x q o (value_under base q) ≡ value_in classes q o)
     (held : (q : Key) → IsOwn q → q.a ≡ id → is_among q ks ≡ true → value_after (object_becomes q o) (value_under base q) ≡ value_in classes q o) where
   among_then : (q : Key) → is_among q then.keys ≡ (is_among q ks || is_among q x.keys)
@@ -100,7 +103,7 @@ module _ (classes : List Declared) (base : Entries) (x then : Layer) (id : ℕ) 
   each_then : (n : ℕ) (t : Tracked) (q : Key) → tracked_at n then ≡ Some t → IsOwn q → q.a ≡ n → (b : Bool) → (n == id) ≡ b → held_after then q (value_under base q) ≡ value_in classes q t.current
   each_then n t q is own_q at true same =
       let number : n ≡ id = eqb-true n id same in
-      let current : t.current ≡ o = here t (ap (λ m. tracked_at m then) (sym number) ∙ is) in
+      let current : t.current ≡ o = (here t (ap (λ m. tracked_at m then) (sym number) ∙ is)).0 in
       held_then then q ∙ ap (λ m. after_with q (is_among q then.keys) (tracked_at m then)) at ∙ ap (after_with q (is_among q then.keys)) is
       ∙ ap (λ (c : Object). cond (is_among q then.keys) (value_after (object_becomes q c) (value_under base q)) (value_under base q)) current
       ∙ ap (λ b. cond b (value_after (object_becomes q o) (value_under base q)) (value_under base q)) (among_then q)
@@ -113,10 +116,15 @@ module _ (classes : List Declared) (base : Entries) (x then : Layer) (id : ℕ) 
       ∙ ap (λ m. after_with q (is_among q x.keys) (tracked_at m x)) (sym at) ∙ sym (held_then x q)
       ∙ formed.each n t q was own_q at
 
+  newest_then : (n : ℕ) (t : Tracked) → tracked_at n then ≡ Some t → (b : Bool) → (n == id) ≡ b → HasNewest x.first.added t
+  newest_then n t is true same = (here t (ap (λ m. tracked_at m then) (sym (eqb-true n id same)) ∙ is)).1
+  newest_then n t is false differs = formed.newest n t (sym (others n differs) ∙ is)
+
   pub formed_then : IsFormed classes base then
   formed_then = record {
     keys = subst (AllByRecursion IsOwn) (sym keys) (all_more IsOwn ks x.keys (all_own own) formed.keys);
     each = λ n t q is own_q at. each_then n t q is own_q at (n == id) refl;
+    newest = λ n t is. subst (λ (c : Counters). HasNewest c.added t) (sym first) (newest_then n t is (n == id) refl);
   }
 
 -- ---- one that is put in the place of what there was
@@ -127,12 +135,22 @@ at_other id n out = grind (arith, nat_tests)
 pub at_itself : (id : ℕ) → is_at (nat_cmp id) id ≡ true
 at_itself id = grind (arith, nat_tests)
 
-pub put_here : (x : Layer) (id : ℕ) (new : Option Tracked) (o : Object) (keys : List Key) (t : Tracked) → tracked_at id (with_now id new o keys x) ≡ Some t → t.current ≡ o
-put_here x id new o keys t is =
+-- what was there stays what it was at first
+now_newest : (stamp : ℕ) (o : Object) → AreNewest stamp o → (f : Option Tracked) → ((t : Tracked) → f ≡ Some t → HasNewest stamp t) → HasNewest stamp (now_tracked o f)
+now_newest stamp o new None was = (new, tt)
+now_newest stamp o new (Some t) was = (new, by_first t.first (was t refl)) where
+  by_first : (f : First) → AreNewest stamp t.current × WereNewest stamp f → WereNewest stamp (as_first t.current f)
+  by_first Same now = now.0
+  by_first (Other first) now = now.1
+  by_first Absent now = tt
+
+pub put_here : (x : Layer) (id : ℕ) (new : Option Tracked) (o : Object) (keys : List Key) → ((u : Tracked) → object_of new id x ≡ Some u → HasNewest x.first.added u) → AreNewest x.first.added o
+    → (t : Tracked) → tracked_at id (with_now id new o keys x) ≡ Some t → (t.current ≡ o) × HasNewest x.first.added t
+put_here x id new o keys was newest t is =
     let found : Some (now_tracked o (object_of new id x)) ≡ Some t =
     sym (ap (λ b. cond b (Some (now_tracked o (object_of new id x))) (tracked_at id x)) (at_itself id)) ∙ sym (lookup_put nat_cmp_total id (now_tracked o (object_of new id x)) id x.objects) ∙ is in
     let one : now_tracked o (object_of new id x) ≡ t = cc in
-    ap (λ (u : Tracked). u.current) (sym one) ∙ now_current o (object_of new id x)
+    (ap (λ (u : Tracked). u.current) (sym one) ∙ now_current o (object_of new id x), subst (HasNewest x.first.added) one (now_newest x.first.added o newest (object_of new id x) was))
 
 pub put_others : (x : Layer) (id : ℕ) (new : Option Tracked) (o : Object) (keys : List Key) (n : ℕ) → (n == id) ≡ false → tracked_at n (with_now id new o keys x) ≡ tracked_at n x
 put_others x id new o keys n out =
@@ -157,22 +175,30 @@ module _ (classes : List Declared) (base : Entries) (x : Layer) (id : ℕ) (new 
       sym (held_of q ∙ ap (λ m. after_of q (tracked_at m x)) at ∙ ap (after_of q) found) ∙ formed.each id t q found own at
   by_new (Some u) is read t found q own at =
       let same : u ≡ t = cc in
-      either q t.current (is_among q x.keys) own (read q own at ∙ ap (λ (v : Tracked). value_in classes q v.current) same)
+      either q t.current (is_among q x.keys) own (read.0 q own at ∙ ap (λ (v : Tracked). value_in classes q v.current) same)
 
   -- behind the keys that are held stands what the object is
   pub was_formed : (t : Tracked) → object_of new id x ≡ Some t → (q : Key) → IsOwn q → q.a ≡ id → after_by x q t.current (value_under base q) ≡ value_in classes q t.current
   was_formed t found q own at = by_new new refl read t found q own at
 
+  newest_by : (f : Option Tracked) → IsStored classes base id f → (t : Tracked) → object_of f id x ≡ Some t → HasNewest x.first.added t
+  newest_by None is t found = formed.newest id t found
+  newest_by (Some u) is t found = let same : u ≡ t = cc in subst (HasNewest x.first.added) same (is.1 x.first.added)
+
+  -- and what of it was written has the newest stamp
+  pub was_newest : (t : Tracked) → object_of new id x ≡ Some t → HasNewest x.first.added t
+  was_newest = newest_by new read
+
 -- ---- at the start
 
 pub formed_begun : (classes : List Declared) (base : Entries) (counters : Counters) (queued : ℕ) (origin : Origin) → IsFormed classes base (begun counters queued origin)
-formed_begun classes base counters queued origin = record { keys = tt; each = λ n t q is own at. absurd (cc is) }
+formed_begun classes base counters queued origin = record { keys = tt; each = λ n t q is own at. absurd (cc is); newest = λ n t is. absurd (cc is) }
 
 -- ---- a firing is collected
 
 collected_stays : (classes : List Declared) (base : Entries) (x : Layer) (e : Entry) (independent : Bool) → IsFormed classes base x → (b : Bool) → IsFormed classes base (cond {A = Bool × Layer} b (true, with_entry e independent x) (false, x)).1
 unfolding becomes
-collected_stays classes base x e independent formed true = record { keys = formed.keys; each = formed.each }
+collected_stays classes base x e independent formed true = record { keys = formed.keys; each = formed.each; newest = formed.newest }
 collected_stays classes base x e independent formed false = formed
 
 pub collect_stays : (classes : List Declared) (base : Entries) (x : Layer) (e : Entry) (independent : Bool) → IsFormed classes base x → IsFormed classes base (collect e independent x).1

@@ -10,7 +10,7 @@ use Rattle.std.specs.Map.{lookup}
 use Rattle.std.specs.Option.{option_and_then, option_map}
 use Rattle.std.specs.Ordering.{nat_cmp}
 use Rattle.ode_formed_laws.proofs.AmongLaws.{IsOf, among_append, first_out, no_version, none_active, none_version, second_out, version_at}
-use Rattle.ode_formed_laws.proofs.FormedLaws.{at_itself, at_other, by_few, by_kept, by_live, by_number, formed_then, put_here, put_others, was_formed}
+use Rattle.ode_formed_laws.proofs.FormedLaws.{at_itself, at_other, by_few, by_kept, by_live, by_number, formed_then, put_here, put_others, was_formed, was_newest}
 use Rattle.ode_formed_laws.proofs.SpelledLaws.{IsWritten, spells_active, spells_object, spells_written}
 use Rattle.ode_formed_laws.specs.Staying.{IsStored, IsUnused, StaysFormed}
 use Rattle.ode_keep.proofs.Maps.{lookup_put}
@@ -26,7 +26,7 @@ use Rattle.ode_overlay.specs.After.{is_among, value_after}
 use Rattle.ode_overlay.specs.Answers.{◌>>=◌}
 use Rattle.ode_overlay.specs.Changing.{create, created, next_number, object_of, put_new, remove_with, touch_first, touch_with, touched_with, with_now}
 use Rattle.ode_overlay.specs.Layers.{Layer, holding, is_touched, tracked_at}
-use Rattle.ode_settling_laws.specs.Formed.{IsFormed, IsOwn, active_value, value_in, version_value}
+use Rattle.ode_settling_laws.specs.Formed.{HasNewest, IsFormed, IsOwn, active_value, value_in, version_value}
 use Rattle.ode_value.specs.Changes.{with_key}
 use Rattle.ode_value.specs.Fields.{fields_of}
 use Rattle.ode_value.specs.Keys.{activation_key, key_cmp, object_key, version_key}
@@ -75,13 +75,13 @@ module _ (classes : List Declared) (base : Entries) (x : Layer) (id : ℕ) (new 
   abbrev touched_then : Object → Layer
   touched_then o = touched_with new (fold with_key x.keys (activation_keys id o.activations)) id x
 
-  here_by : (f : Option Tracked) → (t u : Tracked) → object_of f id x ≡ Some t → lookup (is_at (nat_cmp id)) (put_new id f x.objects) ≡ Some u → u.current ≡ t.current
-  here_by None t u found is = let same : t ≡ u = cc in ap (λ (v : Tracked). v.current) (sym same)
+  here_by : (f : Option Tracked) → (t u : Tracked) → object_of f id x ≡ Some t → lookup (is_at (nat_cmp id)) (put_new id f x.objects) ≡ Some u → t ≡ u
+  here_by None t u found is = cc
   here_by (Some v) t u found is =
       let there : Some v ≡ Some u = sym (ap (λ b. cond b (Some v) (tracked_at id x)) (at_itself id)) ∙ sym (lookup_put nat_cmp_total id v id x.objects) ∙ is in
       let one : v ≡ u = cc in
       let same : v ≡ t = cc in
-      ap (λ (w : Tracked). w.current) (sym one ∙ same)
+      sym same ∙ one
 
   others_by : (f : Option Tracked) → (n : ℕ) → (n == id) ≡ false → lookup (is_at (nat_cmp n)) (put_new id f x.objects) ≡ tracked_at n x
   others_by None n out = refl
@@ -89,8 +89,11 @@ module _ (classes : List Declared) (base : Entries) (x : Layer) (id : ℕ) (new 
 
   touched_so : (t : Tracked) → object_of new id x ≡ Some t → IsFormed classes base (touched_then t.current)
   touched_so t found =
-      formed_then classes base x (touched_then t.current) id t.current (activation_keys id t.current.activations) formed (own_actives id t.current.activations) refl
-      (λ u is. here_by new t u found is) (λ n out. others_by new n out)
+      formed_then classes base x (touched_then t.current) id t.current (activation_keys id t.current.activations) formed (own_actives id t.current.activations) refl refl
+      (λ u is.
+      let same : t ≡ u = here_by new t u found is in
+      (ap (λ (v : Tracked). v.current) (sym same), subst (HasNewest x.first.added) same (was_newest classes base x id new formed read t found)))
+      (λ n out. others_by new n out)
       (λ q own at out. was_formed classes base x id new formed read t found q own at) (held_actives classes base id t.current t.current.activations)
 
   pub touch_stays : StaysFormed classes base (touch_with new id x)
@@ -124,8 +127,8 @@ module _ (classes : List Declared) (base : Entries) (x : Layer) (id : ℕ) (new 
   removed_so : (t : Tracked) → object_of new id x ≡ Some t → IsFormed classes base (with_now id new (dead t.current) (fold with_key x.keys (object_keys id t.current)) x)
   removed_so t found =
       let keys = fold with_key x.keys (object_keys id t.current) in
-      formed_then classes base x (with_now id new (dead t.current) keys x) id (dead t.current) (object_keys id t.current) formed (own_all id t.current) refl
-      (put_here x id new (dead t.current) keys) (put_others x id new (dead t.current) keys)
+      formed_then classes base x (with_now id new (dead t.current) keys x) id (dead t.current) (object_keys id t.current) formed (own_all id t.current) refl refl
+      (put_here x id new (dead t.current) keys (was_newest classes base x id new formed read) (was_newest classes base x id new formed read t found).0) (put_others x id new (dead t.current) keys)
       (λ q own at out. gone (value_under base q) t.current q (is_among q x.keys) (none_in t.current q own at out) (was_formed classes base x id new formed read t found q own at))
       (λ q own at among. refl)
 
@@ -182,8 +185,8 @@ module _ (classes : List Declared) (base : Entries) (x : Layer) (class : ℕ) (f
       by_kept classes base x.first.added fields (λ stored. holding ks x >>= λ keys. next_number x >>= λ id. Ok (id, created class stored keys x))
       (by_few classes base x ks (λ keys. next_number x >>= λ id. Ok (id, created class kept keys x))
       (by_number classes base x (λ id. Ok (id, made_then))
-      (formed_then classes base x made_then x.next new_object ks formed (own_object x.next, (own_version x.next 1, tt)) refl
-      (put_here x x.next None new_object (fold with_key x.keys ks)) (put_others x x.next None new_object (fold with_key x.keys ks))
+      (formed_then classes base x made_then x.next new_object ks formed (own_object x.next, (own_version x.next 1, tt)) refl refl
+      (put_here x x.next None new_object (fold with_key x.keys ks) (was_newest classes base x x.next None formed tt) (refl, tt)) (put_others x x.next None new_object (fold with_key x.keys ks))
       (λ q own at out. by_held q (is_among q x.keys) (none_else q own at out) (unused q own at)) held_made))) where
         by_held : (q : Key) (b : Bool) → (value_in classes q (made class kept) ≡ None) × ((below : Option (List ℕ)) → value_after (object_becomes q (made class kept)) below ≡ value_in classes q (made class kept))
             → value_under base q ≡ None → cond b (value_after (object_becomes q (made class kept)) (value_under base q)) (value_under base q) ≡ value_in classes q (made class kept)

@@ -20,12 +20,13 @@ use Rattle.ode_objects.specs.Loading.{whole_in}
 use Rattle.ode_objects.specs.Objects.{has_number}
 use Rattle.ode_objects.specs.Tracked.{read_object}
 use Rattle.ode_objects.specs.declared.object.Object as whole
+use Rattle.ode_objects.specs.declared.object.Version as objects
 use Rattle.ode_objects.specs.declared.tracked.Tracked.{Tracked}
 use Rattle.ode_overlay.specs.Changing.{fresh, fresh_at}
 use Rattle.ode_overlay.specs.Layers.{Layer, tracked_at}
 use Rattle.ode_settling_laws.proofs.KindLaws.{activation_stands, object_stands, version_stands}
 use Rattle.ode_settling_laws.proofs.PartLaws.{HasStored, activations_stand, of_number, versions_stand}
-use Rattle.ode_settling_laws.specs.Formed.{IsOwn, active_value, value_in}
+use Rattle.ode_settling_laws.specs.Formed.{IsNewest, IsOwn, active_value, value_in}
 use Rattle.ode_value.specs.Denoting.{object_numbered}
 use Rattle.ode_value.specs.Fields.{fields_of}
 use Rattle.ode_value.specs.GoodWorlds.{RiseFrom}
@@ -43,6 +44,11 @@ use Rattle.ode_value.specs.declared.key.Key.{Key}
 all_read : (fields : List Field) (vs : List Version) → AllByRecursion (HasStored fields) (map read_version vs)
 all_read fields [] = tt
 all_read fields (v ∷ vs) = (refl, all_read fields vs)
+
+-- none of which was written
+none_written : (stamp : ℕ) (vs : List Version) → AllByRecursion (λ (v : objects.Version). IsNewest stamp v.fields) (map read_version vs)
+none_written stamp [] = tt
+none_written stamp (v ∷ vs) = (tt, none_written stamp vs)
 
 module _ (l : Language) (records : Entries) (w : ListWorld) (held : HoldsCounted l records w) (readable : IsReadable held.world.stored)
     (object_shown : (id : ℕ) → object_in records id ≡ There (option_map head_of_object (object_numbered id w.bones.objects)))
@@ -99,9 +105,11 @@ module _ (l : Language) (records : Entries) (w : ListWorld) (held : HoldsCounted
   -- any number
 
   stored_there : (id : ℕ) (o : Object) → object_numbered id w.bones.objects ≡ Some o → IsStored w.bones.classes records id (Some (read_object (its o)))
-  stored_there id o at q own is =
-      let same : o.id ≡ id = numbered_id id w.bones.objects o at in
-      ap (λ (es : Entries). value_under es q) held.world.rows ∙ all_there o (ap (λ n. object_numbered n w.bones.objects) same ∙ at) q own (is ∙ sym same)
+  stored_there id o at =
+      let same : o.id ≡ id = numbered_id id w.bones.objects o at in (
+        λ q own is. ap (λ (es : Entries). value_under es q) held.world.rows ∙ all_there o (ap (λ n. object_numbered n w.bones.objects) same ∙ at) q own (is ∙ sym same),
+        λ stamp. (none_written stamp o.versions, tt),
+      )
 
   module _ (x : Layer) (id : ℕ) (new : Option Tracked) where
     by_object : (f : Option Object) → object_numbered id w.bones.objects ≡ f → as_read (whole_in classes records id) ≡ Ok new → IsStored w.bones.classes records id new

@@ -22,7 +22,7 @@ ghost use Rattle.ode_value.specs.declared.value.Value.{Value};
 
 use ode_heap_laws::{heaps_show_held_worlds, held_worlds_can_be_read};
 
-/// What an overlay reads of an object from records that hold a world stands under the object's keys.
+/// What an overlay reads of an object from records that hold a world stands under the object's keys, and nothing of it was written.
 pub fn objects_are_read_as_stored()
     ensures { (l : Language) (records : Entries) (w : ListWorld) (x : Layer) (id : ℕ) (new : Option Tracked) → HoldsCounted l records w
         → fresh (map class_of w.bones.classes) records id x ≡ Ok new → IsStored w.bones.classes records id new }

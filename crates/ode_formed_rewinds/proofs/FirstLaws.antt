@@ -6,7 +6,7 @@ use Rattle.ode_codec.specs.StoredRows.{Stored, activation_row, activation_rows, 
 use Rattle.ode_formed_laws.proofs.ObjectLaws.{by_form}
 use Rattle.ode_keep.specs.Entries.{value_under}
 use Rattle.ode_laws.proofs.AlikePairs.{all_found}
-use Rattle.ode_laws.proofs.BornLaws.{object_born}
+use Rattle.ode_laws.proofs.BornLaws.{newest_born}
 use Rattle.ode_laws.proofs.Rows.{find-map}
 use Rattle.ode_objects.specs.Objects.{has_number, is_numbered}
 use Rattle.ode_objects.specs.declared.object.Active.{Active}
@@ -14,11 +14,12 @@ use Rattle.ode_objects.specs.declared.object.Object as tracked
 use Rattle.ode_overlay_laws.specs.Standing.{IsIn, active_as, object_as}
 use Rattle.ode_settling_laws.proofs.KindLaws.{activation_stands, object_stands, version_stands}
 use Rattle.ode_settling_laws.proofs.PartLaws.{activations_stand, all_stored, number_found, of_number, state_found, versions_stand}
-use Rattle.ode_settling_laws.specs.Formed.{IsOwn, active_value, object_value, value_in, version_value}
+use Rattle.ode_settling_laws.specs.Formed.{AreNewest, IsOwn, active_value, object_value, value_in, version_value}
 use Rattle.ode_value.specs.Fields.{fields_of}
 use Rattle.ode_value.specs.GoodWorlds.{AreBones, IsActivation, IsObject}
 use Rattle.ode_value.specs.Keys.{activation_key, object_key, version_key}
 use Rattle.ode_value.specs.Language.{Language}
+use Rattle.ode_value.specs.Making.{stamp_now}
 use Rattle.ode_value.specs.Objects.{Activation}
 use Rattle.ode_value.specs.Pasts.{Kept}
 use Rattle.ode_value.specs.Worlds.{Object}
@@ -61,10 +62,10 @@ module _ (l : Language) (s : Stored) (good : AreBones l s.world.bones) (id : ℕ
   abbrev fields : List Field
   fields = fields_of s.world.bones.classes o.class
 
-  version_there : (n : ℕ) → value_under (rows s) (version_key id n) ≡ value_in s.world.bones.classes (version_key id n) o
-  version_there n =
+  version_there : AreNewest (stamp_now s.world.bones) o → (n : ℕ) → value_under (rows s) (version_key id n) ≡ value_in s.world.bones.classes (version_key id n) o
+  version_there newest n =
       version_stands s good.rising id n ∙ ap (option_and_then (λ (p : Object). value_under (version_rows s.world.bones.classes p) (version_key id n))) at.object
-      ∙ versions_stand id n fields o.versions (all_stored fields o.versions (object_born l s.world.bones good.classes (object_as id o) its))
+      ∙ versions_stand id n fields o.versions (all_stored (stamp_now s.world.bones) fields o.versions (newest_born l s.world.bones good.classes (object_as id o) its) newest)
       ∙ while_live (option_map (version_value fields) (find (is_numbered n) o.versions))
 
   state_is : (n : ℕ) (a : Active) → find (has_number n) o.activations ≡ Some a → state_of s.world id a.number ≡ a.state
@@ -89,5 +90,5 @@ module _ (l : Language) (s : Stored) (good : AreBones l s.world.bones) (id : ℕ
       ∙ by_found n (find (has_number n) o.activations) refl
       ∙ while_live (option_and_then (active_value id) (find (has_number n) o.activations))
 
-  pub first_stands : (q : Key) → IsOwn q → q.a ≡ id → value_under (rows s) q ≡ value_in s.world.bones.classes q o
-  first_stands q own is = by_form (λ k. value_under (rows s) k ≡ value_in s.world.bones.classes k o) id object_there version_there activation_there q own is
+  pub first_stands : AreNewest (stamp_now s.world.bones) o → (q : Key) → IsOwn q → q.a ≡ id → value_under (rows s) q ≡ value_in s.world.bones.classes q o
+  first_stands newest q own is = by_form (λ k. value_under (rows s) k ≡ value_in s.world.bones.classes k o) id object_there (version_there newest) activation_there q own is

@@ -29,10 +29,11 @@ use Rattle.ode_overlay.specs.Records.{becomes, becomes_of}
 use Rattle.ode_overlay.specs.Rewinding.{rewind, rewound_from}
 use Rattle.ode_overlay_laws.specs.Standing.{IsIn, active_as}
 use Rattle.ode_settling_laws.proofs.PartLaws.{number_found}
-use Rattle.ode_settling_laws.specs.Formed.{IsFormed, IsOwn, active_value, value_in}
+use Rattle.ode_settling_laws.specs.Formed.{AreNewest, HasNewest, IsFormed, IsOwn, WereNewest, active_value, value_in}
 use Rattle.ode_value.specs.GoodWorlds.{AreBones}
 use Rattle.ode_value.specs.Keys.{activation_key, object_key, version_key}
 use Rattle.ode_value.specs.Language.{Language, ListWorld}
+use Rattle.ode_value.specs.Making.{stamp_now}
 use Rattle.ode_value.specs.declared.class.Class.{Class}
 use Rattle.ode_value.specs.declared.key.Key.{Key}
 use Rattle.ode_version_laws.proofs.TrackedMaps.{rewound_at}
@@ -43,7 +44,8 @@ Bytes = Option (List ℕ)
 
 -- ---- one object
 
-module _ (l : Language) (s : Stored) (good : AreBones l s.world.bones) (classes : List Class) (id : ℕ) (first now : Object) (at : IsIn s.world id first) where
+module _ (l : Language) (s : Stored) (good : AreBones l s.world.bones) (classes : List Class) (id : ℕ) (first now : Object) (at : IsIn s.world id first)
+    (newest : AreNewest (stamp_now s.world.bones) first) where
   abbrev left : Object
   left = rewound_object classes first now
 
@@ -55,7 +57,7 @@ module _ (l : Language) (s : Stored) (good : AreBones l s.world.bones) (classes 
   Stood q = below q ≡ value_in s.world.bones.classes q now
 
   is_first : (q : Key) → IsOwn q → q.a ≡ id → below q ≡ value_in s.world.bones.classes q first
-  is_first q own is = first_stands l s good id first at q own is
+  is_first q own is = first_stands l s good id first at newest q own is
 
   -- ---- its own record
 
@@ -132,7 +134,8 @@ module _ (l : Language) (s : Stored) (good : AreBones l s.world.bones) (classes 
 
 -- ---- the overlay
 
-module _ (l : Language) (s : Stored) (good : AreBones l s.world.bones) (classes : List Class) (x : Layer) (remembers : Remembers x.objects s.world) (formed : IsFormed s.world.bones.classes (rows s) x) where
+module _ (l : Language) (s : Stored) (good : AreBones l s.world.bones) (classes : List Class) (x : Layer) (remembers : Remembers x.objects s.world) (newest : x.first.added ≡ stamp_now s.world.bones)
+    (formed : IsFormed s.world.bones.classes (rows s) x) where
   abbrev after_of : Key → Option Tracked → Bytes
   after_of q f = cond (is_among q x.keys) (value_after (becomes_of q f) (value_under (rows s) q)) (value_under (rows s) q)
 
@@ -144,6 +147,9 @@ module _ (l : Language) (s : Stored) (good : AreBones l s.world.bones) (classes 
   unfolding becomes rewind
   held_then q = refl
 
+  first_newest : (id : ℕ) (t : Tracked) (first : Object) → tracked_at id x ≡ Some t → t.first ≡ Other first → AreNewest x.first.added first
+  first_newest id t first found is = subst (WereNewest x.first.added) is (formed.newest id t found).1
+
   by_first : (id : ℕ) (t u : Tracked) (f : First) → t.first ≡ f → WasFirst s.world id t.current f → tracked_at id x ≡ Some t → rewound_by classes t.current f ≡ Some u → (q : Key) → IsOwn q → q.a ≡ id
       → after_of q (Some u) ≡ value_in s.world.bones.classes q u.current
   by_first id t u Same is was found left q own at =
@@ -153,13 +159,26 @@ module _ (l : Language) (s : Stored) (good : AreBones l s.world.bones) (classes 
   by_first id t u (Other first) is was found left q own at =
       let one : record { first = Other first; current = rewound_object classes first t.current } ≡ u = cc in
       subst (λ (v : Tracked). after_of q (Some v) ≡ value_in s.world.bones.classes q v.current) one
-      (left_stands l s good classes id first t.current was.is x q own at
+      (left_stands l s good classes id first t.current was.is (subst (λ n. AreNewest n first) newest (first_newest id t first found is)) x q own at
       (sym (ap (after_of q) found) ∙ ap (λ n. after_of q (tracked_at n x)) (sym at) ∙ sym (held_of q) ∙ formed.each id t q found own at))
   by_first id t u Absent is was found left q own at = absurd (cc)
 
   by_tracked : (id : ℕ) (u : Tracked) (f : Option Tracked) → tracked_at id x ≡ f → option_and_then (rewound classes) f ≡ Some u → (q : Key) → IsOwn q → q.a ≡ id → after_of q (Some u) ≡ value_in s.world.bones.classes q u.current
   by_tracked id u None found left q own at = absurd (cc)
   by_tracked id u (Some t) found left q own at = by_first id t u t.first refl (remembers.first id t found) found left q own at
+
+  -- what was written is what was, or what is left of it
+  newest_by : (id : ℕ) (t u : Tracked) (f : First) → t.first ≡ f → tracked_at id x ≡ Some t → rewound_by classes t.current f ≡ Some u → HasNewest x.first.added u
+  newest_by id t u Same is found left = let one : record { first = Same; current = t.current } ≡ u = cc in subst (HasNewest x.first.added) one ((formed.newest id t found).0, tt)
+  newest_by id t u (Other first) is found left =
+      let one : record { first = Other first; current = rewound_object classes first t.current } ≡ u = cc in
+      let was : AreNewest x.first.added first = first_newest id t first found is in
+      subst (HasNewest x.first.added) one (was, was)
+  newest_by id t u Absent is found left = absurd (cc)
+
+  newest_in : (id : ℕ) (u : Tracked) (f : Option Tracked) → tracked_at id x ≡ f → option_and_then (rewound classes) f ≡ Some u → HasNewest x.first.added u
+  newest_in id u None found left = absurd (cc)
+  newest_in id u (Some t) found left = newest_by id t u t.first refl found left
 
   pub rewound_formed : IsFormed s.world.bones.classes (rows s) (rewind classes x)
   unfolding rewind
@@ -168,11 +187,12 @@ module _ (l : Language) (s : Stored) (good : AreBones l s.world.bones) (classes 
     each = λ id u q is own at.
         held_then q ∙ ap (λ n. after_of q (lookup (is_at (nat_cmp n)) (rewound_from classes [] x.objects))) at ∙ ap (after_of q) is
         ∙ by_tracked id u (tracked_at id x) refl (sym (rewound_at classes id x.objects remembers.rising) ∙ is) q own at;
+    newest = λ id u is. newest_in id u (tracked_at id x) refl (sym (rewound_at classes id x.objects remembers.rising) ∙ is);
   }
 
 pub rewound_held : (l : Language) (records : Entries) (w : ListWorld) (classes : List Class) (x : Layer) (held : HoldsWorld l records w) → Remembers x.objects held.stored.world
-    → IsFormed held.stored.world.bones.classes records x → IsFormed held.stored.world.bones.classes records (rewind classes x)
-rewound_held l records w classes x held remembers formed =
+    → x.first.added ≡ stamp_now held.stored.world.bones → IsFormed held.stored.world.bones.classes records x → IsFormed held.stored.world.bones.classes records (rewind classes x)
+rewound_held l records w classes x held remembers newest formed =
     let first = held.stored.world.bones.classes in
     subst (λ (es : Entries). IsFormed first es (rewind classes x)) (sym held.rows)
-    (rewound_formed l held.stored (subst (AreBones l) (sym held.stands.bones) held.good.bones) classes x remembers (subst (λ (es : Entries). IsFormed first es x) held.rows formed))
+    (rewound_formed l held.stored (subst (AreBones l) (sym held.stands.bones) held.good.bones) classes x remembers newest (subst (λ (es : Entries). IsFormed first es x) held.rows formed))

@@ -8,9 +8,14 @@ use Rattle.ode_objects.specs.Objects.{is_numbered, without_at, written_at}
 use Rattle.ode_objects.specs.declared.object.Fields.TheVariants.{Written}
 use Rattle.ode_objects.specs.declared.object.Version.{Version}
 use Rattle.ode_overlay_laws.specs.Standing.{version_as}
+use Rattle.ode_settling_laws.specs.Formed.{IsNewest}
 use Rattle.ode_value.specs.GoodWorlds.{RiseFrom}
 use Rattle.ode_value.specs.Versions as versions
 use Rattle.ode_value.specs.declared.value.Value.{Value}
+
+-- a version that was written has this stamp
+abbrev HasStamp : ℕ → Version → Type 0
+HasStamp stamp v = IsNewest stamp v.fields
 
 -- ---- the place of the first of a number
 
@@ -80,6 +85,13 @@ module _ (number : ℕ) (fields : ℕ × List Value) where
     by_test false is more =
         subst IsWritten (sym (ap (find (is_numbered number)) (written_step v vs false is) ∙ ap (λ b. cond b (Some v) (find (is_numbered number) (with_one vs))) is)) more
 
+  pub newest_written : (stamp : ℕ) → fields.0 ≡ stamp → (vs : List Version) → AllByRecursion (HasStamp stamp) vs → AllByRecursion (HasStamp stamp) (with_one vs)
+  newest_written stamp is [] all = tt
+  newest_written stamp is (v ∷ vs) all = by_test (v.number == number) refl (newest_written stamp is vs all.1) where
+    by_test : (b : Bool) → (v.number == number) ≡ b → AllByRecursion (HasStamp stamp) (with_one vs) → AllByRecursion (HasStamp stamp) (with_one (v ∷ vs))
+    by_test true same more = subst (AllByRecursion (HasStamp stamp)) (sym (written_step v vs true same)) (is, all.1)
+    by_test false differs more = subst (AllByRecursion (HasStamp stamp)) (sym (written_step v vs false differs)) (all.0, more)
+
 -- ---- without one
 
 module _ (number : ℕ) where
@@ -124,7 +136,18 @@ module _ (number : ℕ) where
         ap (find (is_numbered number)) (without_step v vs true is) ∙ none_later (v.number + 1) vs (omega arith) rise.1
     by_test false is more = ap (find (is_numbered number)) (without_step v vs false is) ∙ ap (λ b. cond b (Some v) (find (is_numbered number) (without_one vs))) is ∙ more
 
+  pub newest_left : (stamp : ℕ) (vs : List Version) → AllByRecursion (HasStamp stamp) vs → AllByRecursion (HasStamp stamp) (without_one vs)
+  newest_left stamp [] all = tt
+  newest_left stamp (v ∷ vs) all = by_test (v.number == number) refl (newest_left stamp vs all.1) where
+    by_test : (b : Bool) → (v.number == number) ≡ b → AllByRecursion (HasStamp stamp) (without_one vs) → AllByRecursion (HasStamp stamp) (without_one (v ∷ vs))
+    by_test true same more = subst (AllByRecursion (HasStamp stamp)) (sym (without_step v vs true same)) all.1
+    by_test false differs more = subst (AllByRecursion (HasStamp stamp)) (sym (without_step v vs false differs)) (all.0, more)
+
 -- ---- with one more
+
+pub newest_derived : (stamp : ℕ) (v : Version) → HasStamp stamp v → (vs : List Version) → AllByRecursion (HasStamp stamp) vs → AllByRecursion (HasStamp stamp) (vs ++ v ∷ [])
+newest_derived stamp v is [] all = (is, tt)
+newest_derived stamp v is (u ∷ vs) all = (all.0, newest_derived stamp v is vs all.1)
 
 pub found_before : (n : ℕ) (vs : List Version) (v : Version) → (v.number == n) ≡ false → find (is_numbered n) (vs ++ v ∷ []) ≡ find (is_numbered n) vs
 found_before n [] v out = ap (λ b. cond b (Some v) None) out

@@ -4,13 +4,13 @@ use Rattle.std.proofs.lemmas.Bool.{eqb-true, false≢true}
 use Rattle.std.proofs.lemmas.Bool.Decides.{nat_tests}
 use Rattle.std.specs.Prelude.{◌||◌, nat_lt}
 use Rattle.std.specs.BTreeMap.{is_at}
-use Rattle.std.specs.List.{find, fold}
+use Rattle.std.specs.List.{find, fold, slice_set}
 use Rattle.ode_formed_laws.proofs.AmongLaws.{first_out, version_at}
-use Rattle.ode_formed_laws.proofs.FormedLaws.{after_by, by_few, by_live, by_need, formed_then, put_here, put_others, was_formed}
+use Rattle.ode_formed_laws.proofs.FormedLaws.{after_by, by_few, by_kept, by_live, by_need, formed_then, put_here, put_others, was_formed, was_newest}
 use Rattle.ode_formed_laws.proofs.ObjectLaws.{by_form, own_object, own_version}
 use Rattle.ode_formed_laws.proofs.SpelledLaws.{IsWritten, same_active, same_object, same_version, spells_active, spells_object, spells_written}
 use Rattle.ode_formed_laws.specs.Staying.{IsStored, StaysFormed}
-use Rattle.ode_formed_versions.proofs.PlaceLaws.{found_before, found_gone, found_left, found_new, found_other, found_written}
+use Rattle.ode_formed_versions.proofs.PlaceLaws.{found_before, found_gone, found_left, found_new, found_other, found_written, newest_derived, newest_left, newest_written}
 use Rattle.ode_keep.specs.Entries.{Entries, value_under}
 use Rattle.ode_objects.specs.Objects.{derived, is_numbered, values_of, without, written}
 use Rattle.ode_objects.specs.Records.{object_becomes}
@@ -78,24 +78,26 @@ module _ (classes : List Declared) (base : Entries) (x : Layer) (r : Ref) (new :
 
   -- ---- a field is set
 
-  written_so : (number : ℕ) (fields : ℕ × List Value) (t : Tracked) → object_of new id x ≡ Some t → IsFormed classes base (with_now id new (written number fields t.current) (fold with_key x.keys (one_key number)) x)
-  written_so number fields t found =
+  written_so : (number : ℕ) (fields : ℕ × List Value) (t : Tracked) → fields.0 ≡ x.first.added → object_of new id x ≡ Some t → IsFormed classes base (with_now id new (written number fields t.current) (fold with_key x.keys (one_key number)) x)
+  written_so number fields t is found =
       let o = written number fields t.current in
       let keys = fold with_key x.keys (one_key number) in
-      formed_then classes base x (with_now id new o keys x) id o (one_key number) formed (own_version id number, tt) refl
-      (put_here x id new o keys) (put_others x id new o keys)
+      formed_then classes base x (with_now id new o keys x) id o (one_key number) formed (own_version id number, tt) refl refl
+      (put_here x id new o keys (was_newest classes base x id new formed read) (newest_written number fields x.first.added is t.current.versions (was_newest classes base x id new formed read t found).0)) (put_others x id new o keys)
       (unheld t found o.versions (one_key number) (λ n out. found_other number fields n t.current.versions (other_number number n out)))
       (held_one o number (found_written number fields t.current.versions))
 
   pub write_stays : (slot : ℕ) (value : Value) → StaysFormed classes base (write_with new r slot value x)
-  unfolding write_with
+  unfolding write_with fields_with
   write_stays slot value =
       by_live classes base id (object_of new id x)
       (λ o. denoted_in r o >>= λ v. fields_with slot value v x >>= λ fields. holding (one_key v.number) x >>= λ keys. Ok (tt, with_now id new (written v.number fields o) keys x))
       (λ t found is_live.
       by_answer classes base (denoted_in r t.current) (λ v. fields_with slot value v x >>= λ fields. holding (one_key v.number) x >>= λ keys. Ok (tt, with_now id new (written v.number fields t.current) keys x))
-      (λ v. by_answer classes base (fields_with slot value v x) (λ fields. holding (one_key v.number) x >>= λ keys. Ok (tt, with_now id new (written v.number fields t.current) keys x))
-      (λ fields. by_few classes base x (one_key v.number) (λ keys. Ok (tt, with_now id new (written v.number fields t.current) keys x)) (written_so v.number fields t found))))
+      (λ v.
+      let fields : ℕ × List Value = (x.first.added, slice_set (values_of v.fields) slot value) in
+      by_kept classes base x.first.added (slice_set (values_of v.fields) slot value) (λ kept. holding (one_key v.number) x >>= λ keys. Ok (tt, with_now id new (written v.number kept t.current) keys x))
+      (by_few classes base x (one_key v.number) (λ keys. Ok (tt, with_now id new (written v.number fields t.current) keys x)) (written_so v.number fields t refl found))))
 
   -- ---- a version is removed
 
@@ -103,8 +105,8 @@ module _ (classes : List Declared) (base : Entries) (x : Layer) (r : Ref) (new :
   dropped_so number t found has =
       let o = without number t.current in
       let keys = fold with_key x.keys (one_key number) in
-      formed_then classes base x (with_now id new o keys x) id o (one_key number) formed (own_version id number, tt) refl
-      (put_here x id new o keys) (put_others x id new o keys)
+      formed_then classes base x (with_now id new o keys x) id o (one_key number) formed (own_version id number, tt) refl refl
+      (put_here x id new o keys (was_newest classes base x id new formed read) (newest_left number x.first.added t.current.versions (was_newest classes base x id new formed read t found).0)) (put_others x id new o keys)
       (unheld t found o.versions (one_key number) (λ n out. found_left number n t.current.versions (other_number number n out)))
       (held_one o number (subst IsWritten (sym (found_gone number 0 t.current.versions has.rising)) tt))
 
@@ -141,15 +143,15 @@ module _ (classes : List Declared) (base : Entries) (x : Layer) (r : Ref) (new :
   again : (q : Key) (o was : Object) → object_becomes q o ≡ object_becomes q was → value_in classes q o ≡ value_in classes q was → after_by x q was (value_under base q) ≡ value_in classes q was → after_by x q o (value_under base q) ≡ value_in classes q o
   again q o was becomes value is = ap (λ b. cond (is_among q x.keys) (value_after b (value_under base q)) (value_under base q)) becomes ∙ is ∙ sym value
 
-  derived_so : (from : ℕ) (fields : ℕ × List Value) (t : Tracked) → object_of new id x ≡ Some t → HasVersions (object_as id t.current)
+  derived_so : (from : ℕ) (fields : ℕ × List Value) (t : Tracked) → fields.0 ≡ x.first.added → object_of new id x ≡ Some t → HasVersions (object_as id t.current)
       → IsFormed classes base (with_now id new (derived from fields t.current) (fold with_key x.keys (two_keys t.current)) x)
-  derived_so from fields t found has =
+  derived_so from fields t is found has =
       let was = t.current in
       let o = derived from fields was in
       let keys = fold with_key x.keys (two_keys was) in
       let v = added from fields was in
-      formed_then classes base x (with_now id new o keys x) id o (two_keys was) formed (own_object id, (own_version id (was.last + 1), tt)) refl
-      (put_here x id new o keys) (put_others x id new o keys)
+      formed_then classes base x (with_now id new o keys x) id o (two_keys was) formed (own_object id, (own_version id (was.last + 1), tt)) refl refl
+      (put_here x id new o keys (was_newest classes base x id new formed read) (newest_derived x.first.added (added from fields was) is was.versions (was_newest classes base x id new formed read t found).0)) (put_others x id new o keys)
       (λ q own at out. by_form (λ k. is_among k (two_keys was) ≡ false → after_by x k o (value_under base k) ≡ value_in classes k o) id
       (λ is. absurd (false≢true (sym is ∙ ap (λ b. b || is_among (object_key id) (version_key id (was.last + 1) ∷ [])) (itself id))))
       (λ n is.
@@ -173,9 +175,11 @@ module _ (classes : List Declared) (base : Entries) (x : Layer) (r : Ref) (new :
       by_answer classes base (denoted_in r t.current)
       (λ v. kept_now x (values_of v.fields) >>= λ fields. holding (two_keys t.current) x >>= λ keys. needs NoNumber (nat_lt t.current.last version_limit) >>= λ _.
       Ok (new_version r t.current, with_now id new (derived v.number fields t.current) keys x))
-      (λ v. by_answer classes base (kept_now x (values_of v.fields))
-      (λ fields. holding (two_keys t.current) x >>= λ keys. needs NoNumber (nat_lt t.current.last version_limit) >>= λ _. Ok (new_version r t.current, with_now id new (derived v.number fields t.current) keys x))
-      (λ fields. by_few classes base x (two_keys t.current) (λ keys. needs NoNumber (nat_lt t.current.last version_limit) >>= λ _. Ok (new_version r t.current, with_now id new (derived v.number fields t.current) keys x))
+      (λ v.
+      let fields : ℕ × List Value = (x.first.added, values_of v.fields) in
+      by_kept classes base x.first.added (values_of v.fields)
+      (λ kept. holding (two_keys t.current) x >>= λ keys. needs NoNumber (nat_lt t.current.last version_limit) >>= λ _. Ok (new_version r t.current, with_now id new (derived v.number kept t.current) keys x))
+      (by_few classes base x (two_keys t.current) (λ keys. needs NoNumber (nat_lt t.current.last version_limit) >>= λ _. Ok (new_version r t.current, with_now id new (derived v.number fields t.current) keys x))
       (by_need classes base NoNumber (nat_lt t.current.last version_limit)
       (λ _. Ok (new_version r t.current, with_now id new (derived v.number fields t.current) (fold with_key x.keys (two_keys t.current)) x))
-      (derived_so v.number fields t found (has t found))))))
+      (derived_so v.number fields t refl found (has t found))))))

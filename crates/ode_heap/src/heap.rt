@@ -22,7 +22,7 @@ use crate::queue::{count_entries, read_entry_from};
 use crate::staging::first_key;
 use ode_codec::{Activation, Counters, Entry};
 use ode_host::Host;
-use ode_keep::{Batch, Keep, MAX_CHANGES, MAX_RECORD_BYTES};
+use ode_keep::{Batch, Keep, MAX_CHANGES};
 use ode_types::Classes;
 use ode_value::{Class, List, Value};
 use std::alloc::Global;
@@ -266,9 +266,9 @@ impl<K> Heap<K> {
         ensures done { OnOk result ((entries : Entries) → K.holds self.old (H.view host.old) entries
             → K.holds self.new (H.view host.new) (applied batch.now entries)) }
         ensures fits { OnOk result ((entries : Entries) → K.holds self.old (H.view host.old) entries
-            → record_bytes (applied batch.now entries) ≤ MAX_RECORD_BYTES) }
+            → record_bytes (applied batch.now entries) ≤ K.most self.old) }
         ensures too_large { OnTooLarge result (λ total. (entries : Entries) → K.holds self.old (H.view host.old) entries
-            → (total ≡ record_bytes (applied batch.now entries)) × (MAX_RECORD_BYTES < total)) }
+            → (total ≡ record_bytes (applied batch.now entries)) × (K.most self.old < total)) }
         ensures refused { OnRefusal result ((entries : Entries) → K.holds self.old (H.view host.old) entries
             → K.holds self.new (H.view host.new) entries) }
         ensures looks { OnRefusal result (Looks (H.view host.old) (H.view host.new)) }

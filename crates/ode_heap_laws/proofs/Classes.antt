@@ -25,6 +25,7 @@ use Rattle.ode_value.specs.Objects.{Activation}
 use Rattle.ode_value.specs.TreeCount.{tree_count}
 use Rattle.ode_value.specs.Weights.{record_count, table_size}
 use Rattle.ode_value.specs.Worlds.{Declared, class_numbered}
+use Rattle.ode_value.specs.declared.change.Added.{Added}
 use Rattle.ode_value.specs.declared.class.Class.{Class}
 use Rattle.ode_value.specs.declared.member.TriggerDecl.{TriggerDecl}
 use Rattle.ode_value.specs.declared.reason.Refusal.{Refusal}
@@ -73,8 +74,8 @@ few_triggers c few =
     let long : length (map table_size c.class.triggers) ≡ length c.class.triggers = length-map c.class.triggers table_size in
     omega arith
 
-small : (l : Language) (earlier : List Declared) (c : Declared) → IsClass l earlier c → IsSmall c
-small l earlier c is =
+small : (l : Language) (added : List Added) (earlier : List Declared) (c : Declared) → IsClass l added earlier c → IsSmall c
+small l added earlier c is =
     let parts = both_ok (limits_triggers c.class.triggers) _ c is.limits in
     let records = both_ok _ (Ok c) c parts.1 in
     record {
@@ -83,9 +84,9 @@ small l earlier c is =
       states = few_states c.class.triggers parts.0;
     }
 
-pub each_small : (l : Language) (earlier cs : List Declared) → AreClasses l earlier cs → AllByRecursion IsSmall cs
-each_small l earlier [] are = tt
-each_small l earlier (c ∷ cs) are = (small l earlier c are.0, each_small l (earlier ++ c ∷ []) cs are.1)
+pub each_small : (l : Language) (added : List Added) (earlier cs : List Declared) → AreClasses l added earlier cs → AllByRecursion IsSmall cs
+each_small l added earlier [] are = tt
+each_small l added earlier (c ∷ cs) are = (small l added earlier c are.0, each_small l added (earlier ++ c ∷ []) cs are.1)
 
 -- ---- a trigger of such a class
 

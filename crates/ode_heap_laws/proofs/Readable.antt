@@ -31,7 +31,6 @@ use Rattle.ode_value.specs.Records.{Row}
 use Rattle.ode_value.specs.Versions.{Version}
 use Rattle.ode_value.specs.Worlds.{Bones, Declared, Entry, Object, Position, class_numbered}
 use Rattle.ode_value.specs.declared.binding.Param.{Param}
-use Rattle.ode_value.specs.declared.change.Added.{Added}
 use Rattle.ode_value.specs.declared.class.Class.{Class}
 use Rattle.ode_value.specs.declared.class.Field.{Field}
 use Rattle.ode_value.specs.declared.value.Value.{Value}
@@ -54,10 +53,6 @@ clock_place : (clock : Option Position) → IfSome clock IsPosition → option_m
 clock_place None is = omega arith
 clock_place (Some p) is = is.place
 
--- no field was added
-few_added : (added : List Added) → added ≡ [] → length added < 2 ^ 32
-few_added added none = let is : length added ≡ 0 = ap (λ (fs : List Added). length fs) none in omega arith
-
 counters_read : (l : Language) (b : Bones) → AreBones l b → IsRecord (of.Counters (counters_of b))
 unfolding IsKept HasRanges
 counters_read l b are =
@@ -74,7 +69,7 @@ counters_read l b are =
       ranges = record {
         numbers = (omega arith, omega arith, omega arith);
         clock = (clock_fits b.clock are.clock, clock_object b.clock are.clock, clock_place b.clock are.clock);
-        added = few_added b.added are.added;
+        added = are.few_added;
       };
     }
 
@@ -130,7 +125,7 @@ module _ (l : Language) (s : Stored) (past : List (ℕ × Kept Histories Starts)
   b = s.world.bones
 
   smalls : AllByRecursion IsSmall b.classes
-  smalls = each_small l [] b.classes are.classes
+  smalls = each_small l b.added [] b.classes are.classes
 
   small_triggers : AllByRecursion (λ (d : Declared). AllByRecursion IsSmallTrigger (own_triggers d.class)) b.classes
   small_triggers = all_small b.classes smalls few
@@ -179,7 +174,7 @@ module _ (l : Language) (s : Stored) (past : List (ℕ × Kept Histories Starts)
       record {
         spells = record { kept = tt; ranges = (id, omega arith, is.last) };
         versions = subst (λ (fs : List Field). AllByRecursion (IsReadableVersion o.id fs) o.versions) (sym fields)
-            (all-then (IsVersion b c o.last) (IsReadableVersion o.id c.fields) (λ v here. version_read b c o.id o.last v id is.last (few_added b.added are.added) few_fields here) o.versions versions);
+            (all-then (IsVersion b c o.last) (IsReadableVersion o.id c.fields) (λ v here. version_read b c o.id o.last v id is.last are.few_added few_fields here) o.versions versions);
         rising = is.rising;
         activations = all-then (IsActivation b o.class) (IsReadableActivation s.world o.id)
             (λ a here. activation_by o.id o.class a id here.number (trigger_in b.classes o.class a) refl here.trigger) o.activations is.activations;

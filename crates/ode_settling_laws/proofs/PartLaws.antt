@@ -16,13 +16,14 @@ use Rattle.ode_objects.specs.declared.object.Fields.{Fields}
 use Rattle.ode_objects.specs.declared.object.Fields.TheVariants.{Read, Written}
 use Rattle.ode_objects.specs.declared.object.Version.{Version}
 use Rattle.ode_overlay_laws.specs.Standing.{active_as, version_as}
-use Rattle.ode_settling_laws.specs.Formed.{active_value, stored_values, version_value}
+use Rattle.ode_settling_laws.specs.Formed.{IsNewest, active_value, stored_values, version_value}
 use Rattle.ode_value.specs.Fields.{born_values}
 use Rattle.ode_value.specs.GoodWorlds.{RiseFrom}
 use Rattle.ode_value.specs.Keeping.{is_active}
 use Rattle.ode_value.specs.Keys.{activation_key, key_cmp, version_key}
 use Rattle.ode_value.specs.Objects.{Activation}
 use Rattle.ode_value.specs.Records.{Row, version_bytes, version_row}
+use Rattle.ode_value.specs.Versions as machine
 use Rattle.ode_value.specs.Worlds.{kept_at}
 use Rattle.ode_value.specs.declared.class.Field.{Field}
 
@@ -36,14 +37,20 @@ version_at id n m false is = grind (arith, nat_tests)
 abbrev pub HasStored : List Field → Version → Type 0
 HasStored fields v = born_values (stamp_of v.fields) fields (values_of v.fields) ≡ stored_values fields v.fields
 
--- a version whose record has all values has them as it is stored
-stored_by : (fields : List Field) (f : Fields) → born_values (stamp_of f) fields (values_of f) ≡ values_of f → born_values (stamp_of f) fields (values_of f) ≡ stored_values fields f
-stored_by fields (Read stamp values) all = refl
-stored_by fields (Written kept) all = all
+-- a version with the newest stamp has all values in its record
+abbrev pub HasAllIfNewest : ℕ → List Field → machine.Version → Type 0
+HasAllIfNewest newest fields v = v.stamp ≡ newest → HasAll fields v
 
-pub all_stored : (fields : List Field) (vs : List Version) → AllByRecursion (HasAll fields) (map version_as vs) → AllByRecursion (HasStored fields) vs
-all_stored fields [] all = tt
-all_stored fields (v ∷ vs) all = (stored_by fields v.fields all.0, all_stored fields vs all.1)
+-- so does one of which what was written has that stamp have its values as it is stored
+stored_by : (newest : ℕ) (fields : List Field) (f : Fields) → (stamp_of f ≡ newest → born_values (stamp_of f) fields (values_of f) ≡ values_of f) → IsNewest newest f
+    → born_values (stamp_of f) fields (values_of f) ≡ stored_values fields f
+stored_by newest fields (Read stamp values) all is = refl
+stored_by newest fields (Written kept) all is = all is
+
+pub all_stored : (newest : ℕ) (fields : List Field) (vs : List Version) → AllByRecursion (HasAllIfNewest newest fields) (map version_as vs)
+    → AllByRecursion (λ (v : Version). IsNewest newest v.fields) vs → AllByRecursion (HasStored fields) vs
+all_stored newest fields [] all are = tt
+all_stored newest fields (v ∷ vs) all are = (stored_by newest fields v.fields all.0 are.0, all_stored newest fields vs all.1 are.1)
 
 module _ (id n : ℕ) (fields : List Field) where
   abbrev row_of : Version → Row

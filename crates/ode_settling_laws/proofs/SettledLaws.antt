@@ -1,5 +1,5 @@
 -- What stands behind a settling is the world that it leaves.
-use Rattle.std.proofs.Common.{◌≡◌, ◌==◌, inl, inr, ℕ, ◌<◌, List, [], ◌∷◌, ◌++◌, map, Bool, true, false, cond, Option, Some, None, refl, sym, ap, subst, ◌∙◌}
+use Rattle.std.proofs.Common.{◌≡◌, ◌==◌, inl, inr, ℕ, ◌<◌, List, [], ◌∷◌, ◌++◌, length, map, Bool, true, false, cond, Option, Some, None, refl, sym, ap, subst, ◌∙◌}
 use Rattle.std.proofs.lemmas.Bool.{eq-eqb, eqb-true}
 use Rattle.std.specs.Prelude.{◌||◌}
 use Rattle.std.specs.List.{AllByRecursion, enumerate_from, find, list_any}
@@ -9,7 +9,7 @@ use Rattle.ode_codec.specs.StoredRows.{Stored, activation_row, activation_rows, 
 use Rattle.ode_codec.specs.declared.record.Counters.{Counters}
 use Rattle.ode_keep.specs.Entries.{Entries, value_under}
 use Rattle.ode_laws.proofs.AlikePairs.{all_found}
-use Rattle.ode_laws.proofs.BornLaws.{HasAll, object_born}
+use Rattle.ode_laws.proofs.BornLaws.{newest_born}
 use Rattle.ode_laws.proofs.Each.{all-then}
 use Rattle.ode_laws.proofs.KeptRows as kept
 use Rattle.ode_laws.proofs.Rows.{id_of, numbered_id}
@@ -26,9 +26,9 @@ use Rattle.ode_settling_laws.proofs.ApartLaws.{IsOutside, no_entry, not_counted,
 use Rattle.ode_settling_laws.proofs.CounterLaws.{counters_left}
 use Rattle.ode_settling_laws.proofs.KeptLaws.{NumberKept, good_kept, kept_by, kept_live, kept_numbered, kept_rows, same_state}
 use Rattle.ode_settling_laws.proofs.KindLaws.{activation_stands, class_stands, counters_stand, declared_rows, entry_stands, no_object, object_stands, version_stands}
-use Rattle.ode_settling_laws.proofs.PartLaws.{HasStored, actives_stand, all_stored, number_of, of_number, versions_stand}
+use Rattle.ode_settling_laws.proofs.PartLaws.{HasAllIfNewest, HasStored, actives_stand, all_stored, number_of, of_number, versions_stand}
 use Rattle.ode_settling_laws.proofs.QueueLaws.{queue_stands}
-use Rattle.ode_settling_laws.specs.Formed.{IsFormed, IsOwn, active_value, object_value, value_in, version_value}
+use Rattle.ode_settling_laws.specs.Formed.{AreNewest, IsFormed, IsOwn, active_value, object_value, value_in, version_value}
 use Rattle.ode_value.specs.Denoting.{if_live, object_numbered}
 use Rattle.ode_value.specs.Fields.{fields_of}
 use Rattle.ode_value.specs.GoodWorlds.{AreBones, IsEntry, IsObject, RiseFrom}
@@ -88,6 +88,13 @@ module _ (l : Language) (s : Stored) (x : Layer) (y : NumberTx) (good : AreBones
   -- and so are the fields that were added
   added_stay : left.bones.added ≡ s.world.bones.added
   added_stay = stands.added ∙ ap (λ (w : NumberWorld). w.bones.added) first
+
+  -- the newest stamp
+  abbrev newest : ℕ
+  newest = length left.bones.added
+
+  first_newest : x.first.added ≡ newest
+  first_newest = ap (λ (c : Counters). c.added) stands.counters ∙ ap length (sym stands.added)
 
   -- ---- objects by number
 
@@ -195,9 +202,10 @@ module _ (l : Language) (s : Stored) (x : Layer) (y : NumberTx) (good : AreBones
 
     versions_stored : o.live ≡ true → AllByRecursion (HasStored fields) o.versions
     versions_stored live =
-        let each : AllByRecursion (HasAll (fields_of left.bones.classes o.class)) (map version_as o.versions) =
-        object_born l left.bones left_good.classes its (all_found (IsObject left.bones) id objects left_good.objects its (object_live live)) in
-        all_stored fields o.versions (subst (λ (cs : List Declared). AllByRecursion (HasAll (fields_of cs o.class)) (map version_as o.versions)) classes_stay each)
+        let each : AllByRecursion (HasAllIfNewest newest (fields_of left.bones.classes o.class)) (map version_as o.versions) =
+        newest_born l left.bones left_good.classes its (all_found (IsObject left.bones) id objects left_good.objects its (object_live live)) in
+        all_stored newest fields o.versions (subst (λ (cs : List Declared). AllByRecursion (HasAllIfNewest newest (fields_of cs o.class)) (map version_as o.versions)) classes_stay each)
+        (subst (λ n. AreNewest n o) first_newest (formed.newest id t is).0)
 
     version_own : (n : ℕ) → there (version_key id n) ≡ value_in s.world.bones.classes (version_key id n) o
     version_own n =

@@ -10,6 +10,8 @@ use Rattle.ode_objects.specs.declared.object.Fields.{Fields}
 use Rattle.ode_objects.specs.declared.object.Fields.TheVariants.{Read, Written}
 use Rattle.ode_objects.specs.declared.object.Object.{Object}
 use Rattle.ode_objects.specs.declared.object.Version.{Version}
+use Rattle.ode_objects.specs.declared.tracked.First.{First}
+use Rattle.ode_objects.specs.declared.tracked.First.TheVariants.{Other}
 use Rattle.ode_objects.specs.declared.tracked.Tracked.{Tracked}
 use Rattle.ode_overlay.specs.After.{held_after}
 use Rattle.ode_overlay.specs.Layers.{Layer, tracked_at}
@@ -50,6 +52,24 @@ part_value classes k o =
 abbrev pub value_in : List Declared → Key → Object → Option (List ℕ)
 value_in classes k o = cond o.live (part_value classes k o) None
 
+-- ---- the stamps of what was written
+
+-- fields that were written have the newest stamp
+abbrev pub IsNewest : ℕ → Fields → Type 0
+IsNewest stamp (Written kept) = kept.0 ≡ stamp
+IsNewest stamp (Read old values) = Unit {0}
+
+abbrev pub AreNewest : ℕ → Object → Type 0
+AreNewest stamp o = AllByRecursion (λ (v : Version). IsNewest stamp v.fields) o.versions
+
+abbrev pub WereNewest : ℕ → First → Type 0
+WereNewest stamp (Other o) = AreNewest stamp o
+WereNewest stamp _ = Unit {0}
+
+-- of an object as it is, and as it was
+abbrev pub HasNewest : ℕ → Tracked → Type 0
+HasNewest stamp t = AreNewest stamp t.current × WereNewest stamp t.first
+
 -- ---- the keys that are held
 
 -- the key of an object, of a version or of an activation
@@ -57,7 +77,8 @@ abbrev pub IsOwn : Key → Type 0
 IsOwn k = (k ≡ object_key k.a) ⊎ ((k ≡ version_key k.a k.b) ⊎ (k ≡ activation_key k.a k.b))
 
 -- Keys of objects, versions and activations are held, and under each such key of a tracked object stands the object's value behind the
--- changes of those that are held, by these classes: so no other record differs.
+-- changes of those that are held, by these classes: so no other record differs. What was written has the newest stamp.
 pub record IsFormed (classes : List Declared) (base : Entries) (x : Layer) : Type 0 where
   pub keys : AllByRecursion IsOwn x.keys
   pub each : (id : ℕ) (t : Tracked) (q : Key) → tracked_at id x ≡ Some t → IsOwn q → q.a ≡ id → held_after x q (value_under base q) ≡ value_in classes q t.current
+  pub newest : (id : ℕ) (t : Tracked) → tracked_at id x ≡ Some t → HasNewest x.first.added t

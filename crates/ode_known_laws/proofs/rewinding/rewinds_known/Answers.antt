@@ -1,4 +1,5 @@
-use Rattle.std.proofs.Common.{◌∙◌, subst}
+use Rattle.std.proofs.Common.{◌∙◌, ap, subst}
+use Rattle.ode_codec.specs.declared.record.Counters.{Counters}
 use Rattle.ode_known_laws.proofs.HeldLaws.{on_first}
 use Rattle.ode_known_laws.proofs.RewoundLaws.{left_by, left_known, left_viewed, more_drawn}
 use Rattle.ode_known_laws.proofs.rewinding.rewinds_known.Goals as goal
@@ -8,6 +9,7 @@ use Rattle.ode_object_laws.proofs.NumberLaws.{numbers_of}
 use Rattle.ode_object_laws.specs.Objects.{HaveTriggers}
 use Rattle.ode_overlay.specs.Rewinding.{rewind}
 use Rattle.ode_settling_laws.specs.Formed.{IsFormed}
+use Rattle.ode_value.specs.Making.{stamp_now}
 use Rattle.ode_version_laws.specs.Denoting.{HaveVersions}
 use Rattle.ode_version_laws.specs.Remembering.{Remembers}
 use Rattle.ode_version_laws.specs.Showing.{AreSettled}
@@ -30,6 +32,6 @@ returns c = λ classes first beside base x known tables.
           (c.rewinds_keep_objects.ensures.triggers tables y first.bones.classes triggers)
           (on_first base first known.held (λ (v : NumberWorld). IsFormed v.bones.classes base (rewind (declared_in first) x))
           (c.rewinds_stay_formed.ensures known.held.language base known.held.world (declared_in first) x h (subst (Remembers x.objects) known.held.is known.remembers)
-          (subst (λ (v : NumberWorld). IsFormed v.bones.classes base x) known.held.is known.formed)))
+          (ap (λ (k : Counters). k.added) stands.counters ∙ ap (λ (v : NumberWorld). stamp_now v.bones) known.held.is) (subst (λ (v : NumberWorld). IsFormed v.bones.classes base x) known.held.is known.formed)))
           (c.calls_keep_keys.ensures.rewind first (declared_in first) x known.remembers known.keys),
     )
