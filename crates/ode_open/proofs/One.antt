@@ -1,13 +1,14 @@
 -- A file is opened to one thing alone.
-use Rattle.std.proofs.Common.{◌≡◌, inl, inr, ℕ, ◌<◌, ◌≤◌, List, Result, Ok, Err, sym, ap, subst, ◌∙◌, arith}
+use Rattle.std.proofs.Common.{◌≡◌, inl, inr, ℕ, ◌<◌, ◌≤◌, List, Bool, Result, Ok, Err, sym, ap, subst, ◌∙◌, arith}
+use Rattle.std.specs.Prelude.{◌==◌}
 use Rattle.ode_gate.specs.Readings.{Says}
 use Rattle.ode_gate.specs.Slots.{Counts}
 use Rattle.ode_gate.specs.declared.error.GateError.{GateError}
 use Rattle.ode_gate.specs.declared.header.Header.{Header}
+use Rattle.ode_gate.specs.declared.places.TheConstants.{FIRST_FORMAT}
 use Rattle.ode_gate.proofs.Counting.{one_counts, says_counts, says_one}
 use Rattle.ode_keep.specs.Entries.{Entries, record_bytes}
-use Rattle.ode_keep.specs.declared.limits.TheConstants.{MAX_RECORD_BYTES}
-use Rattle.ode_keeper.specs.Files.{HasMap, IsBadJournal, IsBadPage}
+use Rattle.ode_keeper.specs.Files.{HasMap, IsBadJournal, IsBadPage, most_under}
 use Rattle.ode_keeper.specs.OneMap.{has_not_bad_journal, has_not_bad_page, one_bad_journal, one_bad_page, one_has, page_not_bad_journal}
 use Rattle.ode_language.specs.Languages.{ode}
 use Rattle.ode_passes.specs.declared.cause.Cause.TheVariants as cause
@@ -20,7 +21,7 @@ use Rattle.ode_open.specs.declared.error.OpenError.TheVariants.{BadFile}
 
 -- records are opened to one thing
 abbrev pub OpenedOnce : Type 0
-OpenedOnce = (l : Language) (entries : Entries) (opened other : Ruled Base) → AreOpened l entries opened → AreOpened l entries other → opened ≡ other
+OpenedOnce = (first : Bool) (l : Language) (entries : Entries) (opened other : Ruled Base) → AreOpened first l entries opened → AreOpened first l entries other → opened ≡ other
 
 module _ (once : OpenedOnce) (image : List ℕ) where
   no_header : (e : GateError) (h : Header) → Says image (Err e) → Counts image h → ⊥
@@ -75,8 +76,11 @@ module _ (once : OpenedOnce) (image : List ℕ) where
   page_one a b x (inr (inr (inr (inl y)))) = absurd (page_and_map x.header y.header x.page y.entries x.counts y.counts x.bad y.has)
   page_one a b x (inr (inr (inr (inr y)))) = absurd (page_and_map x.header y.header x.page y.entries x.counts y.counts x.bad y.has)
 
-  no_size : (es ds : Entries) → es ≡ ds → MAX_RECORD_BYTES < record_bytes es → record_bytes ds ≤ MAX_RECORD_BYTES → ⊥
-  no_size es ds one heavy within = let bytes : record_bytes es ≡ record_bytes ds = ap record_bytes one in omega (arith, bytes, heavy, within)
+  no_size : (g h : Header) (es ds : Entries) → g ≡ h → es ≡ ds → most_under g < record_bytes es → record_bytes ds ≤ most_under h → ⊥
+  no_size g h es ds under one heavy within =
+      let most : most_under g ≡ most_under h = ap most_under under in
+      let bytes : record_bytes es ≡ record_bytes ds = ap record_bytes one in
+      omega (arith, most, bytes, heavy, within)
 
   heavy_one : (a b : Found) → IsHeavy image a → IsOpenedTo image b → a ≡ b
   heavy_one a b x (inl y) = absurd (no_header y.error x.header y.says x.counts)
@@ -85,17 +89,18 @@ module _ (once : OpenedOnce) (image : List ℕ) where
   heavy_one a b x (inr (inr (inr (inl y)))) =
       x.is ∙ ap (λ (es : Entries). Err (BadFile (cause.Size (record_bytes es)))) (one_entries x.header y.header x.entries y.entries x.counts y.counts x.has y.has) ∙ sym y.is
   heavy_one a b x (inr (inr (inr (inr y)))) =
-      absurd (no_size x.entries y.entries (one_entries x.header y.header x.entries y.entries x.counts y.counts x.has y.has) x.heavy y.within)
+      absurd (no_size x.header y.header x.entries y.entries (same x.header y.header x.counts y.counts) (one_entries x.header y.header x.entries y.entries x.counts y.counts x.has y.has) x.heavy y.within)
 
   records_one : (a b : Found) → HasRecords image a → IsOpenedTo image b → a ≡ b
   records_one a b x (inl y) = absurd (no_header y.error x.header y.says x.counts)
   records_one a b x (inr (inl y)) = absurd (bad_and_map y.header x.header y.at x.entries y.counts x.counts y.bad x.has)
   records_one a b x (inr (inr (inl y))) = absurd (page_and_map y.header x.header y.page x.entries y.counts x.counts y.bad x.has)
   records_one a b x (inr (inr (inr (inl y)))) =
-      absurd (no_size y.entries x.entries (one_entries y.header x.header y.entries x.entries y.counts x.counts y.has x.has) y.heavy x.within)
+      absurd (no_size y.header x.header y.entries x.entries (same y.header x.header y.counts x.counts) (one_entries y.header x.header y.entries x.entries y.counts x.counts y.has x.has) y.heavy x.within)
   records_one a b x (inr (inr (inr (inr y)))) =
-      let there = subst (λ (es : Entries). AreOpened ode es x.opened) (one_entries x.header y.header x.entries y.entries x.counts y.counts x.has y.has) x.are in
-      x.is ∙ ap found_of (once ode y.entries x.opened y.opened there y.are) ∙ sym y.is
+      let here = subst (λ (es : Entries). AreOpened (x.header.format == FIRST_FORMAT) ode es x.opened) (one_entries x.header y.header x.entries y.entries x.counts y.counts x.has y.has) x.are in
+      let there = subst (λ (h : Header). AreOpened (h.format == FIRST_FORMAT) ode y.entries x.opened) (same x.header y.header x.counts y.counts) here in
+      x.is ∙ ap found_of (once (y.header.format == FIRST_FORMAT) ode y.entries x.opened y.opened there y.are) ∙ sym y.is
 
   pub one_opening : (a b : Found) → IsOpenedTo image a → IsOpenedTo image b → a ≡ b
   one_opening a b (inl x) y = headerless_one a b x y

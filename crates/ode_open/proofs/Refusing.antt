@@ -1,14 +1,14 @@
 -- Why a file isn't opened, part by part.
 use Rattle.std.proofs.Common.{◌≡◌, ◌⊎◌, inl, inr, ⊎_elim, ℕ, ◌<◌, ◌≤◌, List, Result, Ok, Err, refl, ap, subst, arith}
-use Rattle.std.specs.Prelude.{IfOk, IsErrOf}
+use Rattle.std.specs.Prelude.{◌==◌, IfOk, IsErrOf}
 use Rattle.ode_gate.specs.Readings.{Says}
 use Rattle.ode_gate.specs.Slots.{Counts}
 use Rattle.ode_gate.specs.declared.error.GateError.{GateError}
 use Rattle.ode_gate.specs.declared.error.GateError.TheVariants as gate
 use Rattle.ode_gate.specs.declared.header.Header.{Header}
+use Rattle.ode_gate.specs.declared.places.TheConstants.{FIRST_FORMAT}
 use Rattle.ode_keep.specs.Entries.{Entries, record_bytes}
-use Rattle.ode_keep.specs.declared.limits.TheConstants.{MAX_RECORD_BYTES}
-use Rattle.ode_keeper.specs.Files.{HasMap, IsBadJournal, IsBadPage}
+use Rattle.ode_keeper.specs.Files.{HasMap, IsBadJournal, IsBadPage, most_under}
 use Rattle.ode_keep.specs.declared.error.StartError.{StartError}
 use Rattle.ode_keep.specs.declared.error.StartError.TheVariants as start
 use Rattle.ode_language.specs.Languages.{ode}
@@ -45,7 +45,7 @@ module _ (image : List ℕ) (h : Header) (counts : Counts image h) where
   why_start (start.BadPage page) bad worse = inr (inr (inr (inl (record { header = h; counts = counts; page = page; bad = worse page refl; is = refl }))))
 
   module _ (entries : Entries) (has : HasMap h image entries) where
-    pub why_heavy : (bytes : ℕ) → bytes ≡ record_bytes entries → MAX_RECORD_BYTES < bytes → IsWhy image (BadFile (cause.Size bytes))
+    pub why_heavy : (bytes : ℕ) → bytes ≡ record_bytes entries → most_under h < bytes → IsWhy image (BadFile (cause.Size bytes))
     why_heavy bytes is heavy =
         inr (inr (inr (inr (inl (record {
           header = h;
@@ -58,16 +58,16 @@ module _ (image : List ℕ) (h : Header) (counts : Counts image h) where
 
     -- ---- the records
 
-    module _ (within : record_bytes entries ≤ MAX_RECORD_BYTES) where
-      opened : (to : Ruled Base) → AreOpened ode entries to → IsOpenedTo image (found_of to)
+    module _ (within : record_bytes entries ≤ most_under h) where
+      opened : (to : Ruled Base) → AreOpened (h.format == FIRST_FORMAT) ode entries to → IsOpenedTo image (found_of to)
       opened to are = inr (inr (inr (inr (record { header = h; counts = counts; entries = entries; has = has; within = within; opened = to; are = are; is = refl }))))
 
-      pub why_records : (e : ReadError) → Opens ode entries (Err e) → IsWhy image (read_error e)
+      pub why_records : (e : ReadError) → Opens (h.format == FIRST_FORMAT) ode entries (Err e) → IsWhy image (read_error e)
       why_records read.Memory answers = inl tt
       why_records read.DiskFault answers = inl tt
       why_records (read.BadFile why) answers = inr (opened (Err why) answers)
 
-      pub is_opened : (base : Base) → AreOpened ode entries (Ok base) → IsOpenedTo image (Ok base)
+      pub is_opened : (base : Base) → AreOpened (h.format == FIRST_FORMAT) ode entries (Ok base) → IsOpenedTo image (Ok base)
       is_opened base answers = opened (Ok base) answers
 
 -- what holds at an answer, by what held there

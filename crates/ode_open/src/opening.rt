@@ -1,22 +1,21 @@
 //! A file is opened to what a run needs.
-ghost use Rattle.std.specs.Prelude.{◌≡◌, ◌⊎◌, List as Items, ℕ, length, IfOk, IsErrOf, IsTrue, Ok, Some};
+ghost use Rattle.std.specs.Prelude.{◌≡◌, ◌⊎◌, ◌==◌, List as Items, ℕ, length, IfOk, IsErrOf, IsTrue, Ok, Some};
 ghost use Rattle.ode_gate.specs.Headers.{IsHeader};
 ghost use Rattle.ode_gate.specs.Slots.{Counts};
 ghost use Rattle.ode_host.specs.Causes.{RoseIf};
 ghost use Rattle.ode_host.specs.FirstSync.{SyncedRun};
 ghost use Rattle.ode_host.specs.Host.{Looks, Only, Stands, Tells};
 ghost use Rattle.ode_keep.specs.Entries.{AreBytes, Entries};
-ghost use Rattle.ode_keeper.specs.Files.{FileMeans, HasMap};
-ghost use Rattle.ode_keeper.specs.Holding.{KeeperHolds, is_live};
+ghost use Rattle.ode_keeper.specs.Files.{FileMeans, HasMap, most_under};
+ghost use Rattle.ode_keeper.specs.Holding.{KeeperHolds, is_live, most};
 ghost use Rattle.ode_language.specs.Languages.{ode};
-ghost use Rattle.ode_open.specs.Opening.{Found, HasOutsideFailed, IsOpenedTo, IsRefused, Stays, base_in, program_of, seen};
+ghost use Rattle.ode_open.specs.Opening.{Found, HasFormat, HasOutsideFailed, IsOpenedTo, IsRefused, Stays, base_in, program_of, seen};
 ghost use Rattle.ode_opening_records.specs.Reading.{AreOpened};
-ghost use Rattle.ode_schema.specs.Parts.{AreFit};
+ghost use Rattle.ode_schema.specs.Parts.{AreFit, places_from, trigger_count};
 
 use crate::error::OpenError;
-use ode_gate::{Header, SLOT_LEN, read_header};
+use ode_gate::{FIRST_FORMAT, Header, SLOT_LEN, read_header};
 use ode_host::Host;
-use ode_keep::MAX_RECORD_BYTES;
 use ode_keeper::Keeper;
 use ode_opened::Opened;
 use ode_opening_records::{Base, open_records, records_are_opened_to_one_thing};
@@ -28,6 +27,7 @@ fn start_keeper<H: Host>(alloc: Global, host: &mut H, header: &Header) -> Result
     requires { IsHeader header.now }
     ensures holds { IfOk result (λ keeper. (image : Items ℕ) → Stands image (H.view host.old) → Counts image header.now
         → (entries : Entries) × HasMap header.now image entries × KeeperHolds keeper (H.view host.new) entries) }
+    ensures limit { IfOk result (λ keeper. most keeper ≡ most_under header.now) }
     ensures live { IfOk result (λ keeper. IsTrue (is_live keeper)) }
     ensures answer { (image : Items ℕ) → Tells (H.view host.old) image → Counts image header.now
         → IsRefused image result }
@@ -36,7 +36,8 @@ fn start_keeper<H: Host>(alloc: Global, host: &mut H, header: &Header) -> Result
 {
     let keeper = Keeper::start(alloc, host, header)?;
     let bytes = keeper.bytes();
-    if bytes > MAX_RECORD_BYTES {
+    let most = keeper.most();
+    if bytes > most {
         return Err(OpenError::BadFile(Cause::Size(bytes)));
     }
     Ok(keeper)
@@ -47,18 +48,20 @@ fn open_file<H: Host>(alloc: Global, host: &mut H) -> Result<Opened<Keeper>, Ope
     ensures answer { (image : Items ℕ) → Stands image (H.view host.old)
         → HasOutsideFailed result ⊎ IsOpenedTo image (seen result) }
     ensures keeper { IfOk result (λ o. (image : Items ℕ) → Stands image (H.view host.old)
-        → (entries : Entries) × FileMeans image entries × KeeperHolds o.keeper (H.view host.new) entries × AreOpened ode entries (Ok (base_in o))) }
+        → (entries : Entries) × FileMeans image entries × KeeperHolds o.keeper (H.view host.new) entries × AreOpened (o.format == FIRST_FORMAT) ode entries (Ok (base_in o))) }
     ensures bytes { IfOk result (λ o. (image : Items ℕ) → Stands image (H.view host.old)
         → (entries : Entries) → KeeperHolds o.keeper (H.view host.new) entries → AreBytes entries) }
+    ensures format { IfOk result (λ o. (image : Items ℕ) → Stands image (H.view host.old) → HasFormat image o.format) }
     ensures live { IfOk result (λ o. IsTrue (is_live o.keeper)) }
     ensures fit { IfOk result (λ o. AreFit (program_of o)) }
-    ensures aligned { IfOk result (λ o. (length o.maps ≡ length o.classes) × (length o.alphabets ≡ length o.tables)) }
+    ensures places { IfOk result (λ o. o.maps ≡ places_from 0 o.classes) }
+    ensures aligned { IfOk result (λ o. (length o.tables ≡ trigger_count o.classes) × (length o.alphabets ≡ length o.tables)) }
     ensures looks { Looks (H.view host.old) (H.view host.new) }
     ensures cause { RoseIf (IsErrOf result OpenError.DiskFault) (H.view host.old).disk_faults (H.view host.new).disk_faults }
 {
     let header = read_header(host, &mut [0; SLOT_LEN])?;
     let mut keeper = start_keeper(alloc, host, &header)?;
-    let base = open_records(alloc, &mut keeper, host)?;
+    let base = open_records(alloc, &mut keeper, host, header.format == FIRST_FORMAT)?;
     let Base {
         classes,
         tables,
@@ -73,6 +76,7 @@ fn open_file<H: Host>(alloc: Global, host: &mut H) -> Result<Opened<Keeper>, Ope
         alphabets,
         maps,
         bytes,
+        format: header.format,
     })
 }
 
@@ -86,12 +90,14 @@ pub fn open_base<H: Host>(alloc: Global, host: &mut H) -> Result<Opened<Keeper>,
 
     // At `Ok` what was written before stands on the disk, and the keeper holds the file's records, which were opened.
     ensures keeper { IfOk result (λ o. (image : Items ℕ) → Tells (H.view host.old) image
-        → (entries : Entries) × FileMeans image entries × KeeperHolds o.keeper (H.view host.new) entries × AreOpened ode entries (Ok (base_in o))) }
+        → (entries : Entries) × FileMeans image entries × KeeperHolds o.keeper (H.view host.new) entries × AreOpened (o.format == FIRST_FORMAT) ode entries (Ok (base_in o))) }
     ensures bytes { IfOk result (λ o. (image : Items ℕ) → Tells (H.view host.old) image
         → (entries : Entries) → KeeperHolds o.keeper (H.view host.new) entries → AreBytes entries) }
+    ensures format { IfOk result (λ o. (image : Items ℕ) → Tells (H.view host.old) image → HasFormat image o.format) }
     ensures live { IfOk result (λ o. IsTrue (is_live o.keeper)) }
     ensures fit { IfOk result (λ o. AreFit (program_of o)) }
-    ensures aligned { IfOk result (λ o. (length o.maps ≡ length o.classes) × (length o.alphabets ≡ length o.tables)) }
+    ensures places { IfOk result (λ o. o.maps ≡ places_from 0 o.classes) }
+    ensures aligned { IfOk result (λ o. (length o.tables ≡ trigger_count o.classes) × (length o.alphabets ≡ length o.tables)) }
 
     // Unless the disk failed, its sync was done: from then on a stop leaves the file and the text as they are. Before it, a stop leaves
     // what it might have left at the start.

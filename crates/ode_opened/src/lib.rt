@@ -3,4 +3,4 @@
 
 mod opened;
 
-pub use opened::Opened;
+pub use opened::{Opened, RUN_FORMAT};

@@ -91,7 +91,7 @@ module _ (l : Language) (w : World (Unit {0}) ℕ) (are : AreBones l w.bones) (a
 
   -- ---- its trigger
 
-  class_rising : (earlier ds : List Declared) (low : ℕ) → low ≤ length earlier + 1 → AreClasses l earlier ds → RiseFrom low (map (λ (d : Declared). d.class.number) ds)
+  class_rising : (earlier ds : List Declared) (low : ℕ) → low ≤ length earlier + 1 → AreClasses l b.added earlier ds → RiseFrom low (map (λ (d : Declared). d.class.number) ds)
   class_rising earlier [] low less classes_are = tt
   class_rising earlier (d ∷ ds) low less classes_are =
       let number : d.class.number ≡ length earlier + 1 = classes_are.0.number in
@@ -116,7 +116,7 @@ module _ (l : Language) (w : World (Unit {0}) ℕ) (are : AreBones l w.bones) (a
       let t : IsGiven b a.args (trigger_in b.classes o.class a) = given b a.args (trigger_in b.classes o.class a) own.is.trigger in
       let at = found_at o.class a t.trigger t.is in
       both (option_map_or (λ (h : Head). descends classes h.class a.class) (heads o.id) false) (have_trigger classes a.class a.trigger a.args && is_own_number b.next heads shared a.number)
-      (ap (λ (g : Option Head). option_map_or (λ (h : Head). descends classes h.class a.class) g false) (head_at o there) ∙ descends_to l b.classes are.classes o.class a t.trigger t.is)
+      (ap (λ (g : Option Head). option_map_or (λ (h : Head). descends classes h.class a.class) g false) (head_at o there) ∙ descends_to l b.added b.classes are.classes o.class a t.trigger t.is)
       (both (have_trigger classes a.class a.trigger a.args) (is_own_number b.next heads shared a.number) (trigger_there l w are again a.class a.trigger a.args t.trigger at t.fits)
       (own_number o a P own))
 

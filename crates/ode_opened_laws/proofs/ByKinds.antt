@@ -64,18 +64,25 @@ then_none first last es ds fs one none = both_within first last es ds fs [] one 
 -- ---- a record, records of the kinds of classes, and of each later kind
 
 -- what stands of which kinds among them
-pub record AreSorted (c : Row) (cs os vs acts qs : Entries) : Type 0 where
-  pub whole : within 0 255 (c ∷ cs ++ os ++ vs ++ acts ++ qs) ≡ c ∷ cs ++ os ++ vs ++ acts ++ qs
-  pub objects : within object_kind object_kind (c ∷ cs ++ os ++ vs ++ acts ++ qs) ≡ os
-  pub versions : within version_kind version_kind (c ∷ cs ++ os ++ vs ++ acts ++ qs) ≡ vs
-  pub activations : within activation_kind activation_kind (c ∷ cs ++ os ++ vs ++ acts ++ qs) ≡ acts
-  pub queue : within entry_kind entry_kind (c ∷ cs ++ os ++ vs ++ acts ++ qs) ≡ qs
-  pub references : within version_kind entry_kind (c ∷ cs ++ os ++ vs ++ acts ++ qs) ≡ vs ++ acts ++ qs
+pub record AreSorted (c : Row) (cs os vs acts qs fs : Entries) : Type 0 where
+  pub whole : within 0 255 (c ∷ cs ++ os ++ vs ++ acts ++ qs ++ fs) ≡ c ∷ cs ++ os ++ vs ++ acts ++ qs ++ fs
+  pub objects : within object_kind object_kind (c ∷ cs ++ os ++ vs ++ acts ++ qs ++ fs) ≡ os
+  pub versions : within version_kind version_kind (c ∷ cs ++ os ++ vs ++ acts ++ qs ++ fs) ≡ vs
+  pub activations : within activation_kind activation_kind (c ∷ cs ++ os ++ vs ++ acts ++ qs ++ fs) ≡ acts
+  pub queue : within entry_kind entry_kind (c ∷ cs ++ os ++ vs ++ acts ++ qs ++ fs) ≡ qs
+  pub references : within version_kind entry_kind (c ∷ cs ++ os ++ vs ++ acts ++ qs ++ fs) ≡ vs ++ acts ++ qs
 
-module _ (c : Row) (cs os vs acts qs : Entries) (one : AreOf 1 1 (c ∷ [])) (classes : AreOf 2 5 cs) (objects : AreOf 6 6 os) (versions : AreOf 7 7 vs) (activations : AreOf 8 8 acts)
-    (queue : AreOf 9 9 qs) where
+module _ (c : Row) (cs os vs acts qs fs : Entries) (one : AreOf 1 1 (c ∷ [])) (classes : AreOf 2 5 cs) (objects : AreOf 6 6 os) (versions : AreOf 7 7 vs) (activations : AreOf 8 8 acts)
+    (queue : AreOf 9 9 qs) (fields : AreOf 10 10 fs) where
+  abbrev to_queue : Entries
+  to_queue = c ∷ cs ++ os ++ vs ++ acts ++ qs
+
   abbrev all_kinds : Entries
-  all_kinds = c ∷ cs ++ os ++ vs ++ acts ++ qs
+  all_kinds = to_queue ++ fs
+
+  -- added fields are of no other kind
+  up_to_queue : (first last : ℕ) (es : Entries) → last < 10 → within first last to_queue ≡ es → within first last all_kinds ≡ es
+  up_to_queue first last es before is = then_none first last to_queue fs es is (none_above first last 10 10 fs fields before)
 
   whole : within 0 255 all_kinds ≡ all_kinds
   whole =
@@ -83,7 +90,8 @@ module _ (c : Row) (cs os vs acts qs : Entries) (one : AreOf 1 1 (c ∷ [])) (cl
       let to_objects = both_within 0 255 (c ∷ cs) os (c ∷ cs) os to_classes (all_within 0 255 6 6 os objects (omega arith) (omega arith)) in
       let to_versions = both_within 0 255 (c ∷ cs ++ os) vs (c ∷ cs ++ os) vs to_objects (all_within 0 255 7 7 vs versions (omega arith) (omega arith)) in
       let to_acts = both_within 0 255 (c ∷ cs ++ os ++ vs) acts (c ∷ cs ++ os ++ vs) acts to_versions (all_within 0 255 8 8 acts activations (omega arith) (omega arith)) in
-      both_within 0 255 (c ∷ cs ++ os ++ vs ++ acts) qs (c ∷ cs ++ os ++ vs ++ acts) qs to_acts (all_within 0 255 9 9 qs queue (omega arith) (omega arith))
+      let to_all = both_within 0 255 (c ∷ cs ++ os ++ vs ++ acts) qs (c ∷ cs ++ os ++ vs ++ acts) qs to_acts (all_within 0 255 9 9 qs queue (omega arith) (omega arith)) in
+      both_within 0 255 to_queue fs to_queue fs to_all (all_within 0 255 10 10 fs fields (omega arith) (omega arith))
 
   -- of the kinds from an object's on
   module _ (first last : ℕ) (from : 5 < first) where
@@ -105,29 +113,30 @@ module _ (c : Row) (cs os vs acts qs : Entries) (one : AreOf 1 1 (c ∷ [])) (cl
       let own = from_objects 6 6 (omega arith) os (all_within 6 6 6 6 os objects (omega arith) (omega arith)) in
       let to_versions = then_none 6 6 (c ∷ cs ++ os) vs os own (none_above 6 6 7 7 vs versions (omega arith)) in
       let to_acts = then_none 6 6 (c ∷ cs ++ os ++ vs) acts os to_versions (none_above 6 6 8 8 acts activations (omega arith)) in
-      then_none 6 6 (c ∷ cs ++ os ++ vs ++ acts) qs os to_acts (none_above 6 6 9 9 qs queue (omega arith))
+      up_to_queue 6 6 os (omega arith) (then_none 6 6 (c ∷ cs ++ os ++ vs ++ acts) qs os to_acts (none_above 6 6 9 9 qs queue (omega arith)))
 
   versions_are : within 7 7 all_kinds ≡ vs
   versions_are =
       let own = from_versions 7 7 (omega arith) vs (omega arith) (all_within 7 7 7 7 vs versions (omega arith) (omega arith)) in
       let to_acts = then_none 7 7 (c ∷ cs ++ os ++ vs) acts vs own (none_above 7 7 8 8 acts activations (omega arith)) in
-      then_none 7 7 (c ∷ cs ++ os ++ vs ++ acts) qs vs to_acts (none_above 7 7 9 9 qs queue (omega arith))
+      up_to_queue 7 7 vs (omega arith) (then_none 7 7 (c ∷ cs ++ os ++ vs ++ acts) qs vs to_acts (none_above 7 7 9 9 qs queue (omega arith)))
 
   activations_are : within 8 8 all_kinds ≡ acts
   activations_are =
       let own = from_activations 8 8 (omega arith) acts (omega arith) (all_within 8 8 8 8 acts activations (omega arith) (omega arith)) in
-      then_none 8 8 (c ∷ cs ++ os ++ vs ++ acts) qs acts own (none_above 8 8 9 9 qs queue (omega arith))
+      up_to_queue 8 8 acts (omega arith) (then_none 8 8 (c ∷ cs ++ os ++ vs ++ acts) qs acts own (none_above 8 8 9 9 qs queue (omega arith)))
 
   queue_is : within 9 9 all_kinds ≡ qs
   queue_is =
-      both_within 9 9 (c ∷ cs ++ os ++ vs ++ acts) qs [] qs (from_activations 9 9 (omega arith) [] (omega arith) (none_below 9 9 8 8 acts activations (omega arith)))
-      (all_within 9 9 9 9 qs queue (omega arith) (omega arith))
+      up_to_queue 9 9 qs (omega arith)
+      (both_within 9 9 (c ∷ cs ++ os ++ vs ++ acts) qs [] qs (from_activations 9 9 (omega arith) [] (omega arith) (none_below 9 9 8 8 acts activations (omega arith)))
+      (all_within 9 9 9 9 qs queue (omega arith) (omega arith)))
 
   with_references : within 7 9 all_kinds ≡ vs ++ acts ++ qs
   with_references =
       let own = from_versions 7 9 (omega arith) vs (omega arith) (all_within 7 9 7 7 vs versions (omega arith) (omega arith)) in
       let to_acts = both_within 7 9 (c ∷ cs ++ os ++ vs) acts vs acts own (all_within 7 9 8 8 acts activations (omega arith) (omega arith)) in
-      both_within 7 9 (c ∷ cs ++ os ++ vs ++ acts) qs (vs ++ acts) qs to_acts (all_within 7 9 9 9 qs queue (omega arith) (omega arith))
+      up_to_queue 7 9 (vs ++ acts ++ qs) (omega arith) (both_within 7 9 (c ∷ cs ++ os ++ vs ++ acts) qs (vs ++ acts) qs to_acts (all_within 7 9 9 9 qs queue (omega arith) (omega arith)))
 
-  pub are_sorted : AreSorted c cs os vs acts qs
+  pub are_sorted : AreSorted c cs os vs acts qs fs
   are_sorted = record { whole = whole; objects = objects_are; versions = versions_are; activations = activations_are; queue = queue_is; references = with_references }

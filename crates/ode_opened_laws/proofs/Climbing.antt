@@ -12,6 +12,7 @@ use Rattle.ode_value.specs.Classes.{is_a, line_of, upward}
 use Rattle.ode_value.specs.GoodWorlds.{AreClasses}
 use Rattle.ode_value.specs.Language.{Language}
 use Rattle.ode_value.specs.Worlds.{Declared}
+use Rattle.ode_value.specs.declared.change.Added.{Added}
 use Rattle.ode_value.specs.declared.class.Class.{Class}
 use Rattle.ode_opening_laws.specs.Holding.{class_of}
 use Rattle.ode_opening_laws.proofs.Each.{all_append}
@@ -82,10 +83,10 @@ below_behind : (n : ℕ) (ds : List Declared) (d : Declared) → AllByRecursion 
 below_behind n [] d all low = (low, tt)
 below_behind n (e ∷ ds) d all low = (all.0, below_behind n ds d all.1 low)
 
-numbered_behind : (l : Language) (earlier ds : List Declared) (all : List Class) → AllByRecursion (IsBelow (length earlier + 1)) earlier → AreClasses l earlier ds
+numbered_behind : (l : Language) (added : List Added) (earlier ds : List Declared) (all : List Class) → AllByRecursion (IsBelow (length earlier + 1)) earlier → AreClasses l added earlier ds
     → all ≡ map class_of earlier ++ map class_of ds → AllByRecursion (λ (d : Declared). class_numbered all d.class.number ≡ Some d.class) ds
-numbered_behind l earlier [] all low are whole = tt
-numbered_behind l earlier (d ∷ ds) all low are whole =
+numbered_behind l added earlier [] all low are whole = tt
+numbered_behind l added earlier (d ∷ ds) all low are whole =
     let number : d.class.number ≡ length earlier + 1 = are.0.number in
     let longer : length (earlier ++ d ∷ []) ≡ length earlier + 1 = length-append earlier (d ∷ []) in
     let found : class_numbered all d.class.number ≡ Some d.class =
@@ -96,7 +97,7 @@ numbered_behind l earlier (d ∷ ds) all low are whole =
     below_behind (length (earlier ++ d ∷ []) + 1) earlier d (below_more (length earlier + 1) (length (earlier ++ d ∷ []) + 1) earlier (omega arith) low) (omega arith) in
     let grouped : map class_of (earlier ++ d ∷ []) ++ map class_of ds ≡ map class_of earlier ++ d.class ∷ map class_of ds =
     ap (λ (cs : List Class). cs ++ map class_of ds) (map-append class_of earlier (d ∷ [])) ∙ append_assoc (map class_of earlier) (d.class ∷ []) (map class_of ds) in
-    (found, numbered_behind l (earlier ++ d ∷ []) ds all lower are.1 (whole ∙ sym grouped))
+    (found, numbered_behind l added (earlier ++ d ∷ []) ds all lower are.1 (whole ∙ sym grouped))
 
 pub all_reverse : {X : Type 0} (P : X → Type 0) (xs : List X) → AllByRecursion P xs → AllByRecursion P (reverse xs)
 all_reverse P [] all = tt
@@ -104,19 +105,19 @@ all_reverse P (x ∷ xs) all =
     subst (AllByRecursion P) (sym (reverse-append (x ∷ []) xs)) (all_append P (reverse xs) (x ∷ []) (all_reverse P xs all.1) (all.0, tt))
 
 -- a class from one up that a test passes is met by an opening
-climbs_along : (l : Language) (ds : List Declared) (test : Class → Bool) (number : ℕ) → AreClasses l [] ds → list_any test (line_of ds number) ≡ true
+climbs_along : (l : Language) (added : List Added) (ds : List Declared) (test : Class → Bool) (number : ℕ) → AreClasses l added [] ds → list_any test (line_of ds number) ≡ true
     → climbs_to test (length (map class_of ds)) (map class_of ds) number ≡ true
-climbs_along l ds test number are is =
+climbs_along l added ds test number are is =
     let classes = map class_of ds in
-    let each = numbered_behind l [] ds classes tt are refl in
+    let each = numbered_behind l added [] ds classes tt are refl in
     let ran : climbs_to test (length (reverse ds)) classes number ≡ true =
     along classes test (reverse ds) number (all_reverse (λ (d : Declared). class_numbered classes d.class.number ≡ Some d.class) ds each) is in
     ap (λ (n : ℕ). climbs_to test n classes number) (length-map ds class_of ∙ sym (length-reverse ds)) ∙ ran
 
 -- a class that has a name or inherits it does so to an opening
-pub is_inherited : (l : Language) (ds : List Declared) (number : ℕ) (name : List ℕ) → AreClasses l [] ds → is_a ds number name ≡ true → inherits (map class_of ds) number name ≡ true
-is_inherited l ds number name are is = climbs_along l ds (is_named name) number are is
+pub is_inherited : (l : Language) (added : List Added) (ds : List Declared) (number : ℕ) (name : List ℕ) → AreClasses l added [] ds → is_a ds number name ≡ true → inherits (map class_of ds) number name ≡ true
+is_inherited l added ds number name are is = climbs_along l added ds (is_named name) number are is
 
 -- and one that is a class or inherits from it
-pub is_descended : (l : Language) (ds : List Declared) (number from : ℕ) → AreClasses l [] ds → list_any (is_numbered from) (line_of ds number) ≡ true → descends (map class_of ds) number from ≡ true
-is_descended l ds number from are is = climbs_along l ds (is_numbered from) number are is
+pub is_descended : (l : Language) (added : List Added) (ds : List Declared) (number from : ℕ) → AreClasses l added [] ds → list_any (is_numbered from) (line_of ds number) ≡ true → descends (map class_of ds) number from ≡ true
+is_descended l added ds number from are is = climbs_along l added ds (is_numbered from) number are is

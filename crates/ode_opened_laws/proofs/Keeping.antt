@@ -165,7 +165,7 @@ module _ (l : Language) (w : World (Unit {0}) ℕ) (are : AreBones l w.bones) (a
 
     fitting : (class : List ℕ) (version : Option ℕ) (o : Object) → (r : Ref) → r.version ≡ version → FitsObject b class r o → fits_object classes class version (head_of o) ≡ true
     fitting class version o r same fits =
-        both (inherits classes o.class class) (is_drawn o.last version) (is_inherited l b.classes o.class class are.classes fits.fits)
+        both (inherits classes o.class class) (is_drawn o.last version) (is_inherited l b.added b.classes o.class class are.classes fits.fits)
         (drawn o.last version (subst (IsDrawn o.last) same fits.version))
 
     live_fits : (class : List ℕ) (r : Ref) (g : Option Object) → object_numbered r.object b.objects ≡ g → IfSome (option_and_then if_live g) (FitsObject b class r)

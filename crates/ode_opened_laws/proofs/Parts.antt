@@ -1,5 +1,5 @@
 -- The records of a world, kind by kind.
-use Rattle.std.proofs.Common.{◌≡◌, ℕ, ◌<◌, ◌≤◌, ◌^◌, List, [], ◌∷◌, ◌++◌, map, length, true, false, Option, Some, None, refl, ap, append_assoc, arith}
+use Rattle.std.proofs.Common.{◌≡◌, ℕ, ◌<◌, ◌≤◌, ◌^◌, List, [], ◌∷◌, ◌++◌, map, length, Bool, true, false, Option, Some, None, refl, ap, append_assoc, arith}
 use Rattle.std.specs.List.{AllByRecursion, flat_map}
 use Rattle.std.specs.Prelude.{◌==◌, pos}
 use Rattle.std.specs.Int.{cast_unsigned, w64}
@@ -9,7 +9,7 @@ use Rattle.ode_codec.specs.FirstFormat.{is_of_first}
 use Rattle.ode_codec.specs.Reading.{record_under}
 use Rattle.ode_codec.specs.Rules.{HasRanges, IsKept, IsRecord}
 use Rattle.ode_codec.specs.Spelling.{key_of, truth, u32, u64, value_of}
-use Rattle.ode_codec.specs.StoredRows.{activation_row, activation_rows, counters_row, entry_row, object_row, places_of, state_of, version_rows}
+use Rattle.ode_codec.specs.StoredRows.{activation_row, added_row, activation_rows, counters_row, entry_row, object_row, places_of, state_of, version_rows}
 use Rattle.ode_codec.specs.declared.record.Counters.{Counters}
 use Rattle.ode_codec.specs.declared.record.Record.{Record}
 use Rattle.ode_codec.specs.declared.record.Record.TheVariants as of
@@ -18,6 +18,7 @@ use Rattle.ode_keep.specs.Entries.{Entries}
 use Rattle.ode_opening_laws.specs.Holding.{class_rows}
 use Rattle.ode_opening_laws.proofs.Decoding.{Again, Decode, decodes_one}
 use Rattle.ode_opening_laws.proofs.Each.{Any, all_any, all_append, all_flat, all_map, all_then}
+use Rattle.ode_opening_laws.proofs.Fields.{field_found}
 use Rattle.ode_opening_laws.proofs.Founds.{found_of, head_at, head_found, heads_found, pieces_at, pieces_found, pieces_of_class, rows_decode, table_heads_found, table_heads_of, tables_found, tables_of}
 use Rattle.ode_opening_laws.proofs.Sections.{Passes, rows_pass}
 use Rattle.ode_opening_laws.proofs.Storable.{IsStorable}
@@ -31,10 +32,11 @@ use Rattle.ode_value.specs.Records.{Row, clock_bytes, stamp_bytes, version_row}
 use Rattle.ode_value.specs.Tables.{Table}
 use Rattle.ode_value.specs.Versions.{Version}
 use Rattle.ode_value.specs.Worlds.{Bones, Declared, Entry, Object, Position, World}
+use Rattle.ode_value.specs.declared.change.Added.{Added}
 use Rattle.ode_value.specs.declared.class.Field.{Field}
 use Rattle.ode_value.specs.declared.key.Key.{Key}
 use Rattle.ode_opened_laws.proofs.ByKinds.{AreOf, IsOf}
-use Rattle.ode_opened_laws.proofs.Plain.{IsUnstamped, plain_between, version_plain}
+use Rattle.ode_opened_laws.proofs.Plain.{IsUnstamped, plain_between, plain_where, version_plain}
 use Rattle.ode_opened_laws.proofs.Tallying.{IsPart, IsTallied, IsUncounted}
 use Rattle.ode_opened_laws.proofs.Telling.{activation_reads, activation_record, entry_reads, entry_record, object_reads, object_record, version_reads, version_record}
 
@@ -112,8 +114,8 @@ abbrev IsOther : Record → Type 0
 IsOther (of.Counters c) = ⊥
 IsOther _ = Unit {0}
 
-part_of : (e : Row) (r : Record) → record_under e.0 e.1 ≡ Some r → is_of_first e.0 e.1 ≡ true → IsOther r → IsPart e
-part_of e r reads plain other = record { r = r; reads = reads; plain = plain; other = left r other }
+part_of : (first : Bool) (e : Row) (r : Record) → record_under e.0 e.1 ≡ Some r → (first ≡ true → is_of_first e.0 e.1 ≡ true) → IsOther r → IsPart first e
+part_of first e r reads plain other = record { r = r; reads = reads; plain = plain_where first e.0 e.1 plain; other = left r other }
   where
     left : (r : Record) → IsOther r → (before : Option Counters) → counters_or before r ≡ before
     left (of.Counters c) other before = absurd other
@@ -131,12 +133,12 @@ abbrev IsOtherFound : Key × Record → Type 0
 IsOtherFound f = IsOther f.1
 
 -- those of classes have one form
-are_parts : (es : Entries) (fs : Found) → Decode es fs → AreOf 2 5 es → AllByRecursion IsOtherFound fs → AllByRecursion IsPart es
-are_parts [] fs reads kinds others = tt
-are_parts (e ∷ es) [] reads kinds others = absurd reads
-are_parts (e ∷ es) (f ∷ fs) reads kinds others =
+are_parts : (first : Bool) (es : Entries) (fs : Found) → Decode es fs → AreOf 2 5 es → AllByRecursion IsOtherFound fs → AllByRecursion (IsPart first) es
+are_parts first [] fs reads kinds others = tt
+are_parts first (e ∷ es) [] reads kinds others = absurd reads
+are_parts first (e ∷ es) (f ∷ fs) reads kinds others =
     let high = kinds.0.most in
-    (part_of e f.1 reads.1 (plain_between e kinds.0.least (omega (arith, high))) others.0, are_parts es fs reads.2 kinds.1 others.1)
+    (part_of first e f.1 reads.1 (λ is. plain_between e kinds.0.least (omega (arith, high))) others.0, are_parts first es fs reads.2 kinds.1 others.1)
 
 module _ (tables : ℕ → ℕ → Table) where
   found_others : (ds : List Declared) → AllByRecursion IsOtherFound (found_of tables ds)
@@ -150,57 +152,71 @@ module _ (tables : ℕ → ℕ → Table) where
       all_append O (heads_found ds ++ pieces_found ds ++ table_heads_found tables ds) (tables_found tables ds)
       (all_append O (heads_found ds ++ pieces_found ds) (table_heads_found tables ds) (all_append O (heads_found ds) (pieces_found ds) heads pieces) table_heads) table_pieces
 
-  pub classes_are_parts : Again → (ds : List Declared) → AllByRecursion (IsStorable tables) ds → AllByRecursion IsPart (class_rows tables ds)
-  classes_are_parts again ds all = are_parts (class_rows tables ds) (found_of tables ds) (rows_decode tables again ds all) (classes_of_kind tables ds all) (found_others ds)
+  pub classes_are_parts : (first : Bool) → Again → (ds : List Declared) → AllByRecursion (IsStorable tables) ds → AllByRecursion (IsPart first) (class_rows tables ds)
+  classes_are_parts first again ds all = are_parts first (class_rows tables ds) (found_of tables ds) (rows_decode tables again ds all) (classes_of_kind tables ds all) (found_others ds)
 
-module _ (again : Again) (w : World (Unit {0}) ℕ) where
-  object_is_part : (o : Object) → IsReadableObject w o → IsPart (object_row o)
-  object_is_part o is = part_of (object_row o) (object_record o) (object_reads again o is.spells) refl tt
+module _ (first : Bool) (again : Again) (w : World (Unit {0}) ℕ) where
+  object_is_part : (o : Object) → IsReadableObject w o → IsPart first (object_row o)
+  object_is_part o is = part_of first (object_row o) (object_record o) (object_reads again o is.spells) (λ is_first. refl) tt
 
   -- a version without a stamp
   record IsPlain (id : ℕ) (fields : List Field) (v : Version) : Type 0 where
     reads_it : IsReadableVersion id fields v
-    unstamped : IsUnstamped v
+    unstamped : first ≡ true → IsUnstamped v
 
-  all_plain : (id : ℕ) (fields : List Field) (vs : List Version) → AllByRecursion (IsReadableVersion id fields) vs → AllByRecursion IsUnstamped vs → AllByRecursion (IsPlain id fields) vs
+  all_plain : (id : ℕ) (fields : List Field) (vs : List Version) → AllByRecursion (IsReadableVersion id fields) vs → (first ≡ true → AllByRecursion IsUnstamped vs) → AllByRecursion (IsPlain id fields) vs
   all_plain id fields [] reads unstamped = tt
-  all_plain id fields (v ∷ vs) reads unstamped = (record { reads_it = reads.0; unstamped = unstamped.0 }, all_plain id fields vs reads.1 unstamped.1)
+  all_plain id fields (v ∷ vs) reads unstamped = (record { reads_it = reads.0; unstamped = λ is_first. (unstamped is_first).0 }, all_plain id fields vs reads.1 (λ is_first. (unstamped is_first).1))
 
-  version_is_part : (id : ℕ) (fields : List Field) (v : Version) → IsPlain id fields v → IsPart (version_row id fields v)
+  version_is_part : (id : ℕ) (fields : List Field) (v : Version) → IsPlain id fields v → IsPart first (version_row id fields v)
   unfolding IsKept
   version_is_part id fields v is =
       let few : length (born_values v.stamp fields v.fields) < 2 ^ 15 = is.reads_it.spells.kept.0 in
-      part_of (version_row id fields v) (version_record id fields v) (version_reads again id fields v is.reads_it.spells) (version_plain id fields v is.unstamped few) tt
+      part_of first (version_row id fields v) (version_record id fields v) (version_reads again id fields v is.reads_it.spells) (λ is_first. version_plain id fields v (is.unstamped is_first) few) tt
 
-  activation_is_part : (id : ℕ) (a : Activation) → IsReadableActivation w id a → IsPart (activation_row id (state_of w id a.number) a)
-  activation_is_part id a is = part_of (activation_row id (state_of w id a.number) a) (activation_record w id a) (activation_reads again w id a is.spells) refl tt
+  activation_is_part : (id : ℕ) (a : Activation) → IsReadableActivation w id a → IsPart first (activation_row id (state_of w id a.number) a)
+  activation_is_part id a is = part_of first (activation_row id (state_of w id a.number) a) (activation_record w id a) (activation_reads again w id a is.spells) (λ is_first. refl) tt
 
   record IsPlainObject (o : Object) : Type 0 where
     reads_it : IsReadableObject w o
-    unstamped : AllByRecursion IsUnstamped o.versions
+    unstamped : first ≡ true → AllByRecursion IsUnstamped o.versions
 
-  plain_objects : (os : List Object) → AllByRecursion (IsReadableObject w) os → AllByRecursion (λ (o : Object). AllByRecursion IsUnstamped o.versions) os → AllByRecursion IsPlainObject os
+  plain_objects : (os : List Object) → AllByRecursion (IsReadableObject w) os → (first ≡ true → AllByRecursion (λ (o : Object). AllByRecursion IsUnstamped o.versions) os) → AllByRecursion IsPlainObject os
   plain_objects [] reads unstamped = tt
-  plain_objects (o ∷ os) reads unstamped = (record { reads_it = reads.0; unstamped = unstamped.0 }, plain_objects os reads.1 unstamped.1)
+  plain_objects (o ∷ os) reads unstamped = (record { reads_it = reads.0; unstamped = λ is_first. (unstamped is_first).0 }, plain_objects os reads.1 (λ is_first. (unstamped is_first).1))
 
-  versions_are_parts : (o : Object) → IsPlainObject o → AllByRecursion IsPart (version_rows w.bones.classes o)
+  versions_are_parts : (o : Object) → IsPlainObject o → AllByRecursion (IsPart first) (version_rows w.bones.classes o)
   versions_are_parts o is =
       let fields : List Field = fields_of w.bones.classes o.class in
-      all_map IsPart (IsPlain o.id fields) (version_row o.id fields) (version_is_part o.id fields) o.versions (all_plain o.id fields o.versions is.reads_it.versions is.unstamped)
+      all_map (IsPart first) (IsPlain o.id fields) (version_row o.id fields) (version_is_part o.id fields) o.versions (all_plain o.id fields o.versions is.reads_it.versions is.unstamped)
 
-  pub objects_are_parts : (os : List Object) → AllByRecursion (IsReadableObject w) os → AllByRecursion (λ (o : Object). AllByRecursion IsUnstamped o.versions) os
-      → AllByRecursion IsPart (map object_row os ++ flat_map (version_rows w.bones.classes) os ++ flat_map (activation_rows w) os)
+  pub objects_are_parts : (os : List Object) → AllByRecursion (IsReadableObject w) os → (first ≡ true → AllByRecursion (λ (o : Object). AllByRecursion IsUnstamped o.versions) os)
+      → AllByRecursion (IsPart first) (map object_row os ++ flat_map (version_rows w.bones.classes) os ++ flat_map (activation_rows w) os)
   objects_are_parts os reads unstamped =
       let R = IsReadableObject w in
       let of_versions = flat_map (version_rows w.bones.classes) os in
-      let versions = all_flat IsPart IsPlainObject (version_rows w.bones.classes) versions_are_parts os (plain_objects os reads unstamped) in
-      let activations = all_flat IsPart R (activation_rows w)
-      (λ (o : Object) is. all_map IsPart (IsReadableActivation w o.id) (λ (a : Activation). activation_row o.id (state_of w o.id a.number) a) (activation_is_part o.id) o.activations is.activations) os reads in
-      all_append IsPart (map object_row os ++ of_versions) (flat_map (activation_rows w) os)
-      (all_append IsPart (map object_row os) of_versions (all_map IsPart R object_row object_is_part os reads) versions) activations
+      let versions = all_flat (IsPart first) IsPlainObject (version_rows w.bones.classes) versions_are_parts os (plain_objects os reads unstamped) in
+      let activations = all_flat (IsPart first) R (activation_rows w)
+      (λ (o : Object) is. all_map (IsPart first) (IsReadableActivation w o.id) (λ (a : Activation). activation_row o.id (state_of w o.id a.number) a) (activation_is_part o.id) o.activations is.activations) os reads in
+      all_append (IsPart first) (map object_row os ++ of_versions) (flat_map (activation_rows w) os)
+      (all_append (IsPart first) (map object_row os) of_versions (all_map (IsPart first) R object_row object_is_part os reads) versions) activations
 
-pub entries_are_parts : Again → (qs : List (ℕ × Entry)) → AllByRecursion IsReadableEntry qs → AllByRecursion IsPart (map entry_row qs)
-entries_are_parts again qs reads = all_map IsPart IsReadableEntry entry_row (λ q is. part_of (entry_row q) (entry_record q) (entry_reads again q is) refl tt) qs reads
+pub entries_are_parts : (first : Bool) → Again → (qs : List (ℕ × Entry)) → AllByRecursion IsReadableEntry qs → AllByRecursion (IsPart first) (map entry_row qs)
+entries_are_parts first again qs reads = all_map (IsPart first) IsReadableEntry entry_row (λ q is. part_of first (entry_row q) (entry_record q) (entry_reads again q is) (λ is_first. refl) tt) qs reads
+
+-- ---- added fields
+
+-- where there are some, records aren't of the first format
+module _ (first : Bool) (later : first ≡ false) where
+  fields_decode_as_parts : (es : Entries) (fs : Found) → Decode es fs → AllByRecursion IsOtherFound fs → AllByRecursion (IsPart first) es
+  fields_decode_as_parts [] fs reads others = tt
+  fields_decode_as_parts (e ∷ es) [] reads others = absurd reads
+  fields_decode_as_parts (e ∷ es) (f ∷ fs) reads others =
+      (part_of first e f.1 reads.1 (λ is_first. absurd (cc (later, is_first))) others.0, fields_decode_as_parts es fs reads.2 others.1)
+
+  pub fields_are_parts : (classes : List Declared) (xs : List Added) → Decode (map (added_row classes) xs) (map (field_found classes) xs) → AllByRecursion (IsPart first) (map (added_row classes) xs)
+  fields_are_parts classes xs reads =
+      fields_decode_as_parts (map (added_row classes) xs) (map (field_found classes) xs) reads (all_map IsOtherFound Any (field_found classes) (λ a any. tt) xs (all_any xs))
 
 -- ---- the counters
 

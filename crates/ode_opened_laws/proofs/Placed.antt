@@ -10,6 +10,7 @@ use Rattle.ode_value.specs.GoodWorlds.{AreClasses}
 use Rattle.ode_value.specs.Language.{Language}
 use Rattle.ode_value.specs.Tables.{Table}
 use Rattle.ode_value.specs.Worlds.{Declared}
+use Rattle.ode_value.specs.declared.change.Added.{Added}
 use Rattle.ode_value.specs.declared.class.Class.{Class}
 use Rattle.ode_value.specs.declared.member.TriggerDecl.{TriggerDecl}
 
@@ -57,10 +58,10 @@ module _ (tables : ℕ → ℕ → Table) where
     pub is : slice_get maps before ≡ Some first
     pub each : (place : ℕ) (t : TriggerDecl) → slice_get d.class.triggers place ≡ Some t → slice_get all (first + place) ≡ Some (tables d.class.number place)
 
-  placed_behind : (l : Language) (earlier ds : List Declared) (front : List Table) (maps : List ℕ) (all : List Table) (places : List ℕ) → length maps ≡ length earlier → AreClasses l earlier ds
+  placed_behind : (l : Language) (added : List Added) (earlier ds : List Declared) (front : List Table) (maps : List ℕ) (all : List Table) (places : List ℕ) → length maps ≡ length earlier → AreClasses l added earlier ds
       → all ≡ front ++ stored_tables tables ds → places ≡ maps ++ places_from (length front) (map class_of ds) → AllByRecursion (IsPlacedIn all places) ds
-  placed_behind l earlier [] front maps all places as_many are all_are places_are = tt
-  placed_behind l earlier (d ∷ ds) front maps all places as_many are all_are places_are =
+  placed_behind l added earlier [] front maps all places as_many are all_are places_are = tt
+  placed_behind l added earlier (d ∷ ds) front maps all places as_many are all_are places_are =
       let c = d.class in
       let rest : List Table = stored_tables tables ds in
       let behind : List ℕ = places_from (length front + length c.triggers) (map class_of ds) in
@@ -79,7 +80,7 @@ module _ (tables : ℕ → ℕ → Table) where
               ∙ get_right front (own_tables c ++ rest) place
               ∙ get_left (own_tables c) rest place (tables c.number place) (own_at c place t is);
         },
-        placed_behind l (earlier ++ d ∷ []) ds (front ++ own_tables c) (maps ++ length front ∷ []) all places
+        placed_behind l added (earlier ++ d ∷ []) ds (front ++ own_tables c) (maps ++ length front ∷ []) all places
             (let longer = length-append maps (length front ∷ []) in let further = length-append earlier (d ∷ []) in omega (arith, as_many, longer, further))
             are.1
             (tables_are ∙ sym (append_assoc front (own_tables c) rest))
@@ -87,5 +88,5 @@ module _ (tables : ℕ → ℕ → Table) where
       )
 
   -- the stored tables of a world's classes stand so
-  pub all_placed : (l : Language) (ds : List Declared) → AreClasses l [] ds → AllByRecursion (IsPlacedIn (stored_tables tables ds) (places_from 0 (map class_of ds))) ds
-  all_placed l ds are = placed_behind l [] ds [] [] (stored_tables tables ds) (places_from 0 (map class_of ds)) refl are refl refl
+  pub all_placed : (l : Language) (added : List Added) (ds : List Declared) → AreClasses l added [] ds → AllByRecursion (IsPlacedIn (stored_tables tables ds) (places_from 0 (map class_of ds))) ds
+  all_placed l added ds are = placed_behind l added [] ds [] [] (stored_tables tables ds) (places_from 0 (map class_of ds)) refl are refl refl

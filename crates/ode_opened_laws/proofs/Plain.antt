@@ -1,6 +1,7 @@
--- In a good world no field was added and no version has a stamp, so all its records have forms that the first format knows.
+-- Where no field was added to the classes of a good world, no version has a stamp, so all its records have forms that the first format
+-- knows.
 use Rattle.std.proofs.Common.{◌≡◌, ℕ, ◌+◌, ◌<◌, ◌≤◌, ◌^◌, List, [], ◌∷◌, ◌++◌, length, map, true, false, cond, ltb, Bool, Option, Some, None, refl, ap, ◌∙◌, arith, append_assoc, append-nil, length-append}
-use Rattle.std.specs.Prelude.{◌==◌, nat_le, nat_lt}
+use Rattle.std.specs.Prelude.{◌==◌, ◌||◌, nat_le, nat_lt, not}
 use Rattle.std.specs.Int.{w16, byte_len, from_be_bytes, to_be_bytes}
 use Rattle.std.specs.List.{AllByRecursion, flat_map}
 use Rattle.std.specs.Option.{IfSome, IsSome, option_map_or, unwrap_or}
@@ -11,7 +12,6 @@ use Rattle.std.proofs.lemmas.Nat.{from_be_bytes-to_be_bytes_2}
 use Rattle.ode_codec.specs.FirstFormat.{is_of_first, is_unstamped}
 use Rattle.ode_codec.specs.Formats.{number_in}
 use Rattle.ode_codec.specs.StoredRows.{added_row, added_rows, counters_row, u16, u32, u64}
-use Rattle.ode_keep.specs.Entries.{Entries}
 use Rattle.ode_value.specs.Changing.{added_to}
 use Rattle.ode_value.specs.Fields.{born_values}
 use Rattle.ode_value.specs.GoodWorlds.{IsObject, IsVersion}
@@ -27,13 +27,17 @@ use Rattle.ode_value.specs.declared.value.Value.{Value}
 
 -- ---- no added fields
 
-none_added : (b : Bones) → b.added ≡ [] → (ds : List Declared) → flat_map (added_rows b) ds ≡ []
+pub none_added : (b : Bones) → b.added ≡ [] → (ds : List Declared) → flat_map (added_rows b) ds ≡ []
 none_added b none [] = refl
 none_added b none (d ∷ ds) =
     ap (λ (all : List Added). map (added_row b.classes) (added_to d.class.number all) ++ flat_map (added_rows b) ds) none ∙ none_added b none ds
 
-pub without_added : (es : Entries) (b : Bones) → b.added ≡ [] → (ds : List Declared) → es ++ flat_map (added_rows b) ds ≡ es
-without_added es b none ds = ap (λ (rows : Entries). es ++ rows) (none_added b none ds) ∙ append-nil es
+-- ---- by the format
+
+-- where records are of the first format, this is so
+pub plain_where : (first : Bool) (k : Key) (bytes : List ℕ) → (first ≡ true → is_of_first k bytes ≡ true) → (not first || is_of_first k bytes) ≡ true
+plain_where true k bytes plain = plain refl
+plain_where false k bytes plain = refl
 
 -- ---- no stamps
 

@@ -65,7 +65,7 @@ module _ (l : Language) (w : World (Unit {0}) ℕ) (are : AreBones l w.bones) (a
     where
       by : (g : Option Trigger) → trigger_in b.classes o.class (activation_of e) ≡ g → IsSome g → descends classes o.class e.class ≡ true
       by None is some = absurd (cc)
-      by (Some t) is some = descends_to l b.classes are.classes o.class (activation_of e) t is
+      by (Some t) is some = descends_to l b.added b.classes are.classes o.class (activation_of e) t is
 
   object_there : (e : Entry) → IfSome (object_at b e.object) (λ o. IsSome (trigger_in b.classes o.class (activation_of e)))
       → option_map_or (λ (h : Head). descends classes h.class e.class) (heads e.object) true ≡ true

@@ -25,6 +25,7 @@ use Rattle.ode_value.specs.Lengths.{values_length}
 use Rattle.ode_value.specs.Limits.{args_limit}
 use Rattle.ode_value.specs.Objects.{Activation}
 use Rattle.ode_value.specs.Worlds.{Bones, Declared, World, class_numbered}
+use Rattle.ode_value.specs.declared.change.Added.{Added}
 use Rattle.ode_value.specs.declared.class.Class.{Class}
 use Rattle.ode_value.specs.declared.member.TriggerDecl.{TriggerDecl}
 use Rattle.ode_value.specs.declared.binding.Param.{Param}
@@ -81,10 +82,10 @@ found_all P p (y ∷ ys) x all is = by (λ there. found_all P p ys x all.1 there
     by rest false test there = rest there
 
 -- the class that declares an activation's trigger is the object's or an ancestor
-pub descends_to : (l : Language) (ds : List Declared) → AreClasses l [] ds → (number : ℕ) (a : Activation) (t : Trigger) → trigger_in ds number a ≡ Some t → descends (map class_of ds) number a.class ≡ true
-descends_to l ds are number a t is =
+pub descends_to : (l : Language) (added : List Added) (ds : List Declared) → AreClasses l added [] ds → (number : ℕ) (a : Activation) (t : Trigger) → trigger_in ds number a ≡ Some t → descends (map class_of ds) number a.class ≡ true
+descends_to l added ds are number a t is =
     let found = found_all (λ (u : Trigger). IsAmong (line_of ds number) u.class) (λ u. is_of u a) (triggers_of ds number) t (declared_in_line ds number) is in
-    is_descended l ds number a.class are (subst (IsAmong (line_of ds number)) (same_class t a found.1) found.0)
+    is_descended l added ds number a.class are (subst (IsAmong (line_of ds number)) (same_class t a found.1) found.0)
 
 -- and the trigger is the one at its place
 pub placed_at : (ds : List Declared) → RiseFrom 0 (map (λ (d : Declared). d.class.number) ds) → (number : ℕ) (a : Activation) (t : Trigger) → trigger_in ds number a ≡ Some t → trigger_at ds a.class a.trigger ≡ Some t

@@ -1,34 +1,42 @@
 -- The records of a world weigh what is counted of it, less what its stored tables are smaller than the counted ones.
-use Rattle.std.proofs.Common.{◌≡◌, ℕ, zero, suc, ◌+◌, ◌-◌, ◌*◌, ◌≤◌, min, List, [], ◌∷◌, ◌++◌, map, length, drop, Option, Some, None, refl, sym, ap, ◌∙◌, arith, length-append, length-drop}
+use Rattle.std.proofs.Common.{◌≡◌, ℕ, zero, suc, ◌+◌, ◌-◌, ◌*◌, ◌<◌, ◌≤◌, min, List, [], ◌∷◌, ◌++◌, map, length, drop, Bool, true, false, cond, Option, Some, None, refl, sym, ap, ◌∙◌, arith, length-append, length-drop}
+use Rattle.std.specs.Prelude.{◌==◌}
 use Rattle.std.specs.List.{AllByRecursion, enumerate_from, flat_map, range_with_len, sum_by}
-use Rattle.std.specs.Option.{unwrap_or}
+use Rattle.std.specs.Option.{IsSome, unwrap_or}
+use Rattle.std.proofs.lemmas.Bool.{eqb-true}
+use Rattle.std.proofs.lemmas.Bool.Decides.{nat_tests}
 use Rattle.std.proofs.lemmas.List.{length-take, map-append}
-use Rattle.std.proofs.lemmas.List.Sums.{sum_by-cons}
+use Rattle.std.proofs.lemmas.List.Sums.{sum_by-append, sum_by-cons}
 use Rattle.std.proofs.lemmas.Nat.{mul-le}
 use Rattle.ode_codec.specs.Standing.{HasTables, IsTableOf}
-use Rattle.ode_codec.specs.StoredRows.{activation_row, activation_rows, counters_row, head_row, object_row, piece_of, pieces_of, state_of, table_bytes, table_head, table_heads, table_pieces, table_row, table_rows, text_row, text_rows, u16, u32, u64, version_rows}
+use Rattle.ode_codec.specs.StoredRows.{activation_row, activation_rows, added_row, counters_row, head_row, object_row, piece_of, pieces_of, referred, sort_number, state_of, table_bytes, table_head, table_heads, table_pieces, table_row, table_rows, text_row, text_rows, u16, u32, u64, version_rows}
 use Rattle.ode_keep.specs.Entries.{Entries}
 use Rattle.ode_opening.specs.Building.{triggers_of}
 use Rattle.ode_opening_laws.specs.Holding.{class_of, class_rows, stored_tables}
+use Rattle.ode_opening_laws.proofs.BornOnce.{blocks}
 use Rattle.ode_opening_laws.proofs.Sized.{IsSized, IsSizedAt}
 use Rattle.ode_opening_laws.proofs.Storable.{IsStorable}
 use Rattle.ode_opening_tables.specs.Tables.{all_triggers, spare_in, spare_of}
 use Rattle.ode_value.proofs.LengthLaws.{length-stamp}
+use Rattle.ode_value.specs.Changing.{added_to}
 use Rattle.ode_value.specs.Classes.{Trigger, own_triggers, trigger_of}
 use Rattle.ode_value.specs.Fields.{born_values, fields_of}
-use Rattle.ode_value.specs.Lengths.{activation_length, counters_length, key_length, piece_count, pieces_length, table_length, trigger_length, version_length}
+use Rattle.ode_value.specs.GoodWorlds.{AreAdded, RiseFrom}
+use Rattle.ode_value.specs.Lengths.{activation_length, counters_length, key_length, piece_count, pieces_length, table_length, trigger_length, value_length, version_length}
 use Rattle.ode_value.specs.Limits.{value_limit}
 use Rattle.ode_value.specs.Objects.{Activation}
 use Rattle.ode_value.specs.PrintedClasses.{decl_text}
-use Rattle.ode_value.specs.Records.{Row, byte, clock_bytes, row_weight, stamp_bytes, total_weight, version_row}
+use Rattle.ode_value.specs.Records.{Row, byte, clock_bytes, row_weight, spelled_value, stamp_bytes, total_weight, version_row}
 use Rattle.ode_value.specs.Symbols.{symbol_count}
 use Rattle.ode_value.specs.Tables.{Table}
 use Rattle.ode_value.specs.TreeCount.{tree_count}
 use Rattle.ode_value.specs.Versions.{Version}
-use Rattle.ode_value.specs.Weights.{activation_weight, class_weight, object_weight, trigger_weight, version_weight}
-use Rattle.ode_value.specs.Worlds.{Bones, Declared, Object, Position, World}
+use Rattle.ode_value.specs.Weights.{activation_weight, added_weight, class_weight, object_weight, trigger_weight, version_weight}
+use Rattle.ode_value.specs.Worlds.{Bones, Declared, Object, Position, World, class_numbered}
+use Rattle.ode_value.specs.declared.change.Added.{Added}
 use Rattle.ode_value.specs.declared.class.Field.{Field}
 use Rattle.ode_value.specs.declared.member.TriggerDecl.{TriggerDecl}
+use Rattle.ode_value.specs.declared.value.Value.{Value}
 
 pub weight_append : (es ds : Entries) → total_weight (es ++ ds) ≡ total_weight es + total_weight ds
 weight_append [] ds = omega arith
@@ -241,3 +249,77 @@ module _ (acts_weigh : (id state : ℕ) (a : Activation) → row_weight (activat
         objects_weigh cs os,
         sum_by-cons (object_weight cs) o os,
       )
+
+-- ---- added fields
+
+module _ (weighs : (v : Value) → length (spelled_value v) ≡ value_length v) (classes : List Declared) where
+  field_weighs : (a : Added) → row_weight (added_row classes a) ≡ added_weight a
+  field_weighs a =
+      let name = byte (length a.name) ++ a.name in
+      omega (
+        arith,
+        weighs a.value,
+        length-append (name ++ byte (sort_number a.sort) ++ u32 (referred classes a.sort)) (spelled_value a.value),
+        length-append (name ++ byte (sort_number a.sort)) (u32 (referred classes a.sort)),
+        length-append name (byte (sort_number a.sort)),
+        length-append (byte (length a.name)) a.name,
+      )
+
+  rows_weigh : (xs : List Added) → total_weight (map (added_row classes) xs) ≡ sum_by added_weight xs
+  rows_weigh [] = refl
+  rows_weigh (a ∷ xs) = omega (arith, field_weighs a, rows_weigh xs, sum_by-cons added_weight a xs)
+
+sum_append : (xs ys : List Added) → sum_by added_weight (xs ++ ys) ≡ sum_by added_weight xs + sum_by added_weight ys
+sum_append xs ys = sum_by-append added_weight xs ys
+
+turned : (m n : ℕ) → (m == n) ≡ (n == m)
+turned m n = grind (arith, nat_tests)
+
+above : (class n : ℕ) → class < n → (class == n) ≡ false
+above class n less = grind (arith, nat_tests, less)
+
+-- class by class a field counts once, where its class is there
+module _ (a : Added) (xs : List Added) where
+  -- those of a class
+  abbrev own : Declared → List Added
+  own d = added_to d.class.number xs
+
+  abbrev summed : List Added → List Declared → ℕ
+  summed ys ds = sum_by added_weight (blocks ys ds)
+
+  none_more : (low : ℕ) (ds : List Declared) → a.class < low → RiseFrom low (map (λ (d : Declared). d.class.number) ds) → summed (a ∷ xs) ds ≡ summed xs ds
+  none_more low [] less rising = refl
+  none_more low (d ∷ ds) less rising =
+      ap (λ (b : Bool). sum_by added_weight (cond b (a ∷ own d) (own d) ++ blocks (a ∷ xs) ds)) (above a.class d.class.number (omega (arith, less, rising.0)))
+      ∙ sum_append (own d) (blocks (a ∷ xs) ds)
+      ∙ ap (λ (n : ℕ). sum_by added_weight (own d) + n) (none_more (d.class.number + 1) ds (omega (arith, less, rising.0)) rising.1)
+      ∙ sym (sum_append (own d) (blocks xs ds))
+
+  one_more : (low : ℕ) (ds : List Declared) → RiseFrom low (map (λ (d : Declared). d.class.number) ds) → IsSome (class_numbered a.class ds) → summed (a ∷ xs) ds ≡ added_weight a + summed xs ds
+  one_more low [] rising some = absurd (cc (some))
+  one_more low (d ∷ ds) rising some =
+      ap (λ (b : Bool). sum_by added_weight (cond b (a ∷ own d) (own d) ++ blocks (a ∷ xs) ds)) (turned a.class d.class.number)
+      ∙ by (d.class.number == a.class) refl some (λ there. one_more (d.class.number + 1) ds rising.1 there)
+    where
+      by : (b : Bool) → (d.class.number == a.class) ≡ b → IsSome (cond b (Some d.class) (class_numbered a.class ds))
+          → (IsSome (class_numbered a.class ds) → summed (a ∷ xs) ds ≡ added_weight a + summed xs ds)
+          → sum_by added_weight (cond b (a ∷ own d) (own d) ++ blocks (a ∷ xs) ds) ≡ added_weight a + sum_by added_weight (own d ++ blocks xs ds)
+      by true is some behind =
+          let same : d.class.number ≡ a.class = eqb-true d.class.number a.class is in
+          let rest = none_more (d.class.number + 1) ds (omega (arith, same)) rising.1 in
+          omega (arith, rest, sum_by-cons added_weight a (own d ++ blocks (a ∷ xs) ds), sum_append (own d) (blocks (a ∷ xs) ds), sum_append (own d) (blocks xs ds))
+      by false is some behind = omega (arith, behind some, sum_append (own d) (blocks (a ∷ xs) ds), sum_append (own d) (blocks xs ds))
+
+none_weigh : (ds : List Declared) → sum_by added_weight (blocks [] ds) ≡ 0
+none_weigh [] = refl
+none_weigh (d ∷ ds) = none_weigh ds
+
+blocks_weigh : (classes : List Declared) (birth : ℕ) (xs : List Added) → AreAdded classes birth xs → RiseFrom 0 (map (λ (d : Declared). d.class.number) classes)
+    → sum_by added_weight (blocks xs classes) ≡ sum_by added_weight xs
+blocks_weigh classes birth [] are rising = none_weigh classes
+blocks_weigh classes birth (a ∷ xs) are rising =
+    omega (arith, one_more a xs 0 classes rising are.1.class, blocks_weigh classes (birth + 1) xs are.2 rising, sum_by-cons added_weight a xs)
+
+pub fields_weigh : (weighs : (v : Value) → length (spelled_value v) ≡ value_length v) (classes : List Declared) (added : List Added) → AreAdded classes 1 added
+    → RiseFrom 0 (map (λ (d : Declared). d.class.number) classes) → total_weight (map (added_row classes) (blocks added classes)) ≡ sum_by added_weight added
+fields_weigh weighs classes added are rising = rows_weigh weighs classes (blocks added classes) ∙ blocks_weigh classes 1 added are rising

@@ -8,18 +8,20 @@ use Rattle.std.proofs.lemmas.Bool.Decides.{nat_tests}
 use Rattle.std.proofs.lemmas.Slice.Eq.{bytes_eq-Decides}
 use Rattle.ode_codec.specs.Rules.{IsRecord}
 use Rattle.ode_codec.specs.Standing.{HasTables}
-use Rattle.ode_compile.specs.Compiling.{compiled}
+use Rattle.ode_compile.specs.Compiling.{compiled_grown}
 use Rattle.ode_language.specs.Languages.{ode}
 use Rattle.ode_opening.specs.Declaring.{accepted_in, adds, agrees, class_in, declares_as, read_in}
 use Rattle.ode_passes.specs.Rules.{Ruled, ◌>>=◌, found, needs}
 use Rattle.ode_passes.specs.declared.cause.Cause.TheVariants as cause
 use Rattle.ode_value.specs.Answers.{Answer}
+use Rattle.ode_value.specs.Changing.{added_to}
 use Rattle.ode_value.specs.GoodWorlds.{AreClasses, IsClass}
 use Rattle.ode_value.specs.Lengths.{piece_count}
 use Rattle.ode_value.specs.Limits.{class_limit}
 use Rattle.ode_value.specs.PrintedClasses.{decl_text}
 use Rattle.ode_value.specs.Tables.{Table}
 use Rattle.ode_value.specs.Worlds.{Declared}
+use Rattle.ode_value.specs.declared.change.Added.{Added}
 use Rattle.ode_value.specs.declared.class.Class.{Class}
 use Rattle.ode_value.specs.declared.statement.ClassDecl.{ClassDecl}
 use Rattle.ode_opening_laws.specs.Holding.{class_of, head_of}
@@ -34,12 +36,12 @@ small_of : (n : ℕ) → nat_le (1 + n) class_limit ≡ true → n < 2 ^ 32
 unfolding class_limit
 small_of n short = grind (arith, nat_tests)
 
-is_small : (earlier : List Declared) (d : Declared) → IsClass ode earlier d → IsSmall d
-is_small earlier d is = record { number = is.low; pieces = small_of (piece_count (length (decl_text d.tree))) (short_of d is.limits) }
+is_small : (added : List Added) (earlier : List Declared) (d : Declared) → IsClass ode added earlier d → IsSmall d
+is_small added earlier d is = record { number = is.low; pieces = small_of (piece_count (length (decl_text d.tree))) (short_of d is.limits) }
 
-pub are_small : (earlier ds : List Declared) → AreClasses ode earlier ds → AllByRecursion IsSmall ds
-are_small earlier [] classes = tt
-are_small earlier (d ∷ ds) classes = (is_small earlier d classes.0, are_small (earlier ++ d ∷ []) ds classes.1)
+pub are_small : (added : List Added) (earlier ds : List Declared) → AreClasses ode added earlier ds → AllByRecursion IsSmall ds
+are_small added earlier [] classes = tt
+are_small added earlier (d ∷ ds) classes = (is_small added earlier d classes.0, are_small added (earlier ++ d ∷ []) ds classes.1)
 
 -- ---- all that their records need
 
@@ -48,8 +50,8 @@ module _ (tables : ℕ → ℕ → Table) where
   each_storable [] small spelled sized = tt
   each_storable (d ∷ ds) small spelled sized = (record { small = small.0; spelled = spelled.0; sized = sized.0 }, each_storable ds small.1 spelled.1 sized.1)
 
-  pub are_storable : (ds : List Declared) → AreClasses ode [] ds → AllByRecursion (HasTables tables) ds → AllByRecursion (IsStorable tables) ds
-  are_storable ds classes mean = each_storable ds (are_small [] ds classes) (heads_spelled ds classes) (have_sizes tables [] ds classes mean)
+  pub are_storable : (added : List Added) (ds : List Declared) → AreClasses ode added [] ds → AllByRecursion (HasTables tables) ds → AllByRecursion (IsStorable tables) ds
+  are_storable added ds classes mean = each_storable ds (are_small added [] ds classes) (heads_spelled added ds classes) (have_sizes tables added [] ds classes mean)
 
 -- ---- its head agrees
 
@@ -73,12 +75,15 @@ head_agrees d =
 
 -- ---- the class
 
-module _ (earlier : List Declared) (d : Declared) (is : IsClass ode earlier d) where
+module _ (added : List Added) (earlier : List Declared) (d : Declared) (is : IsClass ode added earlier d) where
   abbrev text : List ℕ
   text = decl_text d.tree
 
   abbrev known : List Class
   known = map class_of earlier
+
+  abbrev own : List Added
+  own = added_to d.class.number added
 
   abbrev broken : Ruled Class
   broken = Err (cause.Class d.class.number)
@@ -95,16 +100,16 @@ module _ (earlier : List Declared) (d : Declared) (is : IsClass ode earlier d) w
   checked o = found (cause.Class d.class.number) o >>= λ c. agreed (agrees (head_of d) c) c
 
   abbrev printed : Bool → Ruled Class
-  printed b = needs (cause.Class d.class.number) b >>= λ _. checked (accepted_in (compiled known d.tree))
+  printed b = needs (cause.Class d.class.number) b >>= λ _. checked (accepted_in (compiled_grown known own d.tree))
 
   abbrev read_as : Option ClassDecl → Ruled (List Class)
-  read_as o = declares_as o known d.class.number (head_of d) text >>= λ c. Ok (known ++ c ∷ [])
+  read_as o = declares_as o known own d.class.number (head_of d) text >>= λ c. Ok (known ++ c ∷ [])
 
-  class_is : declares_as (Some d.tree) known d.class.number (head_of d) text ≡ Ok d.class
+  class_is : declares_as (Some d.tree) known own d.class.number (head_of d) text ≡ Ok d.class
   class_is =
       ap printed (same_bytes text)
-      ∙ ap (λ (r : Answer Declared). checked (accepted_in r)) (compiles earlier d is)
+      ∙ ap (λ (r : Answer Declared). checked (accepted_in r)) (compiles added earlier d is)
       ∙ ap (λ b. agreed b d.class) (head_agrees d)
 
-  pub is_added : adds ode known d.class.number (head_of d) text ≡ Ok (known ++ d.class ∷ [])
+  pub is_added : adds ode known own d.class.number (head_of d) text ≡ Ok (known ++ d.class ∷ [])
   is_added = ap read_as read ∙ ap (λ (m : Ruled Class). m >>= λ c. Ok (known ++ c ∷ [])) class_is

@@ -24,6 +24,7 @@ use Rattle.ode_value.specs.Lengths.{piece_count, table_length}
 use Rattle.ode_value.specs.PrintedClasses.{decl_text}
 use Rattle.ode_value.specs.Tables.{Table}
 use Rattle.ode_value.specs.Worlds.{Declared}
+use Rattle.ode_value.specs.declared.change.Added.{Added}
 use Rattle.ode_value.specs.declared.key.Key.{Key}
 use Rattle.ode_opening_laws.proofs.Founds.{found_of, head_at, head_found, heads_found, pieces_at, pieces_found, pieces_of_class, table_heads_found, table_heads_of, tables_found, tables_of}
 use Rattle.ode_opening_laws.proofs.Pieces.{bytes_of, found_piece, found_pieces}
@@ -268,22 +269,22 @@ module _ (tables : ℕ → ℕ → Table) where
         count_tables ds,
       )
 
-heads_numbered : (earlier ds : List Declared) → AreClasses ode earlier ds → map class_head_key (range_with_len (length earlier + 1) (length ds)) ≡ keys (heads_found ds)
-heads_numbered earlier [] classes = refl
-heads_numbered earlier (d ∷ ds) classes =
+heads_numbered : (added : List Added) (earlier ds : List Declared) → AreClasses ode added earlier ds → map class_head_key (range_with_len (length earlier + 1) (length ds)) ≡ keys (heads_found ds)
+heads_numbered added earlier [] classes = refl
+heads_numbered added earlier (d ∷ ds) classes =
     let next : length (earlier ++ d ∷ []) + 1 ≡ length earlier + 1 + 1 = ap (λ m. m + 1) (length-append earlier (d ∷ [])) in
     ap (λ m. class_head_key m ∷ map class_head_key (range_with_len (length earlier + 1 + 1) (length ds))) (sym classes.0.number)
     ∙ ap (λ m. class_head_key d.class.number ∷ map class_head_key (range_with_len m (length ds))) (sym next)
-    ∙ ap (λ (ks : List Key). class_head_key d.class.number ∷ ks) (heads_numbered (earlier ++ d ∷ []) ds classes.1)
+    ∙ ap (λ (ks : List Key). class_head_key d.class.number ∷ ks) (heads_numbered added (earlier ++ d ∷ []) ds classes.1)
 
 -- ---- all keys
 
-module _ (tables : ℕ → ℕ → Table) (ds : List Declared) (classes : AreClasses ode [] ds) (all : AllByRecursion (IsStorable tables) ds) where
+module _ (tables : ℕ → ℕ → Table) (added : List Added) (ds : List Declared) (classes : AreClasses ode added [] ds) (all : AllByRecursion (IsStorable tables) ds) where
   abbrev records : Found
   records = found_of tables ds
 
   heads_are : head_keys records ≡ keys (heads_found ds)
-  heads_are = ap (λ m. map class_head_key (range_with_len 1 m)) (count_is tables ds) ∙ heads_numbered [] ds classes
+  heads_are = ap (λ m. map class_head_key (range_with_len 1 m)) (count_is tables ds) ∙ heads_numbered added [] ds classes
 
   texts_are : keys_of part.Texts records ≡ keys (pieces_found ds)
   texts_are =

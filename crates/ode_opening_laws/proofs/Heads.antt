@@ -7,18 +7,20 @@ use Rattle.std.proofs.lemmas.Bool.{leb-true}
 use Rattle.std.proofs.lemmas.List.{map-append}
 use Rattle.ode_codec.specs.Rules.{HasRanges, IsKept, IsRecord}
 use Rattle.ode_language.specs.Languages.{ode}
-use Rattle.ode_types.specs.Checks.{◌>>=◌, each, found, needs}
-use Rattle.ode_types.specs.Declaring.{begins, declared, numbered, parent_in, with_member, without_members}
+use Rattle.ode_types.specs.Checks.{◌>>=◌, found, needs}
+use Rattle.ode_types.specs.Declaring.{begins, numbered, parent_in, with_added, with_member, without_members}
 use Rattle.ode_types.specs.Families.{class_named}
-use Rattle.ode_types.specs.Static.{check_class, checked_member, completed}
-use Rattle.ode_types.proofs.CheckedClasses.{bind-ok}
+use Rattle.ode_types.specs.Static.{check_grown}
+use Rattle.ode_types.proofs.CheckedClasses.{bind-ok, came_of}
 use Rattle.ode_value.proofs.FreeNames.{free_name}
+use Rattle.ode_value.specs.Changing.{added_to}
 use Rattle.ode_value.specs.GoodWorlds.{AreClasses, IsClass}
 use Rattle.ode_value.specs.Lengths.{piece_count}
 use Rattle.ode_value.specs.Limits.{class_limit, value_limit}
 use Rattle.ode_value.specs.PrintedClasses.{decl_text}
 use Rattle.ode_value.specs.Text.{IsName}
 use Rattle.ode_value.specs.Worlds.{Declared}
+use Rattle.ode_value.specs.declared.change.Added.{Added}
 use Rattle.ode_value.specs.declared.class.Class.{Class}
 use Rattle.ode_value.specs.declared.reason.CheckError.TheVariants.{Duplicate, UnknownName}
 use Rattle.ode_value.specs.declared.statement.ClassDecl.{ClassDecl}
@@ -47,6 +49,11 @@ same_members (m ∷ ms) c =
     let rest = same_members ms (with_member c m) in
     record { name = rest.name ∙ here.name; parent = rest.parent ∙ here.parent }
 
+-- nor do added fields
+same_grown : (added : List Added) (c : Class) → SameHead c (fold with_added c added)
+same_grown [] c = record { name = refl; parent = refl }
+same_grown (a ∷ added) c = let rest = same_grown added (with_added c a) in record { name = rest.name; parent = rest.parent }
+
 -- what a class has of its tree, and of its parent
 record HasHead (known : List Class) (d : ClassDecl) (c : Class) : Type 0 where
   above : Option Class
@@ -68,20 +75,17 @@ begun known d c h =
       parent = sym (ap (λ (x : Class). x.parent) is);
     }
 
-has_head : (known : List Class) (d : ClassDecl) (c : Class) → check_class known d ≡ Ok c → HasHead known d c
-unfolding check_class completed
-has_head known d c checks =
-    let first = bind-ok (begins known d) _ c checks in
-    let second = bind-ok (declared known d first.0) _ c first.2 in
-    let third = bind-ok (each (checked_member _ second.0) d.members) _ c second.2 in
-    let made : fold with_member first.0 third.0 ≡ c = cc (third.2) in
-    let head = same_members third.0 first.0 in
-    let start = begun known d first.0 first.1 in
+has_head : (known : List Class) (added : List Added) (d : ClassDecl) (c : Class) → check_grown known added d ≡ Ok c → HasHead known d c
+has_head known added d c checks =
+    let came = came_of known added d c checks in
+    let head = same_members came.members came.start in
+    let more = same_grown added (fold with_member came.start came.members) in
+    let start = begun known d came.start came.begun in
     record {
       above = start.above;
       there = start.there;
-      name = sym (ap (λ (x : Class). x.name) made) ∙ head.name ∙ start.name;
-      parent = sym (ap (λ (x : Class). x.parent) made) ∙ head.parent ∙ start.parent;
+      name = sym (ap (λ (x : Class). x.name) came.made) ∙ more.name ∙ head.name ∙ start.name;
+      parent = sym (ap (λ (x : Class). x.parent) came.made) ∙ more.parent ∙ head.parent ∙ start.parent;
     }
 
 -- ---- the parent's number
@@ -114,27 +118,27 @@ text_low : (n : ℕ) → 1 + piece_count n ≤ class_limit → n < 2 ^ 32
 unfolding class_limit value_limit
 text_low n few = omega arith
 
-head_kept : (earlier : List Declared) (d : Declared) → AllByRecursion IsLow (map class_of earlier) → IsClass ode earlier d → IsRecord (head_of d)
+head_kept : (added : List Added) (earlier : List Declared) (d : Declared) → AllByRecursion IsLow (map class_of earlier) → IsClass ode added earlier d → IsRecord (head_of d)
 unfolding IsKept HasRanges
-head_kept earlier d low is =
-    let head = has_head (map class_of earlier) d.tree d.class is.checked in
+head_kept added earlier d low is =
+    let head = has_head (map class_of earlier) (added_to d.class.number added) d.tree d.class is.checked in
     let free = class_is_named _ d.tree is.text in
     let name : IsName d.class.name = subst IsName (sym head.name) (free_name d.tree.name free) in
     let parent : unwrap_or d.class.parent 0 < 2 ^ 32 =
     subst (λ (o : Option ℕ). unwrap_or o 0 < 2 ^ 32) (sym head.parent) (parent_low (map class_of earlier) d.tree.parent head.above low head.there) in
     let short : length (decl_text d.tree) < 2 ^ 32 = text_low (length (decl_text d.tree)) (leb-true _ _ (short_of d is.limits)) in
-    record { kept = tt; ranges = (is.low, name, parent, short, few_triggers_of earlier d is) }
+    record { kept = tt; ranges = (is.low, name, parent, short, few_triggers_of added earlier d is) }
 
 append_low : (xs : List Class) (c : Class) → AllByRecursion IsLow xs → IsLow c → AllByRecursion IsLow (xs ++ c ∷ [])
 append_low [] c all low = (low, tt)
 append_low (x ∷ xs) c all low = (all.0, append_low xs c all.1 low)
 
-spelled_behind : (earlier ds : List Declared) → AreClasses ode earlier ds → AllByRecursion IsLow (map class_of earlier) → AllByRecursion (λ d. IsRecord (head_of d)) ds
-spelled_behind earlier [] classes low = tt
-spelled_behind earlier (d ∷ ds) classes low = (
-  head_kept earlier d low classes.0,
-  spelled_behind (earlier ++ d ∷ []) ds classes.1 (subst (AllByRecursion IsLow) (sym (map-append class_of earlier (d ∷ []))) (append_low (map class_of earlier) d.class low classes.0.low)),
+spelled_behind : (added : List Added) (earlier ds : List Declared) → AreClasses ode added earlier ds → AllByRecursion IsLow (map class_of earlier) → AllByRecursion (λ d. IsRecord (head_of d)) ds
+spelled_behind added earlier [] classes low = tt
+spelled_behind added earlier (d ∷ ds) classes low = (
+  head_kept added earlier d low classes.0,
+  spelled_behind added (earlier ++ d ∷ []) ds classes.1 (subst (AllByRecursion IsLow) (sym (map-append class_of earlier (d ∷ []))) (append_low (map class_of earlier) d.class low classes.0.low)),
 )
 
-pub heads_spelled : (ds : List Declared) → AreClasses ode [] ds → AllByRecursion (λ d. IsRecord (head_of d)) ds
-heads_spelled ds classes = spelled_behind [] ds classes tt
+pub heads_spelled : (added : List Added) (ds : List Declared) → AreClasses ode added [] ds → AllByRecursion (λ d. IsRecord (head_of d)) ds
+heads_spelled added ds classes = spelled_behind added [] ds classes tt

@@ -13,3 +13,6 @@ pub mod Expecting
 pub mod Reading
 pub mod Sections
 pub mod There
+pub mod BornOnce
+pub mod Fields
+pub mod FieldSections

@@ -3,11 +3,12 @@ use Rattle.std.proofs.Common.{◌≡◌, ℕ, ◌+◌, ◌<◌, ◌≤◌, ◌^�
 use Rattle.std.specs.Prelude.{Result, nat_le, nat_lt}
 use Rattle.std.specs.List.{AllByRecursion, sum_by}
 use Rattle.std.proofs.lemmas.Bool.Decides.{nat_tests}
-use Rattle.ode_compile.specs.Compiling.{compiled}
+use Rattle.ode_compile.specs.Compiling.{compiled_grown}
 use Rattle.ode_language.specs.Languages.{ode}
 use Rattle.ode_opening.proofs.Built.{few_triggers}
 use Rattle.ode_opening.specs.Declaring.{is_short}
 use Rattle.ode_value.specs.Answers.{Answer, ◌>>=◌, ◌>>◌, checks, refuses}
+use Rattle.ode_value.specs.Changing.{added_to}
 use Rattle.ode_value.specs.ClassLimits.{limits_class, limits_trigger, limits_triggers}
 use Rattle.ode_value.specs.GoodWorlds.{IsClass}
 use Rattle.ode_value.specs.Lengths.{piece_count, table_records}
@@ -17,6 +18,7 @@ use Rattle.ode_value.specs.Symbols.{symbol_count}
 use Rattle.ode_value.specs.TreeCount.{tree_count}
 use Rattle.ode_value.specs.Weights.{record_count, table_size}
 use Rattle.ode_value.specs.Worlds.{Declared}
+use Rattle.ode_value.specs.declared.change.Added.{Added}
 use Rattle.ode_value.specs.declared.class.Class.{Class}
 use Rattle.ode_value.specs.declared.member.TriggerDecl.{TriggerDecl}
 use Rattle.ode_value.specs.declared.reason.CheckError.{CheckError}
@@ -78,8 +80,9 @@ triggers_limited d limits =
 
 -- ---- what it compiles to
 
-pub compiles : (earlier : List Declared) (d : Declared) → IsClass ode earlier d → compiled (map class_of earlier) d.tree ≡ Ok d
-compiles earlier d is = ap (λ (r : Result Class CheckError). checks r >>= λ c. limits_class (record { class = c; tree = d.tree })) is.checked ∙ is.limits
+pub compiles : (added : List Added) (earlier : List Declared) (d : Declared) → IsClass ode added earlier d
+    → compiled_grown (map class_of earlier) (added_to d.class.number added) d.tree ≡ Ok d
+compiles added earlier d is = ap (λ (r : Result Class CheckError). checks r >>= λ c. limits_class (record { class = c; tree = d.tree })) is.checked ∙ is.limits
 
-pub few_triggers_of : (earlier : List Declared) (d : Declared) → IsClass ode earlier d → length d.class.triggers < 2 ^ 16
-few_triggers_of earlier d is = few_triggers (map class_of earlier) d.tree d (compiles earlier d is)
+pub few_triggers_of : (added : List Added) (earlier : List Declared) (d : Declared) → IsClass ode added earlier d → length d.class.triggers < 2 ^ 16
+few_triggers_of added earlier d is = few_triggers (map class_of earlier) (added_to d.class.number added) d.tree d (compiles added earlier d is)

@@ -75,6 +75,9 @@ named_script action.Abort v h = (h.0, h.1, (tt, h.2))
 named_script action.Clock v h = (h.0, h.1, (tt, h.2))
 named_script action.Simple v h = (h.0, h.1, (tt, h.2))
 named_script action.Empty v h = (h.0, h.1, (tt, h.2))
+named_script action.Change v h = (all_rest IsFree (rest v.names) (all_rest IsFree v.names h.0), h.1, h.2)
+named_script action.Negative v h = (h.0, h.1, h.2)
+named_script action.Addition v h = (all_rest IsFree v.names h.0, h.1, h.2)
 named_script a v h = h
 
 named_member : (a : Action) (v : Trees) → IsNamed v → IsNamed (built_member a v)

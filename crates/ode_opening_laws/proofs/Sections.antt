@@ -12,7 +12,8 @@ use Rattle.ode_language.specs.Languages.{ode}
 use Rattle.ode_passes.specs.Walking.{is_from, within}
 use Rattle.ode_value.specs.Changing.{added_to}
 use Rattle.ode_value.specs.Fields.{fields_of}
-use Rattle.ode_value.specs.Keys.{class_head_kind, class_piece_key, key, table_piece_kind}
+use Rattle.ode_value.specs.GoodWorlds.{AreAdded}
+use Rattle.ode_value.specs.Keys.{added_kind, class_head_kind, class_piece_key, key, table_piece_kind}
 use Rattle.ode_value.specs.Language.{ListWorld}
 use Rattle.ode_value.specs.Lengths.{piece_count}
 use Rattle.ode_value.specs.Objects.{Activation}
@@ -21,9 +22,12 @@ use Rattle.ode_value.specs.Records.{Row, version_row}
 use Rattle.ode_value.specs.Tables.{Table}
 use Rattle.ode_value.specs.Worlds.{Bones, Declared, Entry, Object, World}
 use Rattle.ode_value.specs.declared.key.Key.{Key}
-use Rattle.ode_opening_laws.specs.Holding.{HoldClasses, class_rows}
+use Rattle.ode_opening_laws.specs.Holding.{HoldClasses, class_rows, own_rows}
 use Rattle.ode_opening_laws.proofs.Accepting.{are_storable}
-use Rattle.ode_opening_laws.proofs.Each.{Any, all_any, all_append, all_flat, all_map}
+use Rattle.ode_opening_laws.proofs.BornOnce.{blocks}
+use Rattle.ode_opening_laws.proofs.Each.{Any, all_any, all_append, all_flat, all_map, all_then}
+use Rattle.ode_opening_laws.proofs.FieldSections.{blocks_in_range, rows_of_fields}
+use Rattle.ode_opening_laws.proofs.Fields.{rows_are}
 use Rattle.ode_opening_laws.proofs.Pieces.{stored_pieces}
 use Rattle.ode_opening_laws.proofs.Sized.{IsSizedAt}
 use Rattle.ode_opening_laws.proofs.Storable.{IsSmall, IsStorable}
@@ -147,16 +151,30 @@ rows_of_classes s all =
     let to_queue = without (counters_row b ∷ classes_ ++ objects_ ++ versions_ ++ activations_) queue_ classes_ to_activations (none_of queue_ (queue_later b.queue)) in
     without (counters_row b ∷ classes_ ++ objects_ ++ versions_ ++ activations_ ++ queue_) added_ classes_ to_queue (none_of added_ (added_later b b.classes))
 
-pub classes_are_held : (records : Entries) (w : ListWorld) (is : HoldsWorld ode records w) → HoldClasses records is.stored.tables w.bones.classes
+-- ---- those of added fields
+
+fields_stand : (s : Stored) → AllByRecursion (IsStorable s.tables) s.world.bones.classes → AreAdded s.world.bones.classes 1 s.world.bones.added → length s.world.bones.added < 2 ^ 32
+    → within added_kind added_kind (rows s) ≡ flat_map (own_rows s.world.bones.classes s.world.bones.added) s.world.bones.classes
+fields_stand s all are few =
+    let b = s.world.bones in
+    let low = all_then (IsStorable s.tables) (λ (d : Declared). d.class.number < 2 ^ 32) (λ d is. is.small.number) b.classes all in
+    rows_of_fields s (blocks b.added b.classes) (rows_are b.classes b.added b.classes) (blocks_in_range b.added b.classes are few b.classes low)
+
+pub classes_are_held : (records : Entries) (w : ListWorld) (is : HoldsWorld ode records w) → HoldClasses records is.stored.tables w.bones.added w.bones.classes
 classes_are_held records w held =
     let tables = held.stored.tables in
+    let good = held.good.bones in
     let bones : held.stored.world.bones ≡ w.bones = held.stands.bones in
-    let all : AllByRecursion (IsStorable tables) w.bones.classes = are_storable tables w.bones.classes held.good.bones.classes held.stands.mean in
+    let all : AllByRecursion (IsStorable tables) w.bones.classes = are_storable tables w.bones.added w.bones.classes good.classes held.stands.mean in
+    let its : AllByRecursion (IsStorable tables) held.stored.world.bones.classes = subst (λ (b : Bones). AllByRecursion (IsStorable tables) b.classes) (sym bones) all in
     record {
-      rows =
-          ap of_classes held.rows
-          ∙ rows_of_classes held.stored (subst (λ (b : Bones). AllByRecursion (IsStorable tables) b.classes) (sym bones) all)
-          ∙ ap (λ (b : Bones). class_rows tables b.classes) bones;
-      classes = held.good.bones.classes;
+      rows = ap of_classes held.rows ∙ rows_of_classes held.stored its ∙ ap (λ (b : Bones). class_rows tables b.classes) bones;
+      fields =
+          ap (within added_kind added_kind) held.rows
+          ∙ fields_stand held.stored its (subst (λ (b : Bones). AreAdded b.classes 1 b.added) (sym bones) good.added) (subst (λ (b : Bones). length b.added < 2 ^ 32) (sym bones) good.few_added)
+          ∙ ap (λ (b : Bones). flat_map (own_rows b.classes b.added) b.classes) bones;
+      classes = good.classes;
+      born = good.added;
+      few = good.few_added;
       mean = held.stands.mean;
     }

@@ -15,6 +15,7 @@ use Rattle.ode_value.specs.Lengths.{piece_count, table_length}
 use Rattle.ode_value.specs.Limits.{state_limit, symbol_limit, value_limit}
 use Rattle.ode_value.specs.Tables.{Table}
 use Rattle.ode_value.specs.Worlds.{Declared}
+use Rattle.ode_value.specs.declared.change.Added.{Added}
 use Rattle.ode_value.specs.declared.member.TriggerDecl.{TriggerDecl}
 use Rattle.ode_opening_laws.proofs.Limits.{IsLimited, few_triggers_of, triggers_limited}
 
@@ -84,10 +85,10 @@ sized_from tables class first (t ∷ ts) mean few low = (
   sized_from tables class (first + 1) ts mean.1 few.1 (omega (arith, low)),
 )
 
-has_sizes : (tables : ℕ → ℕ → Table) (earlier : List Declared) (d : Declared) → IsClass ode earlier d → HasTables tables d → HasSizes tables d
-has_sizes tables earlier d is mean =
-    sized_from tables d.class.number 0 d.class.triggers mean (triggers_limited d is.limits) (omega (arith, few_triggers_of earlier d is))
+has_sizes : (tables : ℕ → ℕ → Table) (added : List Added) (earlier : List Declared) (d : Declared) → IsClass ode added earlier d → HasTables tables d → HasSizes tables d
+has_sizes tables added earlier d is mean =
+    sized_from tables d.class.number 0 d.class.triggers mean (triggers_limited d is.limits) (omega (arith, few_triggers_of added earlier d is))
 
-pub have_sizes : (tables : ℕ → ℕ → Table) (earlier ds : List Declared) → AreClasses ode earlier ds → AllByRecursion (HasTables tables) ds → AllByRecursion (HasSizes tables) ds
-have_sizes tables earlier [] classes mean = tt
-have_sizes tables earlier (d ∷ ds) classes mean = (has_sizes tables earlier d classes.0 mean.0, have_sizes tables (earlier ++ d ∷ []) ds classes.1 mean.1)
+pub have_sizes : (tables : ℕ → ℕ → Table) (added : List Added) (earlier ds : List Declared) → AreClasses ode added earlier ds → AllByRecursion (HasTables tables) ds → AllByRecursion (HasSizes tables) ds
+have_sizes tables added earlier [] classes mean = tt
+have_sizes tables added earlier (d ∷ ds) classes mean = (has_sizes tables added earlier d classes.0 mean.0, have_sizes tables added (earlier ++ d ∷ []) ds classes.1 mean.1)

@@ -20,6 +20,7 @@ use Rattle.ode_value.specs.PrintedClasses.{decl_text}
 use Rattle.ode_value.specs.Records.{Row}
 use Rattle.ode_value.specs.Tables.{Table}
 use Rattle.ode_value.specs.Worlds.{Declared}
+use Rattle.ode_value.specs.declared.change.Added.{Added}
 use Rattle.ode_value.specs.declared.key.Key.{Key}
 use Rattle.ode_value.specs.declared.member.TriggerDecl.{TriggerDecl}
 use Rattle.ode_opening_laws.specs.Holding.{HoldClasses, class_of, class_rows, stored_tables}
@@ -144,9 +145,9 @@ module _ (tables : ℕ → ℕ → Table) where
 
 -- ---- the tables
 
-module _ (entries : Entries) (tables : ℕ → ℕ → Table) (ds : List Declared) (held : HoldClasses entries tables ds) where
+module _ (entries : Entries) (tables : ℕ → ℕ → Table) (added : List Added) (ds : List Declared) (held : HoldClasses entries tables added ds) where
   storable : AllByRecursion (IsStorable tables) ds
-  storable = are_storable tables ds held.classes held.mean
+  storable = are_storable tables added ds held.classes held.mean
 
   abbrev rows : Entries
   rows = class_rows tables ds

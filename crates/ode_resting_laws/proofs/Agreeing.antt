@@ -15,6 +15,7 @@ use Rattle.ode_value.specs.GoodWorlds.{AreClasses}
 use Rattle.ode_value.specs.Language.{Language}
 use Rattle.ode_value.specs.Tables.{Table}
 use Rattle.ode_value.specs.Worlds.{Declared}
+use Rattle.ode_value.specs.declared.change.Added.{Added}
 use Rattle.ode_value.specs.declared.member.TriggerDecl.{TriggerDecl}
 
 module _ (tables : ℕ → ℕ → Table) (all : List Table) (maps : List ℕ) where
@@ -43,6 +44,6 @@ module _ (tables : ℕ → ℕ → Table) (all : List Table) (maps : List ℕ) w
     all_agree ds placed.1,
   )
 
-pub tables_agree : (l : Language) (tables : ℕ → ℕ → Table) (ds : List Declared) → AreClasses l [] ds
+pub tables_agree : (l : Language) (added : List Added) (tables : ℕ → ℕ → Table) (ds : List Declared) → AreClasses l added [] ds
     → AllByRecursion (AgreesOn tables (table_by (stored_tables tables ds) (places_from 0 (map class_of ds)))) ds
-tables_agree l tables ds are = all_agree tables (stored_tables tables ds) (places_from 0 (map class_of ds)) ds (all_placed tables l ds are)
+tables_agree l added tables ds are = all_agree tables (stored_tables tables ds) (places_from 0 (map class_of ds)) ds (all_placed tables l added ds are)

@@ -27,6 +27,12 @@ returns-clause-bytes g c =
     (λ o are image tells. are image (record { tells = tells_looks image _ _ c.sync.ensures.looks tells; only = c.in_ok-sync.ensures.durable image tells }))
     c.open_file.ensures.bytes
 
+pub returns-clause-format : goal.returns-clause-format
+returns-clause-format g c =
+    at_ok c.open_file.result
+    (λ o has image tells. has image (record { tells = tells_looks image _ _ c.sync.ensures.looks tells; only = c.in_ok-sync.ensures.durable image tells }))
+    c.open_file.ensures.format
+
 -- ---- what a stop leaves
 
 pub returns-in_err-sync-clause-synced : goal.returns-in_err-sync-clause-synced

@@ -1,4 +1,4 @@
-use Rattle.std.proofs.Common.{◌≡◌, inr, subst}
+use Rattle.std.proofs.Common.{◌≡◌, arith, inr, refl, subst}
 use Rattle.std.proofs.lemmas.Result.{err_from_is_err_and}
 use Rattle.ode_host.proofs.Moments.{looks_joined, stands_looks, tells_looks}
 use Rattle.ode_keep.specs.Entries.{AreBytes}
@@ -24,14 +24,14 @@ returns-in_err-base-clause-answer g c = λ image stands.
     let header = c.in_ok-header.header in
     let counts = c.in_ok-header.ensures.found image stands.tells in
     let held = c.in_ok-keeper.ensures.holds image (stands_looks image _ _ c.read_header.ensures.looks stands) counts in
-    rw (p.1, p.2) (why_records image header counts held.0 held.1 (held_within c.in_ok-keeper.keeper (g.H.Host.view c.start_keeper.new.host) held.0 held.2) c.in_err-base.field-0.0 (c.in_err-base.ensures.meant held.0 held.2))
+    rw (p.1, p.2) (why_records image header counts held.0 held.1 (omega (arith, held_within c.in_ok-keeper.keeper (g.H.Host.view c.start_keeper.new.host) held.0 held.2, c.in_ok-keeper.ensures.limit)) c.in_err-base.field-0.0 (c.in_err-base.ensures.meant held.0 held.2))
 
 pub returns-clause-answer : goal.returns-clause-answer
 returns-clause-answer g c = λ image stands.
     let header = c.in_ok-header.header in
     let counts = c.in_ok-header.ensures.found image stands.tells in
     let held = c.in_ok-keeper.ensures.holds image (stands_looks image _ _ c.read_header.ensures.looks stands) counts in
-    inr (is_opened image header counts held.0 held.1 (held_within c.in_ok-keeper.keeper (g.H.Host.view c.start_keeper.new.host) held.0 held.2) c.in_ok-base.base (c.in_ok-base.ensures.meant held.0 held.2))
+    inr (is_opened image header counts held.0 held.1 (omega (arith, held_within c.in_ok-keeper.keeper (g.H.Host.view c.start_keeper.new.host) held.0 held.2, c.in_ok-keeper.ensures.limit)) c.in_ok-base.base (c.in_ok-base.ensures.meant held.0 held.2))
 
 pub returns-clause-keeper : goal.returns-clause-keeper
 returns-clause-keeper g c = λ image stands.
@@ -45,6 +45,10 @@ returns-clause-bytes g c = λ image stands entries holds.
     let held = c.in_ok-keeper.ensures.holds image (stands_looks image _ _ c.read_header.ensures.looks stands) counts in
     let same : held.0 ≡ entries = one_held c.open_records.new.keeper (g.H.Host.view c.open_records.new.host) held.0 entries (c.in_ok-base.ensures.holds held.0 held.2) holds in
     subst AreBytes same (all_bytes held.0 (map_fits c.in_ok-header.header image held.0 held.1) (c.in_ok-base.ensures.bytes held.0 held.2))
+
+pub returns-clause-format : goal.returns-clause-format
+returns-clause-format g c = λ image stands.
+    record { header = c.in_ok-header.header; counts = c.in_ok-header.ensures.found image stands.tells; is = refl }
 
 pub returns-clause-looks : goal.returns-clause-looks
 returns-clause-looks g c = looks_joined _ _ _ c.in_ok-header.ensures.looks (looks_joined _ _ _ c.in_ok-keeper.ensures.looks c.in_ok-base.ensures.looks)
