@@ -23,7 +23,7 @@ use crate::ticking::tick;
 use crate::ticks::ticks;
 use ode_good_laws::transactions_leave_good_worlds;
 use ode_host::Host;
-use ode_keep::Keep;
+use ode_keep::Roomy;
 use ode_opened::Opened;
 use ode_overlay::Origin;
 use ode_timer::Clock;
@@ -53,7 +53,7 @@ fn settled_behind(settled: u32, ran: Option<u32>) -> u32
 }
 
 // The clock goes through these positions, and then behind everything of an instant. How many transactions settled.
-fn run_clock<H: Host, K: Keep<H> + Drop>(
+fn run_clock<H: Host, K: Roomy<H> + Drop>(
     alloc: Global,
     rest: Opened<K>,
     host: &mut H,
@@ -94,7 +94,7 @@ fn run_clock<H: Host, K: Keep<H> + Drop>(
 }
 
 /// The clock comes to an instant, or why it doesn't. How many transactions settled.
-pub fn set_clock<H: Host, K: Keep<H> + Drop>(
+pub fn set_clock<H: Host, K: Roomy<H> + Drop>(
     alloc: Global,
     rest: Opened<K>,
     host: &mut H,

@@ -22,7 +22,7 @@ use ode_good_laws::transactions_leave_good_worlds;
 use ode_heap::Heap;
 use ode_heap_laws::heaps_show_held_worlds;
 use ode_host::Host;
-use ode_keep::Keep;
+use ode_keep::{Keep, Roomy};
 use ode_opened::Opened;
 use ode_overlay::Origin;
 use ode_timer::Clock;
@@ -53,6 +53,7 @@ fn is_there<H: Host, K: Keep<H> + Drop>(
         alphabets,
         maps,
         bytes,
+        format,
     } = rest;
     heaps_show_held_worlds();
     let mut heap = Heap::new(keeper);
@@ -65,6 +66,7 @@ fn is_there<H: Host, K: Keep<H> + Drop>(
             alphabets,
             maps,
             bytes,
+            format,
         },
         there,
     ))
@@ -83,7 +85,7 @@ fn tick_origin(at: &Clock) -> Origin
 
 /// A tick with its drain of at most so many entries, where its object is there when its turn comes. How many of the entries ran, or
 /// none where it isn't there.
-pub(crate) fn tick<H: Host, K: Keep<H> + Drop>(
+pub(crate) fn tick<H: Host, K: Roomy<H> + Drop>(
     alloc: Global,
     rest: Opened<K>,
     host: &mut H,

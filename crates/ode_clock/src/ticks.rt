@@ -131,6 +131,7 @@ pub(crate) fn ticks<H: Host, K: Keep<H> + Drop>(
         alphabets,
         maps,
         bytes,
+        format,
     } = rest;
     let mut heap = Heap::new(keeper);
     let ticks = ticks_in(alloc, &mut heap, host, &classes, text)?;
@@ -142,6 +143,7 @@ pub(crate) fn ticks<H: Host, K: Keep<H> + Drop>(
             alphabets,
             maps,
             bytes,
+            format,
         },
         ticks,
     ))

@@ -13,6 +13,7 @@ use Rattle.ode_compile.specs.Compiling.{AreCompiled, compiled, size_of_table}
 use Rattle.ode_compile.specs.declared.compiling.Compiled.{Compiled}
 use Rattle.ode_declare.specs.Declaring.{Declares, IsMade}
 use Rattle.ode_declare.specs.Texts.{HasText}
+use Rattle.ode_good_laws.proofs.GoodAgain.{HaveClasses}
 use Rattle.ode_good_laws.specs.Well.{IsWell}
 use Rattle.ode_good_runs.proofs.Declaring.{declared_is}
 use Rattle.ode_good_runs.specs.Reading.{ReadsWell}
@@ -28,7 +29,7 @@ use Rattle.ode_transact.specs.Output.{heard}
 use Rattle.ode_transact.specs.Resting.{IsAtRest}
 use Rattle.ode_value.specs.Answers.{Answer, ◌>>=◌, ◌>>◌, checks, refuses}
 use Rattle.ode_value.specs.ClassLimits.{limits_class, limits_triggers}
-use Rattle.ode_value.specs.GoodWorlds.{AreClasses, IsGood, IsObject}
+use Rattle.ode_value.specs.GoodWorlds.{IsGood, IsObject}
 use Rattle.ode_value.specs.Language.{Language, ListWorld}
 use Rattle.ode_value.specs.Lengths.{class_records, object_length}
 use Rattle.ode_value.specs.Limits.{class_limit}
@@ -72,7 +73,7 @@ limits_kept k c h =
 
 pub limits_of : (known : List Class) (d : ClassDecl) (c : Declared) → compiled known d ≡ Ok c → limits_class c ≡ Ok c
 limits_of known d c h =
-    let first = both_ok (checks (ode.class_of known d)) (λ (k : Class). limits_class (record { class = k; tree = d })) c h in
+    let first = both_ok (checks (ode.class_of known [] d)) (λ (k : Class). limits_class (record { class = k; tree = d })) c h in
     limits_kept (record { class = first.0; tree = d }) c first.2
 
 -- the machine declares what is compiled
@@ -138,7 +139,7 @@ module _ (known : List Class) (d : ClassDecl) (made : Compiled) (answers : compi
     pub meant : declared_in ode w.bones d ≡ Ok own
     meant = declares_compiled w.bones known d same ∙ answers
 
-    pub made_is : HasSoundRules ode → ReadsWell ode → AreClasses ode [] w.bones.classes → HasText ode (statement.Class d) → HasFewParts own → IsMade ode w own made
+    pub made_is : HasSoundRules ode → ReadsWell ode → HaveClasses ode w.bones.classes w.bones.added → HasText ode (statement.Class d) → HasFewParts own → IsMade ode w own made
     made_is rules reads all text few = record {
       is = declared_is ode rules reads text.0 d text.1 w.bones own all meant;
       few = few;
@@ -147,7 +148,7 @@ module _ (known : List Class) (d : ClassDecl) (made : Compiled) (answers : compi
     }
 
     -- whatever it calls the class
-    pub made_as : HasSoundRules ode → ReadsWell ode → AreClasses ode [] w.bones.classes → HasText ode (statement.Class d) → (AllByRecursion HasFewParams made.class.triggers → HasFewParts own) → (c : Declared) → declared_in ode w.bones d ≡ Ok c → AllByRecursion HasFewParams c.class.triggers → IsMade ode w c made
+    pub made_as : HasSoundRules ode → ReadsWell ode → HaveClasses ode w.bones.classes w.bones.added → HasText ode (statement.Class d) → (AllByRecursion HasFewParams made.class.triggers → HasFewParts own) → (c : Declared) → declared_in ode w.bones d ≡ Ok c → AllByRecursion HasFewParams c.class.triggers → IsMade ode w c made
     made_as rules reads all text parts c is =
         subst (λ (k : Declared). AllByRecursion HasFewParams k.class.triggers → IsMade ode w k made) (same_declared (declared_in ode w.bones d) own c meant is)
         (λ few. made_is rules reads all text (parts few))

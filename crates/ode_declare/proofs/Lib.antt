@@ -1,5 +1,5 @@
-mod BatchLaws
+pub mod BatchLaws
 mod TurnLaws
-mod TakeLaws
+pub mod TakeLaws
 mod DeclareLaws
-mod WeighLaws
+pub mod WeighLaws

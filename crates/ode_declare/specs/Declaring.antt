@@ -40,7 +40,7 @@ pub record IsJoined (x : Layer) (changes all : Changes) : Type 0 where
 
 -- a compiled class that is a declared one of a world, with parts that a record can count
 pub record IsMade (l : Language) (w : ListWorld) (c : Declared) (made : Compiled) : Type 0 where
-  pub is : IsClass l w.bones.classes c
+  pub is : IsClass l w.bones.added w.bones.classes c
   pub few : HasFewParts c
   pub class : c.class ≡ made.class
   pub text : decl_text c.tree ≡ made.text

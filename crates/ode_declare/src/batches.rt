@@ -10,7 +10,7 @@ use ode_value::List;
 use std::alloc::{AllocError, Global};
 
 /// The bytes of the records that a batch puts, or the greatest number, where there are more.
-pub(crate) fn bytes_put(batch: &Batch) -> u64
+pub fn bytes_put(batch: &Batch) -> u64
     ensures { result ≡ min (put_bytes batch.now) (2 ^ 64 - 1) }
 {
     let mut bytes = 0u64;

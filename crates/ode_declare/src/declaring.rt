@@ -29,7 +29,7 @@ use crate::weighing::bring_in;
 use ode_compile::{CompileStop, compile};
 use ode_declared_laws::checked_classes_have_few_parts;
 use ode_host::Host;
-use ode_keep::Keep;
+use ode_keep::Roomy;
 use ode_language_laws::{language_has_sound_rules, language_reads_well};
 use ode_opened::Opened;
 use ode_transact::{EngineError, Output};
@@ -37,7 +37,7 @@ use ode_value::{ClassDecl, Refusal};
 use std::alloc::Global;
 
 /// A class is declared by a transaction of its own, or refused.
-pub fn declare<H: Host, K: Keep<H> + Drop>(
+pub fn declare<H: Host, K: Roomy<H> + Drop>(
     alloc: Global,
     rest: Opened<K>,
     host: &mut H,

@@ -22,7 +22,7 @@ use crate::batches::put_all;
 use ode_heap::Heap;
 use ode_heap_laws::heaps_show_held_worlds;
 use ode_host::Host;
-use ode_keep::{Batch, Keep, MAX_CHANGES, MAX_RECORD_BYTES};
+use ode_keep::{Batch, Keep, MAX_CHANGES, MAX_PAGED_BYTES, Roomy};
 use ode_lines::{class_line, committed_line};
 use ode_opened::Opened;
 use ode_overlay::Overlay;
@@ -117,8 +117,8 @@ pub(crate) fn gather(
     Ok(Gathered { batch, text })
 }
 
-// What was prepared is handed over.
-pub(crate) fn settle<H: Host, K: Keep<H> + Drop>(
+/// What was prepared is handed over.
+pub fn settle<H: Host, K: Roomy<H> + Drop>(
     rest: Opened<K>,
     host: &mut H,
     output: &mut Output,
@@ -136,7 +136,7 @@ pub(crate) fn settle<H: Host, K: Keep<H> + Drop>(
         → LeavesOnly (H.view host.old) (H.view host.new) (LeavesBatch K.means entries batch.now said (heard output.old.quiet text.now)) }
     ensures usable { IfOk result (λ after. IsTrue (K.live after.keeper)) }
     ensures leaves { HostCalls (IsErrOf result EngineError.DiskFault) (IsErrOf result EngineError.WriteFault) (H.view host.old) (H.view host.new) }
-    ensures undamaged { OnDamaged result ((entries : Entries) → K.holds rest.keeper (H.view host.old) entries → record_bytes (applied batch.now entries) ≤ MAX_RECORD_BYTES → ⊥) }
+    ensures undamaged { OnDamaged result ((entries : Entries) → K.holds rest.keeper (H.view host.old) entries → record_bytes (applied batch.now entries) ≤ MAX_PAGED_BYTES → ⊥) }
 {
     let Opened {
         keeper,
@@ -145,6 +145,7 @@ pub(crate) fn settle<H: Host, K: Keep<H> + Drop>(
         alphabets,
         maps,
         bytes,
+        format,
     } = rest;
     let mut heap = Heap::new(keeper);
     hand_over(host, &mut heap, output, batch, text)?;
@@ -155,5 +156,6 @@ pub(crate) fn settle<H: Host, K: Keep<H> + Drop>(
         alphabets,
         maps,
         bytes,
+        format,
     })
 }

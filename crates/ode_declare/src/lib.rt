@@ -9,4 +9,7 @@ mod taking;
 mod turning;
 mod weighing;
 
+pub use batches::bytes_put;
 pub use declaring::declare;
+pub use handing::settle;
+pub use turning::turn_away;

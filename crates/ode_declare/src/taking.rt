@@ -29,7 +29,7 @@ use crate::handing::{Gathered, gather, settle, transaction_number};
 use ode_compile::Compiled;
 use ode_declared_laws::{declared_classes_settle, programs_take_classes};
 use ode_host::Host;
-use ode_keep::{Batch, Keep, MAX_CHANGES};
+use ode_keep::{Batch, Keep, MAX_CHANGES, Roomy};
 use ode_opened::Opened;
 use ode_overlay::Origin;
 use ode_transact::{EngineError, Output, begin, put_back};
@@ -77,7 +77,7 @@ fn prepare<H: Host, K: Keep<H> + Drop>(
 }
 
 /// There is room for a class: its records are put, and its transaction commits.
-pub(crate) fn take_in<H: Host, K: Keep<H> + Drop>(
+pub(crate) fn take_in<H: Host, K: Roomy<H> + Drop>(
     alloc: Global,
     rest: Opened<K>,
     host: &mut H,

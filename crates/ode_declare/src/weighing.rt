@@ -33,7 +33,8 @@ use ode_class_records::{class_changes, spare};
 use ode_compile::Compiled;
 use ode_declared_laws::{classes_weigh_their_records, declarations_settle};
 use ode_host::Host;
-use ode_keep::{Batch, Keep};
+use ode_keep::{Batch, Roomy};
+use ode_lines::class_line;
 use ode_opened::Opened;
 use ode_transact::{EngineError, Output};
 use ode_value::limits::WEIGHT_LIMIT;
@@ -60,7 +61,7 @@ fn weigh(alloc: Global, made: &Compiled, before: u64) -> Result<(Batch, u64), Al
 }
 
 /// A compiled class is declared by a transaction of its own.
-pub(crate) fn bring_in<H: Host, K: Keep<H> + Drop>(
+pub(crate) fn bring_in<H: Host, K: Roomy<H> + Drop>(
     alloc: Global,
     rest: Opened<K>,
     host: &mut H,
@@ -101,7 +102,8 @@ pub(crate) fn bring_in<H: Host, K: Keep<H> + Drop>(
     let weighed = weigh(alloc, &made, rest.bytes)?;
     let (changes, bytes) = weighed;
     if bytes > WEIGHT_LIMIT {
-        turn_away(alloc, rest, host, output, &made.class.name)
+        let line = class_line(alloc, &made.class.name)?;
+        turn_away(alloc, rest, host, output, line)
     } else {
         take_in(alloc, rest, host, output, made, changes, bytes)
     }

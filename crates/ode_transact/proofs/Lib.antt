@@ -13,6 +13,7 @@ pub mod TransactLaws
 pub mod DrainLaws
 pub mod EndingLaws
 pub mod DamageLaws
+pub mod AddedWeights
 pub mod RecordLaws
 pub mod FrontLaws
 pub mod DrainSteps

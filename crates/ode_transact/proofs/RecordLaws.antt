@@ -1,17 +1,18 @@
 -- The records that hold a world aren't too many bytes for a keeper.
 use Rattle.std.proofs.Common.{◌≡◌, ◌≤◌, ◌∙◌, ℕ, zero, suc, ◌+◌, ◌-◌, ◌*◌, List, [], ◌∷◌, ◌++◌, map, length, take, drop, Option, Some, None, refl, sym, ap, subst, arith, length-append}
-use Rattle.std.specs.Int.{w16, to_be_bytes}
 use Rattle.std.specs.List.{AllByRecursion, enumerate_from, flat_map, range_with_len, sum_by}
 use Rattle.std.specs.Option.{unwrap_or}
 use Rattle.std.proofs.lemmas.List.{length-drop, length-map, length-take}
 use Rattle.std.proofs.lemmas.List.Sums.{sum_by-cons}
 use Rattle.std.proofs.lemmas.Nat.{mul-le}
 use Rattle.ode_codec.specs.Standing.{HasTables, HoldsWorld, IsTableOf, IsWhole}
-use Rattle.ode_codec.specs.StoredRows.{Stored, activation_row, activation_rows, added_row, added_rows, bit, counters_row, entry_row, head_row, object_row, piece_of, pieces_of, rows, state_of, table_bytes, table_head, table_heads, table_pieces, table_row, table_rows, text_row, text_rows, u16, u32, u64, version_rows}
+use Rattle.ode_codec.specs.StoredRows.{Stored, activation_row, activation_rows, added_rows, bit, counters_row, entry_row, head_row, object_row, piece_of, pieces_of, rows, state_of, table_bytes, table_head, table_heads, table_pieces, table_row, table_rows, text_row, text_rows, u16, u32, u64, version_rows}
 use Rattle.ode_keep.specs.Entries.{Entries, record_bytes}
-use Rattle.ode_keep.specs.declared.limits.TheConstants.{MAX_RECORD_BYTES}
+use Rattle.ode_keep.specs.declared.limits.TheConstants.{MAX_PAGED_BYTES}
+use Rattle.ode_laws.proofs.GoodNumbers.{good_numbered}
+use Rattle.ode_laws.specs.Numbered.{AreNumbered}
+use Rattle.ode_transact.proofs.AddedWeights.{both_weigh, fields_weigh, value_weighs}
 use Rattle.ode_value.proofs.LengthLaws.{length-stamp, length-version}
-use Rattle.ode_value.specs.Changing.{added_to}
 use Rattle.ode_value.specs.Classes.{Trigger, trigger_at, trigger_of}
 use Rattle.ode_value.specs.Fields.{fields_of}
 use Rattle.ode_value.specs.Fitting.{HaveTrigger}
@@ -26,25 +27,13 @@ use Rattle.ode_value.specs.Symbols.{symbol_count}
 use Rattle.ode_value.specs.Tables.{Table}
 use Rattle.ode_value.specs.TreeCount.{tree_count}
 use Rattle.ode_value.specs.Versions.{Version}
-use Rattle.ode_value.specs.Weights.{activation_weight, class_weight, object_weight, trigger_weight, version_weight, weight}
+use Rattle.ode_value.specs.Weights.{activation_weight, added_weight, class_weight, object_weight, trigger_weight, version_weight, weight}
 use Rattle.ode_value.specs.Worlds.{Bones, Declared, Entry, Object, Position, World}
-use Rattle.ode_value.specs.declared.change.Added.{Added}
 use Rattle.ode_value.specs.declared.class.Field.{Field}
 use Rattle.ode_value.specs.declared.member.TriggerDecl.{TriggerDecl}
 use Rattle.ode_value.specs.declared.value.Value.{Value}
-use Rattle.ode_value.specs.declared.value.Value.TheVariants as value
-
-both_weigh : (xs ys : List Row) → total_weight (xs ++ ys) ≡ total_weight xs + total_weight ys
-both_weigh [] ys = omega arith
-both_weigh (x ∷ xs) ys = let more = both_weigh xs ys in omega (arith, more)
 
 -- ---- values
-
-value_weighs : (v : Value) → length (spelled_value v) ≡ value_length v
-value_weighs (value.Int n) = refl
-value_weighs (value.Bool b) = refl
-value_weighs (value.Text t) = omega (arith, length-append (byte 2 ++ to_be_bytes w16 (length t)) t)
-value_weighs (value.Reference r) = refl
 
 values_weigh : (vs : List Value) → length (flat_map spelled_value vs) ≡ values_length vs
 values_weigh [] = refl
@@ -239,19 +228,16 @@ counters_weigh b =
     by None = refl
     by (Some p) = refl
 
--- where no field was added, there is no record of one
-none_added : (b : Bones) → b.added ≡ [] → (cs : List Declared) → flat_map (added_rows b) cs ≡ []
-none_added b none [] = refl
-none_added b none (c ∷ cs) =
-    ap (λ (all : List Added). map (added_row b.classes) (added_to c.class.number all) ++ flat_map (added_rows b) cs) none ∙ none_added b none cs
+-- room for all entries of a queue
+abbrev pub queue_room : ℕ
+queue_room = 4194304
 
--- half a keeper is left for the queue
-within : (all first classes objects queue weighed entries : ℕ) → all ≡ first + classes + objects + queue → first + classes + objects ≤ weighed → weighed ≤ weight_limit
-    → queue ≤ longest_entry * entries → entries ≤ queue_limit → all ≤ MAX_RECORD_BYTES
+within : (all first classes objects queue added weighed entries : ℕ) → all ≡ first + classes + objects + queue + added → first + classes + objects + added ≤ weighed
+    → queue ≤ longest_entry * entries → entries ≤ queue_limit → all ≤ weighed + queue_room
 unfolding args_limit queue_limit
-within all first classes objects queue weighed entries is light most weighs few = omega (arith, is, light, most, weighs, few)
+within all first classes objects queue added weighed entries is light weighs few = omega (arith, is, light, weighs, few)
 
-module _ (l : Language) (s : Stored) (are : AreBones l s.world.bones) (mean : AllByRecursion (HasTables s.tables) s.world.bones.classes) where
+module _ (l : Language) (s : Stored) (are : AreBones l s.world.bones) (mean : AllByRecursion (HasTables s.tables) s.world.bones.classes) (numbered : AreNumbered s.world.bones) where
   abbrev b : Bones
   b = s.world.bones
 
@@ -261,7 +247,10 @@ module _ (l : Language) (s : Stored) (are : AreBones l s.world.bones) (mean : Al
   abbrev object_rows : ℕ
   object_rows = total_weight (map object_row b.objects) + total_weight (flat_map (version_rows b.classes) b.objects) + total_weight (flat_map (activation_rows s.world) b.objects)
 
-  rows_are : total_weight (rows s) ≡ row_weight (counters_row b) + class_rows + object_rows + total_weight (map entry_row b.queue)
+  abbrev field_rows : ℕ
+  field_rows = total_weight (flat_map (added_rows b) b.classes)
+
+  rows_are : total_weight (rows s) ≡ row_weight (counters_row b) + class_rows + object_rows + total_weight (map entry_row b.queue) + field_rows
   rows_are =
       let C : List Row = counters_row b ∷ map head_row b.classes in
       let T : List Row = flat_map text_rows b.classes in
@@ -272,10 +261,8 @@ module _ (l : Language) (s : Stored) (are : AreBones l s.world.bones) (mean : Al
       let S : List Row = flat_map (activation_rows s.world) b.objects in
       let Q : List Row = map entry_row b.queue in
       let D : List Row = flat_map (added_rows b) b.classes in
-      let none : total_weight D ≡ 0 = ap (λ (rs : List Row). total_weight rs) (none_added b are.added b.classes) in
       omega (
         arith,
-        none,
         both_weigh C T,
         both_weigh (C ++ T) A,
         both_weigh (C ++ T ++ A) B,
@@ -286,23 +273,33 @@ module _ (l : Language) (s : Stored) (are : AreBones l s.world.bones) (mean : Al
         both_weigh (C ++ T ++ A ++ B ++ O ++ V ++ S ++ Q) D,
       )
 
-  world_weighs : row_weight (counters_row b) + class_rows + object_rows ≤ weight b
+  world_weighs : row_weight (counters_row b) + class_rows + object_rows + field_rows ≤ weight b
   unfolding weight
   world_weighs =
       let first = counters_weigh b in
       let classes = classes_weigh s.tables b.classes mean in
       let objects = objects_weigh s.world b.classes b.objects in
-      omega (arith, first, classes, objects)
+      let fields : field_rows ≤ sum_by added_weight b.added = fields_weigh b.classes b.added numbered.classes in
+      omega (arith, first, classes, objects, fields)
 
-  rows_light : total_weight (rows s) ≤ MAX_RECORD_BYTES
-  rows_light =
-      within (total_weight (rows s)) (row_weight (counters_row b)) class_rows object_rows (total_weight (map entry_row b.queue)) (weight b) (length b.queue)
-      rows_are world_weighs are.light (entries_weigh b b.queue are.queue) are.few
+  rows_weigh : total_weight (rows s) ≤ weight b + queue_room
+  rows_weigh =
+      within (total_weight (rows s)) (row_weight (counters_row b)) class_rows object_rows (total_weight (map entry_row b.queue)) field_rows (weight b) (length b.queue)
+      rows_are world_weighs (entries_weigh b b.queue are.queue) are.few
 
-pub records_are_light : (l : Language) (entries : Entries) (w : ListWorld) → HoldsWorld l entries w → record_bytes entries ≤ MAX_RECORD_BYTES
-records_are_light l entries w holds =
+-- by what the world weighs
+pub records_weigh : (l : Language) (entries : Entries) (w : ListWorld) → HoldsWorld l entries w → record_bytes entries ≤ weight w.bones + queue_room
+records_weigh l entries w holds =
     let s = holds.stored in
     let back : w.bones ≡ s.world.bones = sym holds.stands.bones in
     let are : AreBones l s.world.bones = subst (AreBones l) back holds.good.bones in
     let mean : AllByRecursion (HasTables s.tables) s.world.bones.classes = subst (λ (c : Bones). AllByRecursion (HasTables s.tables) c.classes) back holds.stands.mean in
-    subst (λ (es : Entries). total_weight es ≤ MAX_RECORD_BYTES) (sym holds.rows) (rows_light l s are mean)
+    let numbered : AreNumbered s.world.bones = subst AreNumbered back (good_numbered l w holds.good) in
+    subst (λ (es : Entries). total_weight es ≤ weight w.bones + queue_room) (sym holds.rows)
+    (subst (λ (c : Bones). total_weight (rows s) ≤ weight c + queue_room) holds.stands.bones (rows_weigh l s are mean numbered))
+
+pub records_are_light : (l : Language) (entries : Entries) (w : ListWorld) → HoldsWorld l entries w → record_bytes entries ≤ MAX_PAGED_BYTES
+records_are_light l entries w holds =
+    let weighs = records_weigh l entries w holds in
+    let light : weight w.bones ≤ weight_limit = holds.good.bones.light in
+    omega (arith, weighs, light)

@@ -23,7 +23,7 @@ use ode_heap::Heap;
 use ode_heap_laws::heaps_show_held_worlds;
 use ode_host::Host;
 use ode_keep::Keep;
-use ode_opened::Opened;
+use ode_opened::{Opened, RUN_FORMAT};
 use ode_overlay::{Origin, Overlay};
 use ode_run::{Ctx, contexts_begin};
 use ode_settled_laws::front_entries_run;
@@ -109,6 +109,7 @@ pub fn begin<H: Host, K: Keep<H> + Drop>(
         alphabets,
         maps,
         bytes,
+        ..
     } = rest;
     let mut heap = Heap::new(keeper);
     let overlay = begin_overlay(alloc, &mut heap, host, origin)?;
@@ -129,7 +130,7 @@ pub fn begin<H: Host, K: Keep<H> + Drop>(
 
 /// A context goes back to the file that it began over, with nothing of what it did.
 pub fn put_back<K: Drop>(ctx: Ctx<K>) -> Opened<K>
-    ensures { result ≡ record { keeper = ctx.heap; classes = ctx.classes; tables = ctx.tables; alphabets = ctx.alphabets; maps = ctx.maps; bytes = ctx.bytes } }
+    ensures { result ≡ record { keeper = ctx.heap; classes = ctx.classes; tables = ctx.tables; alphabets = ctx.alphabets; maps = ctx.maps; bytes = ctx.bytes; format = RUN_FORMAT } }
 {
     let Ctx {
         classes,
@@ -147,5 +148,6 @@ pub fn put_back<K: Drop>(ctx: Ctx<K>) -> Opened<K>
         alphabets,
         maps,
         bytes,
+        format: RUN_FORMAT,
     }
 }

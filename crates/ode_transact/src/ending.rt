@@ -24,9 +24,9 @@ use crate::settling::hand_over;
 use ode_heap::Heap;
 use ode_heap_laws::heaps_show_held_worlds;
 use ode_host::Host;
-use ode_keep::{Batch, Keep, MAX_CHANGES, MAX_RECORD_BYTES};
+use ode_keep::{Batch, Keep, MAX_CHANGES, MAX_PAGED_BYTES, Roomy};
 use ode_lines::{aborted_line, committed_line};
-use ode_opened::Opened;
+use ode_opened::{Opened, RUN_FORMAT};
 use ode_overlay::Overlay;
 use ode_run::{Ctx, Stop, settle};
 use ode_types::Classes;
@@ -137,7 +137,7 @@ fn changes_of<H: Host, K: Keep<H>>(
 }
 
 // A context goes back to a file: these changes are made, and its text with its last line goes to the output.
-fn close<H: Host, K: Keep<H> + Drop>(
+fn close<H: Host, K: Roomy<H> + Drop>(
     ctx: Ctx<K>,
     host: &mut H,
     output: &mut Output,
@@ -157,7 +157,7 @@ fn close<H: Host, K: Keep<H> + Drop>(
     ensures bytes { IfOk result (λ rest. (sum : ℕ) → pos ctx.bytes +ℤ growth_told ctx.classes ctx.overlay ≡ pos sum → sum < 2 ^ 64 → rest.bytes ≡ sum) }
     ensures usable { IfOk result (λ rest. K.live rest.keeper ≡ true) }
     ensures undamaged { OnDamaged result ((entries : Entries) → K.holds ctx.heap (H.view host.old) entries
-        → record_bytes (applied batch.now entries) ≤ MAX_RECORD_BYTES → ⊥) }
+        → record_bytes (applied batch.now entries) ≤ MAX_PAGED_BYTES → ⊥) }
     ensures leaves { HostCalls (IsErrOf result EngineError.DiskFault) (IsErrOf result EngineError.WriteFault) (H.view host.old) (H.view host.new) }
 {
     let Ctx {
@@ -181,11 +181,12 @@ fn close<H: Host, K: Keep<H> + Drop>(
         alphabets,
         maps,
         bytes: grown_by(bytes, growth),
+        format: RUN_FORMAT,
     })
 }
 
 /// A transaction settles, by commit, or by an abort for this reason; and its text with its last line goes to the output.
-pub fn end<H: Host, K: Keep<H> + Drop>(
+pub fn end<H: Host, K: Roomy<H> + Drop>(
     alloc: Global,
     ctx: Ctx<K>,
     host: &mut H,

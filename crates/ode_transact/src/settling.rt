@@ -11,11 +11,11 @@ use crate::error::EngineError;
 use crate::output::Output;
 use ode_heap::Heap;
 use ode_host::Host;
-use ode_keep::{Batch, Keep, MAX_CHANGES, MAX_RECORD_BYTES};
+use ode_keep::{Batch, MAX_CHANGES, MAX_PAGED_BYTES, Roomy};
 
 /// Settles a transaction by one commit, and then prints its text, where the output isn't quiet, and counts it. A stop on the way leaves
 /// the records before it and no text, or those after it and a front of what is printed.
-pub fn hand_over<H: Host, K: Keep<H>>(
+pub fn hand_over<H: Host, K: Roomy<H>>(
     host: &mut H,
     heap: &mut Heap<K>,
     output: &mut Output,
@@ -33,7 +33,7 @@ pub fn hand_over<H: Host, K: Keep<H>>(
         → LeavesOnly (H.view host.old) (H.view host.new) (LeavesBatch K.means entries batch.now said (heard output.old.quiet text.now)) }
     ensures live { OnOk result (IsTrue (K.live heap.new)) }
     ensures undamaged { OnDamaged result ((entries : Entries) → K.holds heap.old (H.view host.old) entries
-        → record_bytes (applied batch.now entries) ≤ MAX_RECORD_BYTES → ⊥) }
+        → record_bytes (applied batch.now entries) ≤ MAX_PAGED_BYTES → ⊥) }
     ensures leaves { HostCalls (IsErrOf result EngineError.DiskFault) (IsErrOf result EngineError.WriteFault) (H.view host.old) (H.view host.new) }
 {
     heap.stage(host, batch)?;

@@ -32,14 +32,14 @@ use ode_good_laws::transactions_leave_good_worlds;
 use ode_heap::Heap;
 use ode_heap_laws::heaps_show_held_worlds;
 use ode_host::Host;
-use ode_keep::Keep;
+use ode_keep::{Keep, Roomy};
 use ode_opened::Opened;
 use ode_overlay::Origin;
 use ode_value::limits::{GENERATION_LIMIT, NUMBER_LIMIT};
 use std::alloc::Global;
 
 /// A whole transaction: it begins, does its work, is completed and settles.
-pub fn transact<H: Host, K: Keep<H> + Drop>(
+pub fn transact<H: Host, K: Roomy<H> + Drop>(
     alloc: Global,
     rest: Opened<K>,
     host: &mut H,
@@ -95,6 +95,7 @@ pub fn next_number<H: Host, K: Keep<H> + Drop>(
         alphabets,
         maps,
         bytes,
+        format,
     } = rest;
     heaps_show_held_worlds();
     let mut heap = Heap::new(keeper);
@@ -107,6 +108,7 @@ pub fn next_number<H: Host, K: Keep<H> + Drop>(
             alphabets,
             maps,
             bytes,
+            format,
         },
         counters.next_transaction,
     ))
@@ -135,6 +137,7 @@ fn first_entry<H: Host, K: Keep<H> + Drop>(
         alphabets,
         maps,
         bytes,
+        format,
     } = rest;
     heaps_show_held_worlds();
     let mut heap = Heap::new(keeper);
@@ -147,6 +150,7 @@ fn first_entry<H: Host, K: Keep<H> + Drop>(
             alphabets,
             maps,
             bytes,
+            format,
         },
         found,
     ))
@@ -205,7 +209,7 @@ fn next_entry<H: Host, K: Keep<H> + Drop>(
 
 /// The drain: entries of the queue run as transactions of their own, from its front, at most so many, as long as numbers are left. How many
 /// ran.
-pub fn drain<H: Host, K: Keep<H> + Drop>(
+pub fn drain<H: Host, K: Roomy<H> + Drop>(
     alloc: Global,
     rest: Opened<K>,
     host: &mut H,
@@ -250,7 +254,7 @@ pub fn drain<H: Host, K: Keep<H> + Drop>(
 }
 
 /// A whole transaction with the drain behind it, of at most so many entries. How many ran.
-pub fn transact_and_drain<H: Host, K: Keep<H> + Drop>(
+pub fn transact_and_drain<H: Host, K: Roomy<H> + Drop>(
     alloc: Global,
     rest: Opened<K>,
     host: &mut H,

@@ -5,6 +5,7 @@ use Rattle.ode_declare.proofs.DeclareLaws.{declares_compiled, declares_made, dec
 use Rattle.std.proofs.lemmas.Result.{err_from_is_err_and}
 use Rattle.ode_declare.proofs.TakeLaws.{classes_are, damaged_as}
 use Rattle.ode_declare.proofs.declaring.declare.Goals as goal
+use Rattle.ode_good_laws.proofs.GoodAgain.{good_classes}
 use Rattle.ode_host.proofs.Calls.{host_calls_as, rose_none}
 use Rattle.ode_host.proofs.Moments.{looks_none}
 use Rattle.ode_language.specs.Languages.{ode}
@@ -40,7 +41,7 @@ returns-in_err-after-in-Ok-clause-declined g c = λ w why rest refused.
 pub returns-in_err-after-in-Ok-clause-any_moment : goal.returns-in_err-after-in-Ok-clause-any_moment
 returns-in_err-after-in-Ok-clause-any_moment g c = λ w d said well text rest is few.
     let known = classes_are g.H.Host.view g.K.Keep.holds g.K.Keep.live ode w c.args.rest c.args.host.now rest in
-    let made = made_as c.args.rest.classes c.args.decl.now c.in-Ok.made c.in-Ok.ensures.answers c.in-Ok.ensures.text w known c.language_has_sound_rules.ensures c.language_reads_well.ensures well.good.bones.classes text (λ few. c.checked_classes_have_few_parts.ensures c.args.rest.classes (record { class = c.in-Ok.made.class; tree = c.args.decl.now }) c.as_slice-known.ensures.checked c.in-Ok.ensures.checked few) d is few in
+    let made = made_as c.args.rest.classes c.args.decl.now c.in-Ok.made c.in-Ok.ensures.answers c.in-Ok.ensures.text w known c.language_has_sound_rules.ensures c.language_reads_well.ensures (good_classes ode w.bones well.good.bones) text (λ few. c.checked_classes_have_few_parts.ensures c.args.rest.classes (record { class = c.in-Ok.made.class; tree = c.args.decl.now }) c.as_slice-known.ensures.checked c.in-Ok.ensures.checked few) d is few in
     c.bring_in.ensures.any_moment ode w d said well rest made
 
 pub returns-in_err-after-in-Ok-clause-leaves : goal.returns-in_err-after-in-Ok-clause-leaves
@@ -56,7 +57,7 @@ returns-in_ok-after-in-Ok-clause-done g c = λ w well text rest.
     let is = meant c.args.rest.classes c.args.decl.now c.in-Ok.made c.in-Ok.ensures.answers c.in-Ok.ensures.text w known in
     declares_made g.H.Host.view g.K.Keep.holds g.K.Keep.live w c.args.decl.now c.in_ok-after-in-Ok.after c.args.output.now.quiet c.args.host.now c.bring_in.new.host own is
     (λ few.
-    let made = made_as c.args.rest.classes c.args.decl.now c.in-Ok.made c.in-Ok.ensures.answers c.in-Ok.ensures.text w known c.language_has_sound_rules.ensures c.language_reads_well.ensures well.good.bones.classes text (λ few. c.checked_classes_have_few_parts.ensures c.args.rest.classes own c.as_slice-known.ensures.checked c.in-Ok.ensures.checked few) own is few in
+    let made = made_as c.args.rest.classes c.args.decl.now c.in-Ok.made c.in-Ok.ensures.answers c.in-Ok.ensures.text w known c.language_has_sound_rules.ensures c.language_reads_well.ensures (good_classes ode w.bones well.good.bones) text (λ few. c.checked_classes_have_few_parts.ensures c.args.rest.classes own c.as_slice-known.ensures.checked c.in-Ok.ensures.checked few) own is few in
     c.in_ok-after-in-Ok.ensures.done ode w own well rest made)
 
 pub returns-in_ok-after-in-Ok-clause-counts : goal.returns-in_ok-after-in-Ok-clause-counts
@@ -65,7 +66,7 @@ returns-in_ok-after-in-Ok-clause-counts g c = λ w well text rest.
     let own : Declared = record { class = c.in-Ok.made.class; tree = c.args.decl.now } in
     let is = meant c.args.rest.classes c.args.decl.now c.in-Ok.made c.in-Ok.ensures.answers c.in-Ok.ensures.text w known in
     declares_so (declared_in ode w.bones c.args.decl.now) own _ _ is (λ few.
-    let made = made_as c.args.rest.classes c.args.decl.now c.in-Ok.made c.in-Ok.ensures.answers c.in-Ok.ensures.text w known c.language_has_sound_rules.ensures c.language_reads_well.ensures well.good.bones.classes text (λ few. c.checked_classes_have_few_parts.ensures c.args.rest.classes own c.as_slice-known.ensures.checked c.in-Ok.ensures.checked few) own is few in
+    let made = made_as c.args.rest.classes c.args.decl.now c.in-Ok.made c.in-Ok.ensures.answers c.in-Ok.ensures.text w known c.language_has_sound_rules.ensures c.language_reads_well.ensures (good_classes ode w.bones well.good.bones) text (λ few. c.checked_classes_have_few_parts.ensures c.args.rest.classes own c.as_slice-known.ensures.checked c.in-Ok.ensures.checked few) own is few in
     c.in_ok-after-in-Ok.ensures.counts ode w own well rest made)
 
 pub returns-in_ok-after-in-Ok-clause-declined : goal.returns-in_ok-after-in-Ok-clause-declined
@@ -76,7 +77,7 @@ returns-in_ok-after-in-Ok-clause-declined g c = λ w why rest refused.
 pub returns-in_ok-after-in-Ok-clause-any_moment : goal.returns-in_ok-after-in-Ok-clause-any_moment
 returns-in_ok-after-in-Ok-clause-any_moment g c = λ w d said well text rest is few.
     let known = classes_are g.H.Host.view g.K.Keep.holds g.K.Keep.live ode w c.args.rest c.args.host.now rest in
-    let made = made_as c.args.rest.classes c.args.decl.now c.in-Ok.made c.in-Ok.ensures.answers c.in-Ok.ensures.text w known c.language_has_sound_rules.ensures c.language_reads_well.ensures well.good.bones.classes text (λ few. c.checked_classes_have_few_parts.ensures c.args.rest.classes (record { class = c.in-Ok.made.class; tree = c.args.decl.now }) c.as_slice-known.ensures.checked c.in-Ok.ensures.checked few) d is few in
+    let made = made_as c.args.rest.classes c.args.decl.now c.in-Ok.made c.in-Ok.ensures.answers c.in-Ok.ensures.text w known c.language_has_sound_rules.ensures c.language_reads_well.ensures (good_classes ode w.bones well.good.bones) text (λ few. c.checked_classes_have_few_parts.ensures c.args.rest.classes (record { class = c.in-Ok.made.class; tree = c.args.decl.now }) c.as_slice-known.ensures.checked c.in-Ok.ensures.checked few) d is few in
     c.bring_in.ensures.any_moment ode w d said well rest made
 
 pub returns-in_ok-after-in-Ok-clause-leaves : goal.returns-in_ok-after-in-Ok-clause-leaves
@@ -131,5 +132,5 @@ returns-in_err-after-in-Ok-clause-undamaged g c =
     let own : Declared = record { class = c.in-Ok.made.class; tree = c.args.decl.now } in
     let is = meant c.args.rest.classes c.args.decl.now c.in-Ok.made c.in-Ok.ensures.answers c.in-Ok.ensures.text w known in
     let behind = accepted own is in
-    let made = made_as c.args.rest.classes c.args.decl.now c.in-Ok.made c.in-Ok.ensures.answers c.in-Ok.ensures.text w known c.language_has_sound_rules.ensures c.language_reads_well.ensures well.good.bones.classes text (λ few. c.checked_classes_have_few_parts.ensures c.args.rest.classes own c.as_slice-known.ensures.checked c.in-Ok.ensures.checked few) own is behind.0 in
+    let made = made_as c.args.rest.classes c.args.decl.now c.in-Ok.made c.in-Ok.ensures.answers c.in-Ok.ensures.text w known c.language_has_sound_rules.ensures c.language_reads_well.ensures (good_classes ode w.bones well.good.bones) text (λ few. c.checked_classes_have_few_parts.ensures c.args.rest.classes own c.as_slice-known.ensures.checked c.in-Ok.ensures.checked few) own is behind.0 in
     damaged ode w own well rest made (still_left w.bones.transaction left) behind.1)

@@ -1,4 +1,4 @@
-use Rattle.std.proofs.Common.{rules, Err, ◌≡◌, ◌∙◌, ◌<◌, ◌≤◌, ap, arith, length, refl, subst, sym}
+use Rattle.std.proofs.Common.{rules, Err, ◌≡◌, ◌∙◌, ◌<◌, ◌≤◌, ℕ, List, ap, arith, length, refl, subst, sym}
 use Rattle.std.proofs.lemmas.Result.{err_from_is_err_and}
 use Rattle.ode_compile.proofs.TriggerLaws.{counts_level}
 use Rattle.ode_declare.proofs.TakeLaws.{parts_kept}
@@ -44,47 +44,63 @@ returns-in_err-weighed-clause-leaves g c =
     let same : c.from_residual.result ≡ Err engine.Memory = rw (p.1, p.2) refl in
     fails_apart c.from_residual.result engine.Memory (g.H.Host.view c.args.host.now) (g.H.Host.view c.args.host.now) same (λ is. cc (is)) (λ is. cc (is)) (looks_none _) refl
 
-pub returns-then-bytes-gt-WEIGHT_LIMIT-clause-done : goal.returns-then-bytes-gt-WEIGHT_LIMIT-clause-done
-returns-then-bytes-gt-WEIGHT_LIMIT-clause-done g c = λ l w d well rest made.
+pub returns-in_err-line-clause-any_moment : goal.returns-in_err-line-clause-any_moment
+returns-in_err-line-clause-any_moment g c = λ l w d said well rest made behind printed.
+    let s = heard_of c.args.output.now.quiet (transaction lists Script (declares d) w) in
+    looks_leave _ _ (LeavesSettling (HoldsBy l g.K.Keep.means) w s.0 said s.1)
+    (before_leaves l g.K.Keep.means rest.entries w s.0 said s.1 _ (g.met.K.Keep.stands c.args.rest.keeper c.args.host.now rest.entries rest.records) (g.met.H.Host.text_stands c.args.host.now) printed rest.world well.ones)
+    (looks_none _)
+
+pub returns-in_err-line-clause-leaves : goal.returns-in_err-line-clause-leaves
+returns-in_err-line-clause-leaves g c =
+    let p = err_from_is_err_and c.from_residual-in_err-line.result c.from_residual-in_err-line.ensures.1 in
+    let same : c.from_residual-in_err-line.result ≡ Err engine.Memory = rw (p.1, p.2) refl in
+    fails_apart c.from_residual-in_err-line.result engine.Memory (g.H.Host.view c.args.host.now) (g.H.Host.view c.args.host.now) same (λ is. cc (is)) (λ is. cc (is)) (looks_none _) refl
+
+pub returns-in_ok-line-clause-done : goal.returns-in_ok-line-clause-done
+returns-in_ok-line-clause-done g c = λ l w d well rest made.
     let weighed = c.in_ok-weighed.weighed in
     let over : weight_limit < weighed.1 = omega (arith, c.if-bytes-gt-WEIGHT_LIMIT.true) in
     let was = rest.bytes ∙ ap weight rest.world.world.stands.bones in
     let heavy = heavy_is l w well.good d c.args.made made c.requires.compiled c.requires.trees weighed.0 c.in_ok-weighed.ensures.rows rest.world.world.stored c.args.rest.bytes weighed.1 was c.in_ok-weighed.ensures.bytes over in
     let short : length d.class.name ≤ name_limit = subst (λ (k : Class). length k.name ≤ name_limit) (sym made.class) (search rules) in
-    let aborts = c.declarations_settle.ensures.heavy l w d well.good short heavy ∙ ap (λ (k : Class). abort lists Space (with_line (class_line k.name) (begun Script w))) made.class in
+    let aborts = c.declarations_settle.ensures.heavy l w d well.good short heavy ∙ ap (λ (k : Class). abort lists Space (with_line (class_line k.name) (begun Script w))) made.class
+    ∙ ap (λ (line : List ℕ). abort lists Space (with_line line (begun Script w))) (sym c.in_ok-line.ensures) in
     done_as g.H.Host.view g.K.Keep.holds g.K.Keep.live g.K.Keep.means c.turn_away.result l c.args.output.now.quiet c.args.host.now c.turn_away.new.host _ _ aborts (c.turn_away.ensures.done l w rest)
 
-pub returns-then-bytes-gt-WEIGHT_LIMIT-clause-counts : goal.returns-then-bytes-gt-WEIGHT_LIMIT-clause-counts
-returns-then-bytes-gt-WEIGHT_LIMIT-clause-counts g c = λ l w d well rest made.
+pub returns-in_ok-line-clause-counts : goal.returns-in_ok-line-clause-counts
+returns-in_ok-line-clause-counts g c = λ l w d well rest made.
     let weighed = c.in_ok-weighed.weighed in
     let over : weight_limit < weighed.1 = omega (arith, c.if-bytes-gt-WEIGHT_LIMIT.true) in
     let was = rest.bytes ∙ ap weight rest.world.world.stands.bones in
     let heavy = heavy_is l w well.good d c.args.made made c.requires.compiled c.requires.trees weighed.0 c.in_ok-weighed.ensures.rows rest.world.world.stored c.args.rest.bytes weighed.1 was c.in_ok-weighed.ensures.bytes over in
     let short : length d.class.name ≤ name_limit = subst (λ (k : Class). length k.name ≤ name_limit) (sym made.class) (search rules) in
-    let aborts = c.declarations_settle.ensures.heavy l w d well.good short heavy ∙ ap (λ (k : Class). abort lists Space (with_line (class_line k.name) (begun Script w))) made.class in
+    let aborts = c.declarations_settle.ensures.heavy l w d well.good short heavy ∙ ap (λ (k : Class). abort lists Space (with_line (class_line k.name) (begun Script w))) made.class
+    ∙ ap (λ (line : List ℕ). abort lists Space (with_line line (begun Script w))) (sym c.in_ok-line.ensures) in
     counts_as c.turn_away.result l c.args.output.now c.turn_away.new.output _ _ aborts (c.turn_away.ensures.counts l w rest)
 
-pub returns-then-bytes-gt-WEIGHT_LIMIT-clause-any_moment : goal.returns-then-bytes-gt-WEIGHT_LIMIT-clause-any_moment
-returns-then-bytes-gt-WEIGHT_LIMIT-clause-any_moment g c = λ l w d said well rest made.
+pub returns-in_ok-line-clause-any_moment : goal.returns-in_ok-line-clause-any_moment
+returns-in_ok-line-clause-any_moment g c = λ l w d said well rest made.
     let weighed = c.in_ok-weighed.weighed in
     let over : weight_limit < weighed.1 = omega (arith, c.if-bytes-gt-WEIGHT_LIMIT.true) in
     let was = rest.bytes ∙ ap weight rest.world.world.stands.bones in
     let heavy = heavy_is l w well.good d c.args.made made c.requires.compiled c.requires.trees weighed.0 c.in_ok-weighed.ensures.rows rest.world.world.stored c.args.rest.bytes weighed.1 was c.in_ok-weighed.ensures.bytes over in
     let short : length d.class.name ≤ name_limit = subst (λ (k : Class). length k.name ≤ name_limit) (sym made.class) (search rules) in
-    let aborts = c.declarations_settle.ensures.heavy l w d well.good short heavy ∙ ap (λ (k : Class). abort lists Space (with_line (class_line k.name) (begun Script w))) made.class in
+    let aborts = c.declarations_settle.ensures.heavy l w d well.good short heavy ∙ ap (λ (k : Class). abort lists Space (with_line (class_line k.name) (begun Script w))) made.class
+    ∙ ap (λ (line : List ℕ). abort lists Space (with_line line (begun Script w))) (sym c.in_ok-line.ensures) in
     leaves_as g.H.Host.view g.K.Keep.holds g.K.Keep.live g.K.Keep.means l w c.args.output.now.quiet c.args.host.now c.turn_away.new.host said _ _ aborts (c.turn_away.ensures.any_moment l w said well rest)
 
-pub returns-then-bytes-gt-WEIGHT_LIMIT-clause-fit : goal.returns-then-bytes-gt-WEIGHT_LIMIT-clause-fit
-returns-then-bytes-gt-WEIGHT_LIMIT-clause-fit g c = parts_kept AreFit c.turn_away.result (resting_parts c.args.rest) c.requires.fit c.turn_away.ensures.parts
+pub returns-in_ok-line-clause-fit : goal.returns-in_ok-line-clause-fit
+returns-in_ok-line-clause-fit g c = parts_kept AreFit c.turn_away.result (resting_parts c.args.rest) c.requires.fit c.turn_away.ensures.parts
 
-pub returns-then-bytes-gt-WEIGHT_LIMIT-clause-aligned : goal.returns-then-bytes-gt-WEIGHT_LIMIT-clause-aligned
-returns-then-bytes-gt-WEIGHT_LIMIT-clause-aligned g c = parts_kept AreAligned c.turn_away.result (resting_parts c.args.rest) c.requires.aligned c.turn_away.ensures.parts
+pub returns-in_ok-line-clause-aligned : goal.returns-in_ok-line-clause-aligned
+returns-in_ok-line-clause-aligned g c = parts_kept AreAligned c.turn_away.result (resting_parts c.args.rest) c.requires.aligned c.turn_away.ensures.parts
 
-pub returns-then-bytes-gt-WEIGHT_LIMIT-clause-usable : goal.returns-then-bytes-gt-WEIGHT_LIMIT-clause-usable
-returns-then-bytes-gt-WEIGHT_LIMIT-clause-usable g c = c.turn_away.ensures.usable
+pub returns-in_ok-line-clause-usable : goal.returns-in_ok-line-clause-usable
+returns-in_ok-line-clause-usable g c = c.turn_away.ensures.usable
 
-pub returns-then-bytes-gt-WEIGHT_LIMIT-clause-leaves : goal.returns-then-bytes-gt-WEIGHT_LIMIT-clause-leaves
-returns-then-bytes-gt-WEIGHT_LIMIT-clause-leaves g c = c.turn_away.ensures.leaves
+pub returns-in_ok-line-clause-leaves : goal.returns-in_ok-line-clause-leaves
+returns-in_ok-line-clause-leaves g c = c.turn_away.ensures.leaves
 
 pub returns-else-bytes-gt-WEIGHT_LIMIT-clause-done : goal.returns-else-bytes-gt-WEIGHT_LIMIT-clause-done
 returns-else-bytes-gt-WEIGHT_LIMIT-clause-done g c = λ l w d well rest made.
@@ -119,14 +135,21 @@ returns-in_err-weighed-clause-undamaged g c =
     let same : c.from_residual.result ≡ Err engine.Memory = rw (p.1, p.2) refl in
     memory_undamaged c.from_residual.result _ same
 
-pub returns-then-bytes-gt-WEIGHT_LIMIT-clause-undamaged : goal.returns-then-bytes-gt-WEIGHT_LIMIT-clause-undamaged
-returns-then-bytes-gt-WEIGHT_LIMIT-clause-undamaged g c = damaged_so c.turn_away.result _ _ (λ damaged l w d well rest made left behind.
+pub returns-in_err-line-clause-undamaged : goal.returns-in_err-line-clause-undamaged
+returns-in_err-line-clause-undamaged g c =
+    let p = err_from_is_err_and c.from_residual-in_err-line.result c.from_residual-in_err-line.ensures.1 in
+    let same : c.from_residual-in_err-line.result ≡ Err engine.Memory = rw (p.1, p.2) refl in
+    memory_undamaged c.from_residual-in_err-line.result _ same
+
+pub returns-in_ok-line-clause-undamaged : goal.returns-in_ok-line-clause-undamaged
+returns-in_ok-line-clause-undamaged g c = damaged_so c.turn_away.result _ _ (λ damaged l w d well rest made left behind.
     let weighed = c.in_ok-weighed.weighed in
     let over : weight_limit < weighed.1 = omega (arith, c.if-bytes-gt-WEIGHT_LIMIT.true) in
     let was = rest.bytes ∙ ap weight rest.world.world.stands.bones in
     let heavy = heavy_is l w well.good d c.args.made made c.requires.compiled c.requires.trees weighed.0 c.in_ok-weighed.ensures.rows rest.world.world.stored c.args.rest.bytes weighed.1 was c.in_ok-weighed.ensures.bytes over in
     let short : length d.class.name ≤ name_limit = subst (λ (k : Class). length k.name ≤ name_limit) (sym made.class) (search rules) in
-    let aborts = c.declarations_settle.ensures.heavy l w d well.good short heavy ∙ ap (λ (k : Class). abort lists Space (with_line (class_line k.name) (begun Script w))) made.class in
+    let aborts = c.declarations_settle.ensures.heavy l w d well.good short heavy ∙ ap (λ (k : Class). abort lists Space (with_line (class_line k.name) (begun Script w))) made.class
+    ∙ ap (λ (line : List ℕ). abort lists Space (with_line line (begun Script w))) (sym c.in_ok-line.ensures) in
     damaged l w rest left (subst (λ (s : Settled Histories Starts). IsWell l s.0) aborts behind)) c.turn_away.ensures.undamaged
 
 pub returns-else-bytes-gt-WEIGHT_LIMIT-clause-undamaged : goal.returns-else-bytes-gt-WEIGHT_LIMIT-clause-undamaged

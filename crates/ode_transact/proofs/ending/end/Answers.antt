@@ -2,7 +2,7 @@ use Rattle.std.proofs.Common.{rules, ◌∙◌, ◌++◌, ◌≤◌, ℕ, List, 
 use Rattle.ode_good_laws.specs.Well.{IsWell}
 use Rattle.ode_host.proofs.Moments.{joined, looks_joined}
 use Rattle.ode_keep.specs.Entries.{Changes, Entries, applied, record_bytes}
-use Rattle.ode_keep.specs.declared.limits.TheConstants.{MAX_RECORD_BYTES}
+use Rattle.ode_keep.specs.declared.limits.TheConstants.{MAX_PAGED_BYTES}
 use Rattle.ode_machine.specs.Moments.{LeavesSettling}
 use Rattle.ode_opened.specs.declared.opened.Opened.{Opened}
 use Rattle.ode_run.specs.Contexts.{ContextRuns}
@@ -124,7 +124,7 @@ returns-in_err-batch-clause-undamaged g c =
 
 pub returns-clause-undamaged : goal.returns-clause-undamaged
 returns-clause-undamaged g c =
-    let Before : Type 0 = (entries : Entries) → g.K.Keep.holds c.changes_of.new.ctx.heap (g.H.Host.view c.changes_of.new.host) entries → record_bytes (applied c.in_ok-batch.batch entries) ≤ MAX_RECORD_BYTES → ⊥ in
+    let Before : Type 0 = (entries : Entries) → g.K.Keep.holds c.changes_of.new.ctx.heap (g.H.Host.view c.changes_of.new.host) entries → record_bytes (applied c.in_ok-batch.batch entries) ≤ MAX_PAGED_BYTES → ⊥ in
     let Undamaged : Type 0 = (l : Language) (w : ListWorld) (t : ListTx) → ContextRuns g.H.Host.view g.K.Keep.holds g.K.Keep.live l w c.args.ctx c.args.host.now t → IsWell l (settled_by c.args.ending t).0 → ⊥ in
     damaged_so c.close.result Before Undamaged (λ damaged l w t runs well.
     let on = c.in_ok-number.ensures.stays l w t runs in
