@@ -12,6 +12,7 @@ use Rattle.ode_engine.specs.declared.commanding.State.{State}
 use Rattle.ode_engine.specs.declared.commanding.State.TheVariants as state
 use Rattle.ode_engine.specs.declared.engine.Done.{Done}
 use Rattle.ode_engine.specs.declared.engine.Done.TheVariants as done
+use Rattle.ode_good_laws.proofs.GoodAgain.{good_classes}
 use Rattle.ode_good_laws.specs.Well.{IsWell}
 use Rattle.ode_good_runs.proofs.Declaring.{declared_is}
 use Rattle.ode_heap_laws.specs.Few.{HasFewParams}
@@ -32,7 +33,7 @@ use Rattle.ode_transact.specs.Settling.{Meaning}
 use Rattle.ode_transact.specs.declared.error.EngineError.{EngineError}
 use Rattle.ode_transact.specs.declared.output.Output.{Output}
 use Rattle.ode_value.specs.Answers.{Answer, ◌>>=◌}
-use Rattle.ode_value.specs.GoodWorlds.{AreClasses, IsClass}
+use Rattle.ode_value.specs.GoodWorlds.{IsClass}
 use Rattle.ode_value.specs.Language.{ListWorld}
 use Rattle.ode_value.specs.Objects.{Histories, Starts}
 use Rattle.ode_value.specs.Pasts.{lists}
@@ -44,10 +45,10 @@ use Rattle.ode_value.specs.declared.statement.ClassDecl.{ClassDecl}
 use Rattle.ode_value.specs.declared.statement.Statement.TheVariants as statement
 
 -- the triggers of a class that is read have few parameters
-pub few_kept : (w : ListWorld) → AreClasses ode [] w.bones.classes → (d : ClassDecl) → HasText ode (statement.Class d) → (c : Declared) → declared_in ode w.bones d ≡ Ok c → AllByRecursion HasFewParams c.class.triggers
-few_kept w all d text c is =
-    let class : IsClass ode w.bones.classes c = declared_is ode sound_rules reads_well text.0 d text.1 w.bones c all is in
-    few_parameters _ c.tree _ c.class class.text class.checked
+pub few_kept : (w : ListWorld) → IsWell ode w → (d : ClassDecl) → HasText ode (statement.Class d) → (c : Declared) → declared_in ode w.bones d ≡ Ok c → AllByRecursion HasFewParams c.class.triggers
+few_kept w well d text c is =
+    let class : IsClass ode w.bones.added w.bones.classes c = declared_is ode sound_rules reads_well text.0 d text.1 w.bones c (good_classes ode w.bones well.good.bones) is in
+    few_parameters _ c.tree _ _ c.class class.text class.checked
 
 -- a host that nothing was done to
 pub same_looks : {H : Type 0} (seen : H → View) (old new : H) → new ≡ old → Looks (seen old) (seen new)

@@ -3,6 +3,7 @@ pub mod FaultLaws
 pub mod ServeLaws
 pub mod RunLaws
 pub mod PlaceLaws
+pub mod ChangeLaws
 pub mod ClassLaws
 pub mod ClockLaws
 pub mod RefusingLaws

@@ -2,14 +2,15 @@
 use Rattle.std.proofs.Common.{◌≡◌, ◌∙◌, ◌<◌, ◌≤◌, ℕ, List, Bool, true, false, Ok, Err, ap, arith, refl}
 use Rattle.std.specs.Prelude.{◌&&◌, nat_lt, not}
 use Rattle.std.proofs.lemmas.Bool.Decides.{nat_tests}
-use Rattle.ode_engine.specs.Serving.{answer_to}
+use Rattle.ode_engine.specs.Serving.{answer_to, answer_to_change}
 use Rattle.ode_language.specs.Languages.{ode}
-use Rattle.ode_machine.specs.Commands.{Step, carried}
+use Rattle.ode_machine.specs.Commands.{Step, carried, changes}
 use Rattle.ode_machine.specs.Refusals.{is_lone, place_of}
 use Rattle.ode_machine.specs.Sessions.{closed, opened}
 use Rattle.ode_value.specs.Answers.{Answer, ◌>>◌, refuses}
 use Rattle.ode_value.specs.Language.{ListTx, ListWorld}
 use Rattle.ode_value.specs.Limits.{number_limit}
+use Rattle.ode_value.specs.declared.change.Change.{Change}
 use Rattle.ode_value.specs.declared.reason.Refusal.{Refusal}
 use Rattle.ode_value.specs.declared.reason.Refusal.TheVariants as refusal
 use Rattle.ode_value.specs.declared.statement.ClassDecl.{ClassDecl}
@@ -60,6 +61,24 @@ placed_outside w s place less =
     none_spent : (b : Bool) (next : Answer Step) → by_parts (Ok tt) (true && not b) true next ≡ next
     none_spent true next = refl
     none_spent false next = refl
+
+-- ---- a change of a class
+
+abbrev change_by_parts : Bool → Answer Step → Answer Step
+change_by_parts left next = (refuses false refusal.InTransaction >> refuses (not left) refusal.NumbersSpent) >> next
+
+pub spent_change : (w : ListWorld) (c : Change) → number_limit ≤ w.bones.transaction → changes ode (closed w) c ≡ Err refusal.NumbersSpent
+spent_change w c none =
+    let left : nat_lt w.bones.transaction number_limit ≡ false = grind (arith, nat_tests) in
+    ap (λ (b : Bool). change_by_parts b (answer_to_change ode w c)) left
+
+pub placed_change_is : (w : ListWorld) (c : Change) → w.bones.transaction < number_limit → changes ode (closed w) c ≡ answer_to_change ode w c
+placed_change_is w c less =
+    let left : nat_lt w.bones.transaction number_limit ≡ true = grind (arith, nat_tests) in
+    ap (λ (b : Bool). change_by_parts b (answer_to_change ode w c)) left
+
+pub change_inside : (w : ListWorld) (t : ListTx) (c : Change) → changes ode (opened w t) c ≡ Err refusal.InTransaction
+change_inside w t c = refl
 
 -- ---- what is left of a match
 

@@ -1,19 +1,21 @@
 -- Sessions go on: what a transaction that has come from a world that is well leaves is well again.
 use Rattle.std.proofs.Common.{◌≡◌, ◌<◌, List, [], ◌∷◌, Option, Result, Ok, Err, None, Some, ap, arith, refl, subst, sym}
 use Rattle.std.specs.List.{AllByRecursion}
+use Rattle.ode_change.specs.Changing.{HasChange}
 use Rattle.ode_declare.specs.Texts.{HasText}
 use Rattle.ode_engine.specs.Serving.{HasCome, HasComeOpen, IsSession, Line}
-use Rattle.ode_good_laws.proofs.GoodAgain.{drain_well, statement_well}
+use Rattle.ode_good_laws.proofs.GoodAgain.{drain_well, good_classes, statement_well}
 use Rattle.ode_good_laws.specs.Well.{IsWell}
+use Rattle.ode_good_runs.proofs.Changing.{change_well}
 use Rattle.ode_good_runs.proofs.Declaring.{class_well, declared_is}
 use Rattle.ode_good_runs.proofs.Going.{Goes, IsFirst, IsGoing, begun_going, commits_well, settles_well, statement_goes, well_first}
 use Rattle.ode_good_runs.proofs.Literals.{literals_fit, then_ok}
 use Rattle.ode_language.specs.Languages.{ode}
-use Rattle.ode_language_laws.proofs.LanguageRuns.{reads_well, sound_rules}
+use Rattle.ode_language_laws.proofs.LanguageRuns.{reads_well, sound_changes, sound_rules}
 use Rattle.ode_machine.specs.Commands.{after, commits, settles}
-use Rattle.ode_machine.specs.Refusals.{checked_in, classes_behind, classes_in, declared_in}
+use Rattle.ode_machine.specs.Refusals.{changed_in, checked_in, classes_behind, classes_in, declared_in}
 use Rattle.ode_machine.specs.Sessions.{Session, closed, opened}
-use Rattle.ode_machine.specs.Works.{declares}
+use Rattle.ode_machine.specs.Works.{changes_class, declares}
 use Rattle.ode_sound_laws.specs.Sound.{checked_classes}
 use Rattle.ode_value.specs.Acts.{Aborted, Done}
 use Rattle.ode_value.specs.Answers.{checks}
@@ -26,6 +28,7 @@ use Rattle.ode_value.specs.Pasts.{lists}
 use Rattle.ode_value.specs.Settling.{Settled, abort, transaction}
 use Rattle.ode_value.specs.Transactions.{Script, begun}
 use Rattle.ode_value.specs.Worlds.{Declared}
+use Rattle.ode_value.specs.declared.change.Change.{Change}
 use Rattle.ode_value.specs.declared.reason.CheckError.{CheckError}
 use Rattle.ode_value.specs.declared.reason.Reason.{Reason}
 use Rattle.ode_value.specs.declared.statement.ClassDecl.{ClassDecl}
@@ -58,7 +61,7 @@ module _ (w : ListWorld) (well : IsWell ode w) where
       subst (Goes w first) came.4 (statement_went came.0 (come_going before came.0 came.1) s.0 s.1 came.2 came.3)
 
   abort_going : w.bones.transaction < number_limit → (reason : Reason) (x : ListTx) → IsGoing w first x → IsWell ode (abort lists reason x).0
-  abort_going left reason x going = settles_well w first ode well.good.bones.classes (room w left) well.good.bones.clock (Aborted reason x) going well.good.bones.light
+  abort_going left reason x going = settles_well w first ode (good_classes ode w.bones well.good.bones) (room w left) well.good.bones.clock (Aborted reason x) going well.good.bones.light
 
   -- it is aborted, by a statement of its own too
   pub aborted_well : (x : ListTx) → HasComeOpen ode w (Some x) → (reason : Reason) → IsWell ode (abort lists reason x).0
@@ -70,7 +73,7 @@ module _ (w : ListWorld) (well : IsWell ode w) where
 
   -- it is committed
   pub committed_well : (x : ListTx) → HasComeOpen ode w (Some x) → IsWell ode (commits x).0
-  committed_well x came = commits_well w first ode well.good.bones.classes (room w came.0) well.good.bones.clock well.good.bones.light x (come_going came.1 x came.2)
+  committed_well x came = commits_well w first ode (good_classes ode w.bones well.good.bones) (room w came.0) well.good.bones.clock well.good.bones.light x (come_going came.1 x came.2)
 
   -- ---- a transaction of its own
 
@@ -81,7 +84,11 @@ module _ (w : ListWorld) (well : IsWell ode w) where
       (sound_rules.checked (checked_classes w.bones.classes) parts.0 read s (check_passed (ode.checked (classes_in w.bones) parts.0 read) s parts.2))
 
   pub class_is_well : w.bones.transaction < number_limit → (d : ClassDecl) → HasText ode (statement.Class d) → (c : Declared) → declared_in ode w.bones d ≡ Ok c → IsWell ode (transaction lists Script (declares c) w).0
-  class_is_well left d text c is = class_well ode sound_rules w well (room w left) c (declared_is ode sound_rules reads_well text.0 d text.1 w.bones c well.good.bones.classes is)
+  class_is_well left d text c is = class_well ode sound_rules w well (room w left) c (declared_is ode sound_rules reads_well text.0 d text.1 w.bones c (good_classes ode w.bones well.good.bones) is)
+
+  pub change_is_well : w.bones.transaction < number_limit → (c : Change) → HasChange ode c → (classes : List Declared) → changed_in ode w.bones c ≡ Ok classes
+      → IsWell ode (transaction lists Script (changes_class lists classes c) w).0
+  change_is_well left c text classes is = change_well ode w well (room w left) classes c (sound_changes.changed text.0 c text.1 w well classes is)
 
 -- ---- the session behind
 

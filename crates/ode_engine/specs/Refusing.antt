@@ -8,6 +8,7 @@ use Rattle.ode_host.specs.Causes.{RoseIf}
 use Rattle.ode_host.specs.Host.{Looks}
 use Rattle.ode_host.specs.View.{View}
 use Rattle.ode_opened.specs.declared.opened.Opened.{Opened}
+use Rattle.ode_opened.specs.declared.opened.TheConstants.{RUN_FORMAT}
 use Rattle.ode_run.specs.declared.context.Ctx.{Ctx}
 use Rattle.ode_transact.specs.declared.error.EngineError.{EngineError}
 use Rattle.ode_transact.specs.declared.error.EngineError.TheVariants as error
@@ -55,4 +56,4 @@ turned_down s (Stopped error) = Err error
 
 -- a context goes back to the file that it began over
 abbrev pub back : {K : Type 0} → Ctx K → Opened K
-back ctx = record { keeper = ctx.heap; classes = ctx.classes; tables = ctx.tables; alphabets = ctx.alphabets; maps = ctx.maps; bytes = ctx.bytes }
+back ctx = record { keeper = ctx.heap; classes = ctx.classes; tables = ctx.tables; alphabets = ctx.alphabets; maps = ctx.maps; bytes = ctx.bytes; format = RUN_FORMAT }

@@ -12,9 +12,9 @@ use Rattle.ode_good_laws.specs.Well.{IsWell}
 use Rattle.ode_host.specs.Host.{LeavesOnly, Printed}
 use Rattle.ode_host.specs.View.{View}
 use Rattle.ode_keep.specs.Entries.{Entries}
-use Rattle.ode_machine.specs.Commands.{Step, carried}
+use Rattle.ode_machine.specs.Commands.{Step, carried, does_change}
 use Rattle.ode_machine.specs.Moments.{IsAfterSome}
-use Rattle.ode_machine.specs.Refusals.{checked_in, placed}
+use Rattle.ode_machine.specs.Refusals.{changed_in, checked_in, placed}
 use Rattle.ode_machine.specs.Runs.{Item}
 use Rattle.ode_machine.specs.Sessions.{Session}
 use Rattle.ode_opened.specs.declared.opened.Opened.{Opened}
@@ -28,12 +28,13 @@ use Rattle.ode_transact.specs.Settling.{Meaning}
 use Rattle.ode_transact.specs.declared.error.EngineError.{EngineError}
 use Rattle.ode_transact.specs.declared.output.Output.{Output}
 use Rattle.ode_value.specs.Acts.{Done as Reached}
-use Rattle.ode_value.specs.Answers.{Answer, ◌>>◌}
+use Rattle.ode_value.specs.Answers.{Answer, ◌>>=◌, ◌>>◌}
 use Rattle.ode_value.specs.Executing.{commands}
 use Rattle.ode_value.specs.Language.{Language, ListTx, ListWorld, Settlings}
 use Rattle.ode_value.specs.Limits.{number_limit}
 use Rattle.ode_value.specs.Pasts.{lists}
 use Rattle.ode_value.specs.Transactions.{Script, begun}
+use Rattle.ode_value.specs.declared.change.Change.{Change}
 use Rattle.ode_value.specs.declared.statement.Statement.{Statement}
 use Rattle.ode_value.specs.declared.statement.Statement.TheVariants as statement
 use Rattle.ode_value.specs.declared.statement.Stmt.{Stmt}
@@ -107,6 +108,10 @@ module _ (l : Language) where
   -- what the machine answers a statement
   abbrev pub answer_to : Session → Statement → Answer Step
   answer_to session s = placed session s >> carried l session s
+
+  -- and a change of a class that stands in its place, over this world
+  abbrev pub answer_to_change : ListWorld → Change → Answer Step
+  answer_to_change w c = changed_in l w.bones c >>= (λ classes. Ok (does_change w classes c))
 
 -- the session behind an answer; a refusal leaves it as it is
 abbrev pub session_after : Session → Answer Step → Session

@@ -1,15 +1,16 @@
 //! Statements, over an opened file and inside a transaction.
 ghost use Rattle.std.specs.Prelude.{◌≡◌, ◌<◌, ℕ, List as Items, IfOk, IsErrOf, IsTrue, Ok, Some, false, true};
 ghost use Rattle.ode_compile.specs.Compiling.{HaveNumbers};
+ghost use Rattle.ode_change.specs.Changing.{HasChange};
 ghost use Rattle.ode_declare.specs.Texts.{HasText};
 ghost use Rattle.ode_declared_laws.specs.Adding.{AreAligned};
 ghost use Rattle.ode_engine.specs.Refusing.{turned_down};
-ghost use Rattle.ode_engine.specs.Serving.{IsSession, IsUsable, Serves, StandsIn, answer_to};
+ghost use Rattle.ode_engine.specs.Serving.{IsSession, IsUsable, Serves, StandsIn, answer_to, answer_to_change};
 ghost use Rattle.ode_good_laws.specs.Well.{IsWell};
 ghost use Rattle.ode_host.specs.Causes.{RoseIf};
 ghost use Rattle.ode_host.specs.Host.{HostCalls, LeavesOnly, Looks, Printed};
 ghost use Rattle.ode_language.specs.Languages.{ode};
-ghost use Rattle.ode_machine.specs.Commands.{carried, commits, finish, goes_on, settles};
+ghost use Rattle.ode_machine.specs.Commands.{carried, changes, commits, finish, goes_on, settles};
 ghost use Rattle.ode_machine.specs.Moments.{LeavesSettling};
 ghost use Rattle.ode_machine.specs.Refusals.{checked_in, is_lone, place_of};
 ghost use Rattle.ode_machine.specs.Sessions.{Session, closed, opened};
@@ -30,10 +31,11 @@ ghost use Rattle.ode_value.specs.declared.statement.Statement.TheVariants as sta
 
 use crate::engine::Done;
 use crate::refusing::{Turned, checked, place_of, takes_number};
+use ode_change::change;
 use ode_clock::set_clock;
 use ode_declare::declare;
 use ode_host::Host;
-use ode_keep::Keep;
+use ode_keep::{Keep, Roomy};
 use ode_opened::Opened;
 use ode_overlay::Origin;
 use ode_run::{Ctx, Stop, exec};
@@ -42,7 +44,7 @@ use ode_transact::{
     run_completion,
 };
 use ode_value::limits::{DRAIN_LIMIT, NUMBER_LIMIT};
-use ode_value::{ClassDecl, OdeText, Reason, Refusal, Statement, Stmt};
+use ode_value::{Change, ClassDecl, OdeText, Reason, Refusal, Statement, Stmt};
 use std::alloc::Global;
 
 /// An opened file, or the context of an open transaction.
@@ -63,7 +65,7 @@ fn turned_down<S: Drop>(state: S, turned: Turned) -> Result<(S, Done), EngineErr
 }
 
 // The drain behind a transaction that has settled.
-fn settled<H: Host, K: Keep<H> + Drop>(
+fn settled<H: Host, K: Roomy<H> + Drop>(
     alloc: Global,
     rest: Opened<K>,
     host: &mut H,
@@ -87,7 +89,7 @@ fn settled<H: Host, K: Keep<H> + Drop>(
 }
 
 // An open transaction settles, and the drain follows.
-fn settle<H: Host, K: Keep<H> + Drop>(
+fn settle<H: Host, K: Roomy<H> + Drop>(
     alloc: Global,
     ctx: Ctx<K>,
     host: &mut H,
@@ -109,7 +111,7 @@ fn settle<H: Host, K: Keep<H> + Drop>(
 }
 
 // A checked statement of an open transaction.
-fn run_inside<H: Host, K: Keep<H> + Drop>(
+fn run_inside<H: Host, K: Roomy<H> + Drop>(
     alloc: Global,
     ctx: Ctx<K>,
     host: &mut H,
@@ -137,7 +139,7 @@ fn run_inside<H: Host, K: Keep<H> + Drop>(
 }
 
 // A simple statement of an open transaction.
-fn simple_inside<H: Host, K: Keep<H> + Drop>(
+fn simple_inside<H: Host, K: Roomy<H> + Drop>(
     alloc: Global,
     ctx: Ctx<K>,
     host: &mut H,
@@ -160,7 +162,7 @@ fn simple_inside<H: Host, K: Keep<H> + Drop>(
 }
 
 // The open transaction is committed.
-fn commit<H: Host, K: Keep<H> + Drop>(
+fn commit<H: Host, K: Roomy<H> + Drop>(
     alloc: Global,
     ctx: Ctx<K>,
     host: &mut H,
@@ -185,7 +187,7 @@ fn commit<H: Host, K: Keep<H> + Drop>(
 }
 
 // The open transaction is aborted, by a statement or at the end of the input.
-fn abort<H: Host, K: Keep<H> + Drop>(
+fn abort<H: Host, K: Roomy<H> + Drop>(
     alloc: Global,
     ctx: Ctx<K>,
     host: &mut H,
@@ -204,7 +206,7 @@ fn abort<H: Host, K: Keep<H> + Drop>(
 }
 
 // A statement inside a transaction.
-fn command_inside<H: Host, K: Keep<H> + Drop>(
+fn command_inside<H: Host, K: Roomy<H> + Drop>(
     alloc: Global,
     ctx: Ctx<K>,
     host: &mut H,
@@ -252,7 +254,7 @@ fn carry<H: Host, K: Keep<H>>(
 }
 
 // A checked statement as a transaction of its own.
-fn run_whole<H: Host, K: Keep<H> + Drop>(
+fn run_whole<H: Host, K: Roomy<H> + Drop>(
     alloc: Global,
     ctx: Ctx<K>,
     host: &mut H,
@@ -278,7 +280,7 @@ fn run_whole<H: Host, K: Keep<H> + Drop>(
 }
 
 // A simple statement as a transaction of its own, which has begun. Where the statement is refused, nothing is left of that.
-fn simple_begun<H: Host, K: Keep<H> + Drop>(
+fn simple_begun<H: Host, K: Roomy<H> + Drop>(
     alloc: Global,
     ctx: Ctx<K>,
     host: &mut H,
@@ -301,7 +303,7 @@ fn simple_begun<H: Host, K: Keep<H> + Drop>(
 }
 
 // A simple statement outside a transaction. Its transaction begins before it is checked.
-fn simple<H: Host, K: Keep<H> + Drop>(
+fn simple<H: Host, K: Roomy<H> + Drop>(
     alloc: Global,
     rest: Opened<K>,
     host: &mut H,
@@ -323,7 +325,7 @@ fn simple<H: Host, K: Keep<H> + Drop>(
 }
 
 // A class, with the drain behind its transaction.
-fn class<H: Host, K: Keep<H> + Drop>(
+fn class<H: Host, K: Roomy<H> + Drop>(
     alloc: Global,
     rest: Opened<K>,
     host: &mut H,
@@ -348,8 +350,79 @@ fn class<H: Host, K: Keep<H> + Drop>(
     }
 }
 
+// A change of a class outside a transaction that has a number, with the drain behind its transaction.
+fn change_numbered<H: Host, K: Roomy<H> + Drop>(
+    alloc: Global,
+    rest: Opened<K>,
+    host: &mut H,
+    output: &mut Output,
+    c: &Change,
+) -> Result<(State<K>, Done), EngineError>
+    requires live { IsTrue (K.live rest.keeper) }
+    requires fit { AreFit (resting_parts rest) }
+    requires aligned { AreAligned (resting_parts rest) }
+    requires text { HasChange ode c.now }
+    ensures serves { (w : ListWorld) → IsWell ode w → IsAtRest H.view K.holds K.live ode w rest host.old → w.bones.transaction < number_limit
+        → Serves H.view K.holds K.live K.means ode (closed w) (answer_to_change ode w c.now) result host.old host.new output.old output.new }
+    ensures usable { IfOk result (λ r. IsUsable K.live r.0) }
+    ensures leaves { HostCalls (IsErrOf result EngineError.DiskFault) (IsErrOf result EngineError.WriteFault) (H.view host.old) (H.view host.new) }
+{
+    match change(alloc, rest, host, output, c) {
+        Ok((rest, refused)) => match refused {
+            Some(why) => Ok((State::Rest(rest), Done::Refused(why))),
+            None => settled(alloc, rest, host, output),
+        },
+        Err(error) => Err(error),
+    }
+}
+
+// A change of a class outside a transaction.
+fn change_at_rest<H: Host, K: Roomy<H> + Drop>(
+    alloc: Global,
+    rest: Opened<K>,
+    host: &mut H,
+    output: &mut Output,
+    c: &Change,
+) -> Result<(State<K>, Done), EngineError>
+    requires live { IsTrue (K.live rest.keeper) }
+    requires fit { AreFit (resting_parts rest) }
+    requires aligned { AreAligned (resting_parts rest) }
+    requires text { HasChange ode c.now }
+    ensures serves { (w : ListWorld) → IsWell ode w → IsAtRest H.view K.holds K.live ode w rest host.old
+        → Serves H.view K.holds K.live K.means ode (closed w) (changes ode (closed w) c.now) result host.old host.new output.old output.new }
+    ensures usable { IfOk result (λ r. IsUsable K.live r.0) }
+    ensures leaves { HostCalls (IsErrOf result EngineError.DiskFault) (IsErrOf result EngineError.WriteFault) (H.view host.old) (H.view host.new) }
+{
+    let (rest, next) = next_number(alloc, rest, host)?;
+    if next >= NUMBER_LIMIT {
+        return Ok((State::Rest(rest), Done::Refused(Refusal::NumbersSpent)));
+    }
+    change_numbered(alloc, rest, host, output, c)
+}
+
+/// A change of a class, which stands outside a transaction.
+pub(crate) fn change_in<H: Host, K: Roomy<H> + Drop>(
+    alloc: Global,
+    state: State<K>,
+    host: &mut H,
+    output: &mut Output,
+    c: &Change,
+) -> Result<(State<K>, Done), EngineError>
+    requires usable { IsUsable K.live state }
+    requires text { HasChange ode c.now }
+    ensures serves { (session : Session) → IsSession ode session → StandsIn H.view K.holds K.live ode session state host.old
+        → Serves H.view K.holds K.live K.means ode session (changes ode session c.now) result host.old host.new output.old output.new }
+    ensures usable { IfOk result (λ r. IsUsable K.live r.0) }
+    ensures leaves { HostCalls (IsErrOf result EngineError.DiskFault) (IsErrOf result EngineError.WriteFault) (H.view host.old) (H.view host.new) }
+{
+    match state {
+        State::Rest(rest) => change_at_rest(alloc, rest, host, output, c),
+        State::Running(ctx) => Ok((State::Running(ctx), Done::Refused(Refusal::InTransaction))),
+    }
+}
+
 // The clock, with the drain behind each of its ticks.
-fn clock<H: Host, K: Keep<H> + Drop>(
+fn clock<H: Host, K: Roomy<H> + Drop>(
     alloc: Global,
     rest: Opened<K>,
     host: &mut H,
@@ -374,7 +447,7 @@ fn clock<H: Host, K: Keep<H> + Drop>(
 }
 
 // A transaction begins, and stays open.
-fn leave_open<H: Host, K: Keep<H> + Drop>(
+fn leave_open<H: Host, K: Roomy<H> + Drop>(
     alloc: Global,
     rest: Opened<K>,
     host: &mut H,
@@ -394,7 +467,7 @@ fn leave_open<H: Host, K: Keep<H> + Drop>(
 }
 
 // A statement outside a transaction that stands in its place and has a number.
-fn carry_out<H: Host, K: Keep<H> + Drop>(
+fn carry_out<H: Host, K: Roomy<H> + Drop>(
     alloc: Global,
     rest: Opened<K>,
     host: &mut H,
@@ -420,7 +493,7 @@ fn carry_out<H: Host, K: Keep<H> + Drop>(
 }
 
 // A statement outside a transaction that stands in its place and takes a number.
-fn numbered<H: Host, K: Keep<H> + Drop>(
+fn numbered<H: Host, K: Roomy<H> + Drop>(
     alloc: Global,
     rest: Opened<K>,
     host: &mut H,
@@ -444,7 +517,7 @@ fn numbered<H: Host, K: Keep<H> + Drop>(
 }
 
 // A statement outside a transaction.
-fn command_at_rest<H: Host, K: Keep<H> + Drop>(
+fn command_at_rest<H: Host, K: Roomy<H> + Drop>(
     alloc: Global,
     rest: Opened<K>,
     host: &mut H,
@@ -470,7 +543,7 @@ fn command_at_rest<H: Host, K: Keep<H> + Drop>(
 }
 
 /// A statement, over what is there.
-pub(crate) fn command_in<H: Host, K: Keep<H> + Drop>(
+pub(crate) fn command_in<H: Host, K: Roomy<H> + Drop>(
     alloc: Global,
     state: State<K>,
     host: &mut H,
@@ -491,7 +564,7 @@ pub(crate) fn command_in<H: Host, K: Keep<H> + Drop>(
 }
 
 /// The end of the input: an open transaction is aborted.
-pub(crate) fn finish_in<H: Host, K: Keep<H> + Drop>(
+pub(crate) fn finish_in<H: Host, K: Roomy<H> + Drop>(
     alloc: Global,
     state: State<K>,
     host: &mut H,

@@ -1,11 +1,12 @@
 //! An engine.
 ghost use Rattle.std.specs.Prelude.{◌≡◌, ◌++◌, ℕ, List as Items, Err, IfOk, IsErrOf, None, OnErr, OnOk, Ok, Some, false, length, true};
+ghost use Rattle.ode_change.specs.Changing.{HasChange};
 ghost use Rattle.ode_declare.specs.Texts.{HasText};
 ghost use Rattle.ode_declared_laws.specs.Adding.{AreAligned};
 ghost use Rattle.ode_engine.specs.Serving.{IsAnswer, IsLive, StandsFor, answer_to, done_in, output_of, rest_in, running_in, session_after, settlings, state_in};
 ghost use Rattle.ode_host.specs.Host.{HostCalls, LeavesOnly, Printed};
 ghost use Rattle.ode_language.specs.Languages.{ode};
-ghost use Rattle.ode_machine.specs.Commands.{after, finish};
+ghost use Rattle.ode_machine.specs.Commands.{after, changes, finish};
 ghost use Rattle.ode_machine.specs.Moments.{IsAfterSome};
 ghost use Rattle.ode_machine.specs.Runs.{Item};
 ghost use Rattle.ode_machine.specs.Sessions.{Session};
@@ -18,14 +19,14 @@ ghost use Rattle.ode_value.specs.Draining.{drain as drained};
 ghost use Rattle.ode_value.specs.Limits.{drain_limit};
 ghost use Rattle.ode_value.specs.Pasts.{lists};
 
-use crate::commanding::{State, command_in, finish_in};
+use crate::commanding::{State, change_in, command_in, finish_in};
 use ode_host::Host;
-use ode_keep::Keep;
+use ode_keep::Roomy;
 use ode_opened::Opened;
 use ode_run::Ctx;
 use ode_transact::{EngineError, Output, drain};
 use ode_value::limits::DRAIN_LIMIT;
-use ode_value::{Refusal, Statement};
+use ode_value::{Change, Refusal, Statement};
 use std::alloc::Global;
 
 /// What a statement came to: so many settled transactions, or its refusal.
@@ -149,7 +150,7 @@ impl<K: Drop> Engine<K> {
     /// A statement is carried out, or refused.
     pub fn command<H: Host>(&mut self, host: &mut H, s: &Statement) -> Result<Done, EngineError>
     where
-        K: Keep<H>,
+        K: Roomy<H>,
         requires live { IsLive K.live self.old }
         requires text { HasText ode s.now }
         // It is refused exactly where the machine refuses it, and else as many transactions are settled as the machine settles.
@@ -188,10 +189,53 @@ impl<K: Drop> Engine<K> {
         }
     }
 
+    /// A class gets fields, or the change is refused.
+    pub fn change<H: Host>(&mut self, host: &mut H, c: &Change) -> Result<Done, EngineError>
+    where
+        K: Roomy<H>,
+        requires live { IsLive K.live self.old }
+        // The change has a text.
+        requires text { HasChange ode c.now }
+        // It is refused exactly where the machine refuses it, and else as many transactions are settled as the machine settles.
+        ensures answer { (session : Session) → StandsFor H.view K.holds K.live ode session self.old host.old → IfOk result (λ done. IsAnswer done (changes ode session c.now)) }
+        // Then it stands for the session behind the machine's answer; at a refusal that is the same one.
+        ensures stands { (session : Session) → StandsFor H.view K.holds K.live ode session self.old host.old
+            → OnOk result (StandsFor H.view K.holds K.live ode (session_after session (changes ode session c.now)) self.new host.new) }
+        // The texts of what was settled are printed, unless it is quiet, and nothing at a refusal; and they are counted.
+        ensures printed { (session : Session) → StandsFor H.view K.holds K.live ode session self.old host.old
+            → OnOk result (Printed (texts_of (all_heard self.old.quiet (settlings (changes ode session c.now)))) (H.view host.old) (H.view host.new)) }
+        ensures counts { (session : Session) → StandsFor H.view K.holds K.live ode session self.old host.old
+            → OnOk result (output_of self.new ≡ counting (output_of self.old) (texts_of (settlings (changes ode session c.now)))) }
+        // A stop leaves the world that some of them left, and a front of what is printed up to the next one; whatever comes behind.
+        ensures any_moment { (session : Session) (said : Items ℕ) (more : Items Item) → StandsFor H.view K.holds K.live ode session self.old host.old → (H.view host.old).text ≡ Some said
+            → LeavesOnly (H.view host.old) (H.view host.new) (IsAfterSome (HoldsBy ode K.means) (items_of (all_heard self.old.quiet (settlings (changes ode session c.now))) ++ more) session.world said) }
+        // The host's faults are those that are told, whatever the records are.
+        ensures leaves { HostCalls (IsErrOf result EngineError.DiskFault) (IsErrOf result EngineError.WriteFault) (H.view host.old) (H.view host.new) }
+        // No record is damaged where it stands for a session.
+        ensures undamaged { OnDamaged result ((session : Session) → StandsFor H.view K.holds K.live ode session self.old host.old → ⊥) }
+        ensures live { OnOk result (IsLive K.live self.new) }
+        ensures dead { OnErr result (self.new.live ≡ false) }
+        // It stays as quiet as it is, also at an error.
+        ensures quiet { self.new.quiet ≡ self.old.quiet }
+    {
+        let mut output = Output {
+            quiet: self.quiet,
+            counted: self.counted,
+        };
+        match self.take() {
+            Some(state) => {
+                let step = change_in(self.alloc, state, host, &mut output, c);
+                self.counted = output.counted;
+                self.answer(step)
+            }
+            None => self.answer(Err(EngineError::Memory)),
+        }
+    }
+
     /// The entries of the queue run, where no transaction is open. How many ran.
     pub fn drain<H: Host>(&mut self, host: &mut H) -> Result<u32, EngineError>
     where
-        K: Keep<H>,
+        K: Roomy<H>,
         requires live { IsLive K.live self.old }
         requires closed { self.old.running ≡ None }
         // As many as the machine runs, and then it stands for the session behind them; their texts are printed, unless it is quiet, and counted.
@@ -236,7 +280,7 @@ impl<K: Drop> Engine<K> {
     /// The end of the input: an open transaction is aborted, and the drain follows.
     pub fn finish<H: Host>(&mut self, host: &mut H) -> Result<Done, EngineError>
     where
-        K: Keep<H>,
+        K: Roomy<H>,
         requires live { IsLive K.live self.old }
         ensures answer { (session : Session) → StandsFor H.view K.holds K.live ode session self.old host.old → IfOk result (λ done. IsAnswer done (Ok (finish session))) }
         ensures stands { (session : Session) → StandsFor H.view K.holds K.live ode session self.old host.old

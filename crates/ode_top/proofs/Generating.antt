@@ -1,26 +1,24 @@
 -- A run of a number's script.
-use Rattle.std.proofs.Common.{◌≡◌, ◌⊎◌, ◌∙◌, ⊎_elim, ℕ, zero, suc, List, [], ◌∷◌, ◌++◌, Bool, true, false, Option, Some, Ok, Err, append-nil, append_assoc, ap, refl, sym, subst}
-use Rattle.ode_keeper.specs.Holding.{KeeperHolds}
-use Rattle.ode_keeper.specs.Files.{FileMeans}
-use Rattle.ode_keeper.specs.declared.keeper.Keeper.{Keeper}
+use Rattle.std.proofs.Common.{◌≡◌, ◌⊎◌, ◌∙◌, ⊎_elim, ℕ, zero, suc, List, [], ◌∷◌, ◌++◌, Bool, true, false, Option, Some, append-nil, append_assoc, ap, refl, sym, subst}
+use Rattle.ode_gate.specs.declared.places.TheConstants.{FORMAT}
 use Rattle.ode_gen.specs.Generating.{gen_script}
-use Rattle.ode_host.proofs.Moments.{tells_looks, weaker}
+use Rattle.ode_host.proofs.Moments.{weaker}
 use Rattle.ode_host.specs.FirstSync.{SyncedRun}
-use Rattle.ode_host.specs.Host.{Keeps, LeavesCut, LeavesOnly, Looks, Only, Stands, Tells}
+use Rattle.ode_host.specs.Host.{DiskCalls, Keeps, LeavesCut, LeavesOnly, Stands, Tells}
 use Rattle.ode_host.specs.View.{View}
 use Rattle.ode_host.specs.declared.status.Status.{Status}
 use Rattle.ode_host.specs.declared.status.Status.TheVariants as status
-use Rattle.ode_keep.specs.Entries.{Entries}
 use Rattle.ode_language.specs.Languages.{ode}
 use Rattle.ode_machine.proofs.MomentLaws.{at_start, refusal_leaves, runs_on}
 use Rattle.ode_machine.specs.Moments.{Holding, IsAfterSome}
 use Rattle.ode_machine.specs.Runs.{Item, Refuses, Settles, any_refused, final, status_at, text_of, text_until, trace, world_at}
 use Rattle.ode_open.proofs.Synced.{synced_as, synced_on}
-use Rattle.ode_open.specs.Opening.{IsFromOutside, IsOpenedTo, Stays, base_in}
+use Rattle.ode_open.specs.Opening.{IsFromOutside}
 use Rattle.ode_open.specs.declared.error.OpenError.{OpenError}
 use Rattle.ode_open.specs.declared.error.OpenError.TheVariants as why_not
 use Rattle.ode_opened.specs.declared.opened.Opened.{Opened}
-use Rattle.ode_opening_records.specs.Reading.{AreOpened}
+use Rattle.ode_pagemap.specs.declared.map.PageMap.{PageMap}
+use Rattle.ode_paging.specs.Meaning.{PagesMeanIn}
 use Rattle.ode_script.specs.Cutting.{End, Ending, ending_of, pieces}
 use Rattle.ode_trace.proofs.HearingLaws.{final_heard, refused_heard}
 use Rattle.ode_trace.specs.Hearing.{heard_items}
@@ -28,11 +26,14 @@ use Rattle.ode_trace.specs.Running.{RanAs}
 use Rattle.ode_trace.specs.Statuses.{IsEnding, IsRunStatus}
 use Rattle.ode_trace.specs.declared.tally.Tally.{Tally}
 use Rattle.ode_value.specs.Language.{ListWorld}
-use Rattle.ode_top.specs.Answers.{BreaksRule, EndsFor, IsGenStatus, IsGenerated, IsSilent, counts_line, gen_items, gen_said, gen_tally}
+use Rattle.ode_top.specs.Answers.{EndsFor, IsGenStatus, IsGenerated, IsSilent, counts_line, gen_items, gen_said, gen_tally}
 use Rattle.ode_top.specs.Claims.{Generates}
-use Rattle.ode_top.specs.Holds.{Holds, OpensTo}
-use Rattle.ode_top.proofs.Calling.{exit_cut, none_cut, now_leaves}
-use Rattle.ode_top.proofs.Claiming.{NoneBroken, opens_to}
+use Rattle.ode_top.specs.Holds.{Holds, HoldsInPages}
+use Rattle.ode_top.specs.Opening.{OpensTo}
+use Rattle.ode_top.specs.Stops.{StaysHeld}
+use Rattle.ode_top.proofs.Calling.{after_some, exit_cut, none_cut, still_tells}
+use Rattle.ode_top.proofs.Claiming.{at_end}
+use Rattle.ode_top.proofs.Holding.{pages_hold}
 use Rattle.ode_top.proofs.Leaving.{told_by}
 use Rattle.ode_top.proofs.Refusing.{fault_to, outside_as, outside_or}
 
@@ -77,15 +78,19 @@ module _ (number : ℕ) (w : ListWorld) (text : List ℕ) where
   items = heard_items true (trace ode w (gen_script number))
 
   -- the run alone
-  pub run_leaves : (old new : View) → LeavesOnly old new (IsAfterSome Holds items w text) → LeavesOnly old new (IsAfterSome Holds (gen_items number w) w text)
+  pub run_leaves : (old new : View) → LeavesOnly old new (IsAfterSome HoldsInPages items w text) → LeavesOnly old new (IsAfterSome Holds (gen_items number w) w text)
   run_leaves old new run =
-      weaker old new (IsAfterSome Holds items w text) (IsAfterSome Holds (gen_items number w) w text) (λ c o some. before_line Holds items (gen_said number w) w text c o some) run
+      weaker old new (IsAfterSome HoldsInPages items w text) (IsAfterSome Holds (gen_items number w) w text)
+      (λ c o some. before_line Holds items (gen_said number w) w text c o (after_some items w text c o some)) run
 
   -- and its line
-  module _ (tally : Tally) (left : Option (List ℕ)) (mid new : View) (result : Status) (ran : RanAs FileMeans items (ending_of (pieces (gen_script number))) w text left mid result)
+  module _ (tally : Tally) (left : Option (List ℕ)) (mid new : View) (result : Status) (ran : RanAs (PagesMeanIn FORMAT) items (ending_of (pieces (gen_script number))) w text left mid result)
       (counted : tally ≡ gen_tally number w) where
     said_before : mid.text ≡ Some text
     said_before = ran.ends.printed ∙ ap (λ (l : List ℕ). Some (text ++ l)) (nothing_heard (trace ode w (gen_script number))) ∙ ap Some (append-nil text)
+
+    ends_held : Holds ran.ends.image (final w items)
+    ends_held = pages_hold ran.ends.image (final w items) ran.ends.holds
 
     pub generated : ((said : List ℕ) → mid.text ≡ Some said → new.text ≡ Some (said ++ counts_line number tally)) → ((file : List ℕ) → Stands file mid → Stands file new) → IsGenerated number w text new result
     generated says same = record {
@@ -93,16 +98,16 @@ module _ (number : ℕ) (w : ListWorld) (text : List ℕ) where
       ends = record {
         image = ran.ends.image;
         stands = same ran.ends.image ran.ends.stands;
-        holds = subst (λ (u : ListWorld). Holds ran.ends.image u) (final_heard true w (trace ode w (gen_script number))) ran.ends.holds;
+        holds = subst (λ (u : ListWorld). Holds ran.ends.image u) (final_heard true w (trace ode w (gen_script number))) ends_held;
         printed = says text said_before ∙ ap (λ (t : Tally). Some (text ++ counts_line number t)) counted;
       };
     }
 
-    pub line_leaves : (old : View) → LeavesOnly old mid (IsAfterSome Holds items w text)
+    pub line_leaves : (old : View) → LeavesOnly old mid (IsAfterSome HoldsInPages items w text)
         → ((file said : List ℕ) → Stands file mid → mid.text ≡ Some said → LeavesOnly mid new (LeavesCut file said (counts_line number tally))) → LeavesOnly old new (IsAfterSome Holds (gen_items number w) w text)
     line_leaves old run cut =
         runs_on Holds items (Refuses (gen_said number w) ∷ []) w text old mid new (run_leaves old mid run)
-        (refusal_leaves Holds (gen_said number w) [] (final w items) ran.ends.image (text ++ text_of items) mid new ran.ends.holds
+        (refusal_leaves Holds (gen_said number w) [] (final w items) ran.ends.image (text ++ text_of items) mid new ends_held
         (subst (λ (t : Tally). LeavesOnly mid new (LeavesCut ran.ends.image (text ++ text_of items) (counts_line number t))) counted (cut ran.ends.image (text ++ text_of items) ran.ends.stands ran.ends.printed)))
 
     status_of_end : (refused : Bool) → IsGenStatus (status_at End refused)
@@ -128,67 +133,68 @@ cut_status status.BadFile run no_end no_read = absurd run
 
 -- ---- the claims
 
--- a file was met that breaks a rule, so it holds no world
-generates_none : (number : ℕ) (old new : View) (result : Status) → NoneBroken old → ((image : List ℕ) → Tells old image → BreaksRule image) → Generates number old new result
-generates_none number old new result held breaks = record {
-  run = λ image text w tells holds said ending. absurd (held image w tells holds (breaks image tells));
-  cut = λ image text w tells holds said cut. absurd (held image w tells holds (breaks image tells));
-  stops = λ image text w tells holds said. absurd (held image w tells holds (breaks image tells));
-  answers = λ image text w tells holds said. absurd (held image w tells holds (breaks image tells));
+-- no file was met that holds a world
+generates_none : (number : ℕ) (old new : View) (result : Status) → ((image : List ℕ) (w : ListWorld) → Tells old image → Holds image w → ⊥) → Generates number old new result
+generates_none number old new result none = record {
+  run = λ image text w tells holds said ending. absurd (none image w tells holds);
+  cut = λ image text w tells holds said cut. absurd (none image w tells holds);
+  stops = λ image text w tells holds said. absurd (none image w tells holds);
+  answers = λ image text w tells holds said. absurd (none image w tells holds);
 }
 
--- A file was opened: there was a sync, and then nothing but looking.
-module _ (number : ℕ) (old mid : View) (failed : Type 0) (looks : Looks old mid)
-    (stops : (image text : List ℕ) → Tells old image → old.text ≡ Some text → SyncedRun old mid image failed (Stays image text)) where
+-- A file was to be opened: there was a sync, and from then on a stop leaves the world.
+module _ (number : ℕ) (old mid : View) (failed : Type 0) (calls : DiskCalls failed old mid)
+    (stops : (image text : List ℕ) (w : ListWorld) → Tells old image → Holds image w → old.text ≡ Some text → SyncedRun old mid image failed (StaysHeld w text)) where
   abbrev AfterSome : ListWorld → List ℕ → List ℕ → List ℕ → Type 0
   AfterSome w text = IsAfterSome Holds (gen_items number w) w text
 
-  here : (image text : List ℕ) (w : ListWorld) → Holds image w → (c o : List ℕ) → Stays image text c o → AfterSome w text c o
-  here image text w holds c o same =
-      subst (λ (f : List ℕ). AfterSome w text f o) (sym same.0) (subst (λ (t : List ℕ). AfterSome w text image t) (sym same.1) (at_start Holds (gen_items number w) w text image holds))
+  here : (text : List ℕ) (w : ListWorld) (c o : List ℕ) → StaysHeld w text c o → AfterSome w text c o
+  here text w c o stays = subst (λ (t : List ℕ). AfterSome w text c t) (sym stays.1) (at_start Holds (gen_items number w) w text c stays.0)
 
   -- It failed, and nothing came behind it.
-  generates_unopened : (result : Status) → (failed → result ≡ status.DiskFault) → (IsEnding result → ⊥) → IsGenStatus result → Generates number old mid result
-  generates_unopened result to no_end is = record {
+  generates_unopened : (result : Status) → (failed → result ≡ status.DiskFault) → (IsEnding result → ⊥) → IsGenStatus result
+      → ((image text file : List ℕ) (w : ListWorld) → Tells old image → Holds image w → old.text ≡ Some text → Tells mid file → Holds file w) → Generates number old mid result
+  generates_unopened result to no_end is left = record {
     run = λ image text w tells holds said ending. absurd (no_end ending);
-    cut = λ image text w tells holds said cut. none_cut (gen_items number w) w text image mid (tells_looks image old mid looks tells) holds (looks.text ∙ said);
+    cut = λ image text w tells holds said cut.
+        let now = still_tells old mid calls.keeps image tells in
+        none_cut (gen_items number w) w text now.0 mid now.1 (left image text now.0 w tells holds said now.1) (calls.text ∙ said);
     stops = λ image text w tells holds said.
-        synced_as old mid image failed (result ≡ status.DiskFault) (Stays image text) (AfterSome w text) (here image text w holds) (stops image text tells said) to;
+        synced_as old mid image failed (result ≡ status.DiskFault) (StaysHeld w text) (AfterSome w text) (here text w) (stops image text w tells holds said) to;
     answers = λ image text w tells holds said. is;
   }
 
   -- The script was run over its keeper.
-  pub generates_opened : (o : Opened Keeper)
-      → ((image : List ℕ) → Tells old image → (entries : Entries) × FileMeans image entries × KeeperHolds o.keeper mid entries × AreOpened ode entries (Ok (base_in o)))
-      → (failed → ⊥) → ((image : List ℕ) → Tells old image → Only image mid) → ((c p : List ℕ) → mid.left mid.moment c p → mid.text ≡ Some p)
+  pub generates_opened : (o : Opened PageMap) → ((image : List ℕ) (w : ListWorld) → Tells old image → Holds image w → OpensTo w o mid) → (failed → ⊥)
       → (new : View) (result : Status) → ((file out : List ℕ) → Tells new file → new.text ≡ Some out → new.left new.moment file out) → Keeps mid new
-      → ((image text : List ℕ) (w : ListWorld) → OpensTo image w o mid → mid.text ≡ Some text → IsEnding result → IsGenerated number w text new result)
-      → ((image text : List ℕ) (w : ListWorld) → OpensTo image w o mid → mid.text ≡ Some text → LeavesOnly mid new (AfterSome w text))
-      → ((image text : List ℕ) (w : ListWorld) → OpensTo image w o mid → mid.text ≡ Some text → IsGenStatus result)
+      → ((w : ListWorld) (text : List ℕ) → OpensTo w o mid → mid.text ≡ Some text → IsEnding result → IsGenerated number w text new result)
+      → ((w : ListWorld) (text : List ℕ) → OpensTo w o mid → mid.text ≡ Some text → LeavesOnly mid new (AfterSome w text))
+      → ((w : ListWorld) (text : List ℕ) → OpensTo w o mid → mid.text ≡ Some text → IsGenStatus result)
       → Generates number old new result
-  generates_opened o keeper none synced text_stands new result may_stay keeps ran any_moment answers = record {
-    run = λ image text w tells holds said ending. ran image text w (opens_to old mid o keeper image w tells holds) (looks.text ∙ said) ending;
+  generates_opened o opens none new result may_stay keeps ran any_moment answers = record {
+    run = λ image text w tells holds said ending. ran w text (opens image w tells holds) (calls.text ∙ said) ending;
     cut = λ image text w tells holds said cut.
-        let out = told_by mid new keeps text (looks.text ∙ said) in
-        exit_cut (gen_items number w) w text image mid new may_stay (tells_looks image old mid looks tells) keeps out.0 out.1
-        (any_moment image text w (opens_to old mid o keeper image w tells holds) (looks.text ∙ said))
-        (now_leaves image text mid text_stands (synced image tells) (looks.text ∙ said) (AfterSome w text) (at_start Holds (gen_items number w) w text image holds));
+        let now = still_tells old mid calls.keeps image tells in
+        let out = told_by mid new keeps text (calls.text ∙ said) in
+        exit_cut (gen_items number w) w text now.0 mid new may_stay now.1 keeps out.0 out.1
+        (any_moment w text (opens image w tells holds) (calls.text ∙ said))
+        (λ c o left. here text w c o (at_end old mid image failed (StaysHeld w text) (stops image text w tells holds said) none c o left));
     stops = λ image text w tells holds said.
-        synced_on old mid image failed (result ≡ status.DiskFault) (Stays image text) (AfterSome w text) (here image text w holds) (stops image text tells said) none new
-        (any_moment image text w (opens_to old mid o keeper image w tells holds) (looks.text ∙ said));
-    answers = λ image text w tells holds said. answers image text w (opens_to old mid o keeper image w tells holds) (looks.text ∙ said);
+        synced_on old mid image failed (result ≡ status.DiskFault) (StaysHeld w text) (AfterSome w text) (here text w) (stops image text w tells holds said) none new
+        (any_moment w text (opens image w tells holds) (calls.text ∙ said));
+    answers = λ image text w tells holds said. answers w text (opens image w tells holds) (calls.text ∙ said);
   }
 
 -- A file wasn't opened, for this reason.
-pub generates_refused : {H : Type 0} (number : ℕ) (seen : H → View) (old : View) (mid new : H) (why : OpenError) (result : Status) → Looks old (seen mid)
-    → ((image : List ℕ) → Tells old image → IsFromOutside why ⊎ IsOpenedTo image (Err why)) → EndsFor why result → (IsSilent result → new ≡ mid) → (failed : Type 0) → (failed → why ≡ why_not.DiskFault)
-    → ((image text : List ℕ) → Tells old image → old.text ≡ Some text → SyncedRun old (seen mid) image failed (Stays image text)) → NoneBroken old → Generates number old (seen new) result
-generates_refused {H} number seen old mid new why result looks answer ends still failed to stops held = ⊎_elim
-    (λ (outside : IsFromOutside why).
-    subst (λ (h : H). Generates number old (seen h) result) (sym (still (outside_as IsSilent tt tt why result outside ends)))
-    (generates_unopened number old (seen mid) failed looks stops result (λ f. fault_to why result ends (to f))
-    (outside_as (λ s. IsEnding s → ⊥) (λ ending. ending) (λ ending. ending) why result outside ends) (outside_as IsGenStatus tt tt why result outside ends)))
-    (λ (within : IsFromOutside why → ⊥).
-    generates_none number old (seen new) result held
-    (λ image tells. (why, ⊎_elim (λ (outside : IsFromOutside why). absurd (within outside)) (λ (is : IsOpenedTo image (Err why)). is) (answer image tells))))
+pub generates_refused : {H : Type 0} (number : ℕ) (seen : H → View) (old : View) (mid new : H) (why : OpenError) (result : Status) (failed : Type 0) → DiskCalls failed old (seen mid)
+    → ((image text : List ℕ) (w : ListWorld) → Tells old image → Holds image w → old.text ≡ Some text → SyncedRun old (seen mid) image failed (StaysHeld w text))
+    → EndsFor why result → (IsSilent result → new ≡ mid) → (failed → why ≡ why_not.DiskFault)
+    → ((image : List ℕ) (w : ListWorld) → Tells old image → Holds image w → IsFromOutside why)
+    → ((image text file : List ℕ) (w : ListWorld) → Tells old image → Holds image w → old.text ≡ Some text → Tells (seen mid) file → Holds file w) → Generates number old (seen new) result
+generates_refused {H} number seen old mid new why result failed calls stops ends still to outside left = ⊎_elim
+    (λ (is : IsFromOutside why).
+    subst (λ (h : H). Generates number old (seen h) result) (sym (still (outside_as IsSilent tt tt why result is ends)))
+    (generates_unopened number old (seen mid) failed calls stops result (λ f. fault_to why result ends (to f))
+    (outside_as (λ s. IsEnding s → ⊥) (λ ending. ending) (λ ending. ending) why result is ends) (outside_as IsGenStatus tt tt why result is ends) left))
+    (λ (within : IsFromOutside why → ⊥). generates_none number old (seen new) result (λ image w tells holds. within (outside image w tells holds)))
     (outside_or why)

@@ -1,5 +1,5 @@
 -- What `check` and `dump` say of a file that is opened.
-use Rattle.std.proofs.Common.{◌≡◌, ◌⊎◌, ◌∙◌, ◌++◌, ⊎_elim, inl, ℕ, List, Result, Some, Ok, Err, refl, sym, subst}
+use Rattle.std.proofs.Common.{◌≡◌, ◌⊎◌, ◌∙◌, ◌++◌, ⊎_elim, inl, ℕ, List, Bool, Result, Some, Ok, Err, refl, sym, subst}
 use Rattle.ode_codec.specs.declared.record.Counters.{Counters}
 use Rattle.ode_host.specs.Causes.{RoseIf}
 use Rattle.ode_host.specs.Host.{Looks, Prints, Tells}
@@ -38,14 +38,14 @@ read_refused X image read.DiskFault P broken none = inl tt
 read_refused X image (read.BadFile cause) P broken none = absurd (none broken)
 
 -- records that are opened have a tally
-pub opened_tally : (entries : Entries) (base : Base) → AreOpened ode entries (Ok base) → (tally : Counters × ℕ) × (tally_in entries ≡ Ok tally)
+pub opened_tally : (first : Bool) (entries : Entries) (base : Base) → AreOpened first ode entries (Ok base) → (tally : Counters × ℕ) × (tally_in first entries ≡ Ok tally)
 unfolding opened_by
-opened_tally entries base opened = by (tally_in entries) refl
+opened_tally first entries base opened = by (tally_in first entries) refl
   where
-    untallied : (why : Cause) → tally_in entries ≡ Err why → opened_by ode opened.tables entries ≡ Err why
+    untallied : (why : Cause) → tally_in first entries ≡ Err why → opened_by first ode opened.tables entries ≡ Err why
     untallied why is = rw is refl
 
-    by : (tallied : Ruled (Counters × ℕ)) → tally_in entries ≡ tallied → (tally : Counters × ℕ) × (tally_in entries ≡ Ok tally)
+    by : (tallied : Ruled (Counters × ℕ)) → tally_in first entries ≡ tallied → (tally : Counters × ℕ) × (tally_in first entries ≡ Ok tally)
     by (Ok tally) is = (tally, is)
     by (Err why) is = let no = opened.is ∙ untallied why is in absurd (cc (no))
 

@@ -3,7 +3,9 @@ pub mod Calling
 pub mod Claiming
 pub mod Fresh
 pub mod Generating
+pub mod Holding
 pub mod Inspecting
 pub mod Leaving
 pub mod Refusing
+pub mod Reopening
 pub mod Running

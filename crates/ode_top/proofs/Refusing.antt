@@ -2,18 +2,21 @@
 use Rattle.std.proofs.Common.{◌≡◌, ◌⊎◌, ◌∙◌, ◌++◌, ⊎_elim, inl, inr, List, ℕ, Option, Some, Err, refl, sym, subst}
 use Rattle.ode_host.specs.Causes.{RoseIf}
 use Rattle.ode_host.specs.FirstSync.{SyncedRun}
-use Rattle.ode_host.specs.Host.{HostCalls, Looks, Prints, Tells}
+use Rattle.ode_host.specs.Host.{DiskCalls, HostCalls, Looks, Prints, Tells}
 use Rattle.ode_host.specs.View.{View}
 use Rattle.ode_host.specs.declared.status.Status.{Status}
 use Rattle.ode_host.specs.declared.status.Status.TheVariants as status
-use Rattle.ode_host.proofs.Calls.{disk_host, host_calls_on, looks_calls}
+use Rattle.ode_host.proofs.Calls.{disk_host, host_calls_on}
 use Rattle.ode_host.proofs.Moments.{tells_looks}
-use Rattle.ode_open.specs.Opening.{IsFromOutside, IsOpenedTo, Stays}
+use Rattle.ode_open.specs.Opening.{IsFromOutside, IsOpenedTo}
 use Rattle.ode_open.specs.declared.error.OpenError.{OpenError}
 use Rattle.ode_open.specs.declared.error.OpenError.TheVariants as why_not
 use Rattle.ode_trace.specs.Statuses.{IsEnding, IsRunStatus}
+use Rattle.ode_value.specs.Language.{ListWorld}
 use Rattle.ode_top.specs.Answers.{EndsFor, IsIdle, IsInspectStatus, IsNoRun, IsSilent, SaidFront, why_line}
 use Rattle.ode_top.specs.Claims.{Inspects, RunsNone, RunsWorld}
+use Rattle.ode_top.specs.Holds.{Holds}
+use Rattle.ode_top.specs.Stops.{StaysHeld}
 use Rattle.ode_top.specs.declared.call.Mode.{Mode}
 use Rattle.ode_top.proofs.Calling.{tells_same}
 use Rattle.ode_top.proofs.Claiming.{NoneBroken, none_said, none_silent, world_absent, world_unopened}
@@ -90,26 +93,24 @@ fault_from (why_not.BadFile cause) s ends is = absurd (⊎_elim (λ (none : s �
 -- ---- what was done
 
 -- A file wasn't opened, for this reason.
-module _ {H : Type 0} (seen : H → View) (old : View) (mid new : H) (why : OpenError) (result : Status) (looks : Looks old (seen mid))
-    (answer : (image : List ℕ) → Tells old image → IsFromOutside why ⊎ IsOpenedTo image (Err why))
-    (ends : EndsFor why result) (still : IsSilent result → new ≡ mid) where
-  broken : (IsFromOutside why → ⊥) → (image : List ℕ) → Tells old image → IsOpenedTo image (Err why)
-  broken inside image tells = ⊎_elim (λ (outside : IsFromOutside why). absurd (inside outside)) (λ (to : IsOpenedTo image (Err why)). to) (answer image tells)
-
+module _ {H : Type 0} (seen : H → View) (old : View) (mid new : H) (why : OpenError) (result : Status) (ends : EndsFor why result) (still : IsSilent result → new ≡ mid) where
   still_as : (P : View → Type 0) → P (seen mid) → IsSilent result → P (seen new)
   still_as P at silent = subst (λ (h : H). P (seen h)) (sym (still silent)) at
 
-  pub world_refused : (failed : Type 0) → (failed → why ≡ why_not.DiskFault) → (script : Option (List ℕ))
-      → ((image text : List ℕ) → Tells old image → old.text ≡ Some text → SyncedRun old (seen mid) image failed (Stays image text))
-      → NoneBroken old → RunsWorld script script old (seen new) result
-  world_refused failed to script stops held = ⊎_elim
-      (λ (outside : IsFromOutside why).
+  pub world_refused : (failed : Type 0) → DiskCalls failed old (seen mid) → (script : Option (List ℕ))
+      → ((image text : List ℕ) (w : ListWorld) → Tells old image → Holds image w → old.text ≡ Some text → SyncedRun old (seen mid) image failed (StaysHeld w text))
+      → (failed → why ≡ why_not.DiskFault)
+      → ((image : List ℕ) (w : ListWorld) → Tells old image → Holds image w → IsFromOutside why)
+      → ((image text file : List ℕ) (w : ListWorld) → Tells old image → Holds image w → old.text ≡ Some text → Tells (seen mid) file → Holds file w)
+      → RunsWorld script script old (seen new) result
+  world_refused failed calls script stops to outside left = ⊎_elim
+      (λ (is : IsFromOutside why).
       still_as (λ (v : View). RunsWorld script script old v result)
-      (world_unopened script old (seen mid) failed looks stops result (λ f. fault_to why result ends (to f))
-      (outside_as (λ s. IsEnding s → ⊥) (λ ending. ending) (λ ending. ending) why result outside ends)
-      (outside_as IsRunStatus tt tt why result outside ends))
-      (outside_as IsSilent tt tt why result outside ends))
-      (λ (within : IsFromOutside why → ⊥). world_absent script old (seen new) result held (λ image tells. (why, broken within image tells)) script)
+      (world_unopened script old (seen mid) failed calls stops result (λ f. fault_to why result ends (to f))
+      (outside_as (λ s. IsEnding s → ⊥) (λ ending. ending) (λ ending. ending) why result is ends)
+      (outside_as IsRunStatus tt tt why result is ends) left)
+      (outside_as IsSilent tt tt why result is ends))
+      (λ (within : IsFromOutside why → ⊥). world_absent script script old (seen new) result (λ image w tells holds. within (outside image w tells holds)))
       (outside_or why)
 
   -- What is said of it is its line.
@@ -120,54 +121,58 @@ module _ {H : Type 0} (seen : H → View) (old : View) (mid new : H) (why : Open
     loud : IsSaid result → IsSilent result → ⊥
     loud said = never_silent status.BadFile result (λ no. no) said
 
-    pub none_refused : (script : Option (List ℕ)) → NoneBroken old → RunsNone script script old (seen new) result
-    none_refused script held = ⊎_elim
-        (λ (silent : IsSilent result).
-        none_silent script old (seen new) result held silent (refused_status why result ends) (still_as (λ (v : View). Looks old v) looks silent))
-        (λ (said : IsSaid result).
-        none_said script old (seen mid) (seen new) (why_line why) result held looks
-        (λ image tells. (why, broken (inside why result ends said) image tells, refl)) said (prints (loud said)) rose
-        (λ whole. ⊎_elim (λ (bad : result ≡ status.BadFile). printed bad) (λ (failed : result ≡ status.WriteFault). absurd (whole failed)) said) cut)
-        (way why result ends)
-
-    pub refused_leaves : (failed : Type 0) → (failed → why ≡ why_not.DiskFault) → (why ≡ why_not.DiskFault → failed) → RoseIf failed old.disk_faults (seen mid).disk_faults
+    pub refused_leaves : (failed : Type 0) → DiskCalls failed old (seen mid) → (failed → why ≡ why_not.DiskFault) → (why ≡ why_not.DiskFault → failed)
         → HostCalls (result ≡ status.DiskFault) (result ≡ status.WriteFault) old (seen new)
-    refused_leaves failed to back cause = ⊎_elim
+    refused_leaves failed calls to back = ⊎_elim
         (λ (silent : IsSilent result).
         still_as (λ (v : View). HostCalls (result ≡ status.DiskFault) (result ≡ status.WriteFault) old v)
         (disk_host failed (result ≡ status.DiskFault) (result ≡ status.WriteFault) old (seen mid) (λ f. fault_to why result ends (to f))
-        (λ is. back (fault_from why result ends is)) (λ is. subst IsSilent is silent) (looks_calls failed old (seen mid) looks cause)) silent)
+        (λ is. back (fault_from why result ends is)) (λ is. subst IsSilent is silent) calls) silent)
         (λ (said : IsSaid result).
         host_calls_on ⊥ ⊥ (result ≡ status.DiskFault) (result ≡ status.WriteFault) old (seen mid) (seen new) (λ none. none) (λ none. none)
-        (disk_host failed ⊥ ⊥ old (seen mid) (λ f. inside why result ends said (subst IsFromOutside (sym (to f)) tt)) absurd (λ none. none)
-        (looks_calls failed old (seen mid) looks cause))
+        (disk_host failed ⊥ ⊥ old (seen mid) (λ f. inside why result ends said (subst IsFromOutside (sym (to f)) tt)) absurd (λ none. none) calls)
         (line_leaves status.BadFile result (why_line why) (seen mid) (seen new) said (prints (loud said)) rose (λ is. cc (is))))
         (way why result ends)
 
-    refused_idle : IsIdle result old (seen new)
-    refused_idle = ⊎_elim
-        (λ (silent : IsSilent result). idle_looks result old (seen new) (still_as (λ (v : View). Looks old v) looks silent))
-        (λ (said : IsSaid result).
-        idle_on result old (seen mid) (seen new) looks
-        (line_idle status.BadFile result (why_line why) (seen mid) (seen new) said (prints (loud said)) rose (λ no. no)))
-        (way why result ends)
+    -- It was only looked at, and what is said is why.
+    module _ (looks : Looks old (seen mid)) (answer : (image : List ℕ) → Tells old image → IsFromOutside why ⊎ IsOpenedTo image (Err why)) where
+      broken : (IsFromOutside why → ⊥) → (image : List ℕ) → Tells old image → IsOpenedTo image (Err why)
+      broken inside image tells = ⊎_elim (λ (outside : IsFromOutside why). absurd (inside outside)) (λ (to : IsOpenedTo image (Err why)). to) (answer image tells)
 
-    pub refused_inspects : (mode : Mode) → Inspects mode old (seen new) result
-    refused_inspects mode = record {
-      said = λ is image text tells before. absurd (subst IsNoRun is (refused_status why result ends));
-      bad_file = λ is image text tells before. record {
-        tells = tells_same image (seen mid) (seen new) (prints (loud (inl is))).keeps (prints (loud (inl is))).image (tells_looks image old (seen mid) looks tells);
-        said = why_line why;
-        reason = (why, broken (inside why result ends (inl is)) image tells, refl);
-        printed = printed is text (looks.text ∙ before);
-      };
-      cut = λ is image text tells before. record {
-        said = why_line why;
-        reason = inr (why, broken (inside why result ends (inr is)) image tells, refl);
-        front = cut is text (looks.text ∙ before);
-      };
-      keeps = λ image tells none is. none (why, broken (inside why result ends (inl is)) image tells);
-      breaks = λ image tells breaks ok. subst IsNoRun ok (refused_status why result ends);
-      answers = refused_as IsInspectStatus tt tt tt tt why result ends;
-      idle = refused_idle;
-    }
+      pub none_refused : (script : Option (List ℕ)) → NoneBroken old → RunsNone script script old (seen new) result
+      none_refused script held = ⊎_elim
+          (λ (silent : IsSilent result).
+          none_silent script old (seen new) result held silent (refused_status why result ends) (still_as (λ (v : View). Looks old v) looks silent))
+          (λ (said : IsSaid result).
+          none_said script old (seen mid) (seen new) (why_line why) result held looks
+          (λ image tells. (why, broken (inside why result ends said) image tells, refl)) said (prints (loud said)) rose
+          (λ whole. ⊎_elim (λ (bad : result ≡ status.BadFile). printed bad) (λ (failed : result ≡ status.WriteFault). absurd (whole failed)) said) cut)
+          (way why result ends)
+
+      refused_idle : IsIdle result old (seen new)
+      refused_idle = ⊎_elim
+          (λ (silent : IsSilent result). idle_looks result old (seen new) (still_as (λ (v : View). Looks old v) looks silent))
+          (λ (said : IsSaid result).
+          idle_on result old (seen mid) (seen new) looks
+          (line_idle status.BadFile result (why_line why) (seen mid) (seen new) said (prints (loud said)) rose (λ no. no)))
+          (way why result ends)
+
+      pub refused_inspects : (mode : Mode) → Inspects mode old (seen new) result
+      refused_inspects mode = record {
+        said = λ is image text tells before. absurd (subst IsNoRun is (refused_status why result ends));
+        bad_file = λ is image text tells before. record {
+          tells = tells_same image (seen mid) (seen new) (prints (loud (inl is))).keeps (prints (loud (inl is))).image (tells_looks image old (seen mid) looks tells);
+          said = why_line why;
+          reason = (why, broken (inside why result ends (inl is)) image tells, refl);
+          printed = printed is text (looks.text ∙ before);
+        };
+        cut = λ is image text tells before. record {
+          said = why_line why;
+          reason = inr (why, broken (inside why result ends (inr is)) image tells, refl);
+          front = cut is text (looks.text ∙ before);
+        };
+        keeps = λ image tells none is. none (why, broken (inside why result ends (inl is)) image tells);
+        breaks = λ image tells breaks ok. subst IsNoRun ok (refused_status why result ends);
+        answers = refused_as IsInspectStatus tt tt tt tt why result ends;
+        idle = refused_idle;
+      }

@@ -1,5 +1,5 @@
 -- What a call of the program is answered with.
-use Rattle.std.specs.Prelude.{◌≡◌, ◌⊎◌, ℕ, List, [], ◌∷◌, ◌++◌, take, true, Option, Some, Ok, Err, codes}
+use Rattle.std.specs.Prelude.{◌≡◌, ◌⊎◌, ◌==◌, ℕ, List, [], ◌∷◌, ◌++◌, take, true, Option, Some, Ok, Err, codes}
 use Rattle.ode_keeper.specs.Files.{FileMeans}
 use Rattle.ode_causes.specs.Lines.{cause_line, format_line}
 use Rattle.ode_dump.specs.Dumping.{check_text, dump_text}
@@ -9,10 +9,11 @@ use Rattle.ode_host.specs.declared.status.Status.{Status}
 use Rattle.ode_host.specs.declared.status.Status.TheVariants as status
 use Rattle.ode_keep.specs.Entries.{Entries}
 use Rattle.ode_language.specs.Languages.{ode}
+use Rattle.ode_gate.specs.declared.places.TheConstants.{FIRST_FORMAT}
 use Rattle.ode_gen.specs.Generating.{gen_line, gen_script}
 use Rattle.ode_machine.specs.Runs.{Item, Refuses, run_status, run_text, run_world, trace}
 use Rattle.ode_make.specs.Making.{IsInUse, IsInitialised, first_frame}
-use Rattle.ode_open.specs.Opening.{IsOpenedTo}
+use Rattle.ode_open.specs.Opening.{HasFormat, IsOpenedTo}
 use Rattle.ode_open.specs.declared.error.OpenError.{OpenError}
 use Rattle.ode_open.specs.declared.error.OpenError.TheVariants.{Memory, DiskFault, NoDatabase, NewerFormat, BadFile}
 use Rattle.ode_opening_records.specs.Reading.{AreOpened}
@@ -137,12 +138,14 @@ mode_text mode.Init classes entries = []
 mode_text mode.Run classes entries = []
 mode_text (mode.Gen number) classes entries = []
 
--- The records of a file, and what they are opened to; this is said of them.
+-- The records of a file, and what they are opened to in its format; this is said of them.
 pub record SaysRecords (m : Mode) (image said : List ℕ) : Type 0 where
+  pub format : ℕ
+  pub has : HasFormat image format
   pub entries : Entries
   pub base : Base
   pub means : FileMeans image entries
-  pub opened : AreOpened ode entries (Ok base)
+  pub opened : AreOpened (format == FIRST_FORMAT) ode entries (Ok base)
   pub is : said ≡ mode_text m base.classes entries
 
 -- The file was opened, stayed as it was, and this was said of its records.

@@ -17,6 +17,10 @@ pub record CutShort (items : List Item) (w : ListWorld) (text : List ℕ) (view 
   pub said : view.text ≡ Some out
   pub moment : IsAfterSome Holds items w text image out
 
+-- the image holds this world still, and nothing more was printed
+abbrev pub StaysHeld : ListWorld → List ℕ → List ℕ → List ℕ → Type 0
+StaysHeld w text image out = Holds image w × (out ≡ text)
+
 -- the statuses of a run that was cut short
 abbrev pub IsCut : Status → Type 0
 IsCut DiskFault = Unit {0}

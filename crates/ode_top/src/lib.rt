@@ -2,6 +2,7 @@
 #![tactic(auto)]
 
 mod call;
+mod opening;
 mod top;
 
 pub use call::file_word;

@@ -1,6 +1,7 @@
 //! The call of the whole program.
 ghost use Rattle.std.specs.Prelude.{◌≡◌, ◌≢◌, ◌⊎◌, ◌↔◌, ◌++◌, ◌≤◌, ℕ, List as Items, Option, Some, None, IfOk, IsErrOf, IsTrue};
-ghost use Rattle.ode_keeper.specs.Holding.{KeeperHolds, is_live};
+ghost use Rattle.ode_keeper.specs.Holding as of_either;
+ghost use Rattle.ode_keeper.specs.Holding.{KeeperHolds};
 ghost use Rattle.ode_declared_laws.specs.Adding.{AreAligned};
 ghost use Rattle.ode_dump.specs.Dumping.{AreRecords};
 ghost use Rattle.ode_host.specs.Causes.{RoseIf};
@@ -12,6 +13,7 @@ ghost use Rattle.ode_machine.specs.Moments.{IsAfterSome};
 ghost use Rattle.ode_machine.specs.Runs.{trace};
 ghost use Rattle.ode_open.specs.Opening.{IsRefused};
 ghost use Rattle.ode_passes.specs.Answers.{OnBroken};
+ghost use Rattle.ode_pagemap.specs.Holding.{is_live};
 ghost use Rattle.ode_schema.specs.Parts.{AreFit};
 ghost use Rattle.ode_trace.specs.Statuses.{IsEnding, IsRunStatus};
 ghost use Rattle.ode_transact.specs.Resting.{resting_parts};
@@ -19,9 +21,11 @@ ghost use Rattle.ode_value.specs.Language.{ListWorld};
 ghost use Rattle.ode_top.specs.Answers.{Asks, BreaksRule, EndsFor, IsGenStatus, IsGenerated, IsIdle, IsMachineRun, IsSilent, SaidFront, SaysRecords, counts_line, gen_items, mode_text, usage_line, why_line};
 ghost use Rattle.ode_top.specs.Calls.{bytes_of, call_of};
 ghost use Rattle.ode_top.specs.Claims.{Generates, Initialises, Inspects, RunsNone, RunsWorld};
-ghost use Rattle.ode_top.specs.Holds.{Holds, OpensTo};
+ghost use Rattle.ode_top.specs.Holds.{Holds};
+ghost use Rattle.ode_top.specs.Opening.{OpensTo};
 
 use crate::call::{Mode, call_of};
+use crate::opening::open_to_run;
 use ode_causes::{cause_line, format_line};
 use ode_dump::{check_text, dump_text, tallied_records_decode};
 use ode_file_laws::files_of_worlds_are_opened;
@@ -33,6 +37,7 @@ use ode_language_laws::language_has_sound_rules;
 use ode_make::{InitError, initialise};
 use ode_open::{OpenError, open_base};
 use ode_opened::Opened;
+use ode_pagemap::PageMap;
 use ode_passes::{Cause, OpenError as ReadError};
 use ode_start_laws::opened_files_are_at_rest;
 use ode_trace::{Tally, run_quietly, run_script};
@@ -87,16 +92,16 @@ fn run_opened<H: Host, S: Source>(
     alloc: Global,
     script: &mut S,
     host: &mut H,
-    opened: Opened<Keeper>,
+    opened: Opened<PageMap>,
 ) -> Status
     requires live { IsTrue (is_live opened.keeper) }
     requires fit { AreFit (resting_parts opened) }
     requires aligned { AreAligned (resting_parts opened) }
-    ensures ran { (image : Items ℕ) (w : ListWorld) (bytes text : Items ℕ) → S.left script.old ≡ Some bytes → OpensTo image w opened (H.view host.old) → (H.view host.old).text ≡ Some text
+    ensures ran { (w : ListWorld) (bytes text : Items ℕ) → S.left script.old ≡ Some bytes → OpensTo w opened (H.view host.old) → (H.view host.old).text ≡ Some text
         → IsEnding result → IsMachineRun bytes w text (S.left script.new) (H.view host.new) result }
-    ensures any_moment { (image : Items ℕ) (w : ListWorld) (bytes text : Items ℕ) → S.left script.old ≡ Some bytes → OpensTo image w opened (H.view host.old) → (H.view host.old).text ≡ Some text
+    ensures any_moment { (w : ListWorld) (bytes text : Items ℕ) → S.left script.old ≡ Some bytes → OpensTo w opened (H.view host.old) → (H.view host.old).text ≡ Some text
         → LeavesOnly (H.view host.old) (H.view host.new) (IsAfterSome Holds (trace ode w bytes) w text) }
-    ensures answers { (image : Items ℕ) (w : ListWorld) → OpensTo image w opened (H.view host.old) → IsRunStatus result }
+    ensures answers { (w : ListWorld) → OpensTo w opened (H.view host.old) → IsRunStatus result }
     ensures not_usage { result ≢ Status.Usage }
     ensures leaves { HostCalls (result ≡ Status.DiskFault) (result ≡ Status.WriteFault) (H.view host.old) (H.view host.new) }
     ensures reads { RoseIf (result ≡ Status.ReadFault) (S.faults script.old) (S.faults script.new) }
@@ -145,7 +150,7 @@ fn run<H: Host, S: Source>(alloc: Global, script: &mut S, host: &mut H) -> Statu
     ensures reads { RoseIf (result ≡ Status.ReadFault) (S.faults script.old) (S.faults script.new) }
 {
     files_of_worlds_are_opened();
-    match open_base(alloc, host) {
+    match open_to_run(alloc, host) {
         Ok(opened) => run_opened(alloc, script, host, opened),
         Err(why) => refuse(alloc, host, why),
     }
@@ -192,15 +197,15 @@ fn say_counts<H: Host>(
 }
 
 // A run of a number's script over an opened file. What it prints is the line behind it.
-fn gen_opened<H: Host>(alloc: Global, host: &mut H, opened: Opened<Keeper>, number: u32) -> Status
+fn gen_opened<H: Host>(alloc: Global, host: &mut H, opened: Opened<PageMap>, number: u32) -> Status
     requires live { IsTrue (is_live opened.keeper) }
     requires fit { AreFit (resting_parts opened) }
     requires aligned { AreAligned (resting_parts opened) }
-    ensures ran { (image text : Items ℕ) (w : ListWorld) → OpensTo image w opened (H.view host.old) → (H.view host.old).text ≡ Some text
+    ensures ran { (w : ListWorld) (text : Items ℕ) → OpensTo w opened (H.view host.old) → (H.view host.old).text ≡ Some text
         → IsEnding result → IsGenerated number w text (H.view host.new) result }
-    ensures any_moment { (image text : Items ℕ) (w : ListWorld) → OpensTo image w opened (H.view host.old) → (H.view host.old).text ≡ Some text
+    ensures any_moment { (w : ListWorld) (text : Items ℕ) → OpensTo w opened (H.view host.old) → (H.view host.old).text ≡ Some text
         → LeavesOnly (H.view host.old) (H.view host.new) (IsAfterSome Holds (gen_items number w) w text) }
-    ensures answers { (image text : Items ℕ) (w : ListWorld) → number ≤ gen_limit → OpensTo image w opened (H.view host.old) → (H.view host.old).text ≡ Some text → IsGenStatus result }
+    ensures answers { (w : ListWorld) (text : Items ℕ) → number ≤ gen_limit → OpensTo w opened (H.view host.old) → (H.view host.old).text ≡ Some text → IsGenStatus result }
     ensures not_usage { result ≢ Status.Usage }
     ensures not_read { result ≢ Status.ReadFault }
     ensures leaves { HostCalls (result ≡ Status.DiskFault) (result ≡ Status.WriteFault) (H.view host.old) (H.view host.new) }
@@ -236,7 +241,7 @@ fn generate<H: Host>(alloc: Global, host: &mut H, number: u32) -> Status
     ensures leaves { HostCalls (result ≡ Status.DiskFault) (result ≡ Status.WriteFault) (H.view host.old) (H.view host.new) }
 {
     files_of_worlds_are_opened();
-    match open_base(alloc, host) {
+    match open_to_run(alloc, host) {
         Ok(opened) => gen_opened(alloc, host, opened, number),
         Err(why) => refuse(alloc, host, why),
     }
@@ -249,7 +254,7 @@ fn text_of<H: Host>(
     mode: Mode,
     opened: Opened<Keeper>,
 ) -> Result<List<u8>, ReadError>
-    requires live { IsTrue (is_live opened.keeper) }
+    requires live { IsTrue (of_either.is_live opened.keeper) }
     ensures text { IfOk result (λ text. (entries : Entries) → KeeperHolds opened.keeper (H.view host.old) entries
         → text ≡ mode_text mode opened.classes entries) }
     ensures broken { OnBroken result ((entries : Entries) → KeeperHolds opened.keeper (H.view host.old) entries → AreRecords entries → ⊥) }

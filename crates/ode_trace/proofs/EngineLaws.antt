@@ -11,13 +11,14 @@ use Rattle.ode_host.specs.Host.{CutPrint, LeavesCut, LeavesOnly, Printed, Prints
 use Rattle.ode_host.specs.View.{View}
 use Rattle.ode_keep.specs.Entries.{Entries}
 use Rattle.ode_language.specs.Answers.{Answers}
-use Rattle.ode_language.specs.Languages.{ode, statement_of}
+use Rattle.ode_language.specs.Languages.{as_piece, change_of, ode, piece_of, statement_of}
+use Rattle.ode_language.specs.declared.reading.Piece.{Piece}
+use Rattle.ode_language.specs.declared.reading.Piece.TheVariants as given
 use Rattle.ode_language.specs.declared.reading.ReadStop.{ReadStop}
 use Rattle.ode_language.specs.declared.reading.ReadStop.TheVariants as read
 use Rattle.ode_machine.proofs.MomentLaws.{refusal_leaves}
-use Rattle.ode_machine.specs.Commands.{Step, carried, command, finish}
+use Rattle.ode_machine.specs.Commands.{Step, changes, command, finish, read_piece, states}
 use Rattle.ode_machine.specs.Moments.{Holding, IsAfterSome}
-use Rattle.ode_machine.specs.Refusals.{placed}
 use Rattle.ode_machine.specs.Runs.{Item, Refuses, answered, final, stretch_of, text_of}
 use Rattle.ode_machine.specs.Sessions.{Session, closed}
 use Rattle.ode_opened.specs.declared.opened.Opened.{Opened}
@@ -40,9 +41,11 @@ use Rattle.ode_transact.specs.Resting.{HoldsBy, IsAtRest, resting_parts}
 use Rattle.ode_transact.specs.Settling.{Meaning}
 use Rattle.ode_transact.specs.declared.error.EngineError.{EngineError}
 use Rattle.ode_transact.specs.declared.error.EngineError.TheVariants as error
-use Rattle.ode_value.specs.Answers.{Answer, ◌>>=◌, ◌>>◌}
+use Rattle.ode_value.specs.Answers.{Answer, ◌>>=◌}
 use Rattle.ode_value.specs.Language.{ListWorld}
 use Rattle.ode_value.specs.Texts.{refused_line}
+use Rattle.ode_value.specs.Worlds.{empty_world}
+use Rattle.ode_value.specs.declared.change.Change.{Change}
 use Rattle.ode_value.specs.declared.reason.Refusal.{Refusal}
 use Rattle.ode_value.specs.declared.statement.Statement.{Statement}
 
@@ -55,11 +58,49 @@ stands_printed piece file old new prints stands = record {
 
 -- ---- what a piece is read as
 
-read_command : (session : Session) (piece : List ℕ) (s : Statement) → statement_of piece ≡ Ok s → command ode session piece ≡ answer_to ode session s
-read_command session piece s is = ap (λ (a : Answer Statement). a >>= λ t. placed session t >> carried ode session t) is
+-- as a statement
+abbrev of_statement : Answer Statement → Answer Piece
+of_statement a = a >>= (λ s. Ok (given.Statement s))
 
-unread_command : (session : Session) (piece : List ℕ) (why : Refusal) → statement_of piece ≡ Err why → command ode session piece ≡ Err why
-unread_command session piece why is = ap (λ (a : Answer Statement). a >>= λ t. placed session t >> carried ode session t) is
+its_statement : (a : Answer Statement) (s : Statement) → of_statement a ≡ Ok (given.Statement s) → a ≡ Ok s
+its_statement (Ok t) s is = cc (is)
+its_statement (Err why) s is = absurd (cc (is))
+
+no_change : (a : Answer Statement) (c : Change) → of_statement a ≡ Ok (given.Change c) → ⊥
+no_change (Ok t) c is = cc (is)
+no_change (Err why) c is = cc (is)
+
+its_refusal : (a : Answer Statement) (why : Refusal) → of_statement a ≡ Err why → a ≡ Err why
+its_refusal (Ok t) why is = absurd (cc (is))
+its_refusal (Err other) why is = cc (is)
+
+abbrev some_change : Change → Option (Answer Change)
+some_change c = Some (Ok c)
+
+-- by whether it is to be a change, which is `change_of` of it
+module _ (session : Session) (text : List ℕ) where
+  statement_read : (change : Option (Answer Change)) (s : Statement) → as_piece change (statement_of text) ≡ Ok (given.Statement s)
+      → (statement_of text ≡ Ok s) × (read_piece ode session text change ≡ answer_to ode session s)
+  statement_read None s is = let a = its_statement (statement_of text) s is in (a, ap (λ (r : Answer Statement). r >>= states ode session) a)
+  statement_read (Some (Ok c)) s is = absurd (cc (is))
+  statement_read (Some (Err why)) s is = absurd (cc (is))
+
+  change_read : (change : Option (Answer Change)) (c : Change) → as_piece change (statement_of text) ≡ Ok (given.Change c)
+      → (change ≡ Some (Ok c)) × (read_piece ode session text change ≡ changes ode session c)
+  change_read None c is = absurd (no_change (statement_of text) c is)
+  change_read (Some (Ok d)) c is = let same : d ≡ c = cc (is) in (ap (λ (x : Change). some_change x) same, ap (changes ode session) same)
+  change_read (Some (Err why)) c is = absurd (cc (is))
+
+  refused_read : (change : Option (Answer Change)) (why : Refusal) → as_piece change (statement_of text) ≡ Err why → read_piece ode session text change ≡ Err why
+  refused_read None why is = ap (λ (r : Answer Statement). r >>= states ode session) (its_refusal (statement_of text) why is)
+  refused_read (Some (Ok c)) why is = absurd (cc (is))
+  refused_read (Some (Err other)) why is = let same : other ≡ why = cc (is) in ap Err same
+
+pub has_statement : (text : List ℕ) (s : Statement) → piece_of text ≡ Ok (given.Statement s) → statement_of text ≡ Ok s
+has_statement text s is = (statement_read (closed empty_world) text (change_of text) s is).0
+
+pub has_change : (text : List ℕ) (c : Change) → piece_of text ≡ Ok (given.Change c) → change_of text ≡ Some (Ok c)
+has_change text c is = (change_read (closed empty_world) text (change_of text) c is).0
 
 -- what is settled at the end of the input
 pub settled_many : (answer : Done) (step : Step) → IsAnswer answer (Ok step) → settled_in answer ≡ length step.1
@@ -180,21 +221,26 @@ module _ {H K : Type 0} (seen : H → View) (held : K → View → Entries → T
     sound = tt;
   }
 
-  pub unread_commands : (session : Session) (piece : List ℕ) (why : Refusal) (e : Engine K) (host : H) → statement_of piece ≡ Err why → For session e host
-      → Came session (command ode session piece) e (Ok (done.Refused why)) e host host
-  unread_commands session piece why e host is stands_for =
-      subst (λ (a : Answer Step). Came session a e (Ok (done.Refused why)) e host host) (sym (unread_command session piece why is)) (unread_by session why e host stands_for)
+  pub unread_commands : (session : Session) (text : List ℕ) (why : Refusal) (e : Engine K) (host : H) → piece_of text ≡ Err why → For session e host
+      → Came session (command ode session text) e (Ok (done.Refused why)) e host host
+  unread_commands session text why e host is stands_for =
+      subst (λ (a : Answer Step). Came session a e (Ok (done.Refused why)) e host host) (sym (refused_read session text (change_of text) why is)) (unread_by session why e host stands_for)
 
-  pub unread_stops : (session : Session) (piece : List ℕ) (stop : ReadStop) (e : Engine K) (host : H) → Answers (statement_of piece) (Err stop) → For session e host
-      → Came session (command ode session piece) e (unread stop) e host host
-  unread_stops session piece read.Memory e host is stands_for = uncalled_commands session (command ode session piece) e host
-  unread_stops session piece (read.Refused why) e host is stands_for = unread_commands session piece why e host is stands_for
+  pub unread_stops : (session : Session) (text : List ℕ) (stop : ReadStop) (e : Engine K) (host : H) → Answers {R = Piece} (piece_of text) (Err stop) → For session e host
+      → Came session (command ode session text) e (unread stop) e host host
+  unread_stops session text read.Memory e host is stands_for = uncalled_commands session (command ode session text) e host
+  unread_stops session text (read.Refused why) e host is stands_for = unread_commands session text why e host is stands_for
 
-  -- one that gives a statement, which the engine is given
-  pub called_commands : (session : Session) (piece : List ℕ) (s : Statement) (start : Engine K) (result : Result Done EngineError) (e : Engine K) (old new : H) → statement_of piece ≡ Ok s
-      → Came session (answer_to ode session s) start result e old new → Came session (command ode session piece) start result e old new
-  called_commands session piece s start result e old new is came =
-      subst (λ (a : Answer Step). Came session a start result e old new) (sym (read_command session piece s is)) came
+  -- one that gives a statement or a change, which the engine is given
+  pub called_commands : (session : Session) (text : List ℕ) (s : Statement) (start : Engine K) (result : Result Done EngineError) (e : Engine K) (old new : H) → piece_of text ≡ Ok (given.Statement s)
+      → Came session (answer_to ode session s) start result e old new → Came session (command ode session text) start result e old new
+  called_commands session text s start result e old new is came =
+      subst (λ (a : Answer Step). Came session a start result e old new) (sym (statement_read session text (change_of text) s is).1) came
+
+  pub changed_commands : (session : Session) (text : List ℕ) (c : Change) (start : Engine K) (result : Result Done EngineError) (e : Engine K) (old new : H) → piece_of text ≡ Ok (given.Change c)
+      → Came session (changes ode session c) start result e old new → Came session (command ode session text) start result e old new
+  changed_commands session text c start result e old new is came =
+      subst (λ (a : Answer Step). Came session a start result e old new) (sym (change_read session text (change_of text) c is).1) came
 
   -- ---- a piece that is carried out
 

@@ -1,10 +1,10 @@
 -- What a piece comes to: its world, its text, and whether it is refused.
 use Rattle.std.proofs.Common.{◌≡◌, ℕ, ℤ, List, [], ◌∷◌, ◌++◌, Option, Some, None, Ok, Err, refl, sym, ap}
-use Rattle.ode_machine.specs.Commands.{Step, after, carried, command, does_clock, does_simple, ends_open, finish, goes_on, settles}
-use Rattle.ode_machine.specs.Refusals.{checked_in, declared_in, placed, ticks_in}
+use Rattle.ode_machine.specs.Commands.{Step, carried, command, does_clock, does_simple, ends_open, finish, goes_on, settles}
+use Rattle.ode_machine.specs.Refusals.{changed_in, checked_in, declared_in, placed, placed_change, ticks_in}
 use Rattle.ode_machine.specs.Runs.{answered, ending_items, final, opening, piece_stretch, pieces_items, stretch_of, text_of}
 use Rattle.ode_machine.specs.Sessions.{Session}
-use Rattle.ode_machine.specs.Works.{clock_run, declares}
+use Rattle.ode_machine.specs.Works.{changes_class, clock_run, declares}
 use Rattle.ode_script.specs.Cutting.{Ending, Pieces, Then, Ended}
 use Rattle.ode_timer.specs.Due.{behind}
 use Rattle.ode_transact.specs.Items.{items_of, texts_of}
@@ -19,6 +19,7 @@ use Rattle.ode_value.specs.Pasts.{lists}
 use Rattle.ode_value.specs.Settling.{Settled, abort, transaction}
 use Rattle.ode_value.specs.Transactions.{Script}
 use Rattle.ode_value.specs.Worlds.{Position}
+use Rattle.ode_value.specs.declared.change.Change.{Change}
 use Rattle.ode_value.specs.declared.reason.Reason.TheVariants as reason
 use Rattle.ode_value.specs.declared.statement.Statement.{Statement}
 use Rattle.ode_value.specs.declared.statement.Statement.TheVariants as statement
@@ -80,10 +81,21 @@ module _ (l : Language) (session : Session) where
   carried_ends (statement.Simple s) =
       bind_ends session (checked_in l (machine.bones_now session session.open_tx) s) (λ checked. Ok (does_simple session session.open_tx checked)) (λ checked. simple_ends session session.open_tx checked)
 
+  states_ends : (s : Statement) → EndsAnswer session (machine.states l session s)
+  states_ends s = bind_ends session (placed session s) (λ _. carried l session s) (λ _. carried_ends s)
+
+  changes_ends : (c : Change) → EndsAnswer session (machine.changes l session c)
+  changes_ends c =
+      bind_ends session (placed_change session) (λ _. changed_in l session.world.bones c >>= (λ classes. Ok (machine.does_change session.world classes c)))
+      (λ _. bind_ends session (changed_in l session.world.bones c) (λ classes. Ok (machine.does_change session.world classes c))
+      (λ classes. settles_ends session (transaction lists Script (changes_class lists classes c) session.world)))
+
+  piece_answers : (piece : List ℕ) (change : Option (Answer Change)) → EndsAnswer session (machine.read_piece l session piece change)
+  piece_answers piece None = bind_ends session (l.statement_of piece) (machine.states l session) states_ends
+  piece_answers piece (Some read) = bind_ends session read (machine.changes l session) changes_ends
+
   command_ends : (piece : List ℕ) → EndsAnswer session (command l session piece)
-  command_ends piece =
-      bind_ends session (l.statement_of piece) (λ s. placed session s >> carried l session s)
-      (λ s. bind_ends session (placed session s) (λ _. carried l session s) (λ _. carried_ends s))
+  command_ends piece = piece_answers piece (l.change_of piece)
 
 answered_ends : (session : Session) (line : ℕ) (answer : Answer Step) → EndsAnswer session answer → (answered session line answer).0.world ≡ final session.world (answered session line answer).1
 answered_ends session line (Ok step) ends = ends

@@ -26,8 +26,8 @@ ghost use Rattle.ode_value.specs.Texts.{refused_line};
 use crate::tally::Tally;
 use ode_engine::{Done, Engine, EngineError};
 use ode_host::{Failed, Host, Source, Status};
-use ode_keep::Keep;
-use ode_language::{ReadStop, read_statement};
+use ode_keep::Roomy;
+use ode_language::{Piece as Read, ReadStop, read_piece};
 use ode_opened::Opened;
 use ode_script::{Piece, Reader, ScriptError, refusal_line};
 use ode_value::{Boxed, Key, Refusal};
@@ -86,7 +86,7 @@ fn unread(stop: ReadStop) -> Result<Done, EngineError>
 
 // A piece is read, and carried out by the engine.
 #[tactic(auto, unfolding(ode_value::specs::Limits::statement_limit))]
-fn command_piece<H: Host, K: Keep<H> + Drop>(
+fn command_piece<H: Host, K: Roomy<H> + Drop>(
     alloc: Global,
     host: &mut H,
     engine: &mut Engine<K>,
@@ -100,17 +100,18 @@ fn command_piece<H: Host, K: Keep<H> + Drop>(
     ensures live { OnOk result (IsLive K.live engine.new) }
     ensures quiet { engine.new.quiet ≡ engine.old.quiet }
 {
-    match read_statement(alloc, text) {
-        Ok(statement) => {
+    match read_piece(alloc, text) {
+        Ok(Read::Statement(statement)) => {
             let statement = Boxed::new(alloc, statement)?;
             engine.command(host, statement.get())
         }
+        Ok(Read::Change(change)) => engine.change(host, &change),
         Err(stop) => unread(stop),
     }
 }
 
 // Carries out one piece, and counts it. The line of a refusal is printed, unless the engine is quiet.
-fn carry_out<H: Host, K: Keep<H> + Drop>(
+fn carry_out<H: Host, K: Roomy<H> + Drop>(
     alloc: Global,
     host: &mut H,
     engine: &mut Engine<K>,
@@ -172,7 +173,7 @@ fn settled_in(done: &Done) -> u32
 }
 
 // The end of the input: an open transaction is aborted.
-fn end_script<H: Host, K: Keep<H> + Drop>(
+fn end_script<H: Host, K: Roomy<H> + Drop>(
     host: &mut H,
     engine: &mut Engine<K>,
     tally: &mut Tally,
@@ -204,7 +205,7 @@ fn end_script<H: Host, K: Keep<H> + Drop>(
 }
 
 // The pieces of a script, in whatever chunks it comes. The bytes that the engine counts aren't in the tally yet.
-fn run_pieces<H: Host, K: Keep<H> + Drop, S: Source>(
+fn run_pieces<H: Host, K: Roomy<H> + Drop, S: Source>(
     alloc: Global,
     source: &mut S,
     host: &mut H,
@@ -241,7 +242,7 @@ fn run_pieces<H: Host, K: Keep<H> + Drop, S: Source>(
 }
 
 // A run over an opened file, which tells all that it prints or is quiet, and is counted.
-fn run_opened<H: Host, K: Keep<H> + Drop, S: Source>(
+fn run_opened<H: Host, K: Roomy<H> + Drop, S: Source>(
     alloc: Global,
     source: &mut S,
     host: &mut H,
@@ -278,7 +279,7 @@ fn run_opened<H: Host, K: Keep<H> + Drop, S: Source>(
 
 /// Runs a script over an opened file: first the entries of the queue run, and then piece by piece, in whatever chunks the script comes.
 /// It answers the key of a record where the file has something else than what was written to it, which no file that holds a world has.
-pub fn run_script<H: Host, K: Keep<H> + Drop, S: Source>(
+pub fn run_script<H: Host, K: Roomy<H> + Drop, S: Source>(
     alloc: Global,
     source: &mut S,
     host: &mut H,
@@ -305,7 +306,7 @@ pub fn run_script<H: Host, K: Keep<H> + Drop, S: Source>(
 }
 
 /// Runs a script over an opened file as `run_script` does, but prints nothing, and counts what the run comes to.
-pub fn run_quietly<H: Host, K: Keep<H> + Drop, S: Source>(
+pub fn run_quietly<H: Host, K: Roomy<H> + Drop, S: Source>(
     alloc: Global,
     source: &mut S,
     host: &mut H,

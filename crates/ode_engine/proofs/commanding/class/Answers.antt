@@ -11,9 +11,9 @@ use Rattle.ode_engine.proofs.commanding.class.Goals as goal
 pub returns-in-Err-clause-serves : goal.returns-in-Err-clause-serves
 returns-in-Err-clause-serves g c w well rests left text =
     undeclared_serves g.H.Host.view g.K.Keep.holds g.K.Keep.live g.K.Keep.means g.met.K.Keep.stands g.met.H.Host.text_stands c.args.output.now c.declare.new.output w c.in-Err.error c.args.host.now c.declare.new.host (rest_now g.H.Host.view g.K.Keep.holds g.K.Keep.live ode w c.args.rest c.args.host.now well rests) (declared_in ode w.bones c.args.decl.now)
-    (λ k is said told. c.in-Err.ensures.any_moment w k said well text rests is (few_kept w well.good.bones.classes c.args.decl.now text k is) (class_is_well w well left c.args.decl.now text k is) told)
+    (λ k is said told. c.in-Err.ensures.any_moment w k said well text rests is (few_kept w well c.args.decl.now text k is) (class_is_well w well left c.args.decl.now text k is) told)
     (λ why is. same_looks g.H.Host.view c.args.host.now c.declare.new.host (c.in-Err.ensures.declined w why rests is))
-    (undamaged_by _ _ c.in-Err.ensures.undamaged (λ never. never w well text rests left (λ k is. (few_kept w well.good.bones.classes c.args.decl.now text k is, class_is_well w well left c.args.decl.now text k is))))
+    (undamaged_by _ _ c.in-Err.ensures.undamaged (λ never. never w well text rests left (λ k is. (few_kept w well c.args.decl.now text k is, class_is_well w well left c.args.decl.now text k is))))
 
 pub returns-in-Err-clause-leaves : goal.returns-in-Err-clause-leaves
 returns-in-Err-clause-leaves g c = host_calls_as _ _ _ _ _ _ (λ is. cc (is)) (λ is. cc (is)) (λ is. cc (is)) (λ is. cc (is)) c.in-Err.ensures.leaves
@@ -30,10 +30,10 @@ pub returns-in-None-clause-serves : goal.returns-in-None-clause-serves
 returns-in-None-clause-serves g c w well rests left text =
     declared_serves g.H.Host.view g.K.Keep.holds g.K.Keep.live g.K.Keep.means g.met.K.Keep.stands g.met.H.Host.text_stands c.args.output.now c.settled.new.output c.declare.new.output w c.in-Ok.rest c.args.host.now c.declare.new.host c.settled.new.host c.settled.result _ _ (declared_in ode w.bones c.args.decl.now) (rw c.in-None.is at (c.in-Ok.ensures.done w well text rests))
     (rw c.in-None.is at (c.in-Ok.ensures.counts w well text rests))
-    (λ k is. few_kept w well.good.bones.classes c.args.decl.now text k is)
+    (λ k is. few_kept w well c.args.decl.now text k is)
     (λ k is. class_is_well w well left c.args.decl.now text k is)
     (λ k is wells made printed counts. c.settled.ensures.serves (closed w) (class_settled w k) c.args.host.now c.args.output.now printed counts
-    (λ said told. c.in-Ok.ensures.any_moment w k said well text rests is (few_kept w well.good.bones.classes c.args.decl.now text k is) wells told) wells made)
+    (λ said told. c.in-Ok.ensures.any_moment w k said well text rests is (few_kept w well c.args.decl.now text k is) wells told) wells made)
 
 pub returns-in-None-clause-leaves : goal.returns-in-None-clause-leaves
 returns-in-None-clause-leaves g c = told_on _ _ _ _ _ (host_calls_as _ _ _ _ _ _ (λ is. cc (is)) absurd (λ is. cc (is)) absurd c.in-Ok.ensures.leaves) c.settled.ensures.leaves

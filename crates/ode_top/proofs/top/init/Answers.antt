@@ -19,7 +19,7 @@ returns-in-Ok-clause-claims g c = record {
         image = made.0;
         stands = stands_print _ made.0 text _ _ (g.met.H.Host.text_stands c.initialise.new.host) made.1 (c.initialise.ensures.leaves.text ∙ said) c.end_with.ensures.prints;
         made = made.2;
-        holds = fresh_holds (c.runs_stay_good.ensures.fresh ode c.language_has_sound_rules.ensures).good made.0 (inr (c.in-Ok.ensures.means file made.0 told made.1.tells));
+        holds = fresh_holds (c.runs_stay_good.ensures.fresh ode c.language_has_sound_rules.ensures).good made.0 (c.in-Ok.ensures.means file made.0 told made.1.tells);
         printed = c.end_with.ensures.printed (λ (cut : c.end_with.result ≡ status.WriteFault). cc) text (c.initialise.ensures.leaves.text ∙ said);
       };
   exists = λ is file text told said. absurd (⊎_elim (λ same. cc (same, is)) (λ cut. cc (cut, is)) c.end_with.ensures.status);

@@ -23,11 +23,11 @@ returns-in-Ok-clause-leaves g c =
 -- it wasn't
 pub returns-in-Err-clause-claims : goal.returns-in-Err-clause-claims
 returns-in-Err-clause-claims g c =
-    refused_inspects g.H.Host.view _ _ _ c.in-Err.why c.refuse.result c.read_text.ensures.looks c.in-Err.ensures.answer c.refuse.ensures.ends c.refuse.ensures.still
-    c.refuse.ensures.prints c.refuse.ensures.cause c.refuse.ensures.printed c.refuse.ensures.cut c.args.mode
+    refused_inspects g.H.Host.view _ _ _ c.in-Err.why c.refuse.result c.refuse.ensures.ends c.refuse.ensures.still
+    c.refuse.ensures.prints c.refuse.ensures.cause c.refuse.ensures.printed c.refuse.ensures.cut c.read_text.ensures.looks c.in-Err.ensures.answer c.args.mode
 
 pub returns-in-Err-clause-leaves : goal.returns-in-Err-clause-leaves
 returns-in-Err-clause-leaves g c =
-    refused_leaves g.H.Host.view _ _ _ c.in-Err.why c.refuse.result c.read_text.ensures.looks c.in-Err.ensures.answer c.refuse.ensures.ends c.refuse.ensures.still
+    refused_leaves g.H.Host.view _ _ _ c.in-Err.why c.refuse.result c.refuse.ensures.ends c.refuse.ensures.still
     c.refuse.ensures.prints c.refuse.ensures.cause c.refuse.ensures.printed c.refuse.ensures.cut
-    _ (λ is. cc (is, c.in-Err.is)) (λ is. cc (is, c.in-Err.is)) c.read_text.ensures.cause
+    _ (looks_calls _ _ _ c.read_text.ensures.looks c.read_text.ensures.cause) (λ is. cc (is, c.in-Err.is)) (λ is. cc (is, c.in-Err.is))

@@ -1,5 +1,7 @@
 use Rattle.std.proofs.Common.{List, ℕ}
 use Rattle.std.proofs.lemmas.Result.{err_from_is_err_and}
+use Rattle.std.specs.Prelude.{◌==◌}
+use Rattle.ode_gate.specs.declared.places.TheConstants.{FIRST_FORMAT}
 use Rattle.ode_open.specs.Opening.{base_in}
 use Rattle.ode_top.proofs.Inspecting.{opened_tally, read_refused}
 use Rattle.ode_top.proofs.Running.{breaks_none}
@@ -14,15 +16,18 @@ pub returns-in_err-text-clause-answer : goal.returns-in_err-text-clause-answer
 returns-in_err-text-clause-answer g c = λ image tells.
     let p = err_from_is_err_and c.from_residual-in_err-text.result c.from_residual-in_err-text.ensures.1 in
     let kept = c.in_ok-opened.ensures.keeper image tells in
-    let tally = opened_tally kept.0 (base_in c.in_ok-opened.opened) kept.3 in
+    let first = c.in_ok-opened.opened.format == FIRST_FORMAT in
+    let tally = opened_tally first kept.0 (base_in c.in_ok-opened.opened) kept.3 in
     rw (p.1, p.2)
     (read_refused (List ℕ) image c.in_err-text.field-0.0 _ c.in_err-text.ensures.broken
-    (λ broken. broken kept.0 kept.2 (c.tallied_records_decode.ensures kept.0 tally.0 tally.1)))
+    (λ broken. broken kept.0 kept.2 (c.tallied_records_decode.ensures first kept.0 tally.0 tally.1)))
 
 pub returns-clause-text : goal.returns-clause-text
 returns-clause-text g c = λ image tells.
     let kept = c.in_ok-opened.ensures.keeper image tells in
     record {
+      format = c.in_ok-opened.opened.format;
+      has = c.in_ok-opened.ensures.format image tells;
       entries = kept.0;
       base = base_in c.in_ok-opened.opened;
       means = kept.1;

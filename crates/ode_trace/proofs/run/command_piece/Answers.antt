@@ -4,9 +4,10 @@ use Rattle.std.specs.Prelude.{Result}
 use Rattle.ode_engine.specs.Serving.{answer_to, settlings}
 use Rattle.ode_engine.specs.declared.engine.Done.{Done}
 use Rattle.ode_language.specs.Languages.{ode}
-use Rattle.ode_machine.specs.Commands.{command}
+use Rattle.ode_language.specs.declared.reading.Piece.TheVariants as given
+use Rattle.ode_machine.specs.Commands.{changes, command}
 use Rattle.ode_trace.proofs.CallLaws.{damage_gives, unread_told}
-use Rattle.ode_trace.proofs.EngineLaws.{called_commands, unread_stops}
+use Rattle.ode_trace.proofs.EngineLaws.{called_commands, changed_commands, has_change, has_statement, unread_stops}
 use Rattle.ode_trace.proofs.HearingLaws.{moments_heard, printed_heard}
 use Rattle.ode_trace.specs.Running.{Commands}
 use Rattle.ode_transact.specs.Resting.{HoldsBy}
@@ -14,9 +15,14 @@ use Rattle.ode_transact.specs.declared.error.EngineError.{EngineError}
 use Rattle.ode_transact.specs.declared.output.Output.{Output}
 use Rattle.ode_trace.proofs.run.command_piece.Goals as goal
 
-pub returns-in_ok-statement-in-Ok-clause-commands : goal.returns-in_ok-statement-in-Ok-clause-commands
-returns-in_ok-statement-in-Ok-clause-commands g c session stands =
-    let read = c.in-Ok.ensures ∙ ap Ok (sym (c.get.ensures ∙ c.in_ok-statement-in-Ok.ensures)) in
+pub command-requires-clause-text : goal.command-requires-clause-text
+command-requires-clause-text g c =
+    let read = c.in-Ok-Statement.ensures ∙ ap Ok (c.in-Ok-Statement.field-0-is ∙ ap (λ s. given.Statement s) (sym (c.get.ensures ∙ c.in_ok-statement-in-Ok-Statement.ensures))) in
+    (c.args.text.now, has_statement c.args.text.now c.get.result.now read)
+
+pub returns-in_ok-statement-in-Ok-Statement-clause-commands : goal.returns-in_ok-statement-in-Ok-Statement-clause-commands
+returns-in_ok-statement-in-Ok-Statement-clause-commands g c session stands =
+    let read = c.in-Ok-Statement.ensures ∙ ap Ok (c.in-Ok-Statement.field-0-is ∙ ap (λ s. given.Statement s) (sym (c.get.ensures ∙ c.in_ok-statement-in-Ok-Statement.ensures))) in
     called_commands g.H.Host.view g.K.Keep.holds g.K.Keep.live g.K.Keep.means g.met.K.Keep.stands g.met.K.Keep.stays session c.args.text.now c.get.result.now c.args.engine.now c.command.result c.command.new.self c.args.host.now c.command.new.host read
     (record {
       answers = c.command.ensures.answer session stands;
@@ -27,6 +33,24 @@ returns-in_ok-statement-in-Ok-clause-commands g c session stands =
           moments_heard (HoldsBy ode g.K.Keep.means) c.args.engine.now.quiet (settlings (answer_to ode session c.get.result.now)) more session.world said (g.H.Host.view c.args.host.now) (g.H.Host.view c.command.new.host)
           (c.command.ensures.any_moment session said more stands told);
       sound = damage_gives c.command.result _ ⊥ (λ none. none session stands) c.command.ensures.undamaged;
+    })
+
+pub change-requires-clause-text : goal.change-requires-clause-text
+change-requires-clause-text g c = (c.args.text.now, has_change c.args.text.now c.in-Ok-Change.change (c.in-Ok-Change.ensures ∙ ap Ok c.in-Ok-Change.field-0-is))
+
+pub returns-in-Ok-Change-clause-commands : goal.returns-in-Ok-Change-clause-commands
+returns-in-Ok-Change-clause-commands g c session stands =
+    let settled = settlings (changes ode session c.in-Ok-Change.change) in
+    changed_commands g.H.Host.view g.K.Keep.holds g.K.Keep.live g.K.Keep.means g.met.K.Keep.stands g.met.K.Keep.stays session c.args.text.now c.in-Ok-Change.change c.args.engine.now c.change.result c.change.new.self c.args.host.now c.change.new.host (c.in-Ok-Change.ensures ∙ ap Ok c.in-Ok-Change.field-0-is)
+    (record {
+      answers = c.change.ensures.answer session stands;
+      stands = c.change.ensures.stands session stands;
+      printed = printed_heard c.change.result c.args.engine.now.quiet settled (g.H.Host.view c.args.host.now) (g.H.Host.view c.change.new.host) (c.change.ensures.printed session stands);
+      counts = on_ok_weaker c.change.result (λ is. ap (λ (o : Output). o.counted) is) (c.change.ensures.counts session stands);
+      any_moment = λ said more told.
+          moments_heard (HoldsBy ode g.K.Keep.means) c.args.engine.now.quiet settled more session.world said (g.H.Host.view c.args.host.now) (g.H.Host.view c.change.new.host)
+          (c.change.ensures.any_moment session said more stands told);
+      sound = damage_gives c.change.result _ ⊥ (λ none. none session stands) c.change.ensures.undamaged;
     })
 
 pub returns-in-Err-clause-commands : goal.returns-in-Err-clause-commands
