@@ -123,11 +123,11 @@ usage=$'usage: ode (init|run|check|dump) FILE | ode gen FILE N\n'
 run init new.db < /dev/null
 said 'init prints ready' 0 $'ready\n'
 
-# the first slot: its gate, the name, format 1, layout 2, generation 1; no page at 33,558,528 yet, the journal begins at 4,096
+# the first slot: its gate, the name, format 2, layout 2, generation 1; no page at 33,558,528 yet, the journal begins at 4,096
 # and its region ends at 16,781,312
 {
     printf '\xA5ODEBASE1'
-    printf '\0\0\0\1\0\0\0\2\0\0\0\0\0\0\0\1'
+    printf '\0\0\0\2\0\0\0\2\0\0\0\0\0\0\0\1'
     printf '\0\0\0\0\2\0\x10\0\0\0\0\0\0\0\0\0'
     printf '\0\0\0\0\0\0\x10\0\0\0\0\0\1\0\x10\0'
 } > slot
@@ -245,15 +245,29 @@ run check areas.db < /dev/null
 said 'a check counts the records of a file of two areas' 0 $'good classes 0 objects 0 activations 0 entries 0\n'
 run dump areas.db < /dev/null
 said 'a dump prints them' 0 $'counters next 1 tx 1 entry 1\nclock none\n'
-run run areas.db < /dev/null
-said 'a file of two areas is opened' 0 ''
 run init areas.db < /dev/null
 said 'init refuses a file of two areas' 3 $'file exists\n'
 is 'the file of two areas is as it was' cmp areas.db areas.before
+run run areas.db < /dev/null
+said 'a file of two areas is opened' 0 ''
+is 'a run makes it one of the second format' [ "$(number areas.db 9 4)" -eq 2 ]
+is 'and one of pages' [ "$(number areas.db 13 4)" -eq 2 ]
+run dump areas.db < /dev/null
+said 'it has the records that it had' 0 $'counters next 1 tx 1 entry 1\nclock none\n'
 example first areas.db
 example again areas.db
-is 'what stands before its journal is as it was' cmp -n 4160 areas.db areas.before
-is 'it stays a file of two areas' [ "$(number areas.db 13 4)" -eq 1 ]
+
+# a file of pages of the first format: a run puts the second into the other slot, and leaves the rest
+{ head -c 12 new.db; printf '\1'; tail -c +14 new.db; } > older.db
+cp older.db older.before
+run check older.db < /dev/null
+said 'a check counts the records of the first format' 0 $'good classes 0 objects 0 activations 0 entries 0\n'
+is 'and leaves the file as it was' cmp older.db older.before
+run run older.db < /dev/null
+said 'a file of the first format is opened' 0 ''
+is 'a run puts the second format into its other slot' [ "$(number older.db 2057 4)" -eq 2 ]
+is 'what stands before that is as it was' cmp -n 2048 older.db older.before
+example first older.db
 is 'a new file is one of pages' [ "$(number first.db 13 4)" -eq 2 ]
 
 # --- files that hold no database
@@ -267,11 +281,11 @@ run run script.db < "$examples/first.ode"
 said 'a file of text holds no database' 3 $'no database\n'
 is 'the file of text is as it was' cmp script.db "$examples/first.ode"
 
-# an open slot with format 2; and a file without its last gate
-{ head -c 12 new.db; printf '\2'; tail -c +14 new.db; } > format.db
+# an open slot with format 3; and a file without its last gate
+{ head -c 12 new.db; printf '\3'; tail -c +14 new.db; } > format.db
 cp format.db format.before
 run run format.db < "$examples/first.ode"
-said 'a newer format is refused' 3 $'newer format 2\n'
+said 'a newer format is refused' 3 $'newer format 3\n'
 is 'the file of a newer format is as it was' cmp format.db format.before
 
 head -c 4177 new.db > cut.db
@@ -455,19 +469,28 @@ damaged() {
     is "the file stays as it was: $1" cmp damaged.db damaged.before
 }
 
-# In memory, where a sync takes no time: a file of pages, and one of two areas.
+# In memory, where a sync takes no time.
 if [ -d /dev/shm ] && [ -w /dev/shm ]; then
     large=$(mktemp -d /dev/shm/ode.XXXXXX)
     trap 'rm -rf "$folder" "$large"' EXIT
     seq 5000 | sed 's/.*/class C& { int n; };/' > classes.ode
     fresh "$large/classes.db"
     classes "$large/classes.db"
-    cp areas.before "$large/areas.db"
-    classes "$large/areas.db"
     is 'the journal of 5,000 transactions left its first region' [ "$(number "$large/classes.db" 2048 1)" -eq 165 ]
 
-    # The length of the first record of the snapshot, one too low, in front of a long journal.
-    cp "$large/areas.db" damaged.db
+    # One that is full to its last byte: what has no room aborts, and all else goes on.
+    fresh "$large/full.db"
+    python3 "$here/checks/full.py" fill > full.ode
+    run run "$large/full.db" < full.ode
+    ended 'a database is filled' 0
+    python3 "$here/checks/full.py" last > full.ode
+    python3 "$here/checks/full.py" text > full.out
+    run run "$large/full.db" < full.ode
+    printed 'a full database' 0 full.out
+    rm "$large/full.db"
+
+    # The length of the first record of a snapshot, one too low.
+    cp areas.before damaged.db
     printf '\x2C' | dd of=damaged.db bs=1 seek=$((4096 + 18)) conv=notrunc 2> errors
     damaged 'a damaged record' 'journal [0-9]*'
 
@@ -596,12 +619,10 @@ if command -v strace > strace.path && strace -o trace true 2> errors; then
     is 'two syncs a transaction, one at the opening, and the writes in their order' in_order 10
     is 'and no checkpoint' syncs 21
     if [ -e "$large/classes.db" ]; then
-        traced "$large/areas.db" -e "$watched" < /dev/null
-        is 'a journal of 5,000 transactions is read in blocks' reads_most 24
-        # A region has 256 blocks. Each page in place is read by the start and by five passes of the opening, at most once by each.
+        # The journal's region has 256 blocks. Each page in place is read by the start and by five passes of the opening, at most once by each.
         traced "$large/classes.db" -e "$watched" < /dev/null
         pages=$((($(stat -c %s "$large/classes.db") - 33558528) / 4096))
-        is 'and one of pages too, beside its pages' reads_most $((256 + 6 * pages + 24))
+        is 'a journal of 5,000 transactions is read in blocks, beside the pages' reads_most $((256 + 6 * pages + 24))
     fi
 
     # 4,096 queued actions, of which 2,048 wait at a time, run in as many transactions, each with its two syncs, and in no more.

@@ -71,6 +71,11 @@ class Writer:
         self.now = max(self.now + self.random.choice([0, 1, 9, 10, 25, -1]), 0)
         return f'clock "1970-01-01T00:{self.now // 60 % 60:02}:{self.now % 60:02}Z";'
 
+    def change(self):
+        """A class gets a field, or two, which it may have."""
+        fields = ["int gain = 3;", "int gain = -1;", 'text note = "x";', "bool mark = true;", "ref Item kin = null;", "int worth = 1;", "int mark = 2;"]
+        return f"change class {self.random.choice(['Item', 'Item', 'Rare', 'Bag'])} {{ {' '.join(self.random.sample(fields, self.random.choice([1, 1, 2])))} }};"
+
     def statement(self):
         item, other, bag, n = self.reference(self.items), self.reference(self.items), self.reference(self.bags), self.number()
         if self.random.random() < 0.2 or not self.items:
@@ -85,12 +90,14 @@ class Writer:
             return f"activate {item}.{trigger};"
         if self.random.random() < 0.1:
             return self.clock()
+        if self.random.random() < 0.06:
+            return self.change()
         if self.random.random() < 0.04:
             return f"deactivate {item}, {self.random.randint(1, self.drawn + 2)};"
         return self.random.choice([
             f"{item}.add({n});", f"{item}.add({n});", f"{item}.twice();", f"{item}.link({other});", f"{item}.both({n});", f"{item}.copy();",
             f"show {item}.sum(3);", f"{item}.check({n});", f"{item}.swap({other});", f"show {item}.worth;", f"{bag}.set({item});", f"{bag}.empty();", f"show {bag}.full();",
-            f"show {item}.n;", f"show {item}.next;", f"show {bag}.item.n;", f"show version({item});", f"newversion {item};", f"newversion {bag};",
+            f"show {item}.n;", f"show {item}.gain;", f"show {item}.mark;", f"show {item}.kin;", f"show {bag}.note;", f"show {item}.next.gain;", f"show {item}.next;", f"show {bag}.item.n;", f"show version({item});", f"newversion {item};", f"newversion {bag};",
             f"delversion {item};", f"pdelete {item};", 'say "x" + "y";', f"show {n};", ";", "begin;", "commit;", "show $;", "say 1 +;",
         ])
 

@@ -1,7 +1,7 @@
 //! What a test does with a file, act by act.
 use crate::images::{
-    Numbers, areas_file, class_file, file_with, filled, first_file, front, next_numbers, put_at,
-    put_queue, three_frames, three_pages, turned, two_slots,
+    Numbers, areas_file, class_file, file_with, filled, first_file, front, in_areas, next_numbers,
+    put_at, put_queue, three_frames, three_pages, turned, two_slots,
 };
 use crate::trial::{
     Case, FIRST, MEMORY, call, equal, holds, new_file, run, run_case, smooth, source, stays,
@@ -59,6 +59,8 @@ pub enum Act {
     Put(usize, &'static [u8]),
     /// A script runs on it and ends with `Ok`.
     Run(&'static str),
+    /// Its records, which one page has, are put into two areas.
+    IntoAreas,
     /// So many entries more wait for the first object's first trigger, and this is the next transaction. The file is one of two
     /// areas.
     Queue(u64, u64),
@@ -154,6 +156,7 @@ fn change(rt: &impl Abort, alloc: Global, file: &mut Vec<u8>, act: &Act) {
         Act::Length(length) => file.resize(*length, 0).expect(rt, MEMORY),
         Act::Put(at, bytes) => put_at(file, *at, bytes),
         Act::Run(script) => *file = left(rt, alloc, file, script),
+        Act::IntoAreas => *file = in_areas(rt, alloc, file),
         Act::Queue(entries, next) => queue(rt, alloc, file, *entries, *next),
         Act::Case(case) => *file = run_case(rt, alloc, file, case).image(rt, alloc),
         Act::Stays(_)
@@ -180,6 +183,7 @@ fn check(rt: &impl Abort, alloc: Global, file: &[u8], act: &Act) {
         | Act::Length(_)
         | Act::Put(_, _)
         | Act::Run(_)
+        | Act::IntoAreas
         | Act::Queue(_, _)
         | Act::Case(_) => {}
     }

@@ -1,6 +1,5 @@
 //! Lines that can't be printed. Runs that the disk, the source or the output cuts are in `pickups`.
-use crate::images::{LAYOUTS, empty_file};
-use crate::trial::{FIRST, Trial, equal, failing, run_by};
+use crate::trial::{FIRST, Trial, equal, failing, new_file, run_by};
 use ode_host::Status;
 use std::alloc::Global;
 use std::process::Abort;
@@ -48,10 +47,8 @@ static REFUSALS: Unprinted = Unprinted {
 
 #[test]
 fn a_refusal_that_cannot_be_printed_is_a_write_fault(rt: HostRuntime) {
-    for layout in &LAYOUTS {
-        let file = empty_file(&rt, rt.alloc(), *layout);
-        each_print_cuts(&rt, rt.alloc(), &file, &REFUSALS);
-    }
+    let file = new_file(&rt, rt.alloc());
+    each_print_cuts(&rt, rt.alloc(), &file, &REFUSALS);
 }
 
 static BAD_FILE: Unprinted = Unprinted {

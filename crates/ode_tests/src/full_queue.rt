@@ -37,8 +37,9 @@ const NUMBERLESS: Case = Case {
 
 // The one that runs makes room for one more. What still waits is a good file, and none of it runs without a number.
 const FULL: &[Act] = &[
-    Act::Make(Made::Areas),
+    Act::Make(Made::New),
     Act::Run(QUEUES),
+    Act::IntoAreas,
     Act::Queue(MOST, (1 << 62) - 1),
     Act::Case(OPENING),
     Act::Stays(NUMBERLESS),
@@ -57,8 +58,9 @@ const REFUSED: Case = Case {
 };
 
 const OVERFULL: &[Act] = &[
-    Act::Make(Made::Areas),
+    Act::Make(Made::New),
     Act::Run(COUNTS),
+    Act::IntoAreas,
     Act::Queue(MOST + 1, 3),
     Act::Stays(REFUSED),
 ];
@@ -69,7 +71,12 @@ fn a_file_with_an_entry_too_much_is_bad(rt: HostRuntime) {
 }
 
 // A full one has as many transactions as entries too, which would take a minute.
-const LONG: &[Act] = &[Act::Make(Made::Areas), Act::Run(COUNTS), Act::Queue(300, 3)];
+const LONG: &[Act] = &[
+    Act::Make(Made::New),
+    Act::Run(COUNTS),
+    Act::IntoAreas,
+    Act::Queue(300, 3),
+];
 
 static BEHIND: Case = Case {
     name: "a run behind a long queue",

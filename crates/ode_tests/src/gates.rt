@@ -1,6 +1,5 @@
 //! A stop within the write of a gate: what the gate reads then says whether the transaction is there.
-use crate::images::{LAYOUTS, empty_file};
-use crate::trial::{Case, calls_of, equal, run_case, run_stopped, stopped_image};
+use crate::trial::{Case, calls_of, equal, new_file, run_case, run_stopped, stopped_image};
 use ode_host::{Status, Torn};
 use std::alloc::Global;
 use std::process::Abort;
@@ -73,7 +72,8 @@ const ACCOUNT: &str =
 begin; pnew Account(owner = \"Ann\"); activate #1.low(100); #1.deposit(150); #1.withdraw(60); commit;
 ";
 
-static ACCOUNT_RUN: Case = Case {
+/// The account's run on a new file.
+pub static ACCOUNT_RUN: Case = Case {
     name: "the account's run",
     script: ACCOUNT,
     text: "class Account\ntx 1 committed\nnew #1\nactive 2\nfired low on #1\nsaid low\nvalue 90\ntx 2 committed\n",
@@ -103,11 +103,9 @@ static WITHDRAWAL: Stopped = Stopped {
 
 #[test]
 fn a_withdrawal_is_there_where_its_gate_is_open(rt: HostRuntime) {
-    for layout in &LAYOUTS {
-        let file = empty_file(&rt, rt.alloc(), *layout);
-        let ran = run_case(&rt, rt.alloc(), &file, &ACCOUNT_RUN);
-        is_there_where_its_gate_is_open(&rt, rt.alloc(), ran.host.image(), &WITHDRAWAL);
-    }
+    let file = new_file(&rt, rt.alloc());
+    let ran = run_case(&rt, rt.alloc(), &file, &ACCOUNT_RUN);
+    is_there_where_its_gate_is_open(&rt, rt.alloc(), ran.host.image(), &WITHDRAWAL);
 }
 
 // The last transaction is the queued action's own.
@@ -136,8 +134,6 @@ begin; pnew P(); activate #1.d(); commit; #1.a();
 
 #[test]
 fn a_queued_action_runs_again_where_its_gate_is_shut(rt: HostRuntime) {
-    for layout in &LAYOUTS {
-        let file = empty_file(&rt, rt.alloc(), *layout);
-        is_there_where_its_gate_is_open(&rt, rt.alloc(), &file, &ENTRY);
-    }
+    let file = new_file(&rt, rt.alloc());
+    is_there_where_its_gate_is_open(&rt, rt.alloc(), &file, &ENTRY);
 }

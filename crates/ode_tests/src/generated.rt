@@ -1,5 +1,4 @@
 //! A `gen` that is cut leaves what some first statements of its script make.
-use crate::images::{LAYOUTS, Layout};
 use crate::pickups::{Course, Cut, Part, Step, TEARS, course_of, goes_on};
 use crate::trial::{MEMORY, call, equal, holds, source};
 use ode_host::{Status, Torn};
@@ -80,14 +79,12 @@ fn stops_of_course(rt: &impl Abort, alloc: Global, course: &Course) {
 
 #[test]
 fn a_gen_that_is_stopped_anywhere_leaves_first_steps(rt: HostRuntime) {
-    for layout in &LAYOUTS {
-        stops_of_course(&rt, rt.alloc(), &course_of(&rt, rt.alloc(), MADE, *layout));
-    }
+    stops_of_course(&rt, rt.alloc(), &course_of(&rt, rt.alloc(), MADE));
 }
 
 #[test]
 fn a_gen_whose_disk_or_output_fails_anywhere_leaves_first_steps(rt: HostRuntime) {
-    let course = course_of(&rt, rt.alloc(), MADE, Layout::Pages);
+    let course = course_of(&rt, rt.alloc(), MADE);
     let calls = cuts(&rt, rt.alloc(), &course, Part::Host, Torn::Whole);
     let prints = cuts(&rt, rt.alloc(), &course, Part::Output, Torn::Whole);
     equal(&rt, prints, 1, "the print");

@@ -3,18 +3,6 @@ use crate::trial::{MEMORY, bytes_of, new_file};
 use std::alloc::Global;
 use std::process::Abort;
 
-/// A layout of files.
-#[derive(Clone, Copy, Debug, PartialEq)]
-pub enum Layout {
-    /// Layout 1: a snapshot and a journal in two areas, as `init` made it once.
-    Areas,
-    /// Layout 2: pages and a journal of their images, as `init` makes it.
-    Pages,
-}
-
-/// All layouts.
-pub const LAYOUTS: [Layout; 2] = [Layout::Areas, Layout::Pages];
-
 /// The numbers that come next.
 #[derive(Clone, Copy)]
 pub struct Numbers {
@@ -178,12 +166,41 @@ pub fn areas_file(rt: &impl Abort, alloc: Global) -> Vec<u8> {
     file_of(rt, alloc, &body_of(rt, alloc, &[counters]))
 }
 
-/// An empty database of this layout.
-pub fn empty_file(rt: &impl Abort, alloc: Global, layout: Layout) -> Vec<u8> {
-    match layout {
-        Layout::Areas => areas_file(rt, alloc),
-        Layout::Pages => new_file(rt, alloc),
+// The number in the four bytes at a place.
+fn number_at(image: &[u8], at: usize) -> usize {
+    let mut number = 0usize;
+    for byte in image.get(at..at.saturating_add(4)).unwrap_or(&[]) {
+        number = number
+            .saturating_mul(256)
+            .saturating_add(usize::from(*byte));
     }
+    number
+}
+
+// Where the payload of the last frame of a journal begins and ends, which begins at this gate.
+fn last_payload(image: &[u8], gate: usize) -> (usize, usize) {
+    let mut found = (gate, gate);
+    let mut at = gate;
+    for _ in 0..image.len() {
+        if image.get(at).copied() == Some(0xA5) {
+            let begins = at.saturating_add(5);
+            at = begins.saturating_add(number_at(image, at.saturating_add(1)));
+            found = (begins, at);
+        }
+    }
+    found
+}
+
+// How many bytes of a payload of one page stand before the page's records.
+const PAGE_HEAD: usize = 12;
+
+/// A file of two areas whose snapshot has the records of a file of pages, all of which stand in the page of its last frame.
+pub fn in_areas(rt: &impl Abort, alloc: Global, image: &[u8]) -> Vec<u8> {
+    let (begins, ends) = last_payload(image, 4096);
+    let records = image
+        .get(begins.saturating_add(PAGE_HEAD)..ends)
+        .unwrap_or(&[]);
+    file_of(rt, alloc, records)
 }
 
 // The text of the first script's class.

@@ -27,6 +27,8 @@ mod limits;
 #[cfg(test)]
 mod long;
 #[cfg(test)]
+mod migrated;
+#[cfg(test)]
 mod new_files;
 #[cfg(test)]
 mod pickups;

@@ -5,9 +5,9 @@ use ode_host::Status;
 use std::alloc::Global;
 use std::process::Abort;
 
-// The first slot: its gate, the name, format 1, layout 2 and generation 1; the pages stand at 33,558,528, and there is none;
+// The first slot: its gate, the name, format 2, layout 2 and generation 1; the pages stand at 33,558,528, and there is none;
 // the journal begins at 4,096, and its region ends at 16,781,312.
-const SLOT: &[u8] = b"\xA5ODEBASE1\0\0\0\x01\0\0\0\x02\0\0\0\0\0\0\0\x01\
+const SLOT: &[u8] = b"\xA5ODEBASE1\0\0\0\x02\0\0\0\x02\0\0\0\0\0\0\0\x01\
     \0\0\0\0\x02\0\x10\0\0\0\0\0\0\0\0\0\
     \0\0\0\0\0\0\x10\0\0\0\0\0\x01\0\x10\0";
 

@@ -1,8 +1,7 @@
 //! A run that is cut is picked up by the next one.
-use crate::images::{LAYOUTS, Layout, empty_file};
 use crate::trial::{
-    Case, MEMORY, Trial, call, calls_of, equal, failing, holds, init, run, run_case, source,
-    stopping,
+    Case, MEMORY, Trial, call, calls_of, equal, failing, holds, init, new_file, run, run_case,
+    source, stopping,
 };
 use ode_host::{Plan, Status, Torn};
 use std::alloc::Global;
@@ -106,10 +105,10 @@ pub struct Course {
     whole: Vec<u8>,
 }
 
-/// Steps that print what they say in a whole run on an empty database of this layout.
-pub fn course_of(rt: &impl Abort, alloc: Global, steps: &'static [Step], layout: Layout) -> Course {
+/// Steps that print what they say in a whole run on a new file.
+pub fn course_of(rt: &impl Abort, alloc: Global, steps: &'static [Step]) -> Course {
     let Joined { script, text } = join(rt, alloc, steps);
-    let file = empty_file(rt, alloc, layout);
+    let file = new_file(rt, alloc);
     let case = Case {
         name: "a whole run",
         script: script.as_str(),
@@ -264,11 +263,9 @@ fn stops_of_course(rt: &impl Abort, alloc: Global, course: &Course) {
     }
 }
 
-// However a run of these steps is stopped, on a file of either layout, it is picked up.
+// However a run of these steps is stopped, it is picked up.
 fn stops_are_picked_up(rt: &impl Abort, alloc: Global, steps: &'static [Step]) {
-    for layout in &LAYOUTS {
-        stops_of_course(rt, alloc, &course_of(rt, alloc, steps, *layout));
-    }
+    stops_of_course(rt, alloc, &course_of(rt, alloc, steps));
 }
 
 #[test]
@@ -302,15 +299,13 @@ fn faults_of_course(rt: &impl Abort, alloc: Global, course: &Course) {
 
 #[test]
 fn a_run_whose_disk_or_output_fails_anywhere_is_picked_up(rt: HostRuntime) {
-    for layout in &LAYOUTS {
-        let course = course_of(&rt, rt.alloc(), TRANSACTIONS, *layout);
-        faults_of_course(&rt, rt.alloc(), &course);
-    }
+    let course = course_of(&rt, rt.alloc(), TRANSACTIONS);
+    faults_of_course(&rt, rt.alloc(), &course);
 }
 
 #[test]
 fn a_run_whose_script_fails_anywhere_is_picked_up(rt: HostRuntime) {
-    let course = course_of(&rt, rt.alloc(), TRANSACTIONS, Layout::Pages);
+    let course = course_of(&rt, rt.alloc(), TRANSACTIONS);
     let reads = are_picked_up(&rt, rt.alloc(), &course, Part::Script, Torn::Nothing, 40);
     holds(
         &rt,

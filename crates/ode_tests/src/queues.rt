@@ -1,6 +1,6 @@
 //! A stop on the way through the queue.
-use crate::images::{LAYOUTS, Layout, empty_file};
-use crate::trial::{Case, MEMORY, Trial, calls_of, holds, run, run_case, run_stopped};
+use crate::images::in_areas;
+use crate::trial::{Case, MEMORY, Trial, calls_of, holds, new_file, run, run_case, run_stopped};
 use ode_host::{Status, Torn};
 use std::alloc::Global;
 use std::process::Abort;
@@ -123,18 +123,16 @@ fn is_always_drained(
 
 #[test]
 fn each_entry_runs_once_wherever_the_run_is_stopped(rt: HostRuntime) {
-    for layout in &LAYOUTS {
-        let file = empty_file(&rt, rt.alloc(), *layout);
-        is_always_drained(&rt, rt.alloc(), &file, &THREE, 0, 30);
-    }
+    let file = new_file(&rt, rt.alloc());
+    is_always_drained(&rt, rt.alloc(), &file, &THREE, 0, 30);
 }
 
 // Each of the three makes five calls. In front of them is the print of the transaction that queues them.
 const PRINT_AND_BEHIND: u64 = 16;
 
-// The file of this layout where the three firings wait.
-fn waiting_file(rt: &impl Abort, alloc: Global, layout: Layout) -> Vec<u8> {
-    let file = empty_file(rt, alloc, layout);
+// A file where the three firings wait.
+fn waiting_file(rt: &impl Abort, alloc: Global) -> Vec<u8> {
+    let file = new_file(rt, alloc);
     let calls = calls_of(rt, alloc, &file, THREE.script);
     let at = calls.saturating_sub(PRINT_AND_BEHIND);
     run_stopped(rt, alloc, &file, THREE.script, at, Torn::Whole).after_stop(rt, alloc)
@@ -142,17 +140,25 @@ fn waiting_file(rt: &impl Abort, alloc: Global, layout: Layout) -> Vec<u8> {
 
 #[test]
 fn each_entry_runs_once_wherever_the_opening_is_stopped(rt: HostRuntime) {
-    for layout in &LAYOUTS {
-        let file = waiting_file(&rt, rt.alloc(), *layout);
-        is_always_drained(&rt, rt.alloc(), &file, &WAITING, 0, 16);
+    let file = waiting_file(&rt, rt.alloc());
+    is_always_drained(&rt, rt.alloc(), &file, &WAITING, 0, 16);
+}
+
+// The opening of a file of two areas makes it one of pages first, and has drained nothing before that.
+const BEFORE: u64 = 16;
+
+#[test]
+fn each_entry_of_two_areas_runs_once_wherever_the_opening_is_stopped(rt: HostRuntime) {
+    let file = waiting_file(&rt, rt.alloc());
+    let areas = in_areas(&rt, rt.alloc(), &file);
+    for at in 0..BEFORE {
+        is_drained(&rt, rt.alloc(), &areas, &WAITING, at, Torn::Whole);
     }
 }
 
 // Stops in the last four of 19 transactions, each of which makes five calls behind the sync of the opening.
 #[test]
 fn generations_go_on_behind_a_stop(rt: HostRuntime) {
-    for layout in &LAYOUTS {
-        let file = empty_file(&rt, rt.alloc(), *layout);
-        is_always_drained(&rt, rt.alloc(), &file, &CHAIN, 76, 96);
-    }
+    let file = new_file(&rt, rt.alloc());
+    is_always_drained(&rt, rt.alloc(), &file, &CHAIN, 76, 96);
 }

@@ -13,7 +13,7 @@ const ACCOUNT: &str =
 begin; pnew Account(); activate #1.low(100); #1.deposit(150); commit;
 ";
 
-const AREAS_FILE: &[Act] = &[Act::Make(Made::Areas), Act::Run(ACCOUNT)];
+const AREAS_FILE: &[Act] = &[Act::Make(Made::New), Act::Run(ACCOUNT), Act::IntoAreas];
 
 const PAGES_FILE: &[Act] = &[Act::Make(Made::New), Act::Run(ACCOUNT)];
 

@@ -68,8 +68,9 @@ const NUMBERLESS: Case = Case {
 };
 
 const LAST: &[Act] = &[
-    Act::Make(Made::Areas),
+    Act::Make(Made::New),
     Act::Run(COUNTS),
+    Act::IntoAreas,
     Act::Queue(0, (1 << 62) - 2),
     Act::Case(NUMBERS),
     Act::Stays(NUMBERLESS),
