@@ -11,7 +11,7 @@ use Rattle.ode_value.specs.Changing.{added_by}
 use Rattle.ode_types.specs.Answers.{Answers, Leaves}
 use Rattle.ode_types.specs.Checks.{Check, ◌>>=◌, ◌>>◌, found, through}
 use Rattle.ode_types.specs.declared.stop.CheckStop.{CheckStop}
-use Rattle.ode_types.proofs.TypingLaws.{stops_leaving, stops_left}
+use Rattle.ode_types.proofs.TypingLaws.{stops_leaving}
 use Rattle.ode_evolve.specs.Evolving.{change_class, declares_next, knows_field, place_named}
 
 module _ (decls : List ClassDecl) (added : List Added) (c : Change) (place : ℕ) (at_place : place_named decls c.class ≡ Some place) where
