@@ -35,7 +35,7 @@ use Rattle.ode_types.specs.Checked.{AreChecked}
 use Rattle.ode_types.specs.declared.running.Running.{Running}
 use Rattle.ode_value.specs.Acts.{Aborted, Done}
 use Rattle.ode_value.specs.Denoting as machine
-use Rattle.ode_value.specs.Denoting.{object_at, object_numbered}
+use Rattle.ode_value.specs.Denoting.{object_at}
 use Rattle.ode_value.specs.Firings.{Place, arises, both_lists, whole_list}
 use Rattle.ode_value.specs.GoodWorlds.{RiseFrom}
 use Rattle.ode_value.specs.Limits.{change_limit}

@@ -31,7 +31,7 @@ use Rattle.ode_value.specs.Symbols.{Alphabet}
 use Rattle.ode_value.specs.Tables.{Table}
 use Rattle.ode_value.specs.Transactions.{Firing, with_bones}
 use Rattle.ode_value.specs.Worlds as worlds
-use Rattle.ode_value.specs.Worlds.{Bones, kept_at, with_object}
+use Rattle.ode_value.specs.Worlds.{with_object}
 use Rattle.ode_value.specs.declared.class.Class.{Class}
 use Rattle.ode_value.specs.declared.event.Kind.{Kind}
 use Rattle.ode_value.specs.declared.event.Point.{Point}

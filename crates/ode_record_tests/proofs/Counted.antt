@@ -1,6 +1,5 @@
 -- A record that keeps its numbers and lengths has a spelling.
 use Rattle.std.proofs.Common.{ℕ, List}
-use Rattle.ode_value.specs.declared.value.Value.{Value}
 use Rattle.ode_codec.specs.Rules.{IsCounted, IsKept}
 use Rattle.ode_codec.specs.declared.record.Record.{Record}
 use Rattle.ode_codec.specs.declared.record.Record.TheVariants as of

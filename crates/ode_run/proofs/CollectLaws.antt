@@ -13,7 +13,7 @@ use Rattle.ode_run.specs.Collecting.{Gathers}
 use Rattle.ode_run.specs.Knowing.{beside}
 use Rattle.ode_states.specs.declared.fired.Fired.{Fired}
 use Rattle.ode_value.specs.Changes.{key_count}
-use Rattle.ode_value.specs.Acts.{Deed, Outcome, Done, does, prints}
+use Rattle.ode_value.specs.Acts.{Deed, Outcome, Done, does}
 use Rattle.ode_value.specs.Limits.{change_limit, generation_limit, number_limit, queue_limit}
 use Rattle.ode_value.specs.Posting.{collects, dropped_text, has_room, waiting, with_entry}
 use Rattle.ode_value.specs.Settling.{says}

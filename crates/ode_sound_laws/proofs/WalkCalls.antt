@@ -18,7 +18,7 @@ use Rattle.ode_value.specs.declared.value.Value.TheVariants as value
 use Rattle.ode_value.specs.Acts.{Done, Aborted, Act, Deed, go_on, ◌>>=◌, ◌>>◌, gives, each, sees, found, finds, valued}
 use Rattle.ode_value.specs.Changes.{object, class_of, is_live, lives}
 use Rattle.ode_value.specs.Classes as machine
-use Rattle.ode_value.specs.Classes.{Trigger, is_a, method_named, trigger_named, initial_triggers, triggers_of, default_of}
+use Rattle.ode_value.specs.Classes.{is_a, method_named, default_of}
 use Rattle.ode_value.specs.Constraints.{judges, tests, tests_hard, tests_version, tests_soft}
 use Rattle.ode_value.specs.Denoting.{object_at, object_of, denotes, denoted}
 use Rattle.ode_value.specs.Expressions.{stands}

@@ -1,9 +1,8 @@
 -- Bodies, events and classes that are typed stay so behind one more class.
 use Rattle.std.proofs.Common.{◌≡◌, ◌≤◌, ◌<◌, ℕ, ◌+◌, List, [], ◌∷◌, ◌++◌, length, map, Bool, true, false, Option, Some, None, refl, ap, sym, ◌∙◌, subst}
 use Rattle.std.specs.Prelude.{◌==◌, ◌&&◌, not, is_some, slice_get}
-use Rattle.std.specs.List.{AllByRecursion, list_all, list_any}
+use Rattle.std.specs.List.{AllByRecursion, list_any}
 use Rattle.std.specs.Option.{option_and_then, option_map, option_map_or}
-use Rattle.ode_value.specs.declared.binding.Param.{Param}
 use Rattle.ode_value.specs.declared.binding.Var.{Var}
 use Rattle.ode_value.specs.declared.binding.Var.TheVariants as var
 use Rattle.ode_value.specs.declared.class.Class.{Class}

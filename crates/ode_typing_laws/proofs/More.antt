@@ -1,5 +1,5 @@
 -- What is typed stays typed behind one more class.
-use Rattle.std.proofs.Common.{◌≡◌, ◌≤◌, ◌<◌, ℕ, ◌+◌, List, [], ◌∷◌, ◌++◌, length, map, reverse, Bool, true, false, cond, Option, Some, None, refl, ap, sym, ◌∙◌, subst, arith}
+use Rattle.std.proofs.Common.{◌≡◌, ◌≤◌, ◌<◌, ℕ, ◌+◌, List, [], ◌∷◌, ◌++◌, map, reverse, Bool, true, false, cond, Option, Some, None, refl, ap, sym, ◌∙◌, subst, arith}
 use Rattle.std.specs.Prelude.{◌&&◌, ◌==◌, not, is_none, is_some, slice_get}
 use Rattle.std.specs.List.{AllByRecursion, find, list_all, list_any}
 use Rattle.std.specs.Option.{option_and_then, option_map, option_map_or, option_or, unwrap_or}
@@ -8,7 +8,6 @@ use Rattle.std.proofs.lemmas.List.{reverse-append}
 use Rattle.std.proofs.lemmas.List.Folds.{find-append}
 use Rattle.std.proofs.lemmas.Bool.Decides.{Decides-eqb}
 use Rattle.ode_value.specs.declared.binding.Param.{Param}
-use Rattle.ode_value.specs.declared.binding.Var.{Var}
 use Rattle.ode_value.specs.declared.binding.Var.TheVariants as var
 use Rattle.ode_value.specs.declared.class.Class.{Class}
 use Rattle.ode_value.specs.declared.class.Field.{Field}
@@ -24,10 +23,10 @@ use Rattle.ode_value.specs.declared.value.Ref.{Ref}
 use Rattle.ode_value.specs.declared.value.Value.{Value}
 use Rattle.ode_value.specs.declared.value.Value.TheVariants as value
 use Rattle.ode_value.specs.Same.{same_ref}
-use Rattle.ode_types.specs.Families.{ancestors_of, class_named, class_numbered, field_named, is_a, line_of, method_named, trigger_named, upward}
+use Rattle.ode_types.specs.Families.{class_named, class_numbered, field_named, is_a, line_of, method_named, trigger_named, upward}
 use Rattle.ode_types.specs.Kept.{Setting, Sorting, are_fit, field_sort, is_fit, is_ref, is_right, is_set, receiver_class, right_sort, sort_in, sorting_of}
 use Rattle.ode_types.specs.Sorts.{binary_sort, class_of, fits, inherits, is_reference, unary_sort}
-use Rattle.ode_types.specs.Typing.{literal_class, literal_sort, value_sort, where_so}
+use Rattle.ode_types.specs.Typing.{literal_sort, value_sort, where_so}
 
 -- ---- what is found stays found, and what holds still holds
 

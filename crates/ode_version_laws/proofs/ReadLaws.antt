@@ -18,7 +18,7 @@ use Rattle.ode_objects.specs.declared.tracked.Tracked.{Tracked}
 use Rattle.ode_overlay.specs.Answers.{Answer, ◌>>=◌, from_records}
 use Rattle.ode_overlay.specs.Layers.{Layer, tracked_at}
 use Rattle.ode_overlay.specs.Reading as seen
-use Rattle.ode_overlay.specs.Reading.{ReadsAs, head_at, head_now, not_null, object, or_else, read, read_at, read_below, read_now, shown, sound}
+use Rattle.ode_overlay.specs.Reading.{ReadsAs, head_at, object, or_else, read, read_at, read_below, read_now, shown, sound}
 use Rattle.ode_overlay.specs.declared.error.OverlayError.TheVariants as error
 use Rattle.ode_overlay_laws.proofs.FollowingLaws.{live_at}
 use Rattle.ode_overlay_laws.specs.Standing.{IsIn, Stands, object_as, version_as}

@@ -1,7 +1,7 @@
 use Rattle.std.proofs.Common.{◌≡◌, sym, subst, ap, refl, ◌∙◌}
 use Rattle.std.specs.Prelude.{cond, map, Bool, List, Ok, Some}
 use Rattle.std.specs.List.{filter}
-use Rattle.ode_arising_laws.specs.Arising.{firing_by, live_in}
+use Rattle.ode_arising_laws.specs.Arising.{live_in}
 use Rattle.ode_interpreter.specs.Seen.{firing}
 use Rattle.ode_overlay.specs.Changing.{put_acts}
 use Rattle.ode_overlay.specs.Layers.{Layer}
