@@ -10,4 +10,4 @@ mod triggers;
 
 pub use constraints::Constraints;
 pub use laws::{fit_activations_have_tables, lookups_agree};
-pub use program::Program;
+pub use program::{Program, inherits};

@@ -85,6 +85,13 @@ fn has_name(line: &mut Line, name: &Name) -> bool
     false
 }
 
+/// Whether the class of a number has a name, or inherits from the class that has it.
+pub fn inherits(classes: &Classes, class: u32, name: &Name) -> bool
+    ensures { (declared : Items Declared) → checked declared ≡ classes.now → result ≡ machine.is_a declared class name.now }
+{
+    has_name(&mut Line::new(classes, class), name)
+}
+
 // The trigger at a place of a class, where the class is there.
 fn own_trigger(class: Option<&Class>, place: u16) -> Option<&TriggerDecl>
     ensures { option_copied result ≡ option_and_then (λ (c : Checked). slice_get c.triggers place) (option_copied class.entry) }
@@ -159,7 +166,7 @@ impl<'a> Program<'a> {
     pub fn is_a(&self, class: u32, name: &Name) -> bool
         ensures { (classes : Items Declared) → checked classes ≡ self.now.classes → result ≡ machine.is_a classes class name.now }
     {
-        has_name(&mut Line::new(self.classes, class), name)
+        inherits(self.classes, class, name)
     }
 
     /// The nearest method of a name, by the line of a class.

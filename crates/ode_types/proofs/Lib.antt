@@ -20,3 +20,4 @@ pub mod StatementLaws
 pub mod StaticLaws
 pub mod TurnLaws
 pub mod TypingLaws
+pub mod VariableLaws

@@ -1,7 +1,7 @@
 -- Lines of ancestors among numbered classes.
 use Rattle.std.proofs.Common.{◌≡◌, ℕ, zero, suc, ◌+◌, List, [], ◌∷◌, ◌++◌, length, map, reverse, Bool, true, false, cond, Some, None, Option, refl, ap, sym, ◌∙◌, ◌<◌, ◌≤◌, arith, take}
 use Rattle.std.proofs.lemmas.Bool.Decides.{nat_tests}
-use Rattle.std.proofs.lemmas.List.{reverse-append}
+use Rattle.std.proofs.lemmas.List.{append-nil, reverse-append}
 use Rattle.std.proofs.lemmas.List.Folds.{find-append}
 use Rattle.std.specs.Prelude.{◌==◌}
 use Rattle.std.specs.List.{slice_get, range_with_len, find}
@@ -14,6 +14,10 @@ use Rattle.ode_types.specs.Lines.{headed}
 -- one among some classes, and else the one behind them
 pub found_behind : (p : Class → Bool) (xs ys : List Class) → find p (xs ++ ys) ≡ option_or (find p xs) (find p ys)
 found_behind p xs ys = find-append p xs ys
+
+-- declared classes alone
+pub nothing_behind : (xs : List Class) → xs ++ [] ≡ xs
+nothing_behind xs = append-nil xs
 
 -- the number of the class at a place
 number_at : (a : ℕ) (xs : List Class) → map (λ (c : Class). c.number) xs ≡ range_with_len a (length xs) → (k : ℕ) (c : Class) → slice_get xs k ≡ Some c → c.number ≡ a + k

@@ -2,6 +2,7 @@ pub mod Answers
 pub mod Bodies
 pub mod Checked
 pub mod Checks
+pub mod Comparing
 pub mod Declaring
 pub mod Events
 pub mod Families
@@ -15,3 +16,4 @@ pub mod Scopes
 pub mod Sorts
 pub mod Static
 pub mod Typing
+pub mod Variables

@@ -188,7 +188,8 @@ fn needs_value(
     }
 }
 
-fn has_name(params: &[Param], name: &Name) -> bool
+/// Whether a parameter of this name is among these.
+pub(crate) fn has_name(params: &[Param], name: &Name) -> bool
     ensures { result ≡ list_any (λ (p : Parameter). bytes_eq p.name name.now) params.now }
 {
     params.iter().any(|param| param.name.same(name))
@@ -212,8 +213,8 @@ fn needs_param(
     Ok(())
 }
 
-// Parameters differ, and their classes are known.
-fn needs_params(
+/// Parameters differ, and their classes are known.
+pub(crate) fn needs_params(
     alloc: Global,
     known: &Classes,
     decl: &ClassDecl,

@@ -1,9 +1,10 @@
 //! Where a tree stands, and the parameters and locals that are seen there.
-ghost use Rattle.std.specs.Prelude.{◌≡◌, true, ◌+◌, ◌≤◌, ◌<◌, nat_lt, ◌++◌, ◌∷◌, [], IfOk, OnOk, length, take};
+ghost use Rattle.std.specs.Prelude.{◌≡◌, false, true, ◌+◌, ◌≤◌, ◌<◌, nat_lt, ◌++◌, ◌∷◌, [], IfOk, OnOk, length, take};
 ghost use Rattle.std.specs.Option.{option_copied};
 ghost use Rattle.ode_types.specs.Limits.{in_slots, slot_limit};
 ghost use Rattle.ode_types.specs.Scopes.{local_named, meaning, own_meaning, scope_of};
 
+use crate::classes::Classes;
 use crate::families::field_named;
 use crate::limits::{SLOT_LIMIT, in_slots};
 use crate::line::Known;
@@ -133,6 +134,32 @@ impl Locals {
 }
 
 impl<'a> Place<'a> {
+    /// A place among the classes that are declared.
+    #[tactic(auto, using(crate::proofs::LineLaws::nothing_behind))]
+    pub(crate) fn among(
+        known: &'a Classes,
+        of: Option<&'a Class>,
+        name: &'a Name,
+        returned: &'a Sort,
+        literals: &'a [(Ref, u32)],
+    ) -> Place<'a>
+        ensures known { result.known ≡ known.now }
+        ensures class { option_copied result.class ≡ option_copied of.entry }
+        ensures member { result.member.now ≡ name.now }
+        ensures result { result.result.now ≡ returned.now }
+        ensures plain { result.is_plain ≡ false }
+        ensures literals { result.literals.now ≡ literals.now }
+    {
+        Place {
+            known: Known::new(known, None),
+            class: of,
+            member: name,
+            result: returned,
+            is_plain: false,
+            literals,
+        }
+    }
+
     /// The same place, where expressions are plain.
     pub(crate) fn plain(&self) -> Place<'a>
         ensures { result ≡ record self.now { is_plain = true } }

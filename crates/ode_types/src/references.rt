@@ -1,8 +1,8 @@
-//! The reference literals of a statement.
+//! The reference literals of a statement, and of a query.
 ghost use Rattle.std.specs.Prelude.{◌≡◌, ◌++◌, IfOk, OnOk};
 ghost use Rattle.std.specs.List.{flat_map};
 ghost use Rattle.std.specs.Option.{option_map_or};
-ghost use Rattle.ode_types.specs.Literals.{all_refs, expr_refs, literals, optional_refs, rhs_refs, setting_refs, value_refs};
+ghost use Rattle.ode_types.specs.Literals.{all_refs, expr_refs, literals, optional_refs, query_literals, rhs_refs, setting_refs, value_refs};
 
 use ode_value::{Expr, List, Name, Ref, Rhs, Stmt, Value};
 use std::alloc::{AllocError, Global};
@@ -13,6 +13,22 @@ pub fn literals(alloc: Global, s: &Stmt) -> Result<List<Ref>, AllocError>
 {
     let mut refs = List::new(alloc);
     add_of_stmt(&mut refs, s)?;
+    Ok(refs)
+}
+
+/// The reference literals of a query's expressions, in the order of the text.
+pub fn query_literals(
+    alloc: Global,
+    test: &Option<Expr>,
+    by: &List<Expr>,
+    show: &List<Expr>,
+) -> Result<List<Ref>, AllocError>
+    ensures { IfOk result (λ refs. refs ≡ query_literals test.now by.now show.now) }
+{
+    let mut refs = List::new(alloc);
+    add_of_optional(&mut refs, test)?;
+    add_of_all(&mut refs, by.as_slice())?;
+    add_of_all(&mut refs, show.as_slice())?;
     Ok(refs)
 }
 
