@@ -56,6 +56,8 @@ module _ (p : Terminal → Bool) (is : IsSpecial p) where
   this_none : (place : Place) → p (this_terminal place) ≡ false
   this_none place_of.Script = is.stray
   this_none place_of.Change = is.stray
+  this_none place_of.Query = is.stray
+  this_none place_of.Comparison = is.stray
   this_none place_of.Class = is.leaf
   this_none place_of.Anywhere = is.leaf
 
@@ -63,6 +65,8 @@ module _ (p : Terminal → Bool) (is : IsSpecial p) where
   reference_none place_of.Script = is.leaf
   reference_none place_of.Class = is.stray
   reference_none place_of.Change = is.stray
+  reference_none place_of.Query = is.leaf
+  reference_none place_of.Comparison = is.stray
   reference_none place_of.Anywhere = is.leaf
 
   number_none : (n : ℤ) → p (number_terminal n) ≡ false

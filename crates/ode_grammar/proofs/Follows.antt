@@ -66,6 +66,7 @@ ends_lasting other = ends_scope other
 
 abbrev ends_event_ors : Terminal → Bool
 ends_event_ors terminal.CloseParen = true
+ends_event_ors terminal.Semi = true
 ends_event_ors terminal.Comma = true
 ends_event_ors terminal.Arrow = true
 ends_event_ors other = false
@@ -83,8 +84,25 @@ ends_event_unary terminal.And = true
 ends_event_unary other = ends_event_ands other
 
 abbrev ends_expr : Terminal → Bool
-ends_expr terminal.Semi = true
+ends_expr terminal.By = true
+ends_expr terminal.Show = true
 ends_expr other = ends_event_unary other
+
+abbrev ends_by : Terminal → Bool
+ends_by terminal.Show = true
+ends_by other = false
+
+abbrev ends_such_that : Terminal → Bool
+ends_such_that terminal.By = true
+ends_such_that other = ends_by other
+
+abbrev ends_range : Terminal → Bool
+ends_range terminal.SuchThat = true
+ends_range other = ends_such_that other
+
+abbrev ends_exprs : Terminal → Bool
+ends_exprs terminal.Semi = true
+ends_exprs other = ends_by other
 
 abbrev ends_after_what : Terminal → Bool
 ends_after_what terminal.AndAnd = true
@@ -191,6 +209,12 @@ follow part.ThirteenthParam k = ends_params k
 follow part.FourteenthParam k = ends_params k
 follow part.FifteenthParam k = ends_params k
 follow part.SixteenthParam k = ends_params k
+follow part.SecondRange k = ends_range k
+follow part.ThirdRange k = ends_range k
+follow part.FourthRange k = ends_range k
+follow part.SuchThat k = ends_such_that k
+follow part.By k = ends_by k
+follow part.MoreExprs k = ends_exprs k
 follow part.EventUnary k = ends_event_unary k
 follow part.EventAnds k = ends_event_ands k
 follow part.EventOrs k = ends_event_ors k
@@ -359,15 +383,48 @@ abbrev pub IfRow : (List Item → Type 0) → Option (List Item) → Type 0
 IfRow P None = Unit {0}
 IfRow P (Some row) = P row
 
--- a token has at a part the row that it has as a name, since no event expression begins with one
+-- a token has at a part the row that it has as a name, since no event expression and no part of a query begins with one
 event_after : (t : Terminal) (row : List Item) → row_of part.EventUnary (named t) ≡ Some row → after part.EventUnary t ≡ Some row
 unfolding row_of
+event_after terminal.By row h = absurd (none-some row h)
 event_after terminal.Change row h = absurd (none-some row h)
 event_after terminal.FaAbs row h = absurd (none-some row h)
+event_after terminal.For row h = absurd (none-some row h)
+event_after terminal.In row h = absurd (none-some row h)
 event_after terminal.Pipe row h = absurd (none-some row h)
 event_after terminal.RelPlus row h = absurd (none-some row h)
+event_after terminal.Same row h = absurd (none-some row h)
+event_after terminal.SuchThat row h = absurd (none-some row h)
 event_after other row h = h
+
+such_that_row_after : (t : Terminal) (row : List Item) → row_of part.SuchThat (named t) ≡ Some row → after part.SuchThat t ≡ Some row
+unfolding row_of
+such_that_row_after terminal.By row h = absurd (none-some row h)
+such_that_row_after terminal.Change row h = absurd (none-some row h)
+such_that_row_after terminal.FaAbs row h = absurd (none-some row h)
+such_that_row_after terminal.For row h = absurd (none-some row h)
+such_that_row_after terminal.In row h = absurd (none-some row h)
+such_that_row_after terminal.Pipe row h = absurd (none-some row h)
+such_that_row_after terminal.RelPlus row h = absurd (none-some row h)
+such_that_row_after terminal.Same row h = absurd (none-some row h)
+such_that_row_after terminal.SuchThat row h = absurd (none-some row h)
+such_that_row_after other row h = h
+
+by_row_after : (t : Terminal) (row : List Item) → row_of part.By (named t) ≡ Some row → after part.By t ≡ Some row
+unfolding row_of
+by_row_after terminal.By row h = absurd (none-some row h)
+by_row_after terminal.Change row h = absurd (none-some row h)
+by_row_after terminal.FaAbs row h = absurd (none-some row h)
+by_row_after terminal.For row h = absurd (none-some row h)
+by_row_after terminal.In row h = absurd (none-some row h)
+by_row_after terminal.Pipe row h = absurd (none-some row h)
+by_row_after terminal.RelPlus row h = absurd (none-some row h)
+by_row_after terminal.Same row h = absurd (none-some row h)
+by_row_after terminal.SuchThat row h = absurd (none-some row h)
+by_row_after other row h = h
 
 pub named_after : (p : Part) (t : Terminal) (row : List Item) → row_of p (named t) ≡ Some row → after p t ≡ Some row
 named_after part.EventUnary t row h = event_after t row h
+named_after part.SuchThat t row h = such_that_row_after t row h
+named_after part.By t row h = by_row_after t row h
 named_after other t row h = h

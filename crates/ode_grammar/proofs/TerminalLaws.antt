@@ -14,13 +14,13 @@ terminals =
     terminal.Stray ∷ terminal.OpenBrace ∷ terminal.CloseBrace ∷ terminal.OpenParen ∷ terminal.CloseParen ∷ terminal.Semi ∷
     terminal.Comma ∷ terminal.Dot ∷ terminal.Colon ∷ terminal.Assign ∷ terminal.Arrow ∷ terminal.Not ∷ terminal.Minus ∷
     terminal.Plus ∷ terminal.Times ∷ terminal.Compares ∷ terminal.AndAnd ∷ terminal.OrOr ∷ terminal.Abort ∷ terminal.Activate ∷
-    terminal.After ∷ terminal.And ∷ terminal.Any ∷ terminal.At ∷ terminal.Before ∷ terminal.Begin ∷ terminal.Change ∷ terminal.Choose ∷
+    terminal.After ∷ terminal.And ∷ terminal.Any ∷ terminal.At ∷ terminal.Before ∷ terminal.Begin ∷ terminal.By ∷ terminal.Change ∷ terminal.Choose ∷
     terminal.Class ∷ terminal.Clock ∷ terminal.Commit ∷ terminal.Constraint ∷ terminal.Create ∷ terminal.Deactivate ∷
     terminal.Delete ∷ terminal.DropVersion ∷ terminal.Else ∷ terminal.Event ∷ terminal.Every ∷ terminal.Fa ∷ terminal.FaAbs ∷
-    terminal.First ∷ terminal.If ∷ terminal.Initial ∷ terminal.Lasting ∷ terminal.Let ∷ terminal.Mode ∷ terminal.NewVersion ∷
+    terminal.First ∷ terminal.For ∷ terminal.If ∷ terminal.In ∷ terminal.Initial ∷ terminal.Lasting ∷ terminal.Let ∷ terminal.Mode ∷ terminal.NewVersion ∷
     terminal.Or ∷ terminal.PDelete ∷ terminal.Pipe ∷ terminal.PNew ∷ terminal.Prior ∷ terminal.Ref ∷ terminal.Relative ∷
-    terminal.RelPlus ∷ terminal.Return ∷ terminal.Say ∷ terminal.Scope ∷ terminal.Sequence ∷ terminal.Show ∷ terminal.Soft ∷
-    terminal.SortWord ∷ terminal.TAbort ∷ terminal.TBegin ∷ terminal.TCommit ∷ terminal.TComplete ∷ terminal.Time ∷
+    terminal.RelPlus ∷ terminal.Return ∷ terminal.Same ∷ terminal.Say ∷ terminal.Scope ∷ terminal.Sequence ∷ terminal.Show ∷ terminal.Soft ∷
+    terminal.SortWord ∷ terminal.SuchThat ∷ terminal.TAbort ∷ terminal.TBegin ∷ terminal.TCommit ∷ terminal.TComplete ∷ terminal.Time ∷
     terminal.Trigger ∷ terminal.Version ∷ terminal.Void ∷ []
 
 pub back : (k : Terminal) → get_or terminals (number k) terminal.Leaf ≡ k
@@ -83,10 +83,15 @@ stands_for-trans t j k s h = go (stands_for-either j k h)
 
 -- what is no name is asked for by itself
 named_exactly : (p : Terminal → Bool) → p terminal.Name ≡ false → (t k : Terminal) → named t ≡ k → p k ≡ true → t ≡ k
+named_exactly p f terminal.By k e h = absurd (false≢true (sym f ∙ (ap p e ∙ h)))
 named_exactly p f terminal.Change k e h = absurd (false≢true (sym f ∙ (ap p e ∙ h)))
 named_exactly p f terminal.FaAbs k e h = absurd (false≢true (sym f ∙ (ap p e ∙ h)))
+named_exactly p f terminal.For k e h = absurd (false≢true (sym f ∙ (ap p e ∙ h)))
+named_exactly p f terminal.In k e h = absurd (false≢true (sym f ∙ (ap p e ∙ h)))
 named_exactly p f terminal.Pipe k e h = absurd (false≢true (sym f ∙ (ap p e ∙ h)))
 named_exactly p f terminal.RelPlus k e h = absurd (false≢true (sym f ∙ (ap p e ∙ h)))
+named_exactly p f terminal.Same k e h = absurd (false≢true (sym f ∙ (ap p e ∙ h)))
+named_exactly p f terminal.SuchThat k e h = absurd (false≢true (sym f ∙ (ap p e ∙ h)))
 named_exactly p f other k e h = e
 
 pub stands_for-exactly : (p : Terminal → Bool) → p terminal.Name ≡ false → (t k : Terminal) → stands_for t k ≡ true → p k ≡ true → t ≡ k
@@ -99,4 +104,6 @@ stands_for-exactly p f t k s h = go (stands_for-either t k s)
 -- at a part
 pub stands_at : (p : Part) (t : Terminal) → stands_for t (standing p t) ≡ true
 stands_at part.EventUnary t = stands_for-itself t
+stands_at part.SuchThat t = stands_for-itself t
+stands_at part.By t = stands_for-itself t
 stands_at other t = stands_for-named t (named t) refl

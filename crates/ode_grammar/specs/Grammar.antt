@@ -1,5 +1,5 @@
 -- The grammar: what may stand at each part, by the token that it begins with.
-use Rattle.std.specs.Prelude.{List, [], ◌∷◌, Option, Some, None}
+use Rattle.std.specs.Prelude.{List, [], ◌∷◌, ◌++◌, Option, Some, None}
 use Rattle.ode_grammar.specs.declared.terminal.Terminal.{Terminal}
 use Rattle.ode_grammar.specs.declared.terminal.Terminal.TheVariants as terminal
 use Rattle.ode_grammar.specs.declared.item.Part.{Part}
@@ -15,6 +15,8 @@ use Rattle.ode_grammar.specs.Expressions.{expr_after, unary_after, dots_after, f
 use Rattle.ode_grammar.specs.Events.{event, event_unary_after, event_ands_after, event_ors_after, more_relative_after, more_prior_after, more_sequence_after, mask_after, event_mask_after, kind_after, after_what_after, before_what_after, time_what_after, period_after}
 use Rattle.ode_grammar.specs.Statements.{statement_after, clock_text_after, inners_after, inner_name_after, return_value_after, else_after, chained_after, call_dot_after, sets_after, more_sets_after, rhs_after, script_rhs_after, rhs_dots_after, rhs_dot_after, rhs_name_after}
 use Rattle.ode_grammar.specs.Changes.{additions_after, change, literal_after, negative_after}
+use Rattle.ode_grammar.specs.Comparisons.{comparison}
+use Rattle.ode_grammar.specs.Queries.{by_after, more_exprs_after, more_ranges, query, range, such_that_after}
 use Rattle.ode_grammar.specs.Classes.{class_after, parent_after, members_after, field_or_method_after, more_kinds_after, initial_after, lasting_after, scope_after, mode_after, sort_after, params_after, one_param, more_params}
 
 -- the row of the token at a part
@@ -63,6 +65,12 @@ row_of part.ThirteenthParam k = more_params (one_param (A part.FourteenthParam))
 row_of part.FourteenthParam k = more_params (one_param (A part.FifteenthParam)) k
 row_of part.FifteenthParam k = more_params (one_param (A part.SixteenthParam)) k
 row_of part.SixteenthParam k = more_params (one_param (Token terminal.CloseParen)) k
+row_of part.SecondRange k = more_ranges (range ++ A part.ThirdRange ∷ []) k
+row_of part.ThirdRange k = more_ranges (range ++ A part.FourthRange ∷ []) k
+row_of part.FourthRange k = more_ranges range k
+row_of part.SuchThat k = such_that_after k
+row_of part.By k = by_after k
+row_of part.MoreExprs k = more_exprs_after k
 row_of part.EventUnary k = event_unary_after k
 row_of part.EventAnds k = event_ands_after k
 row_of part.EventOrs k = event_ors_after k
@@ -90,6 +98,8 @@ row_of part.MoreArgs k = more_args_after k
 -- the token as it stands at a part
 abbrev pub standing : Part → Terminal → Terminal
 standing part.EventUnary k = k
+standing part.SuchThat k = k
+standing part.By k = k
 standing other k = named k
 
 -- what follows the token at a part
@@ -107,6 +117,12 @@ skipped part.Initial = Some action.NotInitial
 skipped part.Lasting = Some action.Once
 skipped part.Scope = Some action.Committed
 skipped part.Mode = Some action.Immediate
+skipped part.SecondRange = Some action.Nothing
+skipped part.ThirdRange = Some action.Nothing
+skipped part.FourthRange = Some action.Nothing
+skipped part.SuchThat = Some action.Nothing
+skipped part.By = Some action.Nothing
+skipped part.MoreExprs = Some action.Nothing
 skipped part.EventAnds = Some action.Nothing
 skipped part.EventOrs = Some action.Nothing
 skipped part.Mask = Some action.Unmasked
@@ -119,10 +135,12 @@ skipped part.Ands = Some action.Nothing
 skipped part.Ors = Some action.Nothing
 skipped other = None
 
--- what is read: an expression, an event expression, a class, a change of one, or a statement
+-- what is read: an expression, an event expression, a class, a change of one, a query, a comparison of event expressions, or a statement
 unfoldable pub items_of : Start → List Item
 items_of start.Expr = A part.Expr ∷ []
 items_of start.Event = event
 items_of start.Class = A part.Class ∷ []
 items_of start.Change = change
+items_of start.Query = query
+items_of start.Comparison = comparison
 items_of start.Statement = A part.Statement ∷ []

@@ -5,6 +5,8 @@ pub mod Events
 pub mod Statements
 pub mod Classes
 pub mod Changes
+pub mod Queries
+pub mod Comparisons
 pub mod Grammar
 pub mod Texts
 pub mod Reading

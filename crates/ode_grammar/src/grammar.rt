@@ -8,6 +8,7 @@ use crate::event_rows::*;
 use crate::expression_rows::*;
 use crate::item::Item::{self, Build, Part as A, Token};
 use crate::item::{Action, Part};
+use crate::query_rows::{by_after, more_exprs_after, more_ranges, such_that_after};
 use crate::statement_rows::*;
 use crate::terminal::Terminal;
 
@@ -182,6 +183,44 @@ fn row_of(part: Part, terminal: Terminal) -> Option<&'static [Item]>
             ],
             terminal,
         ),
+        Part::SecondRange => more_ranges(
+            &[
+                Token(Terminal::Name),
+                Token(Terminal::In),
+                Build(Action::DropWord),
+                Token(Terminal::Name),
+                Build(Action::RefSort),
+                Build(Action::Param),
+                A(Part::ThirdRange),
+            ],
+            terminal,
+        ),
+        Part::ThirdRange => more_ranges(
+            &[
+                Token(Terminal::Name),
+                Token(Terminal::In),
+                Build(Action::DropWord),
+                Token(Terminal::Name),
+                Build(Action::RefSort),
+                Build(Action::Param),
+                A(Part::FourthRange),
+            ],
+            terminal,
+        ),
+        Part::FourthRange => more_ranges(
+            &[
+                Token(Terminal::Name),
+                Token(Terminal::In),
+                Build(Action::DropWord),
+                Token(Terminal::Name),
+                Build(Action::RefSort),
+                Build(Action::Param),
+            ],
+            terminal,
+        ),
+        Part::SuchThat => such_that_after(terminal),
+        Part::By => by_after(terminal),
+        Part::MoreExprs => more_exprs_after(terminal),
         Part::EventUnary => event_unary_after(terminal),
         Part::EventAnds => event_ands_after(terminal),
         Part::EventOrs => event_ors_after(terminal),
@@ -213,7 +252,7 @@ fn standing(part: Part, terminal: Terminal) -> Terminal
     ensures { result ≡ standing part terminal }
 {
     match part {
-        Part::EventUnary => terminal,
+        Part::EventUnary | Part::SuchThat | Part::By => terminal,
         _ => terminal.named(),
     }
 }
@@ -235,6 +274,12 @@ pub fn skipped(part: Part) -> Option<Action>
         Part::Inners
         | Part::Members
         | Part::Additions
+        | Part::SecondRange
+        | Part::ThirdRange
+        | Part::FourthRange
+        | Part::SuchThat
+        | Part::By
+        | Part::MoreExprs
         | Part::EventAnds
         | Part::EventOrs
         | Part::EventMask

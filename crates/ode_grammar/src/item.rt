@@ -79,6 +79,16 @@ pub enum Part {
     FourteenthParam,
     FifteenthParam,
     SixteenthParam,
+    /// What follows the first variable of a query and its class: the second one, or nothing. Likewise for the next.
+    SecondRange,
+    ThirdRange,
+    FourthRange,
+    /// `suchthat` and an expression, or nothing.
+    SuchThat,
+    /// `by` and expressions, or nothing.
+    By,
+    /// `,` and an expression, any number of times.
+    MoreExprs,
     /// An event expression without `and` and `or`.
     EventUnary,
     /// `and` and such an expression, any number of times.
@@ -226,6 +236,8 @@ pub enum Action {
     TimeAt,
     TimeEvery,
     Argument,
+    /// A word that isn't reserved, which was kept as a name.
+    DropWord,
 }
 
 /// A step of a row: a token of this class, a part, or an action.

@@ -5,9 +5,11 @@ ghost use Rattle.ode_grammar.specs.Reading.{next, may_stop};
 ghost use Rattle.ode_grammar.specs.Texts.{IsExtent};
 
 use crate::change_rows::change;
+use crate::comparison_rows::comparison;
 use crate::grammar::{after, skipped};
 use crate::item::Item::{self, Part as A};
 use crate::item::Part;
+use crate::query_rows::query;
 use crate::stack::Stack;
 use crate::terminal::Terminal;
 use std::alloc::{AllocError, Global};
@@ -19,6 +21,8 @@ pub enum Start {
     Event,
     Class,
     Change,
+    Query,
+    Comparison,
     Statement,
 }
 
@@ -41,6 +45,8 @@ pub fn items_of(start: Start) -> &'static [Item]
         Start::Event => &[A(Part::EventUnary), A(Part::EventAnds), A(Part::EventOrs)],
         Start::Class => &[A(Part::Class)],
         Start::Change => change(),
+        Start::Query => query(),
+        Start::Comparison => comparison(),
         Start::Statement => &[A(Part::Statement)],
     }
 }

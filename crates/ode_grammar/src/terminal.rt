@@ -48,6 +48,8 @@ pub enum Terminal {
     At,
     Before,
     Begin,
+    /// `by`, which isn't reserved: a name but where a part of a query begins. Likewise `for`, `in` and `suchthat`.
+    By,
     /// `change`, which isn't reserved: a name but where a change of a class begins.
     Change,
     Choose,
@@ -66,7 +68,9 @@ pub enum Terminal {
     /// `faabs`, which isn't reserved: a name but where an event expression begins. Likewise `pipe` and `relplus`.
     FaAbs,
     First,
+    For,
     If,
+    In,
     Initial,
     /// `once` or `perpetual`.
     Lasting,
@@ -83,6 +87,8 @@ pub enum Terminal {
     Relative,
     RelPlus,
     Return,
+    /// `same`, which isn't reserved: a name but where a comparison begins.
+    Same,
     Say,
     /// `committed` or `whole`.
     Scope,
@@ -91,6 +97,7 @@ pub enum Terminal {
     Soft,
     /// `int`, `bool` or `text`.
     SortWord,
+    SuchThat,
     TAbort,
     TBegin,
     TCommit,
@@ -113,8 +120,15 @@ impl Terminal {
         ensures { result ≡ named self }
     {
         match self {
-            Terminal::Change | Terminal::FaAbs | Terminal::Pipe | Terminal::RelPlus =>
-                Terminal::Name,
+            Terminal::By
+            | Terminal::Change
+            | Terminal::FaAbs
+            | Terminal::For
+            | Terminal::In
+            | Terminal::Pipe
+            | Terminal::RelPlus
+            | Terminal::Same
+            | Terminal::SuchThat => Terminal::Name,
             other => other,
         }
     }

@@ -31,6 +31,8 @@ fn start_of(sort: &str) -> Start {
         "event" => Start::Event,
         "class" => Start::Class,
         "change" => Start::Change,
+        "query" => Start::Query,
+        "comparison" => Start::Comparison,
         _ => Start::Statement,
     }
 }
@@ -48,6 +50,8 @@ fn placed(start: Start, text: &[u8], found: &[Token]) -> Place {
         Start::Expr => Place::Anywhere,
         Start::Event | Start::Class => Place::Class,
         Start::Change => Place::Change,
+        Start::Query => Place::Query,
+        Start::Comparison => Place::Comparison,
         Start::Statement => place_of(text, found),
     }
 }
@@ -56,7 +60,7 @@ fn placed(start: Start, text: &[u8], found: &[Token]) -> Place {
 fn judged(alloc: Global, start: Start, text: &[u8], found: &[Token]) -> Result<Answer, Answer> {
     let seen = terminals(alloc, placed(start, text, found), text, found)?;
     let extent = extent_of(alloc, start, seen.as_slice())?;
-    let whole = matches!(start, Start::Class | Start::Change | Start::Statement);
+    let whole = !matches!(start, Start::Expr | Start::Event);
     if !extent.is_text || whole && extent.end < seen.len() {
         return Ok(Answer::Syntax(byte_of(text, found, extent.end)));
     }

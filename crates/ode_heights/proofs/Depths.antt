@@ -44,6 +44,8 @@ start_within start.Expr = lit≤ tt
 start_within start.Event = lit≤ tt
 start_within start.Class = lit≤ tt
 start_within start.Change = lit≤ tt
+start_within start.Query = lit≤ tt
+start_within start.Comparison = lit≤ tt
 start_within start.Statement = lit≤ tt
 
 pub record Starts (s : Start) (items : List Item) (m : Heights) : Type 0 where

@@ -251,6 +251,12 @@ row_low part.FifteenthParam terminal.Comma h = low_refl _
 row_low part.FifteenthParam terminal.CloseParen h = low_refl _
 row_low part.SixteenthParam terminal.Comma h = low_refl _
 row_low part.SixteenthParam terminal.CloseParen h = low_refl _
+row_low part.SecondRange terminal.Comma h = low_refl _
+row_low part.ThirdRange terminal.Comma h = low_refl _
+row_low part.FourthRange terminal.Comma h = low_refl _
+row_low part.SuchThat terminal.SuchThat h = record { shaped = shapes_same h.shaped; plain = raised_number (max (joined h.plain) 1) h.plain (omega arith) }
+row_low part.By terminal.By h = record { shaped = shapes_same h.shaped; plain = raised_number (max (joined h.plain) 1) h.plain (omega arith) }
+row_low part.MoreExprs terminal.Comma h = record { shaped = shapes_same h.shaped; plain = raised_number (max (joined h.plain) 1) h.plain (omega arith) }
 row_low part.EventUnary terminal.Not h = record { shaped = cons_leaf (above 1) h.shaped (record { own = lit≤ tt; pair = lit≤ tt }); plain = numbers_same h.plain }
 row_low part.EventUnary terminal.OpenParen h = record { shaped = cons_leaf (record { own = 2; bare = true }) h.shaped (record { own = lit≤ tt; pair = lit≤ tt }); plain = numbers_same h.plain }
 row_low part.EventUnary terminal.Any h = low_refl _
@@ -346,6 +352,12 @@ skip_low part.Else a h e = let x : action.Absent ≡ a = cc in ap (λ b. risen b
 skip_low part.Parent a h e = let x : action.NoParent ≡ a = cc in ap (λ b. risen b h) x
 skip_low part.Additions a h e = let x : action.Nothing ≡ a = cc in ap (λ b. risen b h) x
 skip_low part.Members a h e = let x : action.Nothing ≡ a = cc in ap (λ b. risen b h) x
+skip_low part.SecondRange a h e = let x : action.Nothing ≡ a = cc in ap (λ b. risen b h) x
+skip_low part.ThirdRange a h e = let x : action.Nothing ≡ a = cc in ap (λ b. risen b h) x
+skip_low part.FourthRange a h e = let x : action.Nothing ≡ a = cc in ap (λ b. risen b h) x
+skip_low part.SuchThat a h e = let x : action.Nothing ≡ a = cc in ap (λ b. risen b h) x
+skip_low part.By a h e = let x : action.Nothing ≡ a = cc in ap (λ b. risen b h) x
+skip_low part.MoreExprs a h e = let x : action.Nothing ≡ a = cc in ap (λ b. risen b h) x
 skip_low part.Initial a h e = let x : action.NotInitial ≡ a = cc in ap (λ b. risen b h) x
 skip_low part.Lasting a h e = let x : action.Once ≡ a = cc in ap (λ b. risen b h) x
 skip_low part.Scope a h e = let x : action.Committed ≡ a = cc in ap (λ b. risen b h) x

@@ -384,6 +384,7 @@ unfolding built_right_side
 right_clean action.Arguments v h = on_args h ([] ∷ v.args) (tt, h.args_are)
 right_clean action.Argument v h =
     on_args (without_expr v h) ((top [] v.args ++ tree v.exprs ∷ []) ∷ rest v.args) (all-append CleanExpr (top [] v.args) (tree v.exprs ∷ []) (top_args v h) (top_expr v h, tt), rest_args v h)
+right_clean action.DropWord v h = h
 right_clean action.Sets v h = on_sets h ([] ∷ v.sets) (tt, h.sets_are)
 right_clean action.AddSet v h =
     on_sets (without_expr v h) _ (all-append CleanSet (top [] v.sets) (_ ∷ []) (top_sets v h) (top_expr v h, tt), all-rest (AllByRecursion CleanSet) v.sets h.sets_are)

@@ -169,6 +169,7 @@ named_right_side : (a : Action) (v : Trees) → IsNamed v → IsNamed (built_rig
 unfolding built_right_side
 named_right_side action.Arguments v h = (h.0, h.1, h.2)
 named_right_side action.Argument v h = (h.0, h.1, h.2)
+named_right_side action.DropWord v h = (all_rest IsFree v.names h.0, h.1, h.2)
 named_right_side action.Sets v h = (h.0, h.1, h.2)
 named_right_side action.AddSet v h = (all_rest IsFree v.names h.0, h.1, h.2)
 named_right_side action.Call v h = (all_rest IsFree v.names h.0, h.1, h.2)

@@ -16,11 +16,11 @@ use Rattle.ode_grammar.proofs.Follows.{named_after, IfRow}
 use Rattle.ode_grammar.proofs.TerminalLaws.{named-named, stands_at, stands_for-either, stands_for-trans}
 use Rattle.ode_productions.specs.Productions.{Is, Symbol}
 use Rattle.ode_productions.specs.Productions as is
-use Rattle.ode_productions.specs.Phrases.{Says, AClass, AClassChange, AStatement}
+use Rattle.ode_productions.specs.Phrases.{Says, AClass, AClassChange, AComparison, AQuery, AStatement}
 use Rattle.ode_productions.specs.Phrases as says
 use Rattle.ode_productions.specs.Standing.{StandFor, StandsFor}
 use Rattle.ode_productions.proofs.Rows.{after_what_rows, ands_rows, before_what_rows, compare_rows, dots_rows, ended, event_ands_rows, event_front, event_mask_rows, event_ors_rows, event_unary_rows, expr_rows, factors_rows, finish, kind_rows, mask_rows, more_prior_rows, more_relative_rows, more_sequence_rows, ors_rows, period_rows, split, sums_rows, time_what_rows, unary_rows, PartYields, RowYields, Yields}
-use Rattle.ode_productions.proofs.PhraseRows.{additions_rows, args_rows, call_dot_rows, chained_rows, class_rows, clock_text_rows, eighth_param_rows, eleventh_param_rows, else_rows, field_or_method_rows, fifteenth_param_rows, fifth_param_rows, fourteenth_param_rows, fourth_param_rows, initial_rows, inner_name_rows, inners_rows, lasting_rows, literal_rows, members_rows, mode_rows, more_args_rows, more_kinds_rows, more_sets_rows, negative_rows, ninth_param_rows, params_rows, parent_rows, return_value_rows, rhs_dot_rows, rhs_dots_rows, rhs_name_rows, rhs_rows, scope_rows, script_rhs_rows, second_param_rows, sets_rows, seventh_param_rows, sixteenth_param_rows, sixth_param_rows, sort_rows, statement_rows, tenth_param_rows, third_param_rows, thirteenth_param_rows, twelfth_param_rows, whole_change}
+use Rattle.ode_productions.proofs.PhraseRows.{additions_rows, args_rows, by_rows, call_dot_rows, chained_rows, class_rows, clock_text_rows, eighth_param_rows, eleventh_param_rows, else_rows, field_or_method_rows, fifteenth_param_rows, fifth_param_rows, fourteenth_param_rows, fourth_param_rows, fourth_range_rows, initial_rows, inner_name_rows, inners_rows, lasting_rows, literal_rows, members_rows, mode_rows, more_args_rows, more_exprs_rows, more_kinds_rows, more_sets_rows, negative_rows, ninth_param_rows, params_rows, parent_rows, return_value_rows, rhs_dot_rows, rhs_dots_rows, rhs_name_rows, rhs_rows, scope_rows, script_rhs_rows, second_param_rows, second_range_rows, sets_rows, seventh_param_rows, sixteenth_param_rows, sixth_param_rows, sort_rows, statement_rows, such_that_rows, tenth_param_rows, third_param_rows, third_range_rows, thirteenth_param_rows, twelfth_param_rows, whole_change, whole_comparison, whole_query}
 
 -- ---- all parts
 
@@ -67,6 +67,12 @@ all_rows part.Class k = class_rows k
 all_rows part.Additions k = additions_rows k
 all_rows part.Literal k = literal_rows k
 all_rows part.Negative k = negative_rows k
+all_rows part.SecondRange k = second_range_rows k
+all_rows part.ThirdRange k = third_range_rows k
+all_rows part.FourthRange k = fourth_range_rows k
+all_rows part.SuchThat k = such_that_rows k
+all_rows part.By k = by_rows k
+all_rows part.MoreExprs k = more_exprs_rows k
 all_rows part.Parent k = parent_rows k
 all_rows part.Members k = members_rows k
 all_rows part.FieldOrMethod k = field_or_method_rows k
@@ -140,6 +146,12 @@ left_out part.Class a e = absurd (none-some a e)
 left_out part.Additions a e = says.NoAdditions
 left_out part.Literal a e = absurd (none-some a e)
 left_out part.Negative a e = absurd (none-some a e)
+left_out part.SecondRange a e = says.LastRange
+left_out part.ThirdRange a e = says.LastRange
+left_out part.FourthRange a e = says.LastRange
+left_out part.SuchThat a e = says.NoTest
+left_out part.By a e = says.NoSorting
+left_out part.MoreExprs a e = says.LastExpression
 left_out part.Parent a e = says.NoParent
 left_out part.Members a e = says.NoMembers
 left_out part.FieldOrMethod a e = absurd (none-some a e)
@@ -204,6 +216,14 @@ pub change_is : (tokens : List Terminal) → IsText start.Change tokens → Stan
 unfolding items_of
 change_is tokens d = let y = yields d in (y.read, y.stand, whole_change y.read y.yields)
 
+pub query_is : (tokens : List Terminal) → IsText start.Query tokens → StandsFor (Says AQuery) tokens
+unfolding items_of
+query_is tokens d = let y = yields d in (y.read, y.stand, whole_query y.read y.yields)
+
+pub comparison_is : (tokens : List Terminal) → IsText start.Comparison tokens → StandsFor (Says AComparison) tokens
+unfolding items_of
+comparison_is tokens d = let y = yields d in (y.read, y.stand, whole_comparison y.read y.yields)
+
 pub statement_is : (tokens : List Terminal) → IsText start.Statement tokens → StandsFor (Says AStatement) tokens
 unfolding items_of
 statement_is tokens d = let y = yields d in let l = y.yields in (y.read, y.stand, subst (Says AStatement) (sym (ended y.read l.0 l.1 l.2 l.4)) l.3)
@@ -212,6 +232,8 @@ statement_is tokens d = let y = yields d in let l = y.yields in (y.read, y.stand
 
 named_stands : (p : Part) (t : Terminal) → standing p (named t) ≡ named t
 named_stands part.EventUnary t = refl
+named_stands part.SuchThat t = refl
+named_stands part.By t = refl
 named_stands other t = named-named t
 
 -- a token has the row of what it stands for

@@ -1,5 +1,5 @@
 -- What the rows of statements and classes derive is what the productions say.
-use Rattle.std.proofs.Common.{◌≡◌, ◌⊎◌, inl, inr, List, [], ◌∷◌, ◌++◌, append_assoc, Option, Some, None, refl, sym, ◌∙◌, ap, subst}
+use Rattle.std.proofs.Common.{◌≡◌, ℕ, suc, ◌⊎◌, inl, inr, List, [], ◌∷◌, ◌++◌, append_assoc, Option, Some, None, refl, sym, ◌∙◌, ap, subst}
 use Rattle.std.proofs.lemmas.List.{append-nil}
 use Rattle.ode_grammar.specs.declared.item.Part.{Part}
 use Rattle.ode_grammar.specs.declared.item.Part.TheVariants as part
@@ -11,12 +11,14 @@ use Rattle.ode_grammar.specs.declared.terminal.Terminal.TheVariants as terminal
 use Rattle.ode_grammar.specs.Expressions.{atom, behind_unary, comp, conj, sum}
 use Rattle.ode_grammar.specs.Events.{event as whole_event}
 use Rattle.ode_grammar.specs.Changes.{additions, change}
+use Rattle.ode_grammar.specs.Comparisons.{comparison}
 use Rattle.ode_grammar.specs.Grammar.{row_of}
+use Rattle.ode_grammar.specs.Queries.{exprs, query, range}
 use Rattle.ode_grammar.specs.Statements.{body, done, dotted_call, new}
 use Rattle.ode_grammar.proofs.Follows.{IfRow}
 use Rattle.ode_productions.specs.Productions.{Is, Symbol}
 use Rattle.ode_productions.specs.Productions as is
-use Rattle.ode_productions.specs.Phrases.{Phrase, Says, AArguments, AMoreArguments, ADotted, ASets, AMoreSets, AChange, AGiven, ARight, ASimple, AInner, AInners, AOtherwise, ASort, AParams, AMoreKinds, AInitially, ALasts, AScoped, AModed, AMember, AMembers, AParented, AClass, ALiteral, AAdditions, AClassChange, AStatement, AMoreParams}
+use Rattle.ode_productions.specs.Phrases.{Phrase, Says, AArguments, AMoreArguments, ADotted, ASets, AMoreSets, AChange, AGiven, ARight, ASimple, AInner, AInners, AOtherwise, ASort, AParams, AMoreKinds, AInitially, ALasts, AScoped, AModed, AMember, AMembers, AParented, AClass, ALiteral, AAdditions, AClassChange, ATest, AExpressions, AQuery, AComparison, AStatement, AMoreParams, AMoreRanges}
 use Rattle.ode_productions.specs.Phrases as says
 use Rattle.ode_productions.proofs.Rows.{ended, event_front, extend, one, split, to_comparison, to_conjunction, to_expression, to_sum, to_term, unary_rows, Front, PartYields, RowYields, Yields}
 use Rattle.ode_productions.proofs.Texts.{longer}
@@ -816,3 +818,112 @@ whole_change us l =
     let grouped : s.0 ++ (terminal.Name ∷ (terminal.Assign ∷ (x.0 ++ (terminal.Semi ∷ (y.0 ++ (terminal.CloseBrace ∷ (terminal.Semi ∷ []))))))) ≡ ((s.0 ++ terminal.Name ∷ terminal.Assign ∷ x.0 ++ terminal.Semi ∷ []) ++ y.0) ++ terminal.CloseBrace ∷ terminal.Semi ∷ [] = simp append_assoc in
     subst (Says AClassChange) (sym (read ∙ ap (λ z. terminal.Change ∷ (terminal.Class ∷ (terminal.Name ∷ (terminal.OpenBrace ∷ z)))) (fields ∙ grouped)))
     (says.ClassChange (says.Addition s.3 x.3) y.3)
+
+-- ---- queries
+
+-- a variable of a query and its class, and what comes then
+range_front : (items : List Item) (us : List Terminal) → Yields (range ++ items) us
+    → (rest : List Terminal) × (us ≡ terminal.Name ∷ terminal.In ∷ terminal.Name ∷ rest) × Yields items rest
+range_front items us l = (
+  l.2.2.0,
+  l.1 ∙ ap (λ x. terminal.Name ∷ x) (l.2.1 ∙ ap (λ x. terminal.In ∷ x) l.2.2.1),
+  l.2.2.2,
+)
+
+one_more_range : (n : ℕ) (p : Part) → ((ts : List Terminal) → PartYields p ts → Says (AMoreRanges n) ts) → (us : List Terminal)
+    → Yields (range ++ item.Part p ∷ []) us → Says (AMoreRanges (suc n)) (terminal.Comma ∷ us)
+one_more_range n p says_more us l =
+    let r = range_front (item.Part p ∷ []) us l in
+    let m = r.2 in
+    subst (λ x. Says (AMoreRanges (suc n)) (terminal.Comma ∷ x)) (sym (r.1 ∙ ap (λ x. terminal.Name ∷ terminal.In ∷ terminal.Name ∷ x) (ended r.0 m.0 m.1 m.2 m.4)))
+    (says.NextRange (says_more m.0 m.3))
+
+pub second_range_rows : (k : Terminal) → IfRow (RowYields part.SecondRange k) (row_of part.SecondRange k)
+unfolding row_of
+second_range_rows terminal.Comma = λ us l. one_more_range 2 part.ThirdRange (λ ts x. x) us l
+second_range_rows other = tt
+
+pub third_range_rows : (k : Terminal) → IfRow (RowYields part.ThirdRange k) (row_of part.ThirdRange k)
+unfolding row_of
+third_range_rows terminal.Comma = λ us l. one_more_range 1 part.FourthRange (λ ts x. x) us l
+third_range_rows other = tt
+
+pub fourth_range_rows : (k : Terminal) → IfRow (RowYields part.FourthRange k) (row_of part.FourthRange k)
+unfolding row_of
+fourth_range_rows terminal.Comma = λ us l.
+    let r = range_front [] us l in
+    subst (λ x. Says (AMoreRanges 1) (terminal.Comma ∷ x)) (sym (r.1 ∙ ap (λ x. terminal.Name ∷ terminal.In ∷ terminal.Name ∷ x) r.2)) (says.NextRange {n = 0} says.LastRange)
+fourth_range_rows other = tt
+
+exprs_front : (items : List Item) (us : List Terminal) → Yields (exprs ++ items) us → Fronted AExpressions items us
+exprs_front items us l =
+    let m = l.4 in
+    record {
+      a = l.0 ++ m.0;
+      rest = m.1;
+      is = l.2 ∙ (ap (λ x. l.0 ++ x) m.2 ∙ sym (append_assoc l.0 m.0 m.1));
+      front = says.Expressions l.3 m.3;
+      behind = m.4;
+    }
+
+whole_exprs : (us : List Terminal) → Yields exprs us → Says AExpressions us
+whole_exprs us l = let f = exprs_front [] us l in subst (Says AExpressions) (sym (ended us f.a f.rest f.is f.behind)) f.front
+
+pub such_that_rows : (k : Terminal) → IfRow (RowYields part.SuchThat k) (row_of part.SuchThat k)
+unfolding row_of
+such_that_rows terminal.SuchThat = λ us l. subst (λ x. Says ATest (terminal.SuchThat ∷ x)) (sym (ended us l.0 l.1 l.2 l.4)) (says.Test l.3)
+such_that_rows other = tt
+
+pub by_rows : (k : Terminal) → IfRow (RowYields part.By k) (row_of part.By k)
+unfolding row_of
+by_rows terminal.By = λ us l. says.Sorting (whole_exprs us l)
+by_rows other = tt
+
+pub more_exprs_rows : (k : Terminal) → IfRow (RowYields part.MoreExprs k) (row_of part.MoreExprs k)
+unfolding row_of
+more_exprs_rows terminal.Comma = λ us l. says.NextExpressions (whole_exprs us l)
+more_exprs_rows other = tt
+
+-- what stands behind the first variable of a query and its class
+abbrev behind_range : List Item
+behind_range =
+    item.Part part.SecondRange ∷ item.Build action.Arguments ∷ item.Part part.SuchThat ∷ item.Build action.Arguments ∷ item.Part part.By ∷ item.Token terminal.Show
+    ∷ item.Build action.Arguments ∷ exprs ++ item.Token terminal.Semi ∷ []
+
+pub whole_query : (us : List Terminal) → Yields query us → Says AQuery us
+whole_query us l =
+    let r = range_front behind_range l.0 l.2 in
+    let m = r.2 in
+    let t = m.4 in
+    let b = t.4 in
+    let s = b.4 in
+    let f = exprs_front (item.Token terminal.Semi ∷ []) s.0 s.2 in
+    let e = f.behind in
+    let shown : s.0 ≡ f.a ++ terminal.Semi ∷ [] = f.is ∙ ap (λ x. f.a ++ x) (e.1 ∙ ap (λ x. terminal.Semi ∷ x) e.2) in
+    let read : r.0 ≡ m.0 ++ (t.0 ++ (b.0 ++ (terminal.Show ∷ (f.a ++ terminal.Semi ∷ [])))) =
+    m.2 ∙ ap (λ x. m.0 ++ x) (t.2 ∙ ap (λ x. t.0 ++ x) (b.2 ∙ ap (λ x. b.0 ++ x) (s.1 ∙ ap (λ x. terminal.Show ∷ x) shown))) in
+    let grouped : m.0 ++ (t.0 ++ (b.0 ++ (terminal.Show ∷ (f.a ++ terminal.Semi ∷ [])))) ≡ (((m.0 ++ t.0) ++ b.0) ++ terminal.Show ∷ f.a) ++ terminal.Semi ∷ [] = simp append_assoc in
+    subst (Says AQuery) (sym (l.1 ∙ ap (λ x. terminal.For ∷ x) (r.1 ∙ ap (λ x. terminal.Name ∷ terminal.In ∷ terminal.Name ∷ x) (read ∙ grouped))))
+    (says.Query m.3 t.3 b.3 f.front)
+
+-- ---- comparisons
+
+pub whole_comparison : (us : List Terminal) → Yields comparison us → Says AComparison us
+whole_comparison us l =
+    let o = l.2.2 in
+    let p = o.2 in
+    let c = p.4 in
+    let f = event_front (item.Token terminal.Comma ∷ whole_event ++ item.Token terminal.Semi ∷ []) c.0 c.2 in
+    let d = f.behind in
+    let g = event_front (item.Token terminal.Semi ∷ []) d.0 d.2 in
+    let e = g.behind in
+    let second : d.0 ≡ g.a ++ terminal.Semi ∷ [] = g.is ∙ ap (λ x. g.a ++ x) (e.1 ∙ ap (λ x. terminal.Semi ∷ x) e.2) in
+    let first : c.0 ≡ f.a ++ (terminal.Comma ∷ (g.a ++ terminal.Semi ∷ [])) = f.is ∙ ap (λ x. f.a ++ x) (d.1 ∙ ap (λ x. terminal.Comma ∷ x) second) in
+    let read : o.0 ≡ p.0 ++ (terminal.Colon ∷ (f.a ++ (terminal.Comma ∷ (g.a ++ terminal.Semi ∷ [])))) = p.2 ∙ ap (λ x. p.0 ++ x) (c.1 ∙ ap (λ x. terminal.Colon ∷ x) first) in
+    subst (Says AComparison) (sym (l.1 ∙ ap (λ x. terminal.Same ∷ x) (l.2.1 ∙ ap (λ x. terminal.Name ∷ x) (o.1 ∙ ap (λ x. terminal.OpenParen ∷ x) (read ∙ regrouped p.0 f.a g.a)))))
+    (says.Compared p.3 f.front g.front)
+  where
+    regrouped : (ps es fs : List Terminal)
+        → ps ++ (terminal.Colon ∷ (es ++ (terminal.Comma ∷ (fs ++ terminal.Semi ∷ []))))
+        ≡ ((ps ++ terminal.Colon ∷ es) ++ terminal.Comma ∷ fs) ++ terminal.Semi ∷ []
+    regrouped ps es fs = simp append_assoc

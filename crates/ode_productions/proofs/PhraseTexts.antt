@@ -14,12 +14,14 @@ use Rattle.ode_grammar.specs.Events.{event as whole_event}
 use Rattle.ode_grammar.specs.Statements.{alone, body, class_rest, done, dotted_call, ending, field_set, new, next}
 use Rattle.ode_grammar.specs.Changes.{additions, change}
 use Rattle.ode_grammar.specs.Classes.{method, one_param, test, trigger}
+use Rattle.ode_grammar.specs.Comparisons.{comparison}
 use Rattle.ode_grammar.specs.Grammar.{after, items_of, row_of, skipped}
+use Rattle.ode_grammar.specs.Queries.{exprs, query, range}
 use Rattle.ode_grammar.specs.Texts.{Done, IsText, Make, Next, Rule, Skip}
 use Rattle.ode_grammar.proofs.Follows.{IfRow}
 use Rattle.ode_productions.specs.Productions.{Is, Symbol}
 use Rattle.ode_productions.specs.Productions as is
-use Rattle.ode_productions.specs.Phrases.{Phrase, Says, AClass, AClassChange, AStatement}
+use Rattle.ode_productions.specs.Phrases.{Phrase, Says, AClass, AClassChange, AComparison, AQuery, AStatement}
 use Rattle.ode_productions.specs.Phrases as says
 use Rattle.ode_productions.proofs.Texts.{derived, event_whole, no_ands, no_compare, no_factors, no_ors, no_sums, no_unary_skip, regroup, token, whole, C, D, F, S, U}
 
@@ -370,6 +372,11 @@ args_like terminal.Instant = refl
 args_like terminal.Name = refl
 args_like terminal.Change = refl
 args_like terminal.FaAbs = refl
+args_like terminal.By = refl
+args_like terminal.For = refl
+args_like terminal.In = refl
+args_like terminal.Same = refl
+args_like terminal.SuchThat = refl
 args_like terminal.Pipe = refl
 args_like terminal.RelPlus = refl
 args_like terminal.OpenParen = refl
@@ -389,6 +396,11 @@ return_like terminal.Instant = refl
 return_like terminal.Name = refl
 return_like terminal.Change = refl
 return_like terminal.FaAbs = refl
+return_like terminal.By = refl
+return_like terminal.For = refl
+return_like terminal.In = refl
+return_like terminal.Same = refl
+return_like terminal.SuchThat = refl
 return_like terminal.Pipe = refl
 return_like terminal.RelPlus = refl
 return_like terminal.OpenParen = refl
@@ -471,6 +483,34 @@ next_param (suc (suc (suc (suc (suc (suc (suc (suc (suc (suc (suc (suc zero)))))
 next_param (suc (suc (suc (suc (suc (suc (suc (suc (suc (suc (suc (suc (suc zero))))))))))))) us vs x y = one_more part.ThirdParam (item.Part part.FourthParam) refl us vs x y
 next_param (suc (suc (suc (suc (suc (suc (suc (suc (suc (suc (suc (suc (suc (suc zero)))))))))))))) us vs x y = one_more part.SecondParam (item.Part part.ThirdParam) refl us vs x y
 next_param (suc (suc (suc (suc (suc (suc (suc (suc (suc (suc (suc (suc (suc (suc (suc n))))))))))))))) us vs x y = tt
+
+-- ---- variables of queries
+
+-- where at most so many variables more may come
+abbrev AsRanges : ℕ → List Terminal → Type 0
+AsRanges zero us = D [] us
+AsRanges (suc zero) us = D (item.Part part.FourthRange ∷ []) us
+AsRanges (suc (suc zero)) us = D (item.Part part.ThirdRange ∷ []) us
+AsRanges (suc (suc (suc zero))) us = D (item.Part part.SecondRange ∷ []) us
+AsRanges (suc (suc (suc (suc n)))) us = Unit {0}
+
+last_range : (n : ℕ) → AsRanges n []
+unfolding skipped
+last_range zero = Done
+last_range (suc zero) = Skip part.FourthRange action.Nothing refl Done
+last_range (suc (suc zero)) = Skip part.ThirdRange action.Nothing refl Done
+last_range (suc (suc (suc zero))) = Skip part.SecondRange action.Nothing refl Done
+last_range (suc (suc (suc (suc n)))) = tt
+
+one_range : {items : List Item} {ts : List Terminal} → D items ts → D (range ++ items) (terminal.Name ∷ terminal.In ∷ terminal.Name ∷ ts)
+one_range d = token terminal.Name (token terminal.In (Make action.DropWord (token terminal.Name (Make action.RefSort (Make action.Param d)))))
+
+next_range : (n : ℕ) (us : List Terminal) → AsRanges n us → AsRanges (suc n) (terminal.Comma ∷ terminal.Name ∷ terminal.In ∷ terminal.Name ∷ us)
+unfolding row_of
+next_range zero us d = Rule part.FourthRange range refl (one_range d)
+next_range (suc zero) us d = Rule part.ThirdRange (range ++ item.Part part.FourthRange ∷ []) refl (one_range d)
+next_range (suc (suc zero)) us d = Rule part.SecondRange (range ++ item.Part part.ThirdRange ∷ []) refl (one_range d)
+next_range (suc (suc (suc n))) us d = tt
 
 -- ---- statements
 
@@ -573,8 +613,15 @@ AsPhrase says.ALiteral us = D (item.Part part.Literal ∷ []) us
 AsPhrase says.AAddition us = Adds us
 AsPhrase says.AAdditions us = D (item.Part part.Additions ∷ []) us
 AsPhrase says.AClassChange us = D change us
+AsPhrase says.ATest us = D (item.Part part.SuchThat ∷ []) us
+AsPhrase says.AExpressions us = D exprs us
+AsPhrase says.AMoreExpressions us = D (item.Part part.MoreExprs ∷ []) us
+AsPhrase says.ASorting us = D (item.Part part.By ∷ []) us
+AsPhrase says.AQuery us = D query us
+AsPhrase says.AComparison us = D comparison us
 AsPhrase says.AStatement us = D (item.Part part.Statement ∷ []) us
 AsPhrase (says.AMoreParams n) us = IfPart (param_part n) us
+AsPhrase (says.AMoreRanges n) us = AsRanges n us
 
 said : {s : Phrase} {ts : List Terminal} → Says s ts → AsPhrase s ts
 unfolding row_of skipped
@@ -753,6 +800,27 @@ said (says.ClassChange {ts = us} {us = vs} x y) =
     token terminal.Change (token terminal.Class (token terminal.Name (token terminal.OpenBrace (Make action.Change
     (regroup us vs (terminal.CloseBrace ∷ terminal.Semi ∷ [])
     ((said x).first (vs ++ terminal.CloseBrace ∷ terminal.Semi ∷ []) (together (said y) (token terminal.CloseBrace (token terminal.Semi Done)))))))))
+said (says.LastRange {n = n}) = last_range n
+said (says.NextRange {n = n} {ts = us} x) = next_range n us (said x)
+said says.NoTest = Skip part.SuchThat action.Nothing refl Done
+said (says.Test {ts = us} x) =
+    subst (λ z. D (item.Part part.SuchThat ∷ []) (terminal.SuchThat ∷ z)) (append-nil us)
+    (Rule part.SuchThat (item.Build action.DropWord ∷ item.Part part.Expr ∷ item.Build action.Argument ∷ []) refl
+    (Make action.DropWord (together (expr us x) (Make action.Argument Done))))
+said (says.Expressions {ts = us} x y) = together (expr us x) (Make action.Argument (said y))
+said says.LastExpression = Skip part.MoreExprs action.Nothing refl Done
+said (says.NextExpressions x) = Rule part.MoreExprs exprs refl (said x)
+said says.NoSorting = Skip part.By action.Nothing refl Done
+said (says.Sorting x) = Rule part.By (item.Build action.DropWord ∷ exprs) refl (Make action.DropWord (said x))
+said (says.Query x y z w) =
+    let tested = together (said x) (Make action.Arguments (said y)) in
+    let sorted = together tested (Make action.Arguments (said z)) in
+    let shown = together sorted (token terminal.Show (Make action.Arguments (said w))) in
+    token terminal.For (Make action.DropWord (Make action.Params (one_range (together shown (token terminal.Semi Done)))))
+said (says.Compared {es = us} {fs = vs} x y z) =
+    let first = together (said x) (token terminal.Colon (event us y)) in
+    let second = together first (token terminal.Comma (event vs z)) in
+    token terminal.Same (Make action.DropWord (token terminal.Name (token terminal.OpenParen (Make action.Params (together second (token terminal.Semi Done))))))
 said (says.Declare x) =
     let l = said x in
     subst (λ z. D (item.Part part.Statement ∷ []) (z ++ terminal.Semi ∷ [])) (sym l.1)
@@ -780,6 +848,14 @@ class_text tokens x = let l = said x in subst (λ z. D (item.Part part.Class ∷
 pub change_text : (tokens : List Terminal) → Says AClassChange tokens → IsText start.Change tokens
 unfolding items_of
 change_text tokens x = said x
+
+pub query_text : (tokens : List Terminal) → Says AQuery tokens → IsText start.Query tokens
+unfolding items_of
+query_text tokens x = said x
+
+pub comparison_text : (tokens : List Terminal) → Says AComparison tokens → IsText start.Comparison tokens
+unfolding items_of
+comparison_text tokens x = said x
 
 pub statement_text : (tokens : List Terminal) → Says AStatement tokens → IsText start.Statement tokens
 unfolding items_of

@@ -15,7 +15,7 @@ use Rattle.ode_grammar.specs.Grammar.{row_of}
 use Rattle.ode_grammar.proofs.Follows.{IfRow}
 use Rattle.ode_productions.specs.Productions.{Is, Symbol}
 use Rattle.ode_productions.specs.Productions as is
-use Rattle.ode_productions.specs.Phrases.{Says, AArguments, AMoreArguments, ADotted, ASets, AMoreSets, AGiven, ARight, AInner, AInners, AOtherwise, ASort, AParams, AMoreKinds, AInitially, ALasts, AScoped, AModed, AMember, AMembers, AParented, AClass, ALiteral, AAdditions, AStatement, AMoreParams}
+use Rattle.ode_productions.specs.Phrases.{Says, AArguments, AMoreArguments, ADotted, ASets, AMoreSets, AGiven, ARight, AInner, AInners, AOtherwise, ASort, AParams, AMoreKinds, AInitially, ALasts, AScoped, AModed, AMember, AMembers, AParented, AClass, ALiteral, AAdditions, ATest, AMoreExpressions, ASorting, AStatement, AMoreParams, AMoreRanges}
 use Rattle.ode_productions.proofs.Texts.{longer, pair_items, rows}
 
 -- the tokens of a part: a symbol's, or those that make one of the symbol before them
@@ -60,6 +60,12 @@ PartYields part.Class ts = Says AClass ts
 PartYields part.Additions ts = Says AAdditions ts
 PartYields part.Literal ts = Says ALiteral ts
 PartYields part.Negative ts = Says ALiteral (terminal.Minus ∷ ts)
+PartYields part.SecondRange ts = Says (AMoreRanges 3) ts
+PartYields part.ThirdRange ts = Says (AMoreRanges 2) ts
+PartYields part.FourthRange ts = Says (AMoreRanges 1) ts
+PartYields part.SuchThat ts = Says ATest ts
+PartYields part.By ts = Says ASorting ts
+PartYields part.MoreExprs ts = Says AMoreExpressions ts
 PartYields part.Parent ts = Says AParented ts
 PartYields part.Members ts = Says AMembers ts
 PartYields part.FieldOrMethod ts = (xs : List Terminal) → Says ASort xs → Says AMember (xs ++ terminal.Name ∷ ts)

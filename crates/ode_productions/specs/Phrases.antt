@@ -1,4 +1,4 @@
--- The grammar of statements, classes and changes of classes as people write it: an alternative of a production a line.
+-- The grammar of statements, classes, changes of classes, queries and comparisons of event expressions as people write it: an alternative of a production a line.
 use Rattle.std.specs.Prelude.{ℕ, suc, List, [], ◌∷◌, ◌++◌}
 use Rattle.ode_grammar.specs.declared.terminal.Terminal.{Terminal}
 use Rattle.ode_grammar.specs.declared.terminal.Terminal.TheVariants as terminal
@@ -34,8 +34,15 @@ pub data Phrase : Type 0 where
   AAddition : Phrase
   AAdditions : Phrase
   AClassChange : Phrase
+  ATest : Phrase
+  AExpressions : Phrase
+  AMoreExpressions : Phrase
+  ASorting : Phrase
+  AQuery : Phrase
+  AComparison : Phrase
   AStatement : Phrase
   AMoreParams : ℕ → Phrase
+  AMoreRanges : ℕ → Phrase
 
 -- the tokens are such a phrase
 pub data Says : Phrase → List Terminal → Type 0 where
@@ -139,6 +146,23 @@ pub data Says : Phrase → List Terminal → Type 0 where
   NoAdditions : Says AAdditions []
   MoreAdditions : {ts us : List Terminal} → Says AAddition ts → Says AAdditions us → Says AAdditions (ts ++ us)
   ClassChange : {ts us : List Terminal} → Says AAddition ts → Says AAdditions us → Says AClassChange (terminal.Change ∷ terminal.Class ∷ terminal.Name ∷ terminal.OpenBrace ∷ ts ++ us ++ terminal.CloseBrace ∷ terminal.Semi ∷ [])
+  -- ranges := { "," NAME "in" NAME }, behind the first range: the number is of those that may still come
+  LastRange : {n : ℕ} → Says (AMoreRanges n) []
+  NextRange : {n : ℕ} {ts : List Terminal} → Says (AMoreRanges n) ts → Says (AMoreRanges (suc n)) (terminal.Comma ∷ terminal.Name ∷ terminal.In ∷ terminal.Name ∷ ts)
+  -- test := [ "suchthat" expr ]
+  NoTest : Says ATest []
+  Test : {ts : List Terminal} → Is is.Expression ts → Says ATest (terminal.SuchThat ∷ ts)
+  -- exprs := expr { "," expr }
+  Expressions : {ts us : List Terminal} → Is is.Expression ts → Says AMoreExpressions us → Says AExpressions (ts ++ us)
+  LastExpression : Says AMoreExpressions []
+  NextExpressions : {ts : List Terminal} → Says AExpressions ts → Says AMoreExpressions (terminal.Comma ∷ ts)
+  -- sorting := [ "by" exprs ]
+  NoSorting : Says ASorting []
+  Sorting : {ts : List Terminal} → Says AExpressions ts → Says ASorting (terminal.By ∷ ts)
+  -- query := "for" NAME "in" NAME ranges test sorting "show" exprs ";", with at most 4 ranges
+  Query : {rs ts bs es : List Terminal} → Says (AMoreRanges 3) rs → Says ATest ts → Says ASorting bs → Says AExpressions es → Says AQuery (terminal.For ∷ terminal.Name ∷ terminal.In ∷ terminal.Name ∷ rs ++ ts ++ bs ++ terminal.Show ∷ es ++ terminal.Semi ∷ [])
+  -- comparison := "same" NAME "(" params ":" event "," event ";"
+  Compared : {ps es fs : List Terminal} → Says AParams ps → Is is.Event es → Is is.Event fs → Says AComparison (terminal.Same ∷ terminal.Name ∷ terminal.OpenParen ∷ ps ++ terminal.Colon ∷ es ++ terminal.Comma ∷ fs ++ terminal.Semi ∷ [])
   -- statement := class ";" | "begin" ";" | "commit" ";" | "abort" ";" | "clock" TEXT ";" | ";" | simple | "show" given
   Declare : {ts : List Terminal} → Says AClass ts → Says AStatement (ts ++ terminal.Semi ∷ [])
   Begin : Says AStatement (terminal.Begin ∷ terminal.Semi ∷ [])

@@ -3,7 +3,7 @@ ghost use Rattle.std.specs.Prelude.{List};
 ghost use Rattle.ode_grammar.specs.declared.reader.Start.TheVariants as start;
 ghost use Rattle.ode_grammar.specs.declared.terminal.Terminal.{Terminal};
 ghost use Rattle.ode_grammar.specs.Texts.{IsText};
-ghost use Rattle.ode_productions.specs.Phrases.{AClass, AClassChange, AStatement, Says};
+ghost use Rattle.ode_productions.specs.Phrases.{AClass, AClassChange, AComparison, AQuery, AStatement, Says};
 ghost use Rattle.ode_productions.specs.Productions.{Event, Expression, Is};
 ghost use Rattle.ode_productions.specs.Standing.{StandsFor};
 
@@ -29,6 +29,18 @@ pub fn classes_are_productions()
 pub fn changes_are_productions()
     ensures rows { (tokens : List Terminal) → IsText start.Change tokens → StandsFor (Says AClassChange) tokens }
     ensures productions { (tokens : List Terminal) → StandsFor (Says AClassChange) tokens → IsText start.Change tokens }
+{}
+
+/// A query, of the rows, is one of the productions, and the other way round.
+pub fn queries_are_productions()
+    ensures rows { (tokens : List Terminal) → IsText start.Query tokens → StandsFor (Says AQuery) tokens }
+    ensures productions { (tokens : List Terminal) → StandsFor (Says AQuery) tokens → IsText start.Query tokens }
+{}
+
+/// A comparison of event expressions, of the rows, is one of the productions, and the other way round.
+pub fn comparisons_are_productions()
+    ensures rows { (tokens : List Terminal) → IsText start.Comparison tokens → StandsFor (Says AComparison) tokens }
+    ensures productions { (tokens : List Terminal) → StandsFor (Says AComparison) tokens → IsText start.Comparison tokens }
 {}
 
 /// A statement of a script, of the rows, is one of the productions, and the other way round.

@@ -279,12 +279,16 @@ this_no_count : (place : Place) → is_count (this_terminal place) ≡ false
 this_no_count place_of.Script = refl
 this_no_count place_of.Class = refl
 this_no_count place_of.Change = refl
+this_no_count place_of.Query = refl
+this_no_count place_of.Comparison = refl
 this_no_count place_of.Anywhere = refl
 
 reference_no_count : (place : Place) → is_count (reference_terminal place) ≡ false
 reference_no_count place_of.Script = refl
 reference_no_count place_of.Class = refl
 reference_no_count place_of.Change = refl
+reference_no_count place_of.Query = refl
+reference_no_count place_of.Comparison = refl
 reference_no_count place_of.Anywhere = refl
 
 text_no_count : (o : Option ℤ) → is_count (instant_terminal o) ≡ false

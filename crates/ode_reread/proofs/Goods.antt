@@ -188,8 +188,10 @@ named_either false x y e f = f
 
 free_words_named : (w : List ℕ) → as_name (looked_up free_words w) ≡ terminal.Name
 free_words_named w =
-    named_either (bytes_eq (codes "change") w) _ _ refl
-    (named_either (bytes_eq (codes "faabs") w) _ _ refl (named_either (bytes_eq (codes "pipe") w) _ _ refl (named_either (bytes_eq (codes "relplus") w) _ _ refl refl)))
+    named_either (bytes_eq (codes "by") w) _ _ refl
+    (named_either (bytes_eq (codes "change") w) _ _ refl (named_either (bytes_eq (codes "faabs") w) _ _ refl (named_either (bytes_eq (codes "for") w) _ _ refl
+    (named_either (bytes_eq (codes "in") w) _ _ refl (named_either (bytes_eq (codes "pipe") w) _ _ refl (named_either (bytes_eq (codes "relplus") w) _ _ refl
+    (named_either (bytes_eq (codes "same") w) _ _ refl (named_either (bytes_eq (codes "suchthat") w) _ _ refl refl))))))))
 
 free_is_name : (w : List ℕ) → list_any (λ x. bytes_eq x w) reserved ≡ false → as_name (word_terminal w) ≡ terminal.Name
 unfolding word_terminal

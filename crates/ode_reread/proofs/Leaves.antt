@@ -88,7 +88,9 @@ foreign_place place stray k bytes e s = cases (bytes_eq bytes (codes "this")) re
 
 word_good : (place : Place) (k : Terminal) (bytes : List ℕ) → is_leaf k ≡ true → k ≡ seen place bytes kind.Word → Good place (word_leaf bytes) leaf
 word_good place_of.Script k bytes e s = foreign_place place_of.Script refl k bytes e s
+word_good place_of.Query k bytes e s = foreign_place place_of.Query refl k bytes e s
 word_good place_of.Change k bytes e s = foreign_place place_of.Change refl k bytes e s
+word_good place_of.Comparison k bytes e s = foreign_place place_of.Comparison refl k bytes e s
 word_good place_of.Class k bytes e s = own_word place_of.Class refl bytes
 word_good place_of.Anywhere k bytes e s = own_word place_of.Anywhere refl bytes
 

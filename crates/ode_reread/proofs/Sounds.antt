@@ -224,12 +224,16 @@ this_no_operator : (place : Place) → is_operator (this_terminal place) ≡ fal
 this_no_operator place_of.Script = refl
 this_no_operator place_of.Class = refl
 this_no_operator place_of.Change = refl
+this_no_operator place_of.Query = refl
+this_no_operator place_of.Comparison = refl
 this_no_operator place_of.Anywhere = refl
 
 reference_no_operator : (place : Place) → is_operator (reference_terminal place) ≡ false
 reference_no_operator place_of.Script = refl
 reference_no_operator place_of.Class = refl
 reference_no_operator place_of.Change = refl
+reference_no_operator place_of.Query = refl
+reference_no_operator place_of.Comparison = refl
 reference_no_operator place_of.Anywhere = refl
 
 number_no_operator : (n : ℤ) → is_operator (number_terminal n) ≡ false

@@ -340,10 +340,15 @@ signs terminal.Instant = λ e. absurd (false≢true e)
 signs terminal.OpenParen = λ e. absurd (false≢true e)
 signs terminal.Version = λ e. absurd (false≢true e)
 signs terminal.Name = λ e. absurd (false≢true e)
+signs terminal.By = λ e. absurd (false≢true e)
 signs terminal.Change = λ e. absurd (false≢true e)
 signs terminal.FaAbs = λ e. absurd (false≢true e)
+signs terminal.For = λ e. absurd (false≢true e)
+signs terminal.In = λ e. absurd (false≢true e)
 signs terminal.Pipe = λ e. absurd (false≢true e)
 signs terminal.RelPlus = λ e. absurd (false≢true e)
+signs terminal.Same = λ e. absurd (false≢true e)
+signs terminal.SuchThat = λ e. absurd (false≢true e)
 signs other = tt
 
 -- the last item has made what there is

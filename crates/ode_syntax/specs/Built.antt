@@ -32,6 +32,8 @@ use Rattle.ode_value.specs.declared.statement.Stmt.{Stmt}
 use Rattle.ode_value.specs.declared.statement.Stmt.TheVariants as stmt
 use Rattle.ode_value.specs.declared.value.Value.{Value}
 use Rattle.ode_value.specs.declared.value.Value.TheVariants as value
+use Rattle.ode_syntax.specs.declared.asked.Comparison.{Comparison}
+use Rattle.ode_syntax.specs.declared.asked.QueryParts.{QueryParts}
 use Rattle.ode_syntax.specs.declared.trees.Trees.{Trees}
 
 abbrev pub name : List (List ℕ) → List ℕ
@@ -64,6 +66,16 @@ kind_on kinds = top kind.Create kinds
 abbrev pub sort_on : List Sort → Sort
 sort_on sorts = top sort.Void sorts
 
+-- ---- queries and comparisons
+
+-- the lists of expressions stand one on the other
+abbrev pub query_parts : Trees → QueryParts
+query_parts v = record { over = top [] v.params; test = top [] (rest (rest v.args)); by = top [] (rest v.args); show = top [] v.args }
+
+abbrev pub comparison_tree : Trees → Comparison
+comparison_tree v =
+    record { class = name v.names; params = top [] v.params; first = event_tree (rest v.events); second = event_tree v.events }
+
 -- ---- statements of a script, and changes of classes
 
 abbrev pub change_tree : List Change → Change
@@ -90,6 +102,10 @@ negative other = other
 abbrev pub value_of : Expr → Value
 value_of (expr.Lit v) = v
 value_of other = value.Int (pos 0)
+
+-- a word that isn't reserved was kept as a name
+abbrev pub without_word : Trees → Trees
+without_word v = record v { names = rest v.names }
 
 abbrev pub with_script : Statement → Trees → Trees
 with_script s v = record v { scripts = s ∷ v.scripts }
@@ -242,10 +258,6 @@ abbrev pub over_three : (EventExpr → EventExpr → EventExpr → EventExpr) �
 over_three f v =
     record v { events = f (event_tree (rest (rest v.events))) (event_tree (rest v.events)) (event_tree v.events) ∷ rest (rest (rest v.events)) }
 
--- a word that isn't reserved was kept as a name
-abbrev pub without_word : Trees → Trees
-without_word v = record v { names = rest v.names }
-
 abbrev pub counted : (ℕ → EventExpr → EventExpr) → Trees → Trees
 counted f v = record v { leaves = rest v.leaves; events = f (count_of (tree v.leaves)) (event_tree v.events) ∷ rest v.events }
 
@@ -306,6 +318,7 @@ built_statement other v = built_event other v
 unfoldable pub built_right_side : Action → Trees → Trees
 built_right_side action.Arguments v = record v { args = [] ∷ v.args }
 built_right_side action.Argument v = record v { exprs = rest v.exprs; args = (top [] v.args ++ tree v.exprs ∷ []) ∷ rest v.args }
+built_right_side action.DropWord v = without_word v
 built_right_side action.Sets v = record v { sets = [] ∷ v.sets }
 built_right_side action.AddSet v =
     record v { names = rest v.names; exprs = rest v.exprs; sets = (top [] v.sets ++ (name v.names, tree v.exprs) ∷ []) ∷ rest v.sets }

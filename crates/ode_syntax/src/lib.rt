@@ -1,6 +1,7 @@
 //! Syntax trees of texts of the grammar.
 #![tactic(auto)]
 
+mod asked;
 mod change_trees;
 mod class_trees;
 mod content;
@@ -13,5 +14,6 @@ mod top;
 mod trees;
 mod words;
 
+pub use asked::{Comparison, QueryParts};
 pub use reader::read;
 pub use trees::Trees;

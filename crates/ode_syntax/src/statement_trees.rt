@@ -24,6 +24,10 @@ impl Trees {
                 let e = take_expr(&mut self.exprs);
                 add(alloc, &mut self.args, e)
             }
+            Action::DropWord => {
+                take_name(alloc, &mut self.names)?;
+                Ok(())
+            }
             Action::Sets => self.sets.push(List::new(alloc)),
             Action::AddSet => {
                 let name = take_name(alloc, &mut self.names)?;

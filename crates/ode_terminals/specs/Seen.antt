@@ -11,7 +11,7 @@ use Rattle.ode_lex.specs.declared.token.TokenKind.TheVariants as kind
 use Rattle.ode_grammar.specs.declared.terminal.Terminal.{Terminal}
 use Rattle.ode_grammar.specs.declared.terminal.Terminal.TheVariants as terminal
 use Rattle.ode_terminals.specs.declared.seen.Place.{Place}
-use Rattle.ode_terminals.specs.declared.seen.Place.TheVariants.{Change, Class, Script}
+use Rattle.ode_terminals.specs.declared.seen.Place.TheVariants.{Change, Class, Comparison, Query, Script}
 use Rattle.ode_terminals.specs.Words.{word_terminal}
 
 abbrev pub mark_terminal : Mark → Terminal
@@ -46,15 +46,18 @@ number_terminal (pos n) =
     cond (n == 0 || nat_le (2 ^ 32) n) terminal.Number (cond (nat_le n choose_limit) terminal.Count terminal.Seconds)
 number_terminal (negsuc n) = terminal.Number
 
--- `this` stands in no statement of a script, a reference in no class, and neither in a change of one
+-- `this` stands in no statement of a script and no query, a reference in no class, and neither in a change of one or a comparison
 abbrev pub this_terminal : Place → Terminal
 this_terminal Script = terminal.Stray
+this_terminal Query = terminal.Stray
 this_terminal Change = terminal.Stray
+this_terminal Comparison = terminal.Stray
 this_terminal other = terminal.Leaf
 
 abbrev pub reference_terminal : Place → Terminal
 reference_terminal Class = terminal.Stray
 reference_terminal Change = terminal.Stray
+reference_terminal Comparison = terminal.Stray
 reference_terminal other = terminal.Leaf
 
 -- what stands between the quotes of a text

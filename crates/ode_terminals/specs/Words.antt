@@ -69,10 +69,19 @@ rows =
     ∷ (codes "whole", terminal.Scope)
     ∷ []
 
--- the words that begin a change of a class or an event expression and aren't reserved
+-- the words that aren't reserved and begin a change of a class, an event expression, a comparison of two, or a part of a query
 abbrev pub free_words : List (List ℕ × Terminal)
 free_words =
-    (codes "change", terminal.Change) ∷ (codes "faabs", terminal.FaAbs) ∷ (codes "pipe", terminal.Pipe) ∷ (codes "relplus", terminal.RelPlus) ∷ []
+    (codes "by", terminal.By)
+    ∷ (codes "change", terminal.Change)
+    ∷ (codes "faabs", terminal.FaAbs)
+    ∷ (codes "for", terminal.For)
+    ∷ (codes "in", terminal.In)
+    ∷ (codes "pipe", terminal.Pipe)
+    ∷ (codes "relplus", terminal.RelPlus)
+    ∷ (codes "same", terminal.Same)
+    ∷ (codes "suchthat", terminal.SuchThat)
+    ∷ []
 
 -- what a word has in a table, and a name where it isn't there
 abbrev pub looked_up : List (List ℕ × Terminal) → List ℕ → Terminal

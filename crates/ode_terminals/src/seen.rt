@@ -10,13 +10,15 @@ use ode_timer::instant;
 use ode_value::limits::CHOOSE_LIMIT;
 use std::alloc::{AllocError, Global};
 
-/// Where a text stands: in a class, in a change of one, among a script's own statements, or where nothing is known of it.
+/// Where a text stands: in a class, in a change of one, among a script's own statements, in a query, in a comparison of event expressions, or where nothing is known of it.
 #[derive(Clone, Copy, Debug, PartialEq, Eq)]
 pub enum Place {
     Anywhere,
     Class,
     Change,
     Script,
+    Query,
+    Comparison,
 }
 
 fn mark_terminal(mark: Mark) -> Terminal
@@ -66,7 +68,7 @@ fn this_terminal(place: Place) -> Terminal
     ensures { result ≡ this_terminal place }
 {
     match place {
-        Place::Script | Place::Change => Terminal::Stray,
+        Place::Script | Place::Query | Place::Change | Place::Comparison => Terminal::Stray,
         _ => Terminal::Leaf,
     }
 }
@@ -75,7 +77,7 @@ fn reference_terminal(place: Place) -> Terminal
     ensures { result ≡ reference_terminal place }
 {
     match place {
-        Place::Class | Place::Change => Terminal::Stray,
+        Place::Class | Place::Change | Place::Comparison => Terminal::Stray,
         _ => Terminal::Leaf,
     }
 }

@@ -6,7 +6,7 @@ ghost use Rattle.ode_terminals.specs.Words.{looked_up, rows, word_terminal};
 use ode_grammar::Terminal;
 
 /// The reserved words, each with what the grammar sees of it, and those that have a place of their own and aren't reserved.
-const ROWS: [(&[u8], Terminal); 64] = [
+const ROWS: [(&[u8], Terminal); 69] = [
     (b"abort", Terminal::Abort),
     (b"activate", Terminal::Activate),
     (b"after", Terminal::After),
@@ -67,10 +67,15 @@ const ROWS: [(&[u8], Terminal); 64] = [
     (b"version", Terminal::Version),
     (b"void", Terminal::Void),
     (b"whole", Terminal::Scope),
+    (b"by", Terminal::By),
     (b"change", Terminal::Change),
     (b"faabs", Terminal::FaAbs),
+    (b"for", Terminal::For),
+    (b"in", Terminal::In),
     (b"pipe", Terminal::Pipe),
     (b"relplus", Terminal::RelPlus),
+    (b"same", Terminal::Same),
+    (b"suchthat", Terminal::SuchThat),
 ];
 
 fn look_up(rows: &[(&[u8], Terminal)], word: &[u8]) -> Terminal
@@ -92,7 +97,7 @@ pub fn word_terminal(word: &[u8]) -> Terminal
     look_up(&ROWS, word)
 }
 
-/// The words of the table but the last four are the reserved ones, in their order.
+/// The words of the table but the last nine are the reserved ones, in their order.
 #[tactic(auto, unfolding(ode_value::specs::Words::reserved))]
 pub fn words_are_reserved()
     ensures { map (λ row. row.0) rows ≡ reserved }
