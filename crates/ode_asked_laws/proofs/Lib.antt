@@ -1,0 +1,3 @@
+pub mod Checked
+pub mod EventNumbers
+pub mod Numbered
