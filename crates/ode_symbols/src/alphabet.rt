@@ -1,6 +1,8 @@
 //! The alphabet of an event expression.
 ghost use Rattle.std.specs.Prelude.{◌≡◌, ◌<◌, ◌≤◌, ◌++◌, IfErr, IfOk, OnOk, map, true};
+ghost use Rattle.std.specs.Option.{option_copied};
 ghost use Rattle.ode_symbols.specs.Alphabets.{IsRefusal, are_conditions_of};
+ghost use Rattle.ode_symbols.specs.Places.{place_of};
 ghost use Rattle.ode_value.specs.declared.event.EventExpr.{EventExpr};
 ghost use Rattle.ode_value.specs.Limits.{symbol_limit};
 ghost use Rattle.ode_value.specs.Marks.{Leaf, OfEvent, OfLeaf, composite_masks, leaves, spelled};
@@ -88,6 +90,27 @@ impl Alphabet {
             before += symbols_in(row, masks) as u8;
         }
         composite_number(masks, params, own)
+    }
+
+    /// The kind of the points that a symbol stands for, if it is one of the alphabet's, and the symbol's number among those of these points.
+    pub fn place(&self, symbol: u8) -> (Option<&Kind>, u8)
+        ensures kind { option_copied result.0 ≡ (place_of self.now symbol).0 }
+        ensures number { result.1 ≡ (place_of self.now symbol).1 }
+    {
+        let masks = self.masks.as_slice();
+        let apart = symbols_of(masks.len());
+        if u32::from(symbol) < apart {
+            return (None, symbol);
+        }
+        let mut number = symbol - apart as u8;
+        for row in self.rows.as_slice() {
+            let size = symbols_in(row, masks);
+            if u32::from(number) < size {
+                return (Some(&row.kind), number);
+            }
+            number -= size as u8;
+        }
+        (None, number)
     }
 
     /// For each leaf of an expression, in the order of the text, and then for each mask on a composite event, whether it is in the

@@ -3,3 +3,4 @@ pub mod SearchLaws
 pub mod RelationLaws
 pub mod ReachingLaws
 pub mod FrontLaws
+pub mod OrderLaws

@@ -1,12 +1,15 @@
 -- What a search says of the tables.
 use Rattle.std.proofs.Common.{◌≡◌, ◌≢◌, ℕ, zero, suc, ◌+◌, ◌<◌, ◌≤◌, Bool, List, [], ◌∷◌, ◌++◌, length, refl, sym, ap, ◌∙◌, subst, arith, inl, inr, ◌⊎◌, Option, Some, None}
-use Rattle.std.specs.Prelude.{All, IsSome, slice_index_or}
+use Rattle.std.specs.Prelude.{All, IsSome, reverse, slice_index_or, true}
 use Rattle.std.proofs.lemmas.Bool.{cases_lt}
+use Rattle.std.proofs.lemmas.List.{length_push, length-reverse}
 use Rattle.std.proofs.lemmas.List.Elements.{All-nil, All-tail}
 use Rattle.ode_value.specs.Tables.{Table, run, says_yes}
 use Rattle.ode_walk.specs.declared.visit.Visit.{Visit}
-use Rattle.ode_walk.specs.Relation.{Leads, IsAlike, Agrees, IsPartner, IsRelation, IsShortest}
-use Rattle.ode_walk.specs.Search.{visit_at, IsMet, IsStepped, IsSearch, IsExplored}
+use Rattle.ode_walk.specs.Relation.{is_lower, Leads, IsAlike, Agrees, IsPartner, IsRelation, IsShortest}
+use Rattle.ode_walk.specs.Search.{visit_at, IsLonger, IsMet, IsStepped, IsSearch, IsExplored}
+use Rattle.ode_walk.proofs.OrderLaws.{done_lower}
+use Rattle.ode_walk.proofs.SearchLaws.{few}
 use Rattle.ode_walk.proofs.VisitLaws.{leads_more}
 
 -- Where the visits of words shorter than a limit were stepped.
@@ -40,14 +43,18 @@ module _ (stored built : Table) (visits : List Visit) (limit : ℕ)
 -- ---- a shortest word
 
 pub shortest : (stored built : Table) (visits : List Visit) (seen : List Bool) (head upto p q : ℕ) (word : List ℕ) → head < length visits → IsSearch stored built visits seen head upto
-    → Leads stored built word p q → length word ≡ (visit_at visits head).length + 1 → says_yes stored p ≢ says_yes built q → IsShortest stored built word
-shortest stored built visits seen head upto p q word within h leads long differs = record {
+    → Leads stored built word p q → length word ≡ (visit_at visits head).length + 1 → IsLonger visits head upto word → says_yes stored p ≢ says_yes built q → IsShortest stored built word
+shortest stored built visits seen head upto p q word within h leads long longer differs = record {
   is_word = record { some = omega arith; each = leads.symbols };
   differs = λ same. differs (ap (says_yes stored) (sym leads.to_stored) ∙ same ∙ ap (says_yes built) leads.to_built);
   shortest = λ other is short.
       let none : (visit_at visits 0).length ≡ 0 = ap (λ (v : Visit). v.length) h.tree.first in
       let alike = alike_from stored built visits (visit_at visits head).length done other 0 h.some is.each is.some (omega arith) in
       ap (λ (v : Visit). says_yes stored (run stored v.stored other)) (sym h.tree.first) ∙ alike ∙ ap (λ (v : Visit). says_yes built (run built v.built other)) h.tree.first;
+  least = λ other is same low.
+      let length_is : length word ≡ length longer.back + 1 = ap length longer.is ∙ length_push (reverse longer.back) upto ∙ ap (λ n. n + 1) (length-reverse longer.back) in
+      (done_lower stored built visits seen head upto within h longer.back longer.of other (same ∙ length_is) (subst (λ l. is_lower other l ≡ true) longer.is low) is.each).answers;
+  limit = omega (arith, long, h.short head, few stored built visits seen head upto h);
 } where
   done : (k s : ℕ) → k < length visits → (visit_at visits k).length < (visit_at visits head).length → s < stored.symbols → IsStepped stored built visits (visit_at visits k) s
   done k s inside shorter below = by_place (cases_lt k head) where

@@ -1,15 +1,17 @@
 -- Steps of a search.
 use Rattle.std.proofs.Common.{◌≡◌, ◌≢◌, ℕ, zero, suc, ◌+◌, ◌*◌, ◌<◌, ◌≤◌, Bool, true, false, cond, List, [], ◌∷◌, ◌++◌, length, get_or, set, replicate, refl, sym, ap, ◌∙◌, subst, arith, inl, inr, ◌⊎◌, below_more}
-use Rattle.std.specs.Prelude.{count_by}
+use Rattle.std.specs.Prelude.{count_by, reverse}
 use Rattle.std.proofs.lemmas.Bool.{cases_eq, cases_lt, false≢true}
 use Rattle.std.proofs.lemmas.List.{get_or_append_left, get_or_push, get_or_past, get_or-set_other, get_or-replicate, length_push, length-set, length-replicate}
 use Rattle.std.proofs.lemmas.List.Folds.{sum_by-replicate}
 use Rattle.std.proofs.lemmas.List.Sums.{sum_by-set, count_by-le-length}
 use Rattle.std.proofs.Math.Nat.{mul_comm}
 use Rattle.std.proofs.lemmas.Nat.{mul-add-lt, same_from_place}
-use Rattle.ode_value.specs.Tables.{Table, next_state, says_yes}
+use Rattle.ode_value.specs.Tables.{Table, next_state, run, says_yes}
 use Rattle.ode_walk.specs.declared.visit.Visit.{Visit}
-use Rattle.ode_walk.specs.Search.{first_visit, visit_at, GoesBack, IsStepTo, IsVisited, IsStepped, pair_of, IsSearch, IsExplored}
+use Rattle.ode_walk.specs.Relation.{is_lower}
+use Rattle.ode_walk.specs.Search.{first_visit, visit_at, GoesBack, IsFirst, IsMetBefore, IsStepTo, IsVisited, IsStepped, IsWordBack, pair_of, IsSearch, IsExplored}
+use Rattle.ode_walk.proofs.OrderLaws.{done_lower, reverse_cons}
 
 -- ---- one more visit
 
@@ -84,6 +86,7 @@ search_known stored built visits seen head upto p q within h is_p is_q below_p b
       short = h.short;
       rising = h.rising;
       near = h.near;
+      first = h.first;
       pairs = h.pairs;
       known = h.known;
       once = h.once;
@@ -147,6 +150,40 @@ module _ (stored built : Table) (visits : List Visit) (seen : List Bool) (head u
         new_last
         k within j low
 
+    -- the word of an old visit
+    word_old : (back : List ℕ) (k : ℕ) → k < length visits → IsWordBack more_visits k back → IsWordBack visits k back
+    word_old [] k within of = of
+    word_old (s ∷ back) k within of =
+        let same = more_old visits v k within in
+        let rest : IsWordBack more_visits (visit_at visits k).from back = subst (λ (u : Visit). IsWordBack more_visits u.from back) same of.3 in
+        (of.0, within, sym (ap (λ (u : Visit). u.symbol) same) ∙ of.2, word_old back (visit_at visits k).from (omega (arith, h.tree.back k of.0 within)) rest)
+
+    met_old : (k p q : ℕ) → k ≤ length visits → IsMetBefore visits k p q → IsMetBefore more_visits k p q
+    met_old k p q low there =
+        let same = more_old visits v there.place (omega (arith, there.before)) in
+        record {
+          place = there.place;
+          before = there.before;
+          stored = ap (λ (u : Visit). u.stored) same ∙ there.stored;
+          built = ap (λ (u : Visit). u.built) same ∙ there.built;
+        }
+
+    first_new : (k : ℕ) → length visits ≡ k → IsFirst stored built more_visits k
+    first_new k is [] other of long low all = absurd (omega (arith, h.some, of))
+    first_new k is (s ∷ back) other of long low all =
+        let same = more_new visits v k is in
+        let last : s ≡ upto = sym of.2 ∙ ap (λ (u : Visit). u.symbol) same ∙ symbol in
+        let rest : IsWordBack more_visits head back = subst (λ j. IsWordBack more_visits j back) (ap (λ (u : Visit). u.from) same ∙ from) of.3 in
+        let lower : is_lower other (reverse back ++ upto ∷ []) ≡ true = ap (is_lower other) (sym (reverse_cons s back ∙ ap (λ x. reverse back ++ x ∷ []) last)) ∙ low in
+        let done = done_lower stored built visits seen head upto inside h back (word_old back head inside rest) other (omega (arith, long)) lower all in
+        met_old k (run stored 0 other) (run built 0 other) (omega arith) (subst (λ n. IsMetBefore visits n (run stored 0 other) (run built 0 other)) is done.met)
+
+    first : (k : ℕ) → k < length more_visits → IsFirst stored built more_visits k
+    first k within = by_place (cases_lt k (length visits)) where
+      by_place : (k < length visits) ⊎ (length visits ≤ k) → IsFirst stored built more_visits k
+      by_place (inl before) = λ back other of long low all. met_old k (run stored 0 other) (run built 0 other) (omega arith) (h.first k before back other (word_old back k before of) long low all)
+      by_place (inr after) = first_new k (omega (arith, longer))
+
     in_pairs : pair < length seen
     in_pairs = subst (λ n. pair < n) (mul_comm built.states stored.states ∙ sym h.pairs) (mul-add-lt v.stored built.states v.built stored.states below_p below_q)
 
@@ -191,6 +228,7 @@ module _ (stored built : Table) (visits : List Visit) (seen : List Bool) (head u
       short = more_each visits v (λ w k. w.length ≤ k) h.short (λ k. omega arith) (omega (arith, step.length, h.short head));
       rising = rising;
       near = λ k _ within. near k within;
+      first = first;
       pairs = length-set seen pair true ∙ h.pairs;
       known = known;
       once = once;
@@ -232,6 +270,7 @@ search_next stored built visits seen head upto within all h = record {
   built_below = h.built_below;
   short = h.short;
   rising = h.rising;
+  first = h.first;
   near = λ k next inside. omega (arith, h.near k within inside, h.rising head (head + 1) (omega arith) next);
   pairs = h.pairs;
   known = h.known;
@@ -282,6 +321,11 @@ module _ (stored built : Table) (n : ℕ) (is_n : n ≡ stored.states * built.st
         let before : false ≡ true = sym (get_or-set_other (replicate n false) 0 (pair_of built p q) true false other ∙ get_or-replicate n (pair_of built p q) false false low) ∙ there in
         absurd (false≢true before)
 
+  first_first : (k : ℕ) → k < 1 → IsFirst stored built (first_visit ∷ []) k
+  first_first k within [] [] of long low all = absurd (false≢true low)
+  first_first k within [] (x ∷ other) of long low all = absurd (omega arith)
+  first_first k within (s ∷ back) other of long low all = absurd (omega (arith, of.0))
+
   pub search_first : IsSearch stored built (first_visit ∷ []) first_seen 0 0
   search_first = record {
     some = omega arith;
@@ -294,6 +338,7 @@ module _ (stored built : Table) (n : ℕ) (is_n : n ≡ stored.states * built.st
     built_below = λ k. subst (λ (w : Visit). w.built < built.states) (sym (one_visit k)) some_built;
     short = λ k. subst (λ (w : Visit). w.length ≤ k) (sym (one_visit k)) (omega arith);
     rising = λ j k low within. subst (λ (w : Visit). w.length ≤ (visit_at (first_visit ∷ []) k).length) (sym (one_visit j)) (omega arith);
+    first = first_first;
     near = λ k some within. subst (λ (w : Visit). w.length ≤ 1) (sym (one_visit k)) (omega arith);
     pairs = length-set (replicate n false) 0 true ∙ length_pairs ∙ is_n;
     known = known_first;

@@ -1,5 +1,5 @@
 -- What two tables of one number of symbols have to do with each other.
-use Rattle.std.specs.Prelude.{◌≡◌, ◌≢◌, ℕ, ◌<◌, List, length, All, Option, Some, None, IsSome, slice_index_or}
+use Rattle.std.specs.Prelude.{◌≡◌, ◌≢◌, ℕ, ◌*◌, ◌<◌, ◌≤◌, ◌==◌, nat_lt, ◌&&◌, ◌||◌, Bool, true, false, List, [], ◌∷◌, length, All, Option, Some, None, IsSome, slice_index_or}
 use Rattle.ode_value.specs.Tables.{Table, IsWord, run, says_yes}
 use Rattle.ode_walk.specs.declared.error.RelateError.{RelateError}
 use Rattle.ode_walk.specs.declared.error.RelateError.TheVariants.{Memory, Differs}
@@ -41,13 +41,22 @@ pub record IsRelation (stored built : Table) (numbers : List (Option ℕ)) : Typ
   pub reached : (q : ℕ) → IsReached stored q → IsSome (slice_index_or numbers q None)
   pub partners : (q r : ℕ) → slice_index_or numbers q None ≡ Some r → IsPartner stored built q r
 
--- a word tells the tables apart, and no shorter one does
+-- a word has the lower symbol at the first place where it differs from another one
+abbrev pub is_lower : List ℕ → List ℕ → Bool
+is_lower [] other = false
+is_lower (s ∷ word) [] = false
+is_lower (s ∷ word) (u ∷ other) = nat_lt s u || (s == u && is_lower word other)
+
+-- a word tells the tables apart, and no shorter one does, nor a lower one of its length; it has no more symbols than there are pairs of
+-- states
 pub record IsShortest (stored built : Table) (word : List ℕ) : Type 0 where
   pub is_word : IsWord stored.symbols word
   pub differs : says_yes stored (run stored 0 word) ≢ says_yes built (run built 0 word)
   pub shortest : (other : List ℕ) → IsWord stored.symbols other → length other < length word → AnswersAlike stored 0 built 0 other
+  pub least : (other : List ℕ) → IsWord stored.symbols other → length other ≡ length word → is_lower other word ≡ true → AnswersAlike stored 0 built 0 other
+  pub limit : length word ≤ stored.states * built.states
 
--- tables are told apart by a shortest word
+-- tables are told apart by the least of the shortest words that do
 abbrev pub IsCause : Table → Table → RelateError → Type 0
 IsCause stored built Memory = Unit {0}
 IsCause stored built (Differs word) = IsShortest stored built word

@@ -1,6 +1,7 @@
 -- A search by breadth over pairs of states.
-use Rattle.std.specs.Prelude.{◌≡◌, ℕ, ◌+◌, ◌*◌, ◌<◌, ◌≤◌, Bool, true, false, List, length, count_by, slice_index_or}
-use Rattle.ode_value.specs.Tables.{Table, next_state, says_yes}
+use Rattle.std.specs.Prelude.{◌≡◌, ℕ, ◌+◌, ◌*◌, ◌<◌, ◌≤◌, Bool, true, false, List, [], ◌∷◌, ◌++◌, All, length, count_by, reverse, slice_index_or}
+use Rattle.ode_value.specs.Tables.{Table, next_state, run, says_yes}
+use Rattle.ode_walk.specs.Relation.{is_lower}
 use Rattle.ode_walk.specs.declared.visit.Visit.{Visit}
 
 -- the start of both tables
@@ -42,6 +43,30 @@ pub record IsMet (visits : List Visit) (p q : ℕ) : Type 0 where
   pub stored : (visit_at visits place).stored ≡ p
   pub built : (visit_at visits place).built ≡ q
 
+-- the same before a place
+pub record IsMetBefore (visits : List Visit) (limit p q : ℕ) : Type 0 where
+  pub place : ℕ
+  pub before : place < limit
+  pub stored : (visit_at visits place).stored ≡ p
+  pub built : (visit_at visits place).built ≡ q
+
+-- the word of a visit, its last symbol first
+abbrev pub IsWordBack : List Visit → ℕ → List ℕ → Type 0
+IsWordBack visits k [] = k ≡ 0
+IsWordBack visits k (s ∷ back) = (0 < k) × (k < length visits) × ((visit_at visits k).symbol ≡ s) × IsWordBack visits (visit_at visits k).from back
+
+-- the word of a visit with one more symbol
+pub record IsLonger (visits : List Visit) (at symbol : ℕ) (word : List ℕ) : Type 0 where
+  pub back : List ℕ
+  pub of : IsWordBack visits at back
+  pub is : word ≡ reverse back ++ symbol ∷ []
+
+-- what words lead to that are lower than the word of the visit at a place was met before it
+abbrev pub IsFirst : Table → Table → List Visit → ℕ → Type 0
+IsFirst stored built visits k =
+    (back other : List ℕ) → IsWordBack visits k back → length other ≡ length back → is_lower other (reverse back) ≡ true → All (λ s. s < stored.symbols) other
+    → IsMetBefore visits k (run stored 0 other) (run built 0 other)
+
 -- by a symbol from these two states on the tables answer alike, and the pair of states was visited
 pub record IsStepped (stored built : Table) (visits : List Visit) (v : Visit) (s : ℕ) : Type 0 where
   pub answers : says_yes stored (next_state stored v.stored s) ≡ says_yes built (next_state built v.built s)
@@ -58,6 +83,7 @@ pub record IsSearch (stored built : Table) (visits : List Visit) (seen : List Bo
   pub built_below : (k : ℕ) → (visit_at visits k).built < built.states
   pub short : (k : ℕ) → (visit_at visits k).length ≤ k
   pub rising : (j k : ℕ) → j ≤ k → k < length visits → (visit_at visits j).length ≤ (visit_at visits k).length
+  pub first : (k : ℕ) → k < length visits → IsFirst stored built visits k
   pub near : (k : ℕ) → head < length visits → k < length visits → (visit_at visits k).length ≤ (visit_at visits head).length + 1
   pub pairs : length seen ≡ stored.states * built.states
   pub known : (p q : ℕ) → p < stored.states → q < built.states → slice_index_or seen (pair_of built p q) false ≡ true

@@ -6,7 +6,7 @@ use std::alloc::AllocError;
 #[derive(Debug, Drop)]
 pub enum RelateError {
     Memory,
-    /// This word tells them apart, and no shorter one that isn't empty does.
+    /// This word tells them apart, and no shorter one that isn't empty does, nor a lower one of its length.
     Differs { word: List<u8> },
 }
 

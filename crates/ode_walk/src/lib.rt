@@ -1,5 +1,5 @@
-//! Two tables compared: they agree on every word that isn't empty, or a shortest word tells them apart. And the states of a table that
-//! words lead to.
+//! Two tables compared: they agree on every word that isn't empty, or the least of the shortest words tells them apart. And the states of a
+//! table that words lead to.
 #![tactic(auto)]
 
 mod error;

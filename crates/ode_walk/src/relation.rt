@@ -10,7 +10,7 @@ use ode_value::List;
 use std::alloc::Global;
 
 /// For each state of a stored table that a word reaches a state of a built one that answers alike on all words that aren't
-/// empty, where the tables agree on all of these; else a shortest of them on which they don't.
+/// empty, where the tables agree on all of these; else the least of the shortest of them on which they don't.
 pub fn relate(
     alloc: Global,
     stored: &Table,

@@ -2,7 +2,7 @@
 ghost use Rattle.std.specs.Prelude.{◌≡◌, ◌<◌, ◌+◌, ◌*◌, ◌++◌, ◌∷◌, [], IfErr, IfOk, OnErr, OnOk, false, length, replicate, slice_index_or, slice_set, true};
 ghost use Rattle.ode_value.specs.Tables.{Table as Automaton, next_state};
 ghost use Rattle.ode_walk.specs.Relation.{IsCause, Leads};
-ghost use Rattle.ode_walk.specs.Search.{GoesBack, IsExplored, IsSearch, IsTree, visit_at};
+ghost use Rattle.ode_walk.specs.Search.{GoesBack, IsExplored, IsLonger, IsSearch, IsTree, visit_at};
 
 use crate::error::RelateError;
 use crate::visit::{Visit, word_to};
@@ -53,6 +53,7 @@ fn longer_word(
         → Leads stored built word (next_state stored (visit_at visits.now at).stored symbol) (next_state built (visit_at visits.now at).built symbol)) }
     ensures length { IfOk result (λ word. (stored built : Automaton) → IsTree stored built visits.now
         → length word ≡ (visit_at visits.now at).length + 1) }
+    ensures longer { IfOk result (IsLonger visits.now at symbol) }
 {
     let mut word = word_to(alloc, visits, at)?;
     word.push(symbol)?;

@@ -1,9 +1,9 @@
 //! The pairs of states that words lead to, and a word for each.
 ghost use Rattle.std.specs.Prelude.{◌≡◌, ◌<◌, IfOk};
-ghost use Rattle.std.specs.Prelude.{length};
+ghost use Rattle.std.specs.Prelude.{length, reverse};
 ghost use Rattle.ode_value.specs.Tables.{Table};
 ghost use Rattle.ode_walk.specs.Relation.{Leads};
-ghost use Rattle.ode_walk.specs.Search.{GoesBack, IsTree, visit_at};
+ghost use Rattle.ode_walk.specs.Search.{GoesBack, IsTree, IsWordBack, visit_at};
 
 use ode_value::List;
 use std::alloc::{AllocError, Global};
@@ -29,6 +29,7 @@ pub(crate) fn word_to(alloc: Global, visits: &[Visit], at: usize) -> Result<Vec<
         → Leads stored built word.items (visit_at visits.now at).stored (visit_at visits.now at).built) }
     ensures length { IfOk result (λ word. (stored built : Table) → IsTree stored built visits.now
         → length word.items ≡ (visit_at visits.now at).length) }
+    ensures back { IfOk result (λ word. IsWordBack visits.now at (reverse word.items)) }
 {
     let mut word = Vec::new(alloc);
     let mut place = at;

@@ -1,13 +1,11 @@
 use Rattle.std.proofs.Common.{◌≡◌, Bool, List, length, map, ap, sym, ◌∙◌, subst, Some, None}
 use Rattle.std.specs.Prelude.{All}
 use Rattle.std.specs.List.{range_with_len}
-use Rattle.ode_value.specs.Marks.{Mark, spelled}
 use Rattle.ode_value.specs.TreeCount.{symbol_marks}
-use Rattle.ode_value.specs.Tables.{Means}
 use Rattle.ode_value.specs.Symbols.{mark_among, size_of}
 use Rattle.ode_trees.specs.Found.{IsAnswer, IsReached}
 use Rattle.ode_trees.specs.ListMachines.{condition_count}
-use Rattle.ode_table.specs.Built.{IsBuilt, IsOver, table_by}
+use Rattle.ode_table.specs.Built.{IsBuilt}
 use Rattle.ode_table.proofs.BuiltLaws.{marks_in, lists-length, lists-in, lists-of, marks_in-length, size-of, over-own, built-means}
 use Rattle.ode_table.proofs.RunLaws.{whole, built}
 use Rattle.ode_table.proofs.building.build.Goals as goal

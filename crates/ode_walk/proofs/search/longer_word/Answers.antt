@@ -1,5 +1,6 @@
 use Rattle.std.proofs.Common.{◌≡◌, ◌∷◌, ◌++◌, [], length, ap, sym, ◌∙◌, subst, arith}
-use Rattle.std.proofs.lemmas.List.{length_push}
+use Rattle.std.specs.Prelude.{reverse}
+use Rattle.std.proofs.lemmas.List.{length_push, reverse-reverse}
 use Rattle.ode_value.specs.Tables.{next_state}
 use Rattle.ode_walk.specs.Relation.{Leads}
 use Rattle.ode_walk.specs.Search.{visit_at}
@@ -17,3 +18,12 @@ pub returns-clause-length : goal.returns-clause-length
 returns-clause-length c = λ stored built tree.
     let is : c.from_vec.result ≡ c.in_ok-word.word.items ++ c.args.symbol ∷ [] = c.from_vec.ensures ∙ c.in_ok-push.ensures.items in
     omega (arith, ap length is, length_push c.in_ok-word.word.items c.args.symbol, c.in_ok-word.ensures.length stored built tree)
+
+pub returns-clause-longer : goal.returns-clause-longer
+returns-clause-longer c =
+    let items = c.in_ok-word.word.items in
+    record {
+      back = reverse items;
+      of = c.in_ok-word.ensures.back;
+      is = c.from_vec.ensures ∙ c.in_ok-push.ensures.items ∙ ap (λ l. l ++ c.args.symbol ∷ []) (sym (reverse-reverse items));
+    }

@@ -14,11 +14,12 @@ returns-then-yes-clause-err c =
     let v = visit_at c.args.search.now.visits c.args.head in
     let leads = rw c.as_slice-then-yes.ensures at c.in_ok-word.ensures.leads in
     let long = rw c.as_slice-then-yes.ensures at c.in_ok-word.ensures.length in
+    let longer = rw c.as_slice-then-yes.ensures at c.in_ok-word.ensures.longer in
     let differ : c.yes.result ≢ c.yes-2.result = search rules in
     let is_p = rw c.as_slice.ensures at c.next-p.ensures.value in
     let is_q = rw c.as_slice.ensures at c.next-q.ensures.value in
     shortest stored built c.args.search.now.visits c.args.search.now.seen c.args.head c.args.symbol _ _ c.in_ok-word.word c.requires.head h
-    (leads stored built h.tree c.requires.symbol) (long stored built h.tree)
+    (leads stored built h.tree c.requires.symbol) (long stored built h.tree) longer
     (λ same. differ (c.yes.ensures ∙ ap (says_yes stored) is_p ∙ same ∙ sym (ap (says_yes built) is_q) ∙ sym c.yes-2.ensures))
 
 pub returns-clause-ok : goal.returns-clause-ok

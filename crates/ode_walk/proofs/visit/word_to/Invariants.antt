@@ -1,7 +1,7 @@
-use Rattle.std.proofs.Common.{◌<◌, length}
+use Rattle.std.proofs.Common.{◌<◌, ◌++◌, ℕ, List, length}
 use Rattle.std.specs.Prelude.{reverse}
 use Rattle.ode_value.specs.Tables.{Table}
-use Rattle.ode_walk.specs.Search.{IsTree}
+use Rattle.ode_walk.specs.Search.{IsTree, IsWordBack}
 use Rattle.ode_walk.proofs.VisitLaws.{IsBehind}
 use Rattle.ode_walk.proofs.visit.word_to.Given as goal
 
@@ -10,6 +10,7 @@ abbrev pub invariant-loop-place : goal.invariant-loop-place
 invariant-loop-place l = record {
   within : l.place < length l.visits;
   behind : (stored built : Table) → IsTree stored built l.visits → IsBehind stored built l.visits l.at l.place (reverse l.word.items);
+  back : (rest : List ℕ) → IsWordBack l.visits l.place rest → IsWordBack l.visits l.at (l.word.items ++ rest);
 }
 
 abbrev pub decreases-loop-place : goal.decreases-loop-place
