@@ -1,0 +1,6 @@
+//! What is equal wherever a test is true.
+#![tactic(auto)]
+
+mod link;
+
+pub use link::{Link, link_of};

@@ -1,0 +1,10 @@
+pub mod EachLaws
+pub mod RowLaws
+pub mod ObjectLaws
+pub mod InstanceLaws
+pub mod Reading
+pub mod TextLaws
+pub mod AnswerLaws
+pub mod Thinning
+pub mod LookupLaws
+pub mod RangeLaws
