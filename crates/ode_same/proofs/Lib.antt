@@ -1,0 +1,5 @@
+pub mod BothLaws
+pub mod VerdictLaws
+pub mod HistoryLaws
+pub mod ComparingLaws
+pub mod TextLaws

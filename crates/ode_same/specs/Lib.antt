@@ -1,0 +1,4 @@
+pub mod Differing
+pub mod Texts
+pub mod Parts
+pub mod Comparing

@@ -1,0 +1,4 @@
+pub mod Grown
+pub mod Cut
+pub mod Found
+pub mod Verdicts
