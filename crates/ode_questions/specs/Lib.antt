@@ -1,0 +1,5 @@
+pub mod Saying
+pub mod Scripts
+pub mod Answers
+pub mod Steps
+pub mod Versions
