@@ -1,4 +1,5 @@
-//! The program: `ode init FILE`, `ode run FILE`, with the script on standard input, `ode check FILE`, `ode dump FILE` and `ode gen FILE N`.
+//! The program: `ode init FILE`, `ode check FILE`, `ode dump FILE` and `ode gen FILE N`, and with a script on standard input `ode run FILE`,
+//! `ode query FILE` and `ode same FILE`.
 #![tactic(auto)]
 
 use ode_host::{FileHost, Status, StdSource};

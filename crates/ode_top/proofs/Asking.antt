@@ -8,11 +8,13 @@ use Rattle.std.specs.Prelude.{◌&&◌, codes, nat_le}
 use Rattle.std.specs.Str.{bytes_eq}
 use Rattle.std.specs.Str.Parse.{digits_value}
 use Rattle.ode_gen.specs.Generating.{gen_limit}
+use Rattle.ode_questions.specs.declared.asked.Asked.{Asked}
+use Rattle.ode_questions.specs.declared.asked.Asked.TheVariants.{Queries, Comparisons}
 use Rattle.ode_value.specs.Decimal.{digits_of}
 use Rattle.ode_top.specs.Answers.{Asks}
 use Rattle.ode_top.specs.Calls.{call_of, is_file, mode_named, number_within, script_number}
 use Rattle.ode_top.specs.declared.call.Mode.{Mode}
-use Rattle.ode_top.specs.declared.call.Mode.TheVariants.{Init, Run, Check, Dump, Gen}
+use Rattle.ode_top.specs.declared.call.Mode.TheVariants.{Init, Run, Check, Dump, Ask, Gen}
 
 -- ---- a word that is read
 
@@ -57,12 +59,15 @@ script_within word n is =
     let m : ℕ = digits_value 10 word in
     below_limit m n (nat_le 1 m) (nat_le m gen_limit) refl (at_test (bytes_eq word (digits_of m)) (cond (nat_le 1 m && nat_le m gen_limit) (Some m) None) n is).1
 
-no_gen : (n : ℕ) (a b c d : Bool) → cond a (Some Init) (cond b (Some Run) (cond c (Some Check) (cond d (Some Dump) None))) ≡ Some (Gen n) → ⊥
-no_gen n true b c d is = cc (is)
-no_gen n false true c d is = cc (is)
-no_gen n false false true d is = cc (is)
-no_gen n false false false true is = cc (is)
-no_gen n false false false false is = cc (is)
+no_gen : (n : ℕ) (a b c d e f : Bool)
+    → cond a (Some Init) (cond b (Some Run) (cond c (Some Check) (cond d (Some Dump) (cond e (Some (Ask Queries)) (cond f (Some (Ask Comparisons)) None))))) ≡ Some (Gen n) → ⊥
+no_gen n true b c d e f is = cc (is)
+no_gen n false true c d e f is = cc (is)
+no_gen n false false true d e f is = cc (is)
+no_gen n false false false true e f is = cc (is)
+no_gen n false false false false true f is = cc (is)
+no_gen n false false false false false true is = cc (is)
+no_gen n false false false false false false is = cc (is)
 
 -- the mode of what was asked for
 abbrev mode_in : Option (Mode × List ℕ) → Option Mode
@@ -81,12 +86,16 @@ pub asked_within : (words : List (List ℕ)) (n : ℕ) → Asks (Gen n) words �
 asked_within [] n asks = absurd (cc (asks.1))
 asked_within (mode ∷ []) n asks = absurd (cc (asks.1))
 asked_within (mode ∷ file ∷ []) n asks =
-    absurd (no_gen n (bytes_eq mode (codes "init")) (bytes_eq mode (codes "run")) (bytes_eq mode (codes "check")) (bytes_eq mode (codes "dump"))
+    absurd (no_gen n (bytes_eq mode (codes "init")) (bytes_eq mode (codes "run")) (bytes_eq mode (codes "check")) (bytes_eq mode (codes "dump")) (bytes_eq mode (codes "query")) (bytes_eq mode (codes "same"))
     (mapped_mode (mode_named mode) file asks.0 n (at_test (is_file file) (option_map {U = Mode × List ℕ} (λ (m : Mode). (m, file)) (mode_named mode)) (Gen n, asks.0) asks.1).1))
 asked_within (mode ∷ file ∷ number ∷ []) n asks =
     script_within number n
     (mapped_number (script_number number) file asks.0 n (at_test (bytes_eq mode (codes "gen") && is_file file) (option_map {U = Mode × List ℕ} (λ (k : ℕ). (Gen k, file)) (script_number number)) (Gen n, asks.0) asks.1).1)
 asked_within (mode ∷ file ∷ number ∷ word ∷ words) n asks = absurd (cc (asks.1))
+
+-- the questions that were asked are those that were read
+pub questions_same : (words : List (List ℕ)) (asked other : Asked) (file : List ℕ) → call_of words ≡ Some (Ask asked, file) → Asks (Ask other) words → asked ≡ other
+questions_same words asked other file is asks = let mode : Some (Ask asked) ≡ Some (Ask other) = ap mode_in (sym is ∙ asks.1) in cc (mode)
 
 -- the number that was asked for is the one that was read
 pub asked_same : (words : List (List ℕ)) (m n : ℕ) (file : List ℕ) → call_of words ≡ Some (Gen m, file) → Asks (Gen n) words → m ≡ n

@@ -6,6 +6,7 @@ pub mod Generating
 pub mod Holding
 pub mod Inspecting
 pub mod Leaving
+pub mod Questioning
 pub mod Refusing
 pub mod Reopening
 pub mod Running

@@ -1,5 +1,5 @@
 -- What a call does where the file isn't opened.
-use Rattle.std.proofs.Common.{◌≡◌, ◌⊎◌, ◌∙◌, ◌++◌, ⊎_elim, inl, inr, List, ℕ, Option, Some, Err, refl, sym, subst}
+use Rattle.std.proofs.Common.{◌≡◌, ◌⊎◌, ◌∙◌, ◌++◌, ⊎_elim, append-nil, ap, inl, inr, List, ℕ, Option, Some, Err, refl, sym, subst}
 use Rattle.ode_host.specs.Causes.{RoseIf}
 use Rattle.ode_host.specs.FirstSync.{SyncedRun}
 use Rattle.ode_host.specs.Host.{DiskCalls, HostCalls, Looks, Prints, Tells}
@@ -11,10 +11,11 @@ use Rattle.ode_host.proofs.Moments.{tells_looks}
 use Rattle.ode_open.specs.Opening.{IsFromOutside, IsOpenedTo}
 use Rattle.ode_open.specs.declared.error.OpenError.{OpenError}
 use Rattle.ode_open.specs.declared.error.OpenError.TheVariants as why_not
+use Rattle.ode_questions.specs.declared.asked.Asked.{Asked}
 use Rattle.ode_trace.specs.Statuses.{IsEnding, IsRunStatus}
 use Rattle.ode_value.specs.Language.{ListWorld}
-use Rattle.ode_top.specs.Answers.{EndsFor, IsIdle, IsInspectStatus, IsNoRun, IsSilent, SaidFront, why_line}
-use Rattle.ode_top.specs.Claims.{Inspects, RunsNone, RunsWorld}
+use Rattle.ode_top.specs.Answers.{AreAnsweredInPart, EndsFor, IsIdle, IsInspectStatus, IsNoRun, IsSilent, SaidFront, why_line}
+use Rattle.ode_top.specs.Claims.{Inspects, Questions, RunsNone, RunsWorld}
 use Rattle.ode_top.specs.Holds.{Holds}
 use Rattle.ode_top.specs.Stops.{StaysHeld}
 use Rattle.ode_top.specs.declared.call.Mode.{Mode}
@@ -156,6 +157,18 @@ module _ {H : Type 0} (seen : H → View) (old : View) (mid new : H) (why : Open
           idle_on result old (seen mid) (seen new) looks
           (line_idle status.BadFile result (why_line why) (seen mid) (seen new) said (prints (loud said)) rose (λ no. no)))
           (way why result ends)
+
+      pub refused_questions : (asked : Asked) (script : Option (List ℕ)) → ((image : List ℕ) (w : ListWorld) → Tells old image → Holds image w → IsFromOutside why)
+          → Questions asked script script old (seen new) result
+      refused_questions asked script outside = record {
+        answered = λ bytes image text w finds ending. absurd (refused_as (λ s. IsEnding s → ⊥) (λ no. no) (λ no. no) (λ no. no) (λ no. no) why result ends ending);
+        cut = λ bytes image text w finds cut_off.
+            still_as (λ (v : View). AreAnsweredInPart asked bytes image w text v)
+            (record { tells = tells_looks image old (seen mid) looks finds.tells; front = (0, looks.text ∙ finds.said ∙ ap Some (sym (append-nil text))) })
+            (outside_as IsSilent tt tt why result (outside image w finds.tells finds.holds) ends);
+        answers = λ image w tells holds. outside_as IsRunStatus tt tt why result (outside image w tells holds) ends;
+        spares = refused_idle.spares;
+      }
 
       pub refused_inspects : (mode : Mode) → Inspects mode old (seen new) result
       refused_inspects mode = record {

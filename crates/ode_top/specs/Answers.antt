@@ -18,6 +18,8 @@ use Rattle.ode_open.specs.declared.error.OpenError.{OpenError}
 use Rattle.ode_open.specs.declared.error.OpenError.TheVariants.{Memory, DiskFault, NoDatabase, NewerFormat, BadFile}
 use Rattle.ode_opening_records.specs.Reading.{AreOpened}
 use Rattle.ode_opening_records.specs.declared.base.Base.{Base}
+use Rattle.ode_questions.specs.Scripts.{script_status, script_text}
+use Rattle.ode_questions.specs.declared.asked.Asked.{Asked}
 use Rattle.ode_script.specs.Cutting.{pieces}
 use Rattle.ode_trace.specs.Hearing.{heard_items}
 use Rattle.ode_trace.specs.Running.{LeavesNothing}
@@ -36,8 +38,12 @@ use Rattle.ode_top.specs.declared.call.Mode.TheVariants as mode
 abbrev pub Asks : Mode → List (List ℕ) → Type 0
 Asks mode words = (file : List ℕ) × (call_of words ≡ Some (mode, file))
 
+-- they are a mode's that reads a script
+abbrev pub ReadsScript : List (List ℕ) → Type 0
+ReadsScript words = Asks mode.Run words ⊎ ((asked : Asked) × Asks (mode.Ask asked) words)
+
 abbrev pub usage_line : List ℕ
-usage_line = line (codes "usage: ode (init|run|check|dump) FILE | ode gen FILE N")
+usage_line = line (codes "usage: ode (init|run|check|dump|query|same) FILE | ode gen FILE N")
 
 -- The file holds this world, and so does each that a stop from now on leaves, as long as nothing more is written; this is
 -- what was printed.
@@ -136,6 +142,7 @@ mode_text mode.Check classes entries = check_text entries
 mode_text mode.Dump classes entries = dump_text classes entries
 mode_text mode.Init classes entries = []
 mode_text mode.Run classes entries = []
+mode_text (mode.Ask asked) classes entries = []
 mode_text (mode.Gen number) classes entries = []
 
 -- The records of a file, and what they are opened to in its format; this is said of them.
@@ -160,6 +167,19 @@ pub record IsInspectedCut (m : Mode) (image text : List ℕ) (view : View) : Typ
   pub said : List ℕ
   pub reason : SaysRecords m image said ⊎ SaysWhy image said
   pub front : SaidFront said text view
+
+-- The questions of a script were answered: their status and their text are those of the world that the file holds, which stayed as it was.
+-- Nothing of the script is left where it was read to its end.
+pub record AreAnswered (asked : Asked) (script image : List ℕ) (w : ListWorld) (text : List ℕ) (left : Option (List ℕ)) (view : View) (status : Status) : Type 0 where
+  pub stated : status ≡ script_status asked w.bones script
+  pub tells : Tells view image
+  pub printed : view.text ≡ Some (text ++ script_text asked w.bones script)
+  pub nothing : LeavesNothing status left
+
+-- They were cut short: a front of the text was printed.
+pub record AreAnsweredInPart (asked : Asked) (script image : List ℕ) (w : ListWorld) (text : List ℕ) (view : View) : Type 0 where
+  pub tells : Tells view image
+  pub front : SaidFront (script_text asked w.bones script) text view
 
 -- the statuses that `init` may end with
 abbrev pub IsInitStatus : Status → Type 0

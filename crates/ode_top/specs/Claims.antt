@@ -1,8 +1,9 @@
 -- What a call of the program claims, each field a claim: of a run where the file holds a world, of one of a number's script there, of
--- one where the file breaks a rule, of `init`, and of `check` and `dump`. The views are the host's at the start and at the end, and so is what is left of the script.
+-- one where the file breaks a rule, of `init`, of `check` and `dump`, and of `query` and `same`. The views are the host's at the start and at
+-- the end, and so is what is left of the script.
 use Rattle.std.specs.Prelude.{◌≡◌, ◌≢◌, ℕ, List, Option, Some}
 use Rattle.ode_host.specs.FirstSync.{SyncedRun}
-use Rattle.ode_host.specs.Host.{Tells}
+use Rattle.ode_host.specs.Host.{Spares, Tells}
 use Rattle.ode_host.specs.View.{View}
 use Rattle.ode_host.specs.declared.status.Status.{Status}
 use Rattle.ode_host.specs.declared.status.Status.TheVariants.{Ok, BadFile, DiskFault, WriteFault}
@@ -10,9 +11,10 @@ use Rattle.ode_language.specs.Languages.{ode}
 use Rattle.ode_machine.specs.Moments.{IsAfterSome}
 use Rattle.ode_machine.specs.Runs.{trace}
 use Rattle.ode_make.specs.Making.{IsInUse}
+use Rattle.ode_questions.specs.declared.asked.Asked.{Asked}
 use Rattle.ode_trace.specs.Statuses.{IsEnding, IsRunStatus}
 use Rattle.ode_value.specs.Language.{ListWorld}
-use Rattle.ode_top.specs.Answers.{BreaksRule, IsBadFile, IsBadFileCut, IsGenStatus, IsGenerated, IsIdle, IsInitCut, IsInitStatus, IsInspectStatus, IsInspected, IsInspectedCut, IsMachineRun, IsMade, IsNoRun, IsRefused, IsSilent, gen_items}
+use Rattle.ode_top.specs.Answers.{AreAnswered, AreAnsweredInPart, BreaksRule, IsBadFile, IsBadFileCut, IsGenStatus, IsGenerated, IsIdle, IsInitCut, IsInitStatus, IsInspectStatus, IsInspected, IsInspectedCut, IsMachineRun, IsMade, IsNoRun, IsRefused, IsSilent, gen_items}
 use Rattle.ode_top.specs.Holds.{Holds}
 use Rattle.ode_top.specs.Stops.{CutShort, IsCut}
 use Rattle.ode_top.specs.declared.call.Mode.{Mode}
@@ -84,3 +86,16 @@ pub record Inspects (mode : Mode) (old new : View) (result : Status) : Type 0 wh
   pub answers : IsInspectStatus result
   -- Nothing is written, and nothing is printed where the status has no line.
   pub idle : IsIdle result old new
+
+-- A `query` or a `same` where the file holds a world. The file stays as it was, whatever it holds.
+pub record Questions (asked : Asked) (before after : Option (List ℕ)) (old new : View) (result : Status) : Type 0 where
+  -- The text and the status are those of the world, whatever the script and the chunks that it comes in.
+  pub answered : (script image text : List ℕ) (w : ListWorld) → Finds script image text w before old → IsEnding result
+      → AreAnswered asked script image w text after new result
+  -- Where the disk, the output or the script fails or memory is short, a front of the text was printed.
+  pub cut : (script image text : List ℕ) (w : ListWorld) → Finds script image text w before old → IsCut result
+      → AreAnsweredInPart asked script image w text new
+  -- It ends as the script does, by a fault, or for want of memory.
+  pub answers : (image : List ℕ) (w : ListWorld) → Tells old image → Holds image w → IsRunStatus result
+  -- Nothing is written.
+  pub spares : Spares old new

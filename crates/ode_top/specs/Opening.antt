@@ -1,10 +1,11 @@
--- What a file is opened to for a run.
-use Rattle.std.specs.Prelude.{◌≡◌, ℕ, List, Ok, false}
-use Rattle.ode_gate.specs.declared.places.TheConstants.{FORMAT}
-use Rattle.ode_host.specs.Host.{Stands}
+-- What a file is opened to for a run, and for questions.
+use Rattle.std.specs.Prelude.{◌≡◌, ◌==◌, ℕ, List, Ok, false}
+use Rattle.ode_gate.specs.declared.places.TheConstants.{FIRST_FORMAT, FORMAT}
+use Rattle.ode_host.specs.Host.{Stands, Tells}
 use Rattle.ode_host.specs.View.{View}
 use Rattle.ode_keep.specs.Entries.{Entries}
 use Rattle.ode_keeper.specs.Files.{FileMeans}
+use Rattle.ode_keeper.specs.Holding.{KeeperHolds}
 use Rattle.ode_keeper.specs.declared.keeper.Keeper.{Keeper}
 use Rattle.ode_keeper.specs.declared.keeper.Keeper.TheVariants.{Areas, Pages}
 use Rattle.ode_language.specs.Languages.{ode}
@@ -54,3 +55,12 @@ pub record OpensTo (w : ListWorld) (o : Opened PageMap) (view : View) : Type 0 w
   pub means : PagesMeanIn FORMAT image entries
   pub kept : LastHold o.keeper view entries
   pub opened : AreOpened false ode entries (Ok (base_in o))
+
+-- A file that holds this world was opened as it is, in either format, and its keeper holds the records that were opened.
+pub record OpensAsIs (image : List ℕ) (w : ListWorld) (o : Opened Keeper) (view : View) : Type 0 where
+  pub tells : Tells view image
+  pub holds : HoldsBy ode FileMeans image w
+  pub entries : Entries
+  pub means : FileMeans image entries
+  pub kept : KeeperHolds o.keeper view entries
+  pub opened : AreOpened (o.format == FIRST_FORMAT) ode entries (Ok (base_in o))

@@ -4,6 +4,7 @@ ghost use Rattle.std.specs.Option.{option_copied, option_map};
 ghost use Rattle.ode_top.specs.Calls.{bytes_of, call_of, file_call, gen_call, is_file, mode_named, script_number};
 
 use ode_gen::GEN_LIMIT;
+use ode_questions::Asked;
 use ode_value::parse_decimal;
 
 /// What a call does.
@@ -17,6 +18,8 @@ pub enum Mode {
     Check,
     /// Prints the records of a file.
     Dump,
+    /// Answers the questions of a script over a file.
+    Ask(Asked),
     /// Makes a script from a number, and runs it on a file.
     Gen(u32),
 }
@@ -48,6 +51,10 @@ fn mode_named(word: &str) -> Option<Mode>
         Some(Mode::Check)
     } else if word == "dump" {
         Some(Mode::Dump)
+    } else if word == "query" {
+        Some(Mode::Ask(Asked::Queries))
+    } else if word == "same" {
+        Some(Mode::Ask(Asked::Comparisons))
     } else {
         None
     }
@@ -105,7 +112,8 @@ pub fn call_of(words: &[String]) -> Option<Call<'_>>
     }
 }
 
-/// The name of the file, where the words are a right list: `init FILE`, `run FILE`, `check FILE`, `dump FILE` or `gen FILE N`.
+/// The name of the file, where the words are a right list: `init FILE`, `run FILE`, `check FILE`, `dump FILE`, `query FILE`, `same FILE` or
+/// `gen FILE N`.
 pub fn file_word(words: &Vec<String>) -> Option<&str>
     ensures { option_copied result ≡ option_map (λ call. call.1) (call_of (bytes_of words.now.items)) }
 {

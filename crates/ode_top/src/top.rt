@@ -6,7 +6,7 @@ ghost use Rattle.ode_declared_laws.specs.Adding.{AreAligned};
 ghost use Rattle.ode_dump.specs.Dumping.{AreRecords};
 ghost use Rattle.ode_host.specs.Causes.{RoseIf};
 ghost use Rattle.ode_gen.specs.Generating.{gen_limit};
-ghost use Rattle.ode_host.specs.Host.{HostCalls, LeavesCut, LeavesOnly, Looks, Prints, Stands, Tells};
+ghost use Rattle.ode_host.specs.Host.{HostCalls, LeavesCut, LeavesOnly, Looks, Prints, Spares, Stands, Tells};
 ghost use Rattle.ode_keep.specs.Entries.{Entries};
 ghost use Rattle.ode_language.specs.Languages.{ode};
 ghost use Rattle.ode_machine.specs.Moments.{IsAfterSome};
@@ -14,15 +14,17 @@ ghost use Rattle.ode_machine.specs.Runs.{trace};
 ghost use Rattle.ode_open.specs.Opening.{IsRefused};
 ghost use Rattle.ode_passes.specs.Answers.{OnBroken};
 ghost use Rattle.ode_pagemap.specs.Holding.{is_live};
+ghost use Rattle.ode_questions.specs.declared.asked.Asked.{Asked};
 ghost use Rattle.ode_schema.specs.Parts.{AreFit};
 ghost use Rattle.ode_trace.specs.Statuses.{IsEnding, IsRunStatus};
 ghost use Rattle.ode_transact.specs.Resting.{resting_parts};
 ghost use Rattle.ode_value.specs.Language.{ListWorld};
-ghost use Rattle.ode_top.specs.Answers.{Asks, BreaksRule, EndsFor, IsGenStatus, IsGenerated, IsIdle, IsMachineRun, IsSilent, SaidFront, SaysRecords, counts_line, gen_items, mode_text, usage_line, why_line};
+ghost use Rattle.ode_top.specs.Answers.{AreAnswered, AreAnsweredInPart, Asks, BreaksRule, EndsFor, IsGenStatus, IsGenerated, IsIdle, IsMachineRun, IsSilent, ReadsScript, SaidFront, SaysRecords, counts_line, gen_items, mode_text, usage_line, why_line};
 ghost use Rattle.ode_top.specs.Calls.{bytes_of, call_of};
-ghost use Rattle.ode_top.specs.Claims.{Generates, Initialises, Inspects, RunsNone, RunsWorld};
+ghost use Rattle.ode_top.specs.Claims.{Generates, Initialises, Inspects, Questions, RunsNone, RunsWorld};
 ghost use Rattle.ode_top.specs.Holds.{Holds};
-ghost use Rattle.ode_top.specs.Opening.{OpensTo};
+ghost use Rattle.ode_top.specs.Opening.{OpensAsIs, OpensTo};
+ghost use Rattle.ode_top.specs.Stops.{IsCut};
 
 use crate::call::{Mode, call_of};
 use crate::opening::open_to_run;
@@ -31,6 +33,7 @@ use ode_dump::{check_text, dump_text, tallied_records_decode};
 use ode_file_laws::files_of_worlds_are_opened;
 use ode_gen::{TextSource, gen_line, gen_script, generated_scripts_end};
 use ode_good_runs::runs_stay_good;
+use ode_heap::Heap;
 use ode_host::{Failed, Host, Source, Status};
 use ode_keeper::Keeper;
 use ode_language_laws::language_has_sound_rules;
@@ -39,12 +42,13 @@ use ode_open::{OpenError, open_base};
 use ode_opened::Opened;
 use ode_pagemap::PageMap;
 use ode_passes::{Cause, OpenError as ReadError};
+use ode_questions::{Asked, answer_script};
 use ode_start_laws::opened_files_are_at_rest;
 use ode_trace::{Tally, run_quietly, run_script};
 use ode_value::{Key, List};
 use std::alloc::Global;
 
-const USAGE: &[u8] = b"usage: ode (init|run|check|dump) FILE | ode gen FILE N\n";
+const USAGE: &[u8] = b"usage: ode (init|run|check|dump|query|same) FILE | ode gen FILE N\n";
 
 // Prints a line and ends with a status.
 fn end_with<H: Host>(host: &mut H, line: &[u8], status: Status) -> Status
@@ -79,6 +83,7 @@ fn init<H: Host>(host: &mut H) -> Status
 // Says which record was found damaged, where there is memory for it.
 fn damaged<H: Host>(alloc: Global, host: &mut H, key: Key) -> Status
     ensures status { (result ≡ Status.Memory) ⊎ ((result ≡ Status.BadFile) ⊎ (result ≡ Status.WriteFault)) }
+    ensures spares { Spares (H.view host.old) (H.view host.new) }
     ensures leaves { HostCalls (result ≡ Status.DiskFault) (result ≡ Status.WriteFault) (H.view host.old) (H.view host.new) }
 {
     match cause_line(alloc, &Cause::Record(key)) {
@@ -152,6 +157,54 @@ fn run<H: Host, S: Source>(alloc: Global, script: &mut S, host: &mut H) -> Statu
     files_of_worlds_are_opened();
     match open_to_run(alloc, host) {
         Ok(opened) => run_opened(alloc, script, host, opened),
+        Err(why) => refuse(alloc, host, why),
+    }
+}
+
+// The questions of a script over an opened file, of which nothing changes.
+fn ask_opened<H: Host, S: Source>(
+    alloc: Global,
+    asked: Asked,
+    script: &mut S,
+    host: &mut H,
+    opened: Opened<Keeper>,
+) -> Status
+    requires live { IsTrue (of_either.is_live opened.keeper) }
+    requires fit { AreFit (resting_parts opened) }
+    ensures answered { (image : Items ℕ) (w : ListWorld) (bytes text : Items ℕ) → S.left script.old ≡ Some bytes → OpensAsIs image w opened (H.view host.old)
+        → (H.view host.old).text ≡ Some text → IsEnding result → AreAnswered asked bytes image w text (S.left script.new) (H.view host.new) result }
+    ensures cut { (image : Items ℕ) (w : ListWorld) (bytes text : Items ℕ) → S.left script.old ≡ Some bytes → OpensAsIs image w opened (H.view host.old)
+        → (H.view host.old).text ≡ Some text → IsCut result → AreAnsweredInPart asked bytes image w text (H.view host.new) }
+    ensures answers { (image : Items ℕ) (w : ListWorld) → OpensAsIs image w opened (H.view host.old) → IsRunStatus result }
+    ensures not_usage { result ≢ Status.Usage }
+    ensures spares { Spares (H.view host.old) (H.view host.new) }
+    ensures leaves { HostCalls (result ≡ Status.DiskFault) (result ≡ Status.WriteFault) (H.view host.old) (H.view host.new) }
+    ensures reads { RoseIf (result ≡ Status.ReadFault) (S.faults script.old) (S.faults script.new) }
+{
+    opened_files_are_at_rest(&opened, host);
+    let Opened {
+        keeper,
+        classes,
+        ..
+    } = opened;
+    let mut heap = Heap::new(keeper);
+    match answer_script(alloc, asked, script, host, &classes, &mut heap) {
+        Ok(status) => status,
+        Err(key) => damaged(alloc, host, key),
+    }
+}
+
+// The questions of a script over a file, which is opened as it is: it isn't migrated, and no entry of its queue runs.
+fn ask<H: Host, S: Source>(alloc: Global, asked: Asked, script: &mut S, host: &mut H) -> Status
+    ensures world { Questions asked (S.left script.old) (S.left script.new) (H.view host.old) (H.view host.new) result }
+    ensures no_world { RunsNone (S.left script.old) (S.left script.new) (H.view host.old) (H.view host.new) result }
+    ensures not_usage { result ≢ Status.Usage }
+    ensures leaves { HostCalls (result ≡ Status.DiskFault) (result ≡ Status.WriteFault) (H.view host.old) (H.view host.new) }
+    ensures reads { RoseIf (result ≡ Status.ReadFault) (S.faults script.old) (S.faults script.new) }
+{
+    files_of_worlds_are_opened();
+    match open_base(alloc, host) {
+        Ok(opened) => ask_opened(alloc, asked, script, host, opened),
         Err(why) => refuse(alloc, host, why),
     }
 }
@@ -269,7 +322,7 @@ fn text_of<H: Host>(
     match mode {
         Mode::Check => check_text(alloc, &mut keeper, host),
         Mode::Dump => dump_text(alloc, &mut keeper, host, &classes),
-        Mode::Init | Mode::Run | Mode::Gen(_) => Ok(List::new(alloc)),
+        Mode::Init | Mode::Run | Mode::Ask(_) | Mode::Gen(_) => Ok(List::new(alloc)),
     }
 }
 
@@ -299,8 +352,8 @@ fn inspect<H: Host>(alloc: Global, host: &mut H, mode: Mode) -> Status
 }
 
 /// Does what the words ask for: `init FILE` makes a database in the host's file, `run FILE` runs the script on it, `check FILE` counts its
-/// records, `dump FILE` prints them, and `gen FILE N` runs the script that a number gives, and says what it came to. Wrong words and `init`
-/// take no memory.
+/// records, `dump FILE` prints them, `query FILE` and `same FILE` answer the questions of the script over it, which are queries and comparisons
+/// of events, and `gen FILE N` runs the script that a number gives, and says what it came to. Wrong words and `init` take no memory.
 pub fn run_ode<H: Host, S: Source>(
     alloc: Global,
     words: &Vec<String>,
@@ -319,11 +372,17 @@ pub fn run_ode<H: Host, S: Source>(
     // `check` and `dump` say what a file's records are, or which rule it breaks, and change nothing.
     ensures check { Asks Mode.Check (bytes_of words.now.items) → Inspects Mode.Check (H.view host.old) (H.view host.new) result }
     ensures dump { Asks Mode.Dump (bytes_of words.now.items) → Inspects Mode.Dump (H.view host.old) (H.view host.new) result }
+    // `query` and `same` answer a script's questions over the world that a file holds, or say which rule it breaks, and change nothing.
+    ensures questions { (asked : Asked) → Asks (Mode.Ask asked) (bytes_of words.now.items)
+        → Questions asked (S.left script.old) (S.left script.new) (H.view host.old) (H.view host.new) result }
+    ensures unasked { (asked : Asked) → Asks (Mode.Ask asked) (bytes_of words.now.items)
+        → RunsNone (S.left script.old) (S.left script.new) (H.view host.old) (H.view host.new) result }
     // `gen` runs a number's script as `run` would, but says only what it came to.
     ensures generated { (number : ℕ) → Asks (Mode.Gen number) (bytes_of words.now.items) → Generates number (H.view host.old) (H.view host.new) result }
     ensures gen_no_world { (number : ℕ) → Asks (Mode.Gen number) (bytes_of words.now.items)
         → RunsNone (S.left script.old) (S.left script.new) (H.view host.old) (H.view host.new) result }
-    ensures unread { ¬ Asks Mode.Run (bytes_of words.now.items) → S.left script.new ≡ S.left script.old }
+    // The other modes leave the script unread.
+    ensures unread { ¬ ReadsScript (bytes_of words.now.items) → S.left script.new ≡ S.left script.old }
 
     // Wrong words are answered with the usage line, and change nothing.
     ensures usage { result ≡ Status.Usage ↔ ((call_of (bytes_of words.now.items) ≡ None) × (result ≢ Status.WriteFault)) }
@@ -342,6 +401,7 @@ pub fn run_ode<H: Host, S: Source>(
             Mode::Run => run(alloc, script, host),
             Mode::Check => inspect(alloc, host, Mode::Check),
             Mode::Dump => inspect(alloc, host, Mode::Dump),
+            Mode::Ask(asked) => ask(alloc, asked, script, host),
             Mode::Gen(number) => generate(alloc, host, number),
         },
         None => end_with(host, USAGE, Status::Usage),

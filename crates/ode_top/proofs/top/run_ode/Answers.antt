@@ -1,4 +1,4 @@
-use Rattle.std.proofs.Common.{◌≡◌, ◌∙◌, ◌≤◌, ⊎_elim, ℕ, List, Some, ap, subst, sym}
+use Rattle.std.proofs.Common.{◌≡◌, ◌∙◌, ◌≤◌, ⊎_elim, inl, inr, ℕ, List, Some, ap, subst, sym}
 use Rattle.ode_host.specs.declared.status.Status.TheVariants as status
 use Rattle.std.specs.declared.string.String.{String}
 use Rattle.std.specs.declared.alloc.Global.{Global}
@@ -6,9 +6,10 @@ use Rattle.ode_top.specs.Calls.{bytes_of, call_of}
 use Rattle.ode_top.specs.declared.call.Mode.{Mode}
 use Rattle.ode_host.proofs.Calls.{rose_none}
 use Rattle.ode_gen.specs.Generating.{gen_limit}
-use Rattle.ode_top.proofs.Asking.{asked_same, asked_within}
+use Rattle.ode_questions.specs.declared.asked.Asked.{Asked}
+use Rattle.ode_top.proofs.Asking.{asked_same, asked_within, questions_same}
 use Rattle.ode_top.proofs.Leaving.{line_idle, line_leaves}
-use Rattle.ode_top.specs.Claims.{Generates}
+use Rattle.ode_top.specs.Claims.{Generates, Questions}
 use Rattle.ode_top.proofs.top.run_ode.Goals as goal
 
 pub returns-in-None-clause-said : goal.returns-in-None-clause-said
@@ -24,10 +25,28 @@ pub returns-in-None-clause-reads : goal.returns-in-None-clause-reads
 returns-in-None-clause-reads g c = rose_none _ _ (λ is. ⊎_elim (λ same. cc (same, is)) (λ cut. cc (cut, is)) c.end_with.ensures.status)
 
 pub returns-in-Run-clause-unread : goal.returns-in-Run-clause-unread
-returns-in-Run-clause-unread g c no_run =
+returns-in-Run-clause-unread g c unread =
     let file = c.in-Some.call.file.now in
     let words = rw c.in-Some.is at c.call_of.ensures in
-    absurd (no_run (file, ap (λ (l : List (String Global)). call_of (bytes_of l)) (sym c.deref.ensures.value) ∙ sym words ∙ ap (λ (m : Mode). Some (m, file)) c.in-Run.is))
+    absurd (unread (inl (file, ap (λ (l : List (String Global)). call_of (bytes_of l)) (sym c.deref.ensures.value) ∙ sym words ∙ ap (λ (m : Mode). Some (m, file)) c.in-Run.is)))
+
+pub returns-in-Ask-clause-unread : goal.returns-in-Ask-clause-unread
+returns-in-Ask-clause-unread g c unread =
+    let file = c.in-Some.call.file.now in
+    let words = rw c.in-Some.is at c.call_of.ensures in
+    absurd (unread (inr (c.in-Ask.asked, (file, ap (λ (l : List (String Global)). call_of (bytes_of l)) (sym c.deref.ensures.value) ∙ sym words ∙ ap (λ (m : Mode). Some (m, file)) c.in-Ask.is))))
+
+-- the questions were read from the words
+pub returns-in-Ask-clause-questions : goal.returns-in-Ask-clause-questions
+returns-in-Ask-clause-questions g c asked asks =
+    let file = c.in-Some.call.file.now in
+    let words = rw c.in-Some.is at c.call_of.ensures in
+    let is = ap (λ (l : List (String Global)). call_of (bytes_of l)) (sym c.deref.ensures.value) ∙ sym words ∙ ap (λ (m : Mode). Some (m, file)) c.in-Ask.is in
+    let same : c.in-Ask.asked ≡ asked = questions_same (bytes_of c.args.words.now.items) c.in-Ask.asked asked file is asks in
+    subst (λ (a : Asked). Questions a (g.S.Source.left c.args.script.now) (g.S.Source.left c.ask.new.script) (g.H.Host.view c.args.host.now) (g.H.Host.view c.ask.new.host) c.ask.result) same c.ask.ensures.world
+
+pub returns-in-Ask-clause-unasked : goal.returns-in-Ask-clause-unasked
+returns-in-Ask-clause-unasked g c asked asks = c.ask.ensures.no_world
 
 -- the number was read from the words
 pub returns-in-Gen-clause-generated : goal.returns-in-Gen-clause-generated
