@@ -13,7 +13,8 @@ import sys
 import tempfile
 
 CASES = os.path.join(os.path.dirname(os.path.abspath(__file__)), "..", "crates", "ode_cases")
-WORDS = re.compile(r"(init|run|check|dump) f|gen f [1-9]\d*")
+WORDS = re.compile(r"(init|run|check|dump|query|same) f|gen f [1-9]\d*")
+SCRIPTS = ("run f", "query f", "same f")
 SKIPPED = re.compile(r'//[^\n]*|"(?:\\[^\n]|[^"\\\n])*"?|[{};]')
 
 
@@ -76,7 +77,7 @@ def call(program, words, script):
 def in_stretches(program, words, script):
     """The text and the status of a script with a run for each stretch; the lines keep their numbers."""
     text, status, lines = "", 0, 0
-    for stretch in stretches(script) if words == "run f" else [script]:
+    for stretch in stretches(script) if words in SCRIPTS else [script]:
         said, ended = call(program, words, "\n" * lines + stretch)
         text, status, lines = text + said, max(status, ended), lines + stretch.count("\n")
         if ended > 1:

@@ -116,7 +116,7 @@ last_frame() {
 }
 
 printf 'class P { int n; };\n' > declare.ode
-usage=$'usage: ode (init|run|check|dump) FILE | ode gen FILE N\n'
+usage=$'usage: ode (init|run|check|dump|query|same) FILE | ode gen FILE N\n'
 
 # --- a new file
 
@@ -162,6 +162,11 @@ said 'a check counts the records' 0 $'good classes 0 objects 0 activations 0 ent
 run dump new.db < /dev/null
 said 'a dump prints the records' 0 $'counters next 1 tx 1 entry 1\nclock none\n'
 is 'a check and a dump leave the file as it was' cmp new.db expected.db
+for mode in query same; do
+    run "$mode" new.db < /dev/null
+    said "an empty script of mode $mode prints nothing" 0 ''
+    is "and leaves the file as it was" cmp new.db expected.db
+done
 
 run init new.db < /dev/null
 said 'a second init is refused' 3 $'file exists\n'
@@ -216,6 +221,14 @@ example() {
     printed "example $1" "$wanted" "$examples/$1.out"
 }
 
+# asked NAME MODE: the questions on the example's file print NAME.MODE.out, and leave the file as it is.
+asked() {
+    cp "$1.db" "$1.before"
+    run "$2" "$1.db" < "$examples/$1.$2"
+    printed "example $1, mode $2" 0 "$examples/$1.$2.out"
+    is "and the file is as it was" cmp "$1.db" "$1.before"
+}
+
 for script in "$examples"/*.ode; do
     name=$(basename "$script" .ode)
     if [ "$name" = again ]; then continue; fi
@@ -223,6 +236,35 @@ for script in "$examples"/*.ode; do
     example "$name" "$name.db"
     if [ "$name" = first ]; then example again first.db; fi
 done
+asked stock query
+asked alarms same
+
+# --- questions
+
+fresh asked.db
+{
+    printf 'class T { int n; text s; void put(int k) { n = k; } event after put; };\nbegin;\n'
+    seq 0 20 | sed "s/.*/pnew T(n = &, s = \"$(head -c 2048 /dev/zero | tr '\0' x)\");/"
+    printf 'commit;\n'
+} > asked.ode
+run run asked.db < asked.ode
+ended 'a file for questions is made' 0
+cp asked.db asked.before
+
+# 9,261 rows of 2,055 bytes have no room, 8,000 have.
+run query asked.db <<< 'for x in T, y in T, z in T show x.s;'
+said 'a text of more than 16,777,216 bytes is refused' 1 $'refused 1 output\n'
+run query asked.db <<< 'for x in T, y in T, z in T suchthat x.n != 0 && y.n != 0 && z.n != 0 show x.s;'
+ended '8,000 long rows are printed' 0
+is 'all of them' [ "$(stat -c %s text) $(grep -c '^row "x*"$' text) $(tail -n 1 text)" = '16440010 8000 rows 8000' ]
+
+run query asked.db <<< 'for x in T, y in T, z in T, u in T suchthat false show x;'
+said '194,481 combinations of which none passes' 0 $'rows 0\n'
+run query asked.db <<< 'show 1; for x in T suchthat x.n > 18 by -x.n show x, x.n; for x in U show x;'
+said 'refusals of queries' 1 $'refused 1 syntax 0\nrow #21 20\nrow #20 19\nrows 2\nrefused 1 unknown name U\n'
+run same asked.db <<< 'same T(): after put && n > 0, after put; same U(): any, any; same T(): any, any;'
+said 'comparisons and a refusal' 1 $'differs 1\npoint after put\nsecond yes\nrefused 1 unknown name U\nsame\n'
+is 'questions leave the file as it was' cmp asked.db asked.before
 
 # --- a file that an earlier program made
 
@@ -247,6 +289,8 @@ run dump areas.db < /dev/null
 said 'a dump prints them' 0 $'counters next 1 tx 1 entry 1\nclock none\n'
 run init areas.db < /dev/null
 said 'init refuses a file of two areas' 3 $'file exists\n'
+run query areas.db <<< 'for x in P show x;'
+said 'a query over a file of two areas' 1 $'refused 1 unknown name P\n'
 is 'the file of two areas is as it was' cmp areas.db areas.before
 run run areas.db < /dev/null
 said 'a file of two areas is opened' 0 ''
@@ -262,6 +306,8 @@ example again areas.db
 cp older.db older.before
 run check older.db < /dev/null
 said 'a check counts the records of the first format' 0 $'good classes 0 objects 0 activations 0 entries 0\n'
+run same older.db <<< 'same P(): any, any;'
+said 'a comparison over a file of the first format' 1 $'refused 1 unknown name P\n'
 is 'and leaves the file as it was' cmp older.db older.before
 run run older.db < /dev/null
 said 'a file of the first format is opened' 0 ''
@@ -275,6 +321,11 @@ is 'a new file is one of pages' [ "$(number first.db 13 4)" -eq 2 ]
 run run missing.db < "$examples/first.ode"
 said 'a missing file holds no database' 3 $'no database\n'
 is 'a run makes no file' [ ! -e missing.db ]
+for mode in query same; do
+    run "$mode" missing.db < /dev/null
+    said "mode $mode of a missing file" 3 $'no database\n'
+    is 'makes none' [ ! -e missing.db ]
+done
 
 cp "$examples/first.ode" script.db
 run run script.db < "$examples/first.ode"
@@ -311,7 +362,7 @@ rm -f made.db again.db
 
 # --- wrong words
 
-for words in '' 'run' 'run -x' 'fly f' 'check' 'dump -f' 'gen f' 'gen f 0' 'gen f 01' 'gen f 4001' 'gen -f 1' 'gen f 1 1' 'init' 'init -f' 'init f f' 'run f f' 'run f 1' 'run f -x'; do
+for words in '' 'run' 'run -x' 'fly f' 'check' 'dump -f' 'gen f' 'gen f 0' 'gen f 01' 'gen f 4001' 'gen -f 1' 'gen f 1 1' 'init' 'init -f' 'init f f' 'run f f' 'run f 1' 'run f -x' 'query' 'query -f' 'query f 1' 'same' 'same f f' 'ask f'; do
     # shellcheck disable=SC2086 # the words are cut at blanks
     run $words < /dev/null
     said "wrong words: ode $words" 2 "$usage"
@@ -329,6 +380,8 @@ run run directory.db < "$examples/first.ode"
 said 'run on a directory' 4 ''
 run init directory.db < /dev/null
 said 'init on a directory' 4 ''
+run query directory.db < /dev/null
+said 'query on a directory' 4 ''
 run init missing/new.db < /dev/null
 said 'init in a directory that is missing' 4 ''
 
@@ -377,6 +430,8 @@ else
     said 'run on a file that may only be read' 4 ''
     run check kept.db < /dev/null
     said 'check on a file that may only be read' 0 $'good classes 0 objects 0 activations 0 entries 0\n'
+    run query kept.db <<< 'for x in P show x;'
+    said 'query on a file that may only be read' 1 $'refused 1 unknown name P\n'
     chmod 000 kept.db
     run run kept.db < declare.ode
     said 'run on a file that may not be read' 4 ''
@@ -391,6 +446,8 @@ fresh source.db
 cp source.db source.before
 run run source.db < directory.db
 said 'a script that is a directory' 5 ''
+run query source.db < directory.db
+said 'queries that are a directory' 5 ''
 is 'the file is as it was where the script failed' cmp source.db source.before
 
 # --- an output that fails
@@ -440,6 +497,9 @@ if [ -c /dev/full ]; then
     timeout -k 5 60 ./ode run missing.db < /dev/null > /dev/full 2> errors
     status=$?
     ended 'the line of a missing file onto a full device' 6
+    timeout -k 5 60 ./ode query asked.db <<< 'for x in T show x;' > /dev/full 2> errors
+    status=$?
+    ended 'rows onto a full device' 6
     timeout -k 5 60 ./ode init ready.db < /dev/null > /dev/full 2> errors
     status=$?
     ended 'ready onto a full device' 6
@@ -624,6 +684,13 @@ if command -v strace > strace.path && strace -o trace true 2> errors; then
         pages=$((($(stat -c %s "$large/classes.db") - 33558528) / 4096))
         is 'a journal of 5,000 transactions is read in blocks, beside the pages' reads_most $((256 + 6 * pages + 24))
     fi
+
+    cp traced.db traced.before
+    timeout -k 5 60 strace -o trace -e "$watched" ./ode query traced.db <<< 'for x in C show x.n;' > text 2> errors
+    status=$?
+    said 'a query under strace' 0 $'row 10\nrows 1\n'
+    is 'it makes one sync and writes nothing but its rows' [ "$(calls)" = 'fdatasync write ' ]
+    is 'its file is as it was' cmp traced.db traced.before
 
     # 4,096 queued actions, of which 2,048 wait at a time, run in as many transactions, each with its two syncs, and in no more.
     fresh queue.db

@@ -3,8 +3,8 @@
 
 That program gave each table a state for each of its event's trees, where tables are the least ones today. A case of checks/stored.txt has
 the bytes of a file, by lines with the place of the first, and zeros where there is no line; its tables as a dump shows them, before and
-behind a run; the script of the run; and what that prints, which is what it prints on a file of today. Prints what differs; the status is
-then 1.
+behind a run; perhaps queries and comparisons with what they print, which leave the file as it is; the script of the run; and what that
+prints, which is what it prints on a file of today. Prints what differs; the status is then 1.
 """
 
 import re
@@ -50,6 +50,11 @@ def main():
             file = Path(folder) / f"{count}.db"
             file.write_bytes(image(int(words.split(" ")[1]), parts["file"]))
             faults += is_so(name, ["dump", file], "", parts["tables"], "table ")
+            for mode, said in (("query", "rows"), ("same", "verdicts")):
+                faults += is_so(name, [mode, file], parts[mode], parts[said]) if mode in parts else 0
+            if file.read_bytes() != image(int(words.split(" ")[1]), parts["file"]):
+                print(f"{name}: questions changed the file")
+                faults += 1
             faults += is_so(name, ["run", file], parts["run"], parts["text"])
             faults += is_so(name, ["dump", file], "", parts["tables"], "table ")
             count += 1

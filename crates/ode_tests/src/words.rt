@@ -5,7 +5,7 @@ use ode_top::file_word;
 use std::alloc::Global;
 use std::process::Abort;
 
-const USAGE: &str = "usage: ode (init|run|check|dump) FILE | ode gen FILE N\n";
+const USAGE: &str = "usage: ode (init|run|check|dump|query|same) FILE | ode gen FILE N\n";
 
 // Words that a line of a case can't have; each other list of wrong words is a case.
 const WRONG: [&[&str]; 3] = [&["init", ""], &["run", ""], &["run ", "f"]];
@@ -35,12 +35,14 @@ fn names(rt: &impl Abort, alloc: Global, words: &[&str], file: Option<&str>) {
     );
 }
 
-const NAMELESS: [&[&str]; 9] = [
+const NAMELESS: [&[&str]; 11] = [
     &[],
     &["run"],
     &["run", "-x"],
     &["check"],
     &["dump", "-f"],
+    &["query"],
+    &["same", "-f"],
     &["gen", "f"],
     &["gen", "f", "0"],
     &["run", "f", "1"],
@@ -54,12 +56,14 @@ fn wrong_words_name_no_file(rt: HostRuntime) {
     }
 }
 
-const NAMED: [&[&str]; 7] = [
+const NAMED: [&[&str]; 9] = [
     &["init", "f"],
     &["run", "f"],
     &["run", "run"],
     &["check", "f"],
     &["dump", "f"],
+    &["query", "f"],
+    &["same", "f"],
     &["gen", "f", "4000"],
     &["init", "a b/c-d.db"],
 ];
