@@ -84,10 +84,10 @@ fn put_all(
     ensures back { (old : Entries) → LeadBack (reverse notes.old.items) records.old old
         → LeadBack (reverse notes.new.items) records.new old }
 {
-    for (key, value) in batch.iter() {
-        if let Some(value) = value {
+    for change in batch.iter() {
+        if let Some(value) = &change.value {
             let copy = List::from_slice(alloc, value.as_slice())?;
-            put_noted(records, notes, *key, copy)?;
+            put_noted(records, notes, change.key, copy)?;
         }
     }
     Ok(())
@@ -108,9 +108,9 @@ fn remove_all(records: &mut Records, batch: &Batch)
     ensures removed { records.new ≡ applied (removals batch.now) records.old }
     ensures rising { HasRisingKeys batch.now }
 {
-    for (key, value) in batch.iter() {
-        if value.is_none() {
-            take_out(records, *key);
+    for change in batch.iter() {
+        if change.value.is_none() {
+            take_out(records, change.key);
         }
     }
 }
@@ -126,9 +126,9 @@ impl Map {
         let bytes = self.bytes();
         let mut put = 0;
         let mut taken = 0;
-        for (key, value) in batch.iter() {
-            put += counted(value.as_ref());
-            taken += counted(self.get(*key));
+        for change in batch.iter() {
+            put += counted(change.value.as_ref());
+            taken += counted(self.get(change.key));
         }
         (bytes - taken).saturating_add(put)
     }
@@ -141,9 +141,9 @@ impl Map {
         let queued = self.queued();
         let mut put = 0;
         let mut taken = 0;
-        for (key, value) in batch.iter() {
-            put += one_queued(*key, value.as_ref());
-            taken += one_queued(*key, self.get(*key));
+        for change in batch.iter() {
+            put += one_queued(change.key, change.value.as_ref());
+            taken += one_queued(change.key, self.get(change.key));
         }
         (queued - taken).saturating_add(put)
     }

@@ -40,8 +40,8 @@ pub(crate) fn frame_of(alloc: Global, batch: &Batch) -> Result<Frame, AllocError
 {
     let mut frame = Frame::reserve(alloc, payload_length(batch))?;
     frame.push(&(batch.len() as u32).to_be_bytes());
-    for (key, value) in batch.iter() {
-        push_change(&mut frame, *key, value);
+    for change in batch.iter() {
+        push_change(&mut frame, change.key, &change.value);
     }
     Ok(frame)
 }

@@ -10,7 +10,7 @@ pub(crate) fn first_key(batch: &Batch) -> Key
     ensures { result ≡ first_key batch.now }
 {
     match batch.iter().next() {
-        Some((key, _)) => *key,
+        Some(change) => change.key,
         None => Key {
             kind: Key::COUNTERS,
             a: 0,

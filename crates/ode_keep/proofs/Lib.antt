@@ -1,4 +1,5 @@
 pub mod Applying
+pub mod Placing
 pub mod Counts
 pub mod Growing
 pub mod Keys

@@ -1,4 +1,6 @@
 pub mod Entries
+pub mod Batches
+pub mod Placing
 pub mod Growth
 pub mod Keeping
 pub mod Starting

@@ -9,7 +9,7 @@ mod roomy;
 mod rows;
 mod spelling;
 
-pub use batch::Batch;
+pub use batch::{Batch, Change};
 pub use error::{KeepError, StartError};
 pub use keep::Keep;
 pub use limits::{

@@ -85,8 +85,8 @@ pub fn payload_length(batch: &Batch) -> u32
     ensures small { result ≤ MAX_PAYLOAD_LEN }
 {
     let mut length = COUNT_LEN as u32;
-    for (_, value) in batch.iter() {
-        length += change_length(value);
+    for change in batch.iter() {
+        length += change_length(&change.value);
     }
     length
 }

@@ -30,8 +30,8 @@ fn change(key: &Key, value: &Option<List<u8>>) -> Change {
 // A batch is these changes, in order.
 fn is_batch(rt: &impl Abort, batch: &Batch, changes: &[Change]) {
     equal(rt, &batch.len(), &changes.len());
-    for ((key, value), expected) in batch.iter().zip(changes) {
-        equal(rt, &change(key, value), expected);
+    for (made, expected) in batch.iter().zip(changes) {
+        equal(rt, &change(&made.key, &made.value), expected);
     }
 }
 

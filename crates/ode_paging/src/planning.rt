@@ -120,14 +120,14 @@ pub(crate) fn make_changes<H: Host>(
     ensures cause { RoseIf (IsErrOf result KeepError.DiskFault) (H.view host.old).disk_faults (H.view host.new).disk_faults }
 {
     let mut moves = Vec::new(alloc);
-    for (key, value) in batch.iter() {
-        let led = index.page(*key);
-        let change = hand.change(host, source, led, *key, value.as_ref())?;
-        let Some(after) = counts.after(*key, change) else {
+    for change in batch.iter() {
+        let led = index.page(change.key);
+        let made = hand.change(host, source, led, change.key, change.value.as_ref())?;
+        let Some(after) = counts.after(change.key, made) else {
             return Err(KeepError::Memory);
         };
         *counts = after;
-        note(&mut moves, *key, change.page)?;
+        note(&mut moves, change.key, made.page)?;
     }
     Ok(moves)
 }
