@@ -1,0 +1,4 @@
+pub mod Frames
+pub mod Payloads
+pub mod Streams
+pub mod Cuts
