@@ -1,5 +1,5 @@
 //! The fields of a change are taken in, or turned away where they are too heavy.
-ghost use Rattle.std.specs.Prelude.{◌≡◌, ◌<◌, ◌≤◌, ◌+◌, ◌-◌, ◌^◌, ◌++◌, ℕ, List as Items, IfOk, IsErrOf, IsTrue, OnOk, Some, drop, length, map, min};
+ghost use Rattle.std.specs.Prelude.{◌∷◌, [], ◌≡◌, ◌<◌, ◌≤◌, ◌+◌, ◌-◌, ◌^◌, ◌++◌, ℕ, List as Items, IfOk, IsErrOf, IsTrue, OnOk, Some, drop, length, map, min};
 ghost use Rattle.std.specs.List.{AllByRecursion};
 ghost use Rattle.ode_change.specs.Changing.{HasChange};
 ghost use Rattle.ode_change_laws.specs.Behind.{IsBehind};
@@ -10,6 +10,7 @@ ghost use Rattle.ode_good_laws.specs.Well.{IsWell};
 ghost use Rattle.ode_good_runs.specs.Reading.{IsReadValue};
 ghost use Rattle.ode_heap.specs.Answering.{class_of};
 ghost use Rattle.ode_host.specs.Host.{HostCalls, LeavesOnly, Printed};
+ghost use Rattle.ode_keep.specs.Entries.{Entries};
 ghost use Rattle.ode_keep.specs.Growth.{put_bytes};
 ghost use Rattle.ode_keep.specs.ShortValues.{HasShortValues};
 ghost use Rattle.ode_language.specs.Languages.{ode};
@@ -17,6 +18,7 @@ ghost use Rattle.ode_machine.specs.Moments.{LeavesSettling};
 ghost use Rattle.ode_machine.specs.Works.{changes_class};
 ghost use Rattle.ode_schema.specs.Parts.{AreFit};
 ghost use Rattle.ode_transact.specs.Errors.{OnDamaged};
+ghost use Rattle.ode_transact.specs.Logging.{DiskHas, HasGrown, Logs};
 ghost use Rattle.ode_transact.specs.Output.{counting, heard};
 ghost use Rattle.ode_transact.specs.Resting.{HoldsBy, IsAtRest, resting_parts};
 ghost use Rattle.ode_value.specs.Language.{ListWorld};
@@ -39,7 +41,7 @@ use ode_keep::{Batch, Roomy};
 use ode_language_laws::language_reads_well;
 use ode_lines::changed_line;
 use ode_opened::Opened;
-use ode_transact::{EngineError, Output};
+use ode_transact::{EngineError, Log, Output};
 use ode_value::Change;
 use ode_value::limits::WEIGHT_LIMIT;
 use std::alloc::{AllocError, Global};
@@ -86,6 +88,7 @@ pub(crate) fn bring_in<H: Host, K: Roomy<H> + Drop>(
     rest: Opened<K>,
     host: &mut H,
     output: &mut Output,
+    log: &mut Log,
     change: &Change,
     known: Known,
     behind: Anew,
@@ -104,6 +107,12 @@ pub(crate) fn bring_in<H: Host, K: Roomy<H> + Drop>(
         → IsBehind ode w.bones change.now classes → behind.classes ≡ map class_of classes
         → let s = transaction lists Script (changes_class lists classes change.now) w in
         IsWell ode s.0 → OnOk result (output.new ≡ counting output.old s.1) }
+    // What was settled is kept in the log, where there is one.
+    ensures logs { (w : ListWorld) (classes : Items Declared) (entries : Entries) → IsWell ode w → IsAtRest H.view K.holds K.live ode w rest host.old → IsKnown w.bones known.counters known.trees known.added
+        → IsBehind ode w.bones change.now classes → behind.classes ≡ map class_of classes → DiskHas K.means entries (H.view host.old)
+        → let s = transaction lists Script (changes_class lists classes change.now) w in
+        IsWell ode s.0 → OnOk result (Logs K.means ode w entries (s ∷ []) log.old log.new (H.view host.new)) }
+    ensures grown { HasGrown log.old log.new }
     // A stop leaves the world before and none of the text, or the one behind and a front of what is printed of it.
     ensures any_moment { (w : ListWorld) (classes : Items Declared) (said : Items ℕ) → IsWell ode w → IsAtRest H.view K.holds K.live ode w rest host.old → IsKnown w.bones known.counters known.trees known.added
         → IsBehind ode w.bones change.now classes → behind.classes ≡ map class_of classes
@@ -131,13 +140,14 @@ pub(crate) fn bring_in<H: Host, K: Roomy<H> + Drop>(
     let (batch, bytes) = weighed;
     if bytes > WEIGHT_LIMIT {
         let line = changed_line(alloc, &change.class)?;
-        turn_away(alloc, rest, host, output, line)
+        turn_away(alloc, rest, host, output, log, line)
     } else {
         take_in(
             alloc,
             rest,
             host,
             output,
+            log,
             change,
             known.counters,
             behind,

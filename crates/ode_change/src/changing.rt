@@ -1,15 +1,17 @@
 //! A class gets fields.
-ghost use Rattle.std.specs.Prelude.{◌≡◌, ◌<◌, ℕ, List as Items, Err, IfOk, IsErrOf, IsTrue, Ok, Some};
+ghost use Rattle.std.specs.Prelude.{◌∷◌, [], ◌≡◌, ◌<◌, ℕ, List as Items, Err, IfOk, IsErrOf, IsTrue, Ok, Some};
 ghost use Rattle.ode_change.specs.Changing.{Changes, HasChange};
 ghost use Rattle.ode_declared_laws.specs.Adding.{AreAligned};
 ghost use Rattle.ode_good_laws.specs.Well.{IsWell};
 ghost use Rattle.ode_host.specs.Host.{HostCalls, LeavesOnly, Looks, Printed};
+ghost use Rattle.ode_keep.specs.Entries.{Entries};
 ghost use Rattle.ode_language.specs.Languages.{ode};
 ghost use Rattle.ode_machine.specs.Moments.{LeavesSettling};
 ghost use Rattle.ode_machine.specs.Refusals.{changed_in};
 ghost use Rattle.ode_machine.specs.Works.{changes_class};
 ghost use Rattle.ode_schema.specs.Parts.{AreFit};
 ghost use Rattle.ode_transact.specs.Errors.{OnDamaged};
+ghost use Rattle.ode_transact.specs.Logging.{DiskHas, HasGrown, Logs};
 ghost use Rattle.ode_transact.specs.Output.{counting, heard};
 ghost use Rattle.ode_transact.specs.Resting.{HoldsBy, IsAtRest, resting_parts};
 ghost use Rattle.ode_value.specs.Language.{ListWorld};
@@ -27,7 +29,7 @@ use ode_host::Host;
 use ode_keep::Roomy;
 use ode_language_laws::changes_are_behind;
 use ode_opened::Opened;
-use ode_transact::{EngineError, Output};
+use ode_transact::{EngineError, Log, Output};
 use ode_value::{Change, Refusal};
 use std::alloc::Global;
 
@@ -37,6 +39,7 @@ pub fn change<H: Host, K: Roomy<H> + Drop>(
     rest: Opened<K>,
     host: &mut H,
     output: &mut Output,
+    log: &mut Log,
     change: &Change,
 ) -> Result<(Opened<K>, Option<Refusal>), EngineError>
     requires live { IsTrue (K.live rest.keeper) }
@@ -55,6 +58,12 @@ pub fn change<H: Host, K: Roomy<H> + Drop>(
     // Where the machine refuses it nothing is written.
     ensures declined { (w : ListWorld) (why : Refusal) → IsAtRest H.view K.holds K.live ode w rest host.old
         → changed_in ode w.bones change.now ≡ Err why → Looks (H.view host.old) (H.view host.new) }
+    // What was settled is kept in the log, where there is one.
+    ensures logs { (w : ListWorld) (entries : Entries) → IsWell ode w → IsAtRest H.view K.holds K.live ode w rest host.old → DiskHas K.means entries (H.view host.old)
+        → IfOk result (λ r. Changes (changed_in ode w.bones change.now) r.1 (log.new ≡ log.old)
+        (λ classes. let s = transaction lists Script (changes_class lists classes change.now) w in
+        IsWell ode s.0 → Logs K.means ode w entries (s ∷ []) log.old log.new (H.view host.new))) }
+    ensures grown { HasGrown log.old log.new }
     // A stop leaves the world before and none of the text, or the one behind and a front of what is printed of it.
     ensures any_moment { (w : ListWorld) (classes : Items Declared) (said : Items ℕ) → IsWell ode w → IsAtRest H.view K.holds K.live ode w rest host.old
         → changed_in ode w.bones change.now ≡ Ok classes
@@ -75,7 +84,7 @@ pub fn change<H: Host, K: Roomy<H> + Drop>(
     let (rest, known) = read;
     match changed(alloc, &known, change)? {
         Ok(behind) => {
-            let after = bring_in(alloc, rest, host, output, change, known, behind)?;
+            let after = bring_in(alloc, rest, host, output, log, change, known, behind)?;
             Ok((after, None))
         }
         Err(why) => Ok((rest, Some(why))),

@@ -1,16 +1,18 @@
 //! The new fields of a class for which there is room.
-ghost use Rattle.std.specs.Prelude.{◌≡◌, ◌<◌, ◌≤◌, ◌++◌, ℕ, List as Items, IfOk, IsErrOf, IsTrue, OnOk, Some, length};
+ghost use Rattle.std.specs.Prelude.{◌∷◌, [], ◌≡◌, ◌<◌, ◌≤◌, ◌++◌, ℕ, List as Items, IfOk, IsErrOf, IsTrue, OnOk, Some, length};
 ghost use Rattle.ode_change.specs.Changing.{IsTaken};
 ghost use Rattle.ode_change.specs.Fitting.{AreOver};
 ghost use Rattle.ode_changed_laws.specs.Records.{with_counters};
 ghost use Rattle.ode_declared_laws.specs.Adding.{AreAligned};
 ghost use Rattle.ode_good_laws.specs.Well.{IsWell};
 ghost use Rattle.ode_host.specs.Host.{HostCalls, LeavesOnly, Printed};
+ghost use Rattle.ode_keep.specs.Entries.{Entries};
 ghost use Rattle.ode_keep.specs.ShortValues.{HasShortValues};
 ghost use Rattle.ode_machine.specs.Moments.{LeavesSettling};
 ghost use Rattle.ode_machine.specs.Works.{changes_class};
 ghost use Rattle.ode_schema.specs.Parts.{AreFit, places_from};
 ghost use Rattle.ode_transact.specs.Errors.{OnDamaged};
+ghost use Rattle.ode_transact.specs.Logging.{DiskHas, HasGrown, Logs};
 ghost use Rattle.ode_transact.specs.Output.{counting, heard};
 ghost use Rattle.ode_transact.specs.Resting.{HoldsBy, IsAtRest, resting_parts};
 ghost use Rattle.ode_value.specs.Language.{Language, ListWorld};
@@ -32,13 +34,14 @@ use ode_host::Host;
 use ode_keep::{Batch, MAX_CHANGES, Roomy};
 use ode_lines::{changed_line, committed_line};
 use ode_opened::Opened;
-use ode_transact::{EngineError, Output};
+use ode_transact::{EngineError, Log, Output};
 use ode_value::{Change, List};
 use std::alloc::{AllocError, Global};
 
-// What is handed over: the changes of the records, and the text.
+// What is handed over: the transaction's number, the changes of the records, and the text.
 #[derive(Drop)]
 struct Gathered {
+    number: u64,
     batch: Batch,
     text: List<u8>,
 }
@@ -69,6 +72,7 @@ fn gather(
 ) -> Result<Gathered, EngineError>
     requires short { HasShortValues batch }
     ensures batch { IfOk result (λ r. r.batch ≡ with_counters counters added batch) }
+    ensures number { IfOk result (λ r. r.number ≡ counters.next_transaction) }
     ensures text { IfOk result (λ r. r.text ≡ changed_line change.now.class ++ committed_line counters.next_transaction) }
     ensures few { IfOk result (λ r. length r.batch ≤ MAX_CHANGES) }
     ensures short { IfOk result (λ r. HasShortValues r.batch) }
@@ -82,7 +86,11 @@ fn gather(
     let count = counted(added)?;
     put_counters(alloc, &mut batch, counters, count)?;
     if batch.len() <= MAX_CHANGES {
-        Ok(Gathered { batch, text })
+        Ok(Gathered {
+            number: counters.next_transaction,
+            batch,
+            text,
+        })
     } else {
         damaged()
     }
@@ -121,6 +129,7 @@ pub(crate) fn take_in<H: Host, K: Roomy<H> + Drop>(
     rest: Opened<K>,
     host: &mut H,
     output: &mut Output,
+    log: &mut Log,
     change: &Change,
     counters: Counters,
     behind: Anew,
@@ -139,6 +148,12 @@ pub(crate) fn take_in<H: Host, K: Roomy<H> + Drop>(
         → IsTaken l w change.now classes counters behind.classes (length behind.added) batch bytes
         → let s = transaction lists Script (changes_class lists classes change.now) w in
         IsWell l s.0 → OnOk result (output.new ≡ counting output.old s.1) }
+    // What was settled is kept in the log, where there is one.
+    ensures logs { (l : Language) (w : ListWorld) (classes : Items Declared) (entries : Entries) → IsAtRest H.view K.holds K.live l w rest host.old
+        → IsTaken l w change.now classes counters behind.classes (length behind.added) batch bytes → DiskHas K.means entries (H.view host.old)
+        → let s = transaction lists Script (changes_class lists classes change.now) w in
+        IsWell l s.0 → OnOk result (Logs K.means l w entries (s ∷ []) log.old log.new (H.view host.new)) }
+    ensures grown { HasGrown log.old log.new }
     // A stop leaves the world before and none of the text, or the one behind and a front of what is printed of it.
     ensures any_moment { (l : Language) (w : ListWorld) (classes : Items Declared) (said : Items ℕ) → IsWell l w → IsAtRest H.view K.holds K.live l w rest host.old
         → IsTaken l w change.now classes counters behind.classes (length behind.added) batch bytes
@@ -159,11 +174,10 @@ pub(crate) fn take_in<H: Host, K: Roomy<H> + Drop>(
     let _name = change.class.as_bytes();
     let gathered = gather(alloc, change, counters, behind.added.len(), batch)?;
     let after = with_classes(alloc, rest, behind, bytes)?;
-    settle(
-        after,
-        host,
-        output,
-        &gathered.batch,
-        gathered.text.as_slice(),
-    )
+    let Gathered {
+        number,
+        batch,
+        text,
+    } = gathered;
+    settle(after, host, output, log, number, batch, text.as_slice())
 }

@@ -28,8 +28,10 @@ use Rattle.ode_overlay_laws.specs.Standing.{origin_as}
 use Rattle.ode_transact.proofs.DrainLaws.{drained_no_more}
 use Rattle.ode_transact.proofs.DrainSteps.{drain_left, drain_starts}
 use Rattle.ode_transact.proofs.JoinLaws.{final_is, text_is}
+use Rattle.ode_transact.proofs.LogLaws.{logs_none}
 use Rattle.ode_transact.proofs.OutputLaws.{all_heard_append, counting_append, counting_none, world_heard}
 use Rattle.ode_transact.specs.Items.{items_of, texts_of}
+use Rattle.ode_transact.specs.Logging.{DiskHas, Kept, Logs}
 use Rattle.ode_transact.specs.Output.{all_heard, counting}
 use Rattle.ode_transact.specs.Resting.{HoldsBy, IsAtRest}
 use Rattle.ode_transact.specs.Settling.{Meaning}
@@ -108,8 +110,13 @@ module _ {H K : Type 0} (seen : H → View) (held : K → View → Entries → T
     pub counts : output ≡ counting start (texts_of settled)
     pub moments : (said : List ℕ) (more : List Item) → (seen before).text ≡ Some said → LeavesOnly (seen before) (seen after) (IsAfterSome (HoldsBy l means) (items_of (all_heard start.quiet settled) ++ more) w said)
 
+  -- with what was kept of them
+  pub record HasLogged (l : Language) (w : ListWorld) (all due : List Position) (last : Position) (o : Opened K) (before after : H) (start output : Output) (left many : ℕ) (entries : Entries) (old new : Option (List Kept)) : Type 0 where
+    pub so : HasTicked l w all due last o before after start output left many
+    pub logs : Logs means l w entries so.settled old new (seen after)
+
   -- none yet
-  pub ticks_begin : (l : Language) (w : ListWorld) (all : List Position) (last : Position) (o : Opened K) (host : H) (output : Output) → Has l (length all) w → AllByRecursion IsPosition all → length all ≤ due_limit
+  ticks_begin : (l : Language) (w : ListWorld) (all : List Position) (last : Position) (o : Opened K) (host : H) (output : Output) → Has l (length all) w → AllByRecursion IsPosition all → length all ≤ due_limit
       → IsAtRest seen held live l w o host → HasTicked l w all all last o host host output output drain_limit 0
   ticks_begin l w all last o host output has fit few rest = record {
     now = w;
@@ -126,17 +133,27 @@ module _ {H K : Type 0} (seen : H → View) (held : K → View → Entries → T
     moments = λ said more printed. started (seen host) (IsAfterSome (HoldsBy l means) more w said);
   }
 
-  -- the next of them is at a place, or none is left
-  pub next_tick : (l : Language) (w : ListWorld) (all : List Position) (at : ℕ) (p : Position) (last : Position) (o : Opened K) (before after : H) (start output : Output) (left many : ℕ) → at < length all → p ≡ get_or all at p
-      → HasTicked l w all (drop at all) last o before after start output left many → HasTicked l w all (p ∷ drop (at + 1) all) last o before after start output left many
-  next_tick l w all at p last o before after start output left many less here so =
-      let next : suc at ≡ at + 1 = omega arith in
-      subst (λ (due : List Position). HasTicked l w all due last o before after start output left many)
-      (drop-cons all at p less ∙ ap (λ (q : Position). q ∷ drop (suc at) all) (sym here) ∙ ap (λ (n : ℕ). p ∷ drop n all) next) so
+  pub logs_begin : (l : Language) (w : ListWorld) (all : List Position) (last : Position) (o : Opened K) (host : H) (output : Output) → Has l (length all) w → AllByRecursion IsPosition all → length all ≤ due_limit
+      → IsAtRest seen held live l w o host → (entries : Entries) (log : Option (List Kept)) → DiskHas means entries (seen host) → HasLogged l w all all last o host host output output drain_limit 0 entries log log
+  unfolding ticks_begin
+  logs_begin l w all last o host output has fit few rest entries log disk = record { so = ticks_begin l w all last o host output has fit few rest; logs = logs_none means l w entries log (seen host) disk }
 
-  pub no_tick : (l : Language) (w : ListWorld) (all : List Position) (at : ℕ) (last : Position) (o : Opened K) (before after : H) (start output : Output) (left many : ℕ) → drop at all ≡ []
-      → HasTicked l w all (drop at all) last o before after start output left many → HasTicked l w all [] last o before after start output left many
-  no_tick l w all at last o before after start output left many none so = subst (λ (due : List Position). HasTicked l w all due last o before after start output left many) none so
+  -- the next of them is at a place, or none is left
+  next_due : (all : List Position) (at : ℕ) (p : Position) → at < length all → p ≡ get_or all at p → drop at all ≡ p ∷ drop (at + 1) all
+  next_due all at p less here =
+      let next : suc at ≡ at + 1 = omega arith in
+      drop-cons all at p less ∙ ap (λ (q : Position). q ∷ drop (suc at) all) (sym here) ∙ ap (λ (n : ℕ). p ∷ drop n all) next
+
+  pub next_log : (l : Language) (w : ListWorld) (all : List Position) (at : ℕ) (p : Position) (last : Position) (o : Opened K) (before after : H) (start output : Output) (left many : ℕ) (entries : Entries) (old new : Option (List Kept))
+      → at < length all → p ≡ get_or all at p → HasLogged l w all (drop at all) last o before after start output left many entries old new
+      → HasLogged l w all (p ∷ drop (at + 1) all) last o before after start output left many entries old new
+  next_log l w all at p last o before after start output left many entries old new less here was =
+      subst (λ (due : List Position). HasLogged l w all due last o before after start output left many entries old new) (next_due all at p less here) was
+
+  pub no_log : (l : Language) (w : ListWorld) (all : List Position) (at : ℕ) (last : Position) (o : Opened K) (before after : H) (start output : Output) (left many : ℕ) (entries : Entries) (old new : Option (List Kept)) → drop at all ≡ []
+      → HasLogged l w all (drop at all) last o before after start output left many entries old new → HasLogged l w all [] last o before after start output left many entries old new
+  no_log l w all at last o before after start output left many entries old new none was =
+      subst (λ (due : List Position). HasLogged l w all due last o before after start output left many entries old new) none was
 
   -- what a stop leaves of transactions that settle over a file at rest
   abbrev pub StopsIn : Language → Settlings → ListWorld → (before after : View) → Type 0
@@ -212,7 +229,7 @@ module _ {H K : Type 0} (seen : H → View) (held : K → View → Entries → T
     tick_counts ran most = tick_fits many left (length ps) ran most so.room
 
     -- and is done
-    pub tick_goes : (q : Opened K) (end : H) (behind : Output) (ran : Option ℕ) → IfSome ran (λ n. n ≤ left) → IsAtRest seen held live l (world_after so.now ticked) q end × (settled_with ran ≡ length ticked)
+    tick_goes : (q : Opened K) (end : H) (behind : Output) (ran : Option ℕ) → IfSome ran (λ n. n ≤ left) → IsAtRest seen held live l (world_after so.now ticked) q end × (settled_with ran ≡ length ticked)
         → Printed (texts_of (all_heard output.quiet ticked)) (seen after) (seen end) → behind ≡ counting output (texts_of ticked) → StopsIn l (all_heard output.quiet ticked) so.now (seen after) (seen end)
         → HasTicked l w all ps last q before end start behind (left - (settled_with ran - 1)) (many + settled_with ran)
     tick_goes q end behind ran most done printed counts run = record {
@@ -229,6 +246,14 @@ module _ {H K : Type 0} (seen : H → View) (held : K → View → Entries → T
       counts = next_counts l w all (p ∷ ps) last o before after start output left many so ticked behind counts;
       moments = tick_leaves (seen end) run;
     }
+
+    -- and what was kept of it
+    pub log_goes : (q : Opened K) (end : H) (behind : Output) (ran : Option ℕ) → IfSome ran (λ n. n ≤ left) → IsAtRest seen held live l (world_after so.now ticked) q end × (settled_with ran ≡ length ticked)
+        → Printed (texts_of (all_heard output.quiet ticked)) (seen after) (seen end) → behind ≡ counting output (texts_of ticked) → StopsIn l (all_heard output.quiet ticked) so.now (seen after) (seen end)
+        → (entries : Entries) (old new : Option (List Kept)) → Logs means l w entries (so.settled ++ ticked) old new (seen end)
+        → HasLogged l w all ps last q before end start behind (left - (settled_with ran - 1)) (many + settled_with ran) entries old new
+    unfolding tick_goes
+    log_goes q end behind ran most done printed counts run entries old new logs = record { so = tick_goes q end behind ran most done printed counts run; logs = logs }
 
   -- the move behind all of them
   module _ (l : Language) (w : ListWorld) (all : List Position) (last : Position) (o : Opened K) (before after : H) (start output : Output) (left many : ℕ) (so : HasTicked l w all [] last o before after start output left many) where
@@ -265,6 +290,10 @@ module _ {H K : Type 0} (seen : H → View) (held : K → View → Entries → T
     pub move_counts : (behind : Output) → behind ≡ counting output (texts_of ending) → behind ≡ counting start (texts_of (clock_run lists all last drain_limit w))
     move_counts behind counts =
         subst (λ (s : Settlings). behind ≡ counting start (texts_of s)) (sym so.is.whole) (next_counts l w all [] last o before after start output left many so ending behind counts)
+
+    -- and kept
+    pub move_logs : (entries : Entries) (old new : Option (List Kept)) (view : View) → Logs means l w entries (so.settled ++ ending) old new view → Logs means l w entries (clock_run lists all last drain_limit w) old new view
+    move_logs entries old new view logs = subst (λ (s : Settlings). Logs means l w entries s old new view) (sym so.is.whole) logs
 
     pub move_fits : (ran : ℕ) → ran ≤ left → many + ran + 1 < 2 ^ 32
     move_fits ran most = count_fits many left 0 ran most so.room

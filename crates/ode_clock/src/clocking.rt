@@ -4,6 +4,7 @@ ghost use Rattle.std.specs.List.{AllByRecursion};
 ghost use Rattle.ode_clock.specs.Clocking.{Clocks, clock_settled, settled_with};
 ghost use Rattle.ode_good_laws.specs.Well.{IsWell};
 ghost use Rattle.ode_host.specs.Host.{HostCalls, LeavesOnly, Looks, Printed};
+ghost use Rattle.ode_keep.specs.Entries.{Entries};
 ghost use Rattle.ode_language.specs.Languages.{ode};
 ghost use Rattle.ode_machine.specs.Moments.{IsAfterSome};
 ghost use Rattle.ode_machine.specs.Refusals.{ticks_in};
@@ -11,6 +12,7 @@ ghost use Rattle.ode_machine.specs.Runs.{Item};
 ghost use Rattle.ode_schema.specs.Parts.{AreFit};
 ghost use Rattle.ode_transact.specs.Errors.{OnDamaged};
 ghost use Rattle.ode_transact.specs.Items.{items_of, texts_of};
+ghost use Rattle.ode_transact.specs.Logging.{DiskHas, HasGrown, Logs};
 ghost use Rattle.ode_transact.specs.Output.{all_heard, counting};
 ghost use Rattle.ode_transact.specs.Resting.{HoldsBy, IsAtRest, resting_parts};
 ghost use Rattle.ode_value.specs.Draining.{world_after};
@@ -27,7 +29,7 @@ use ode_keep::Roomy;
 use ode_opened::Opened;
 use ode_overlay::Origin;
 use ode_timer::Clock;
-use ode_transact::{EngineError, Output, Work, transact_and_drain};
+use ode_transact::{EngineError, Log, Output, Work, transact_and_drain};
 use ode_value::limits::DRAIN_LIMIT;
 use ode_value::{OdeText, Refusal};
 use std::alloc::Global;
@@ -58,6 +60,7 @@ fn run_clock<H: Host, K: Roomy<H> + Drop>(
     rest: Opened<K>,
     host: &mut H,
     output: &mut Output,
+    log: &mut Log,
     due: &[Clock],
     to: i64,
 ) -> Result<(Opened<K>, u32), EngineError>
@@ -69,6 +72,10 @@ fn run_clock<H: Host, K: Roomy<H> + Drop>(
         × OnOk result (Printed (texts_of (all_heard output.old.quiet settled)) (H.view host.old) (H.view host.new)) }
     ensures counts { (w : ListWorld) → IsWell ode w → AllByRecursion IsPosition due.now → length due.now ≤ due_limit → w.bones.transaction < number_limit → IsAtRest H.view K.holds K.live ode w rest host.old
         → OnOk result (output.new ≡ counting output.old (texts_of (clock_settled w (to, due.now)))) }
+    // What was settled is kept in the log, where there is one.
+    ensures logs { (w : ListWorld) (entries : Entries) → IsWell ode w → AllByRecursion IsPosition due.now → length due.now ≤ due_limit → w.bones.transaction < number_limit → IsAtRest H.view K.holds K.live ode w rest host.old
+        → DiskHas K.means entries (H.view host.old) → OnOk result (Logs K.means ode w entries (clock_settled w (to, due.now)) log.old log.new (H.view host.new)) }
+    ensures grown { HasGrown log.old log.new }
     ensures any_moment { (w : ListWorld) (said : Items ℕ) (more : Items Item) → IsWell ode w → AllByRecursion IsPosition due.now → length due.now ≤ due_limit → w.bones.transaction < number_limit
         → IsAtRest H.view K.holds K.live ode w rest host.old → (H.view host.old).text ≡ Some said
         → LeavesOnly (H.view host.old) (H.view host.new) (IsAfterSome (HoldsBy ode K.means) (items_of (all_heard output.old.quiet (clock_settled w (to, due.now))) ++ more) w said) }
@@ -83,13 +90,13 @@ fn run_clock<H: Host, K: Roomy<H> + Drop>(
     let mut left = DRAIN_LIMIT;
     let mut settled = 0u32;
     'ticks: for at in due {
-        let (back, ran) = tick(alloc, rest, host, output, at, left)?;
+        let (back, ran) = tick(alloc, rest, host, output, log, at, left)?;
         rest = back;
         left = left_behind(left, ran);
         settled = settled_behind(settled, ran);
     }
     let origin = Origin::Move { instant: to };
-    let (rest, ran) = transact_and_drain(alloc, rest, host, output, origin, Work::Move, left)?;
+    let (rest, ran) = transact_and_drain(alloc, rest, host, output, log, origin, Work::Move, left)?;
     Ok((rest, settled.saturating_add(ran).saturating_add(1)))
 }
 
@@ -99,6 +106,7 @@ pub fn set_clock<H: Host, K: Roomy<H> + Drop>(
     rest: Opened<K>,
     host: &mut H,
     output: &mut Output,
+    log: &mut Log,
     text: &OdeText,
 ) -> Result<(Opened<K>, Result<u32, Refusal>), EngineError>
     requires live { IsTrue (K.live rest.keeper) }
@@ -110,6 +118,10 @@ pub fn set_clock<H: Host, K: Roomy<H> + Drop>(
         × Printed (texts_of (all_heard output.old.quiet (clock_settled w t))) (H.view host.old) (H.view host.new))) }
     ensures counts { (w : ListWorld) → IsWell ode w → w.bones.transaction < number_limit → IsAtRest H.view K.holds K.live ode w rest host.old
         → IfOk result (λ r. Clocks (ticks_in ode w.bones text.now) r.1 (output.new ≡ output.old) (λ t count. output.new ≡ counting output.old (texts_of (clock_settled w t)))) }
+    // What was settled is kept in the log, where there is one.
+    ensures logs { (w : ListWorld) (entries : Entries) → IsWell ode w → w.bones.transaction < number_limit → IsAtRest H.view K.holds K.live ode w rest host.old → DiskHas K.means entries (H.view host.old)
+        → IfOk result (λ r. Clocks (ticks_in ode w.bones text.now) r.1 (log.new ≡ log.old) (λ t count. Logs K.means ode w entries (clock_settled w t) log.old log.new (H.view host.new))) }
+    ensures grown { HasGrown log.old log.new }
     // Where it is refused the host only looked, and where the machine refuses it too, even at an error.
     ensures refused { IfOk result (λ r. IfErr r.1 (λ why. Looks (H.view host.old) (H.view host.new))) }
     ensures declined { (w : ListWorld) (why : Refusal) → IsAtRest H.view K.holds K.live ode w rest host.old → ticks_in ode w.bones text.now ≡ Err why → Looks (H.view host.old) (H.view host.new) }
@@ -126,7 +138,7 @@ pub fn set_clock<H: Host, K: Roomy<H> + Drop>(
     let (rest, found) = ticks(alloc, rest, host, text)?;
     match found {
         Ok((to, due)) => {
-            let (rest, settled) = run_clock(alloc, rest, host, output, due.as_slice(), to)?;
+            let (rest, settled) = run_clock(alloc, rest, host, output, log, due.as_slice(), to)?;
             Ok((rest, Ok(settled)))
         }
         Err(why) => Ok((rest, Err(why))),

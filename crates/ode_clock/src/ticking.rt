@@ -5,11 +5,13 @@ ghost use Rattle.ode_clock.specs.Clocking.{settled_with, tick_settled};
 ghost use Rattle.ode_good_laws.specs.Well.{IsWell};
 ghost use Rattle.ode_host.specs.Causes.{RoseIf};
 ghost use Rattle.ode_host.specs.Host.{HostCalls, LeavesOnly, Looks, Printed};
+ghost use Rattle.ode_keep.specs.Entries.{Entries};
 ghost use Rattle.ode_machine.specs.Moments.{IsAfterSome};
 ghost use Rattle.ode_machine.specs.Runs.{Item};
 ghost use Rattle.ode_schema.specs.Parts.{AreFit};
 ghost use Rattle.ode_transact.specs.Errors.{OnDamaged};
 ghost use Rattle.ode_transact.specs.Items.{items_of, texts_of};
+ghost use Rattle.ode_transact.specs.Logging.{DiskHas, HasGrown, Logs};
 ghost use Rattle.ode_transact.specs.Output.{all_heard, counting};
 ghost use Rattle.ode_transact.specs.Resting.{HoldsBy, IsAtRest, resting_parts};
 ghost use Rattle.ode_value.specs.Denoting.{object_at};
@@ -26,7 +28,7 @@ use ode_keep::{Keep, Roomy};
 use ode_opened::Opened;
 use ode_overlay::Origin;
 use ode_timer::Clock;
-use ode_transact::{EngineError, Output, Work, transact_and_drain};
+use ode_transact::{EngineError, Log, Output, Work, transact_and_drain};
 use std::alloc::Global;
 
 // Whether an object is there.
@@ -90,6 +92,7 @@ pub(crate) fn tick<H: Host, K: Roomy<H> + Drop>(
     rest: Opened<K>,
     host: &mut H,
     output: &mut Output,
+    log: &mut Log,
     at: &Clock,
     most: u32,
 ) -> Result<(Opened<K>, Option<u32>), EngineError>
@@ -101,6 +104,10 @@ pub(crate) fn tick<H: Host, K: Roomy<H> + Drop>(
         × OnOk result (Printed (texts_of (all_heard output.old.quiet settled)) (H.view host.old) (H.view host.new)) }
     ensures counts { (l : Language) (w : ListWorld) → IsWell l w → IsPosition at.now → w.bones.transaction < transaction_limit → IsAtRest H.view K.holds K.live l w rest host.old
         → OnOk result (output.new ≡ counting output.old (texts_of (tick_settled at.now most w))) }
+    // What was settled is kept in the log, where there is one.
+    ensures logs { (l : Language) (w : ListWorld) (entries : Entries) → IsWell l w → IsPosition at.now → w.bones.transaction < transaction_limit → IsAtRest H.view K.holds K.live l w rest host.old → DiskHas K.means entries (H.view host.old)
+        → OnOk result (Logs K.means l w entries (tick_settled at.now most w) log.old log.new (H.view host.new)) }
+    ensures grown { HasGrown log.old log.new }
     ensures any_moment { (l : Language) (w : ListWorld) (said : Items ℕ) (more : Items Item) → IsWell l w → IsPosition at.now → w.bones.transaction < transaction_limit → IsAtRest H.view K.holds K.live l w rest host.old
         → (H.view host.old).text ≡ Some said
         → LeavesOnly (H.view host.old) (H.view host.new) (IsAfterSome (HoldsBy l K.means) (items_of (all_heard output.old.quiet (tick_settled at.now most w)) ++ more) w said) }
@@ -116,6 +123,15 @@ pub(crate) fn tick<H: Host, K: Roomy<H> + Drop>(
         return Ok((rest, None));
     }
     let origin = tick_origin(at);
-    let (rest, ran) = transact_and_drain(alloc, rest, host, output, origin, Work::Tick(at), most)?;
+    let (rest, ran) = transact_and_drain(
+        alloc,
+        rest,
+        host,
+        output,
+        log,
+        origin,
+        Work::Tick(at),
+        most,
+    )?;
     Ok((rest, Some(ran)))
 }

@@ -14,8 +14,8 @@ pub fn bytes_put(batch: &Batch) -> u64
     ensures { result ≡ min (put_bytes batch.now) (2 ^ 64 - 1) }
 {
     let mut bytes = 0u64;
-    'changes: for (_, value) in batch.iter() {
-        if let Some(value) = value {
+    for change in batch.iter() {
+        if let Some(value) = &change.value {
             bytes = bytes
                 .saturating_add(KEY_LEN as u64)
                 .saturating_add(value.len() as u64);
@@ -31,10 +31,10 @@ pub(crate) fn put_all(alloc: Global, batch: &mut Batch, more: &Batch) -> Result<
     ensures short { OnOk result (HasShortValues batch.old → HasShortValues more.now → HasShortValues batch.new) }
     ensures few { OnOk result (length batch.new ≤ length batch.old + length more.now) }
 {
-    'changes: for (key, value) in more.iter() {
-        match value {
-            Some(value) => batch.put(*key, List::from_slice(alloc, value.as_slice())?)?,
-            None => batch.remove(*key)?,
+    for change in more.iter() {
+        match &change.value {
+            Some(value) => batch.put(change.key, List::from_slice(alloc, value.as_slice())?)?,
+            None => batch.remove(change.key)?,
         }
     }
     Ok(())

@@ -1,5 +1,5 @@
 //! A class is declared.
-ghost use Rattle.std.specs.Prelude.{◌≡◌, ◌<◌, ℕ, List as Items, Err, IfOk, IsErrOf, IsTrue, Ok, Some};
+ghost use Rattle.std.specs.Prelude.{◌∷◌, [], ◌≡◌, ◌<◌, ℕ, List as Items, Err, IfOk, IsErrOf, IsTrue, Ok, Some};
 ghost use Rattle.std.specs.List.{AllByRecursion};
 ghost use Rattle.std.specs.Option.{IfSome};
 ghost use Rattle.ode_compile.specs.Compiling.{HaveNumbers};
@@ -9,12 +9,14 @@ ghost use Rattle.ode_declared_laws.specs.Adding.{AreAligned};
 ghost use Rattle.ode_good_laws.specs.Well.{IsWell};
 ghost use Rattle.ode_heap_laws.specs.Few.{HasFewParams};
 ghost use Rattle.ode_host.specs.Host.{HostCalls, LeavesOnly, Printed};
+ghost use Rattle.ode_keep.specs.Entries.{Entries};
 ghost use Rattle.ode_language.specs.Languages.{ode};
 ghost use Rattle.ode_machine.specs.Moments.{LeavesSettling};
 ghost use Rattle.ode_machine.specs.Refusals.{declared_in};
 ghost use Rattle.ode_machine.specs.Works.{declares};
 ghost use Rattle.ode_schema.specs.Parts.{AreFit};
 ghost use Rattle.ode_transact.specs.Errors.{OnDamaged};
+ghost use Rattle.ode_transact.specs.Logging.{DiskHas, HasGrown, Logs};
 ghost use Rattle.ode_transact.specs.Output.{counting, heard};
 ghost use Rattle.ode_transact.specs.Resting.{HoldsBy, IsAtRest, resting_parts};
 ghost use Rattle.ode_value.specs.Language.{ListWorld};
@@ -32,7 +34,7 @@ use ode_host::Host;
 use ode_keep::Roomy;
 use ode_language_laws::{language_has_sound_rules, language_reads_well};
 use ode_opened::Opened;
-use ode_transact::{EngineError, Output};
+use ode_transact::{EngineError, Log, Output};
 use ode_value::{ClassDecl, Refusal};
 use std::alloc::Global;
 
@@ -42,6 +44,7 @@ pub fn declare<H: Host, K: Roomy<H> + Drop>(
     rest: Opened<K>,
     host: &mut H,
     output: &mut Output,
+    log: &mut Log,
     decl: &ClassDecl,
 ) -> Result<(Opened<K>, Option<Refusal>), EngineError>
     requires live { IsTrue (K.live rest.keeper) }
@@ -57,6 +60,12 @@ pub fn declare<H: Host, K: Roomy<H> + Drop>(
         → IfOk result (λ r. Declares (declared_in ode w.bones decl.now) r.1 (output.new ≡ output.old)
         (λ c. AllByRecursion HasFewParams c.class.triggers → let s = transaction lists Script (declares c) w in
         IsWell ode s.0 → output.new ≡ counting output.old s.1)) }
+    // What was settled is kept in the log, where there is one.
+    ensures logs { (w : ListWorld) (entries : Entries) → IsWell ode w → HasText ode (statement.Class decl.now) → IsAtRest H.view K.holds K.live ode w rest host.old → DiskHas K.means entries (H.view host.old)
+        → IfOk result (λ r. Declares (declared_in ode w.bones decl.now) r.1 (log.new ≡ log.old)
+        (λ c. AllByRecursion HasFewParams c.class.triggers → let s = transaction lists Script (declares c) w in
+        IsWell ode s.0 → Logs K.means ode w entries (s ∷ []) log.old log.new (H.view host.new))) }
+    ensures grown { HasGrown log.old log.new }
     // Where it is refused nothing was done.
     ensures refused { IfOk result (λ r. IfSome r.1 (λ why. (r.0 ≡ rest) × (host.new ≡ host.old))) }
     // Where the machine refuses it, it may still end by want of memory, before any call of the host.
@@ -82,7 +91,7 @@ pub fn declare<H: Host, K: Roomy<H> + Drop>(
     let _known = rest.classes.as_slice();
     match compile(alloc, &rest.classes, decl) {
         Ok(made) => {
-            let after = bring_in(alloc, rest, host, output, made)?;
+            let after = bring_in(alloc, rest, host, output, log, made)?;
             Ok((after, None))
         }
         Err(CompileStop::Memory) => Err(EngineError::Memory),

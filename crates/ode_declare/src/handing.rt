@@ -1,5 +1,5 @@
 //! What is handed over for a class, and that it is.
-ghost use Rattle.std.specs.Prelude.{◌≡◌, ◌≤◌, ◌+◌, ◌++◌, ℕ, List as Items, IfOk, IsErrOf, IsTrue, OnOk, Some, length, true};
+ghost use Rattle.std.specs.Prelude.{◌≡◌, ◌≤◌, ◌+◌, ◌++◌, ◌∷◌, [], ℕ, List as Items, IfOk, IsErrOf, IsTrue, OnOk, Some, length, true};
 ghost use Rattle.ode_declare.specs.Declaring.{IsJoined};
 ghost use Rattle.ode_heap_laws.specs.Few.{HoldsCounted};
 ghost use Rattle.ode_host.specs.Causes.{RoseIf};
@@ -9,6 +9,7 @@ ghost use Rattle.ode_keep.specs.ShortValues.{HasShortValues};
 ghost use Rattle.ode_laws.specs.Alike.{NumberWorld};
 ghost use Rattle.ode_overlay.specs.declared.origin.Origin.TheVariants as from;
 ghost use Rattle.ode_transact.specs.Errors.{OnDamaged};
+ghost use Rattle.ode_transact.specs.Logging.{HasGrown, logged};
 ghost use Rattle.ode_transact.specs.Output.{counting, heard};
 ghost use Rattle.ode_transact.specs.Resting.{resting_parts};
 ghost use Rattle.ode_transact.specs.Settling.{LeavesBatch};
@@ -26,13 +27,14 @@ use ode_keep::{Batch, Keep, MAX_CHANGES, MAX_PAGED_BYTES, Roomy};
 use ode_lines::{class_line, committed_line};
 use ode_opened::Opened;
 use ode_overlay::Overlay;
-use ode_transact::{EngineError, Output, hand_over};
+use ode_transact::{EngineError, Log, Output, hand_over};
 use ode_value::{Key, List, Name};
 use std::alloc::{AllocError, Global};
 
-// What is handed over: the changes of the records, and the text.
+// What is handed over: the transaction's number, the changes of the records, and the text.
 #[derive(Drop)]
 pub(crate) struct Gathered {
+    pub number: u64,
     pub batch: Batch,
     pub text: List<u8>,
 }
@@ -105,6 +107,7 @@ pub(crate) fn gather(
     ensures joined { IfOk result (λ r. IsJoined overlay.now changes r.batch) }
     ensures few { IfOk result (λ r. length r.batch ≤ MAX_CHANGES) }
     ensures short { IfOk result (λ r. HasShortValues r.batch) }
+    ensures number { IfOk result (λ r. r.number ≡ number) }
     ensures text { IfOk result (λ r. r.text ≡ class_line name.now ++ committed_line number) }
     ensures calm { IsErrOf result EngineError.DiskFault → ⊥ }
     ensures silent { IsErrOf result EngineError.WriteFault → ⊥ }
@@ -114,7 +117,11 @@ pub(crate) fn gather(
     let more = overlay.as_commit()?;
     let batch = joined(alloc, changes, &more)?;
     let text = class_text(alloc, name, number)?;
-    Ok(Gathered { batch, text })
+    Ok(Gathered {
+        number,
+        batch,
+        text,
+    })
 }
 
 /// What was prepared is handed over.
@@ -122,21 +129,25 @@ pub fn settle<H: Host, K: Roomy<H> + Drop>(
     rest: Opened<K>,
     host: &mut H,
     output: &mut Output,
-    batch: &Batch,
+    log: &mut Log,
+    number: u64,
+    batch: Batch,
     text: &[u8],
 ) -> Result<Opened<K>, EngineError>
     requires live { IsTrue (K.live rest.keeper) }
-    requires few { length batch.now ≤ MAX_CHANGES }
-    requires short { HasShortValues batch.now }
+    requires few { length batch ≤ MAX_CHANGES }
+    requires short { HasShortValues batch }
     ensures same { IfOk result (λ after. (resting_parts after ≡ resting_parts rest) × (after.bytes ≡ rest.bytes)) }
-    ensures done { IfOk result (λ after. (entries : Entries) → K.holds rest.keeper (H.view host.old) entries → K.holds after.keeper (H.view host.new) (applied batch.now entries)) }
+    ensures done { IfOk result (λ after. (entries : Entries) → K.holds rest.keeper (H.view host.old) entries → K.holds after.keeper (H.view host.new) (applied batch entries)) }
     ensures printed { OnOk result (Printed (heard output.old.quiet text.now) (H.view host.old) (H.view host.new)) }
     ensures counts { OnOk result (output.new ≡ counting output.old text.now) }
+    ensures kept { OnOk result (log.new ≡ logged log.old ((number, batch) ∷ [])) }
+    ensures grown { HasGrown log.old log.new }
     ensures any_moment { (entries : Entries) (said : Items ℕ) → K.holds rest.keeper (H.view host.old) entries → (H.view host.old).text ≡ Some said
-        → LeavesOnly (H.view host.old) (H.view host.new) (LeavesBatch K.means entries batch.now said (heard output.old.quiet text.now)) }
+        → LeavesOnly (H.view host.old) (H.view host.new) (LeavesBatch K.means entries batch said (heard output.old.quiet text.now)) }
     ensures usable { IfOk result (λ after. IsTrue (K.live after.keeper)) }
     ensures leaves { HostCalls (IsErrOf result EngineError.DiskFault) (IsErrOf result EngineError.WriteFault) (H.view host.old) (H.view host.new) }
-    ensures undamaged { OnDamaged result ((entries : Entries) → K.holds rest.keeper (H.view host.old) entries → record_bytes (applied batch.now entries) ≤ MAX_PAGED_BYTES → ⊥) }
+    ensures undamaged { OnDamaged result ((entries : Entries) → K.holds rest.keeper (H.view host.old) entries → record_bytes (applied batch entries) ≤ MAX_PAGED_BYTES → ⊥) }
 {
     let Opened {
         keeper,
@@ -148,7 +159,7 @@ pub fn settle<H: Host, K: Roomy<H> + Drop>(
         format,
     } = rest;
     let mut heap = Heap::new(keeper);
-    hand_over(host, &mut heap, output, batch, text)?;
+    hand_over(host, &mut heap, output, log, number, batch, text)?;
     Ok(Opened {
         keeper: heap.into_keeper(),
         classes,

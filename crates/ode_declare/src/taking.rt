@@ -1,5 +1,5 @@
 //! A class for which there is room.
-ghost use Rattle.std.specs.Prelude.{◌≡◌, ◌<◌, ◌≤◌, ◌++◌, ℕ, List as Items, IfOk, IsErrOf, IsTrue, OnOk, Some, length};
+ghost use Rattle.std.specs.Prelude.{◌∷◌, [], ◌≡◌, ◌<◌, ◌≤◌, ◌++◌, ℕ, List as Items, IfOk, IsErrOf, IsTrue, OnOk, Some, length};
 ghost use Rattle.ode_compile.specs.Compiling.{AreCompiled};
 ghost use Rattle.ode_declare.specs.Declaring.{IsTaken};
 ghost use Rattle.ode_declared_laws.specs.Adding.{AreAligned, parts_with};
@@ -7,12 +7,13 @@ ghost use Rattle.ode_declared_laws.specs.Declared.{DeclaredOver};
 ghost use Rattle.ode_good_laws.specs.Well.{IsWell};
 ghost use Rattle.ode_host.specs.Causes.{RoseIf};
 ghost use Rattle.ode_host.specs.Host.{HostCalls, LeavesOnly, Looks, Printed};
-ghost use Rattle.ode_keep.specs.Entries.{applied};
+ghost use Rattle.ode_keep.specs.Entries.{Entries, applied};
 ghost use Rattle.ode_keep.specs.ShortValues.{HasShortValues};
 ghost use Rattle.ode_machine.specs.Moments.{LeavesSettling};
 ghost use Rattle.ode_machine.specs.Works.{declares};
 ghost use Rattle.ode_schema.specs.Parts.{AreFit};
 ghost use Rattle.ode_transact.specs.Errors.{OnDamaged};
+ghost use Rattle.ode_transact.specs.Logging.{DiskHas, HasGrown, Logs};
 ghost use Rattle.ode_transact.specs.Output.{counting, heard};
 ghost use Rattle.ode_transact.specs.Resting.{HoldsBy, IsAtRest, resting_parts, resting_tables};
 ghost use Rattle.ode_types.specs.Checked.{IsChecked};
@@ -32,7 +33,7 @@ use ode_host::Host;
 use ode_keep::{Batch, Keep, MAX_CHANGES, Roomy};
 use ode_opened::Opened;
 use ode_overlay::Origin;
-use ode_transact::{EngineError, Output, begin, put_back};
+use ode_transact::{EngineError, Log, Output, begin, put_back};
 use std::alloc::Global;
 
 // A class's transaction up to its settling.
@@ -51,7 +52,7 @@ fn prepare<H: Host, K: Keep<H> + Drop>(
     requires compiled { AreCompiled made.class.triggers made.tables made.alphabets }
     requires short { HasShortValues changes }
     ensures settles { IfOk result (λ r. (l : Language) (w : ListWorld) (c : Declared) (is : IsAtRest H.view K.holds K.live l w rest host.old) → IsTaken l w c made changes bytes
-        → DeclaredOver l (resting_tables r.0) (applied r.1.batch is.entries) w c (transaction lists Script (declares c) w) × (r.1.text ≡ class_line c.class.name ++ committed_line w.bones.transaction)) }
+        → DeclaredOver l (resting_tables r.0) (applied r.1.batch is.entries) w c (transaction lists Script (declares c) w) × (r.1.number ≡ w.bones.transaction) × (r.1.text ≡ class_line c.class.name ++ committed_line w.bones.transaction)) }
     ensures holds { IfOk result (λ r. (l : Language) (w : ListWorld) (is : IsAtRest H.view K.holds K.live l w rest host.old) → K.holds r.0.keeper (H.view host.new) is.entries) }
     ensures parts { IfOk result (λ r. resting_parts r.0 ≡ parts_with made.class made.tables made.alphabets (resting_parts rest)) }
     ensures bytes { IfOk result (λ r. r.0.bytes ≡ bytes) }
@@ -82,6 +83,7 @@ pub(crate) fn take_in<H: Host, K: Roomy<H> + Drop>(
     rest: Opened<K>,
     host: &mut H,
     output: &mut Output,
+    log: &mut Log,
     made: Compiled,
     changes: Batch,
     bytes: u64,
@@ -99,6 +101,11 @@ pub(crate) fn take_in<H: Host, K: Roomy<H> + Drop>(
     ensures counts { (l : Language) (w : ListWorld) (c : Declared) → IsAtRest H.view K.holds K.live l w rest host.old → IsTaken l w c made changes bytes
         → let s = transaction lists Script (declares c) w in
         IsWell l s.0 → OnOk result (output.new ≡ counting output.old s.1) }
+    // What was settled is kept in the log, where there is one.
+    ensures logs { (l : Language) (w : ListWorld) (c : Declared) (entries : Entries) → IsAtRest H.view K.holds K.live l w rest host.old → IsTaken l w c made changes bytes → DiskHas K.means entries (H.view host.old)
+        → let s = transaction lists Script (declares c) w in
+        IsWell l s.0 → OnOk result (Logs K.means l w entries (s ∷ []) log.old log.new (H.view host.new)) }
+    ensures grown { HasGrown log.old log.new }
     // A stop leaves the world before and none of the text, or the one behind and a front of what is printed of it.
     ensures any_moment { (l : Language) (w : ListWorld) (c : Declared) (said : Items ℕ) → IsWell l w → IsAtRest H.view K.holds K.live l w rest host.old → IsTaken l w c made changes bytes
         → let s = transaction lists Script (declares c) w in
@@ -114,11 +121,10 @@ pub(crate) fn take_in<H: Host, K: Roomy<H> + Drop>(
 {
     let prepared = prepare(alloc, rest, host, made, changes, bytes)?;
     let (after, gathered) = prepared;
-    settle(
-        after,
-        host,
-        output,
-        &gathered.batch,
-        gathered.text.as_slice(),
-    )
+    let Gathered {
+        number,
+        batch,
+        text,
+    } = gathered;
+    settle(after, host, output, log, number, batch, text.as_slice())
 }

@@ -1,10 +1,12 @@
 //! A class for which there is no room.
-ghost use Rattle.std.specs.Prelude.{◌≡◌, ◌<◌, ℕ, List as Items, IfOk, IsErrOf, IsTrue, OnOk, Some, true};
+ghost use Rattle.std.specs.Prelude.{◌∷◌, [], ◌≡◌, ◌<◌, ℕ, List as Items, IfOk, IsErrOf, IsTrue, OnOk, Some, true};
 ghost use Rattle.ode_good_laws.specs.Well.{IsWell};
 ghost use Rattle.ode_host.specs.Host.{HostCalls, LeavesOnly, Printed};
+ghost use Rattle.ode_keep.specs.Entries.{Entries};
 ghost use Rattle.ode_machine.specs.Moments.{LeavesSettling};
 ghost use Rattle.ode_schema.specs.Parts.{AreFit};
 ghost use Rattle.ode_transact.specs.Errors.{OnDamaged};
+ghost use Rattle.ode_transact.specs.Logging.{DiskHas, HasGrown, Logs};
 ghost use Rattle.ode_transact.specs.Output.{counting, heard};
 ghost use Rattle.ode_transact.specs.Resting.{HoldsBy, IsAtRest, resting_parts};
 ghost use Rattle.ode_value.specs.Acts.{with_line};
@@ -18,7 +20,7 @@ use ode_host::Host;
 use ode_keep::Roomy;
 use ode_opened::Opened;
 use ode_overlay::Origin;
-use ode_transact::{EngineError, Output, begin, end};
+use ode_transact::{EngineError, Log, Output, begin, end};
 use ode_value::{List, Reason};
 use std::alloc::Global;
 
@@ -28,6 +30,7 @@ pub fn turn_away<H: Host, K: Roomy<H> + Drop>(
     rest: Opened<K>,
     host: &mut H,
     output: &mut Output,
+    log: &mut Log,
     line: List<u8>,
 ) -> Result<Opened<K>, EngineError>
     requires live { IsTrue (K.live rest.keeper) }
@@ -38,6 +41,11 @@ pub fn turn_away<H: Host, K: Roomy<H> + Drop>(
     ensures counts { (l : Language) (w : ListWorld) → IsAtRest H.view K.holds K.live l w rest host.old
         → let s = abort lists Reason.Space (with_line line (begun Script w)) in
         IsWell l s.0 → OnOk result (output.new ≡ counting output.old s.1) }
+    // What was settled is kept in the log, where there is one.
+    ensures logs { (l : Language) (w : ListWorld) (entries : Entries) → IsAtRest H.view K.holds K.live l w rest host.old → DiskHas K.means entries (H.view host.old)
+        → let s = abort lists Reason.Space (with_line line (begun Script w)) in
+        IsWell l s.0 → OnOk result (Logs K.means l w entries (s ∷ []) log.old log.new (H.view host.new)) }
+    ensures grown { HasGrown log.old log.new }
     ensures any_moment { (l : Language) (w : ListWorld) (said : Items ℕ) → IsWell l w → IsAtRest H.view K.holds K.live l w rest host.old
         → let s = abort lists Reason.Space (with_line line (begun Script w)) in
         IsWell l s.0 → (H.view host.old).text ≡ Some said
@@ -50,5 +58,5 @@ pub fn turn_away<H: Host, K: Roomy<H> + Drop>(
 {
     let mut ctx = begin(alloc, rest, host, Origin::Script)?;
     ctx.text = line;
-    end(alloc, ctx, host, output, Some(Reason::Space))
+    end(alloc, ctx, host, output, log, Some(Reason::Space))
 }

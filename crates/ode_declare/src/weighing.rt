@@ -1,5 +1,5 @@
 //! A compiled class is declared: it is taken in, or turned away where it is too heavy.
-ghost use Rattle.std.specs.Prelude.{◌≡◌, ◌<◌, ◌≤◌, ◌+◌, ◌-◌, ◌^◌, ℕ, List as Items, IfOk, IsErrOf, IsTrue, OnOk, Some, length, map, min};
+ghost use Rattle.std.specs.Prelude.{◌∷◌, [], ◌≡◌, ◌<◌, ◌≤◌, ◌+◌, ◌-◌, ◌^◌, ℕ, List as Items, IfOk, IsErrOf, IsTrue, OnOk, Some, length, map, min};
 ghost use Rattle.ode_class_records.specs.ClassRows.{IsStoredBy, class_rows};
 ghost use Rattle.ode_class_records.specs.Puts.{puts};
 ghost use Rattle.ode_class_records.specs.Weighing.{spare_beside};
@@ -8,12 +8,14 @@ ghost use Rattle.ode_declare.specs.Declaring.{IsMade};
 ghost use Rattle.ode_declared_laws.specs.Adding.{AreAligned};
 ghost use Rattle.ode_good_laws.specs.Well.{IsWell};
 ghost use Rattle.ode_host.specs.Host.{HostCalls, LeavesOnly, Printed};
+ghost use Rattle.ode_keep.specs.Entries.{Entries};
 ghost use Rattle.ode_keep.specs.Growth.{put_bytes};
 ghost use Rattle.ode_keep.specs.ShortValues.{HasShortValues};
 ghost use Rattle.ode_machine.specs.Moments.{LeavesSettling};
 ghost use Rattle.ode_machine.specs.Works.{declares};
 ghost use Rattle.ode_schema.specs.Parts.{AreFit};
 ghost use Rattle.ode_transact.specs.Errors.{OnDamaged};
+ghost use Rattle.ode_transact.specs.Logging.{DiskHas, HasGrown, Logs};
 ghost use Rattle.ode_transact.specs.Output.{counting, heard};
 ghost use Rattle.ode_transact.specs.Resting.{HoldsBy, IsAtRest, resting_parts};
 ghost use Rattle.ode_types.specs.Checked.{IsChecked};
@@ -36,7 +38,7 @@ use ode_host::Host;
 use ode_keep::{Batch, Roomy};
 use ode_lines::class_line;
 use ode_opened::Opened;
-use ode_transact::{EngineError, Output};
+use ode_transact::{EngineError, Log, Output};
 use ode_value::limits::WEIGHT_LIMIT;
 use std::alloc::{AllocError, Global};
 
@@ -66,6 +68,7 @@ pub(crate) fn bring_in<H: Host, K: Roomy<H> + Drop>(
     rest: Opened<K>,
     host: &mut H,
     output: &mut Output,
+    log: &mut Log,
     made: Compiled,
 ) -> Result<Opened<K>, EngineError>
     requires live { IsTrue (K.live rest.keeper) }
@@ -82,6 +85,11 @@ pub(crate) fn bring_in<H: Host, K: Roomy<H> + Drop>(
     ensures counts { (l : Language) (w : ListWorld) (c : Declared) → IsWell l w → IsAtRest H.view K.holds K.live l w rest host.old → IsMade l w c made
         → let s = transaction lists Script (declares c) w in
         IsWell l s.0 → OnOk result (output.new ≡ counting output.old s.1) }
+    // What was settled is kept in the log, where there is one.
+    ensures logs { (l : Language) (w : ListWorld) (c : Declared) (entries : Entries) → IsWell l w → IsAtRest H.view K.holds K.live l w rest host.old → IsMade l w c made → DiskHas K.means entries (H.view host.old)
+        → let s = transaction lists Script (declares c) w in
+        IsWell l s.0 → OnOk result (Logs K.means l w entries (s ∷ []) log.old log.new (H.view host.new)) }
+    ensures grown { HasGrown log.old log.new }
     // A stop leaves the world before and none of the text, or the one behind and a front of what is printed of it.
     ensures any_moment { (l : Language) (w : ListWorld) (c : Declared) (said : Items ℕ) → IsWell l w → IsAtRest H.view K.holds K.live l w rest host.old → IsMade l w c made
         → let s = transaction lists Script (declares c) w in
@@ -103,8 +111,8 @@ pub(crate) fn bring_in<H: Host, K: Roomy<H> + Drop>(
     let (changes, bytes) = weighed;
     if bytes > WEIGHT_LIMIT {
         let line = class_line(alloc, &made.class.name)?;
-        turn_away(alloc, rest, host, output, line)
+        turn_away(alloc, rest, host, output, log, line)
     } else {
-        take_in(alloc, rest, host, output, made, changes, bytes)
+        take_in(alloc, rest, host, output, log, made, changes, bytes)
     }
 }

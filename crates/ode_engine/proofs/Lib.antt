@@ -6,5 +6,6 @@ pub mod PlaceLaws
 pub mod ChangeLaws
 pub mod ClassLaws
 pub mod ClockLaws
+pub mod KeptLaws
 pub mod RefusingLaws
 pub mod EngineLaws

@@ -1,14 +1,15 @@
 //! Statements, over an opened file and inside a transaction.
-ghost use Rattle.std.specs.Prelude.{◌≡◌, ◌<◌, ℕ, List as Items, IfOk, IsErrOf, IsTrue, Ok, Some, false, true};
+ghost use Rattle.std.specs.Prelude.{◌≡◌, ◌<◌, ◌∷◌, [], ℕ, List as Items, IfOk, IsErrOf, IsTrue, Ok, OnOk, Option, Some, false, true};
 ghost use Rattle.ode_compile.specs.Compiling.{HaveNumbers};
 ghost use Rattle.ode_change.specs.Changing.{HasChange};
 ghost use Rattle.ode_declare.specs.Texts.{HasText};
 ghost use Rattle.ode_declared_laws.specs.Adding.{AreAligned};
 ghost use Rattle.ode_engine.specs.Refusing.{turned_down};
-ghost use Rattle.ode_engine.specs.Serving.{IsSession, IsUsable, Serves, StandsIn, answer_to, answer_to_change};
+ghost use Rattle.ode_engine.specs.Serving.{IsSession, IsUsable, Serves, StandsIn, answer_to, answer_to_change, settlings};
 ghost use Rattle.ode_good_laws.specs.Well.{IsWell};
 ghost use Rattle.ode_host.specs.Causes.{RoseIf};
 ghost use Rattle.ode_host.specs.Host.{HostCalls, LeavesOnly, Looks, Printed};
+ghost use Rattle.ode_keep.specs.Entries.{Entries};
 ghost use Rattle.ode_language.specs.Languages.{ode};
 ghost use Rattle.ode_machine.specs.Commands.{carried, changes, commits, finish, goes_on, settles};
 ghost use Rattle.ode_machine.specs.Moments.{LeavesSettling};
@@ -17,6 +18,7 @@ ghost use Rattle.ode_machine.specs.Sessions.{Session, closed, opened};
 ghost use Rattle.ode_run.specs.Contexts.{ContextRuns, parts_of};
 ghost use Rattle.ode_schema.specs.Parts.{AreFit};
 ghost use Rattle.ode_transact.specs.Errors.{OnDamaged};
+ghost use Rattle.ode_transact.specs.Logging.{DiskHas, HasGrown, Kept, Logs};
 ghost use Rattle.ode_transact.specs.Output.{counting, heard};
 ghost use Rattle.ode_transact.specs.Resting.{HoldsBy, IsAtRest, resting_parts};
 ghost use Rattle.ode_transact.specs.Working.{EndedAs, settled_by, whole_of};
@@ -40,7 +42,7 @@ use ode_opened::Opened;
 use ode_overlay::Origin;
 use ode_run::{Ctx, Stop, exec};
 use ode_transact::{
-    EngineError, Output, Work, begin, drain, end, fault_of, next_number, put_back, run,
+    EngineError, Log, Output, Work, begin, drain, end, fault_of, next_number, put_back, run,
     run_completion,
 };
 use ode_value::limits::{DRAIN_LIMIT, NUMBER_LIMIT};
@@ -70,6 +72,7 @@ fn settled<H: Host, K: Roomy<H> + Drop>(
     rest: Opened<K>,
     host: &mut H,
     output: &mut Output,
+    log: &mut Log,
 ) -> Result<(State<K>, Done), EngineError>
     requires live { IsTrue (K.live rest.keeper) }
     requires fit { AreFit (resting_parts rest) }
@@ -79,10 +82,13 @@ fn settled<H: Host, K: Roomy<H> + Drop>(
         → ((said : Items ℕ) → (H.view before).text ≡ Some said → LeavesOnly (H.view before) (H.view host.old) (LeavesSettling (HoldsBy ode K.means) session.world s.0 said (heard start.quiet s.1)))
         → IsWell ode s.0 → IsAtRest H.view K.holds K.live ode s.0 rest host.old
         → Serves H.view K.holds K.live K.means ode session (Ok (settles s)) result before host.new start output.new }
+    ensures logs { (w : ListWorld) (s : Settled Histories Starts) (before : Option (Items Kept)) (entries : Entries) → IsWell ode s.0 → IsAtRest H.view K.holds K.live ode s.0 rest host.old
+        → Logs K.means ode w entries (s ∷ []) before log.old (H.view host.old) → OnOk result (Logs K.means ode w entries (settles s).1 before log.new (H.view host.new)) }
+    ensures grown { HasGrown log.old log.new }
     ensures usable { IfOk result (λ r. IsUsable K.live r.0) }
     ensures leaves { HostCalls (IsErrOf result EngineError.DiskFault) (IsErrOf result EngineError.WriteFault) (H.view host.old) (H.view host.new) }
 {
-    match drain(alloc, rest, host, output, DRAIN_LIMIT) {
+    match drain(alloc, rest, host, output, log, DRAIN_LIMIT) {
         Ok((rest, ran)) => Ok((State::Rest(rest), Done::Settled(ran + 1))),
         Err(error) => Err(error),
     }
@@ -94,6 +100,7 @@ fn settle<H: Host, K: Roomy<H> + Drop>(
     ctx: Ctx<K>,
     host: &mut H,
     output: &mut Output,
+    log: &mut Log,
     ending: Option<Reason>,
 ) -> Result<(State<K>, Done), EngineError>
     requires live { IsTrue (K.live ctx.heap) }
@@ -101,11 +108,14 @@ fn settle<H: Host, K: Roomy<H> + Drop>(
     requires aligned { AreAligned (parts_of ctx) }
     ensures serves { (session : Session) (t : ListTx) → IsWell ode session.world → ContextRuns H.view K.holds K.live ode session.world ctx host.old t → IsWell ode (settled_by ending t).0
         → Serves H.view K.holds K.live K.means ode session (Ok (settles (settled_by ending t))) result host.old host.new output.old output.new }
+    ensures logs { (session : Session) (t : ListTx) (entries : Entries) → IsWell ode session.world → ContextRuns H.view K.holds K.live ode session.world ctx host.old t → IsWell ode (settled_by ending t).0
+        → DiskHas K.means entries (H.view host.old) → OnOk result (Logs K.means ode session.world entries (settlings (Ok (settles (settled_by ending t)))) log.old log.new (H.view host.new)) }
+    ensures grown { HasGrown log.old log.new }
     ensures usable { IfOk result (λ r. IsUsable K.live r.0) }
     ensures leaves { HostCalls (IsErrOf result EngineError.DiskFault) (IsErrOf result EngineError.WriteFault) (H.view host.old) (H.view host.new) }
 {
-    match end(alloc, ctx, host, output, ending) {
-        Ok(rest) => settled(alloc, rest, host, output),
+    match end(alloc, ctx, host, output, log, ending) {
+        Ok(rest) => settled(alloc, rest, host, output, log),
         Err(error) => Err(error),
     }
 }
@@ -116,6 +126,7 @@ fn run_inside<H: Host, K: Roomy<H> + Drop>(
     ctx: Ctx<K>,
     host: &mut H,
     output: &mut Output,
+    log: &mut Log,
     s: &Stmt,
 ) -> Result<(State<K>, Done), EngineError>
     requires live { IsTrue (K.live ctx.heap) }
@@ -124,13 +135,17 @@ fn run_inside<H: Host, K: Roomy<H> + Drop>(
     ensures serves { (w : ListWorld) (t : ListTx) (read : Stmt) → IsSession ode (opened w t) → ContextRuns H.view K.holds K.live ode w ctx host.old t
         → HasText ode (statement.Simple read) → checked_in ode t.now.bones read ≡ Ok s.now
         → Serves H.view K.holds K.live K.means ode (opened w t) (Ok (goes_on w (commands lists s.now t))) result host.old host.new output.old output.new }
+    ensures logs { (w : ListWorld) (t : ListTx) (read : Stmt) (entries : Entries) → IsSession ode (opened w t) → ContextRuns H.view K.holds K.live ode w ctx host.old t
+        → HasText ode (statement.Simple read) → checked_in ode t.now.bones read ≡ Ok s.now
+        → DiskHas K.means entries (H.view host.old) → OnOk result (Logs K.means ode w entries (settlings (Ok (goes_on w (commands lists s.now t)))) log.old log.new (H.view host.new)) }
+    ensures grown { HasGrown log.old log.new }
     ensures usable { IfOk result (λ r. IsUsable K.live r.0) }
     ensures leaves { HostCalls (IsErrOf result EngineError.DiskFault) (IsErrOf result EngineError.WriteFault) (H.view host.old) (H.view host.new) }
 {
     let mut ctx = ctx;
     match exec(alloc, &mut ctx, host, s) {
         Ok(()) => Ok((State::Running(ctx), Done::Settled(0))),
-        Err(Stop::Abort(why)) => settle(alloc, ctx, host, output, Some(why)),
+        Err(Stop::Abort(why)) => settle(alloc, ctx, host, output, log, Some(why)),
         Err(stop) => {
             drop(ctx);
             Err(fault_of(stop))
@@ -144,6 +159,7 @@ fn simple_inside<H: Host, K: Roomy<H> + Drop>(
     ctx: Ctx<K>,
     host: &mut H,
     output: &mut Output,
+    log: &mut Log,
     s: &Stmt,
 ) -> Result<(State<K>, Done), EngineError>
     requires live { IsTrue (K.live ctx.heap) }
@@ -151,12 +167,15 @@ fn simple_inside<H: Host, K: Roomy<H> + Drop>(
     requires aligned { AreAligned (parts_of ctx) }
     ensures serves { (w : ListWorld) (t : ListTx) → IsSession ode (opened w t) → ContextRuns H.view K.holds K.live ode w ctx host.old t → HasText ode (statement.Simple s.now)
         → Serves H.view K.holds K.live K.means ode (opened w t) (carried ode (opened w t) (statement.Simple s.now)) result host.old host.new output.old output.new }
+    ensures logs { (w : ListWorld) (t : ListTx) (entries : Entries) → IsSession ode (opened w t) → ContextRuns H.view K.holds K.live ode w ctx host.old t → HasText ode (statement.Simple s.now)
+        → DiskHas K.means entries (H.view host.old) → OnOk result (Logs K.means ode w entries (settlings (carried ode (opened w t) (statement.Simple s.now))) log.old log.new (H.view host.new)) }
+    ensures grown { HasGrown log.old log.new }
     ensures usable { IfOk result (λ r. IsUsable K.live r.0) }
     ensures leaves { HostCalls (IsErrOf result EngineError.DiskFault) (IsErrOf result EngineError.WriteFault) (H.view host.old) (H.view host.new) }
 {
     let mut ctx = ctx;
     match checked(alloc, &mut ctx, host, s) {
-        Ok(s) => run_inside(alloc, ctx, host, output, s.get()),
+        Ok(s) => run_inside(alloc, ctx, host, output, log, s.get()),
         Err(turned) => turned_down(State::Running(ctx), turned),
     }
 }
@@ -167,18 +186,22 @@ fn commit<H: Host, K: Roomy<H> + Drop>(
     ctx: Ctx<K>,
     host: &mut H,
     output: &mut Output,
+    log: &mut Log,
 ) -> Result<(State<K>, Done), EngineError>
     requires live { IsTrue (K.live ctx.heap) }
     requires fit { AreFit (parts_of ctx) }
     requires aligned { AreAligned (parts_of ctx) }
     ensures serves { (w : ListWorld) (t : ListTx) → IsSession ode (opened w t) → ContextRuns H.view K.holds K.live ode w ctx host.old t
         → Serves H.view K.holds K.live K.means ode (opened w t) (Ok (settles (commits t))) result host.old host.new output.old output.new }
+    ensures logs { (w : ListWorld) (t : ListTx) (entries : Entries) → IsSession ode (opened w t) → ContextRuns H.view K.holds K.live ode w ctx host.old t
+        → DiskHas K.means entries (H.view host.old) → OnOk result (Logs K.means ode w entries (settlings (Ok (settles (commits t)))) log.old log.new (H.view host.new)) }
+    ensures grown { HasGrown log.old log.new }
     ensures usable { IfOk result (λ r. IsUsable K.live r.0) }
     ensures leaves { HostCalls (IsErrOf result EngineError.DiskFault) (IsErrOf result EngineError.WriteFault) (H.view host.old) (H.view host.new) }
 {
     let mut ctx = ctx;
     match run_completion(alloc, &mut ctx, host) {
-        Ok(ending) => settle(alloc, ctx, host, output, ending),
+        Ok(ending) => settle(alloc, ctx, host, output, log, ending),
         Err(error) => {
             drop(ctx);
             Err(error)
@@ -192,6 +215,7 @@ fn abort<H: Host, K: Roomy<H> + Drop>(
     ctx: Ctx<K>,
     host: &mut H,
     output: &mut Output,
+    log: &mut Log,
     why: Reason,
 ) -> Result<(State<K>, Done), EngineError>
     requires live { IsTrue (K.live ctx.heap) }
@@ -199,10 +223,13 @@ fn abort<H: Host, K: Roomy<H> + Drop>(
     requires aligned { AreAligned (parts_of ctx) }
     ensures serves { (w : ListWorld) (t : ListTx) → IsSession ode (opened w t) → ContextRuns H.view K.holds K.live ode w ctx host.old t
         → Serves H.view K.holds K.live K.means ode (opened w t) (Ok (settles (abort lists why t))) result host.old host.new output.old output.new }
+    ensures logs { (w : ListWorld) (t : ListTx) (entries : Entries) → IsSession ode (opened w t) → ContextRuns H.view K.holds K.live ode w ctx host.old t
+        → DiskHas K.means entries (H.view host.old) → OnOk result (Logs K.means ode w entries (settlings (Ok (settles (abort lists why t)))) log.old log.new (H.view host.new)) }
+    ensures grown { HasGrown log.old log.new }
     ensures usable { IfOk result (λ r. IsUsable K.live r.0) }
     ensures leaves { HostCalls (IsErrOf result EngineError.DiskFault) (IsErrOf result EngineError.WriteFault) (H.view host.old) (H.view host.new) }
 {
-    settle(alloc, ctx, host, output, Some(why))
+    settle(alloc, ctx, host, output, log, Some(why))
 }
 
 // A statement inside a transaction.
@@ -211,6 +238,7 @@ fn command_inside<H: Host, K: Roomy<H> + Drop>(
     ctx: Ctx<K>,
     host: &mut H,
     output: &mut Output,
+    log: &mut Log,
     s: &Statement,
 ) -> Result<(State<K>, Done), EngineError>
     requires live { IsTrue (K.live ctx.heap) }
@@ -219,6 +247,9 @@ fn command_inside<H: Host, K: Roomy<H> + Drop>(
     requires text { HasText ode s.now }
     ensures serves { (w : ListWorld) (t : ListTx) → IsSession ode (opened w t) → ContextRuns H.view K.holds K.live ode w ctx host.old t
         → Serves H.view K.holds K.live K.means ode (opened w t) (answer_to ode (opened w t) s.now) result host.old host.new output.old output.new }
+    ensures logs { (w : ListWorld) (t : ListTx) (entries : Entries) → IsSession ode (opened w t) → ContextRuns H.view K.holds K.live ode w ctx host.old t
+        → DiskHas K.means entries (H.view host.old) → OnOk result (Logs K.means ode w entries (settlings (answer_to ode (opened w t) s.now)) log.old log.new (H.view host.new)) }
+    ensures grown { HasGrown log.old log.new }
     ensures usable { IfOk result (λ r. IsUsable K.live r.0) }
     ensures leaves { HostCalls (IsErrOf result EngineError.DiskFault) (IsErrOf result EngineError.WriteFault) (H.view host.old) (H.view host.new) }
 {
@@ -226,9 +257,9 @@ fn command_inside<H: Host, K: Roomy<H> + Drop>(
         return Ok((State::Running(ctx), Done::Refused(why)));
     }
     match s {
-        Statement::Commit => commit(alloc, ctx, host, output),
-        Statement::Abort => abort(alloc, ctx, host, output, Reason::Asked),
-        Statement::Simple(s) => simple_inside(alloc, ctx, host, output, s),
+        Statement::Commit => commit(alloc, ctx, host, output, log),
+        Statement::Abort => abort(alloc, ctx, host, output, log, Reason::Asked),
+        Statement::Simple(s) => simple_inside(alloc, ctx, host, output, log, s),
         _ => Ok((State::Running(ctx), Done::Settled(0))),
     }
 }
@@ -259,6 +290,7 @@ fn run_whole<H: Host, K: Roomy<H> + Drop>(
     ctx: Ctx<K>,
     host: &mut H,
     output: &mut Output,
+    log: &mut Log,
     s: &Stmt,
 ) -> Result<(State<K>, Done), EngineError>
     requires live { IsTrue (K.live ctx.heap) }
@@ -266,12 +298,15 @@ fn run_whole<H: Host, K: Roomy<H> + Drop>(
     requires aligned { AreAligned (parts_of ctx) }
     ensures serves { (w : ListWorld) → IsWell ode w → ContextRuns H.view K.holds K.live ode w ctx host.old (begun Script w) → IsWell ode (transaction lists Script (commands lists s.now) w).0
         → Serves H.view K.holds K.live K.means ode (closed w) (Ok (settles (transaction lists Script (commands lists s.now) w))) result host.old host.new output.old output.new }
+    ensures logs { (w : ListWorld) (entries : Entries) → IsWell ode w → ContextRuns H.view K.holds K.live ode w ctx host.old (begun Script w) → IsWell ode (transaction lists Script (commands lists s.now) w).0
+        → DiskHas K.means entries (H.view host.old) → OnOk result (Logs K.means ode w entries (settlings (Ok (settles (transaction lists Script (commands lists s.now) w)))) log.old log.new (H.view host.new)) }
+    ensures grown { HasGrown log.old log.new }
     ensures usable { IfOk result (λ r. IsUsable K.live r.0) }
     ensures leaves { HostCalls (IsErrOf result EngineError.DiskFault) (IsErrOf result EngineError.WriteFault) (H.view host.old) (H.view host.new) }
 {
     let mut ctx = ctx;
     match carry(alloc, &mut ctx, host, s) {
-        Ok(ending) => settle(alloc, ctx, host, output, ending),
+        Ok(ending) => settle(alloc, ctx, host, output, log, ending),
         Err(error) => {
             drop(ctx);
             Err(error)
@@ -285,6 +320,7 @@ fn simple_begun<H: Host, K: Roomy<H> + Drop>(
     ctx: Ctx<K>,
     host: &mut H,
     output: &mut Output,
+    log: &mut Log,
     s: &Stmt,
 ) -> Result<(State<K>, Done), EngineError>
     requires live { IsTrue (K.live ctx.heap) }
@@ -292,12 +328,15 @@ fn simple_begun<H: Host, K: Roomy<H> + Drop>(
     requires aligned { AreAligned (parts_of ctx) }
     ensures serves { (w : ListWorld) → IsWell ode w → ContextRuns H.view K.holds K.live ode w ctx host.old (begun Script w) → w.bones.transaction < number_limit → HasText ode (statement.Simple s.now)
         → Serves H.view K.holds K.live K.means ode (closed w) (carried ode (closed w) (statement.Simple s.now)) result host.old host.new output.old output.new }
+    ensures logs { (w : ListWorld) (entries : Entries) → IsWell ode w → ContextRuns H.view K.holds K.live ode w ctx host.old (begun Script w) → w.bones.transaction < number_limit → HasText ode (statement.Simple s.now)
+        → DiskHas K.means entries (H.view host.old) → OnOk result (Logs K.means ode w entries (settlings (carried ode (closed w) (statement.Simple s.now))) log.old log.new (H.view host.new)) }
+    ensures grown { HasGrown log.old log.new }
     ensures usable { IfOk result (λ r. IsUsable K.live r.0) }
     ensures leaves { HostCalls (IsErrOf result EngineError.DiskFault) (IsErrOf result EngineError.WriteFault) (H.view host.old) (H.view host.new) }
 {
     let mut ctx = ctx;
     match checked(alloc, &mut ctx, host, s) {
-        Ok(s) => run_whole(alloc, ctx, host, output, s.get()),
+        Ok(s) => run_whole(alloc, ctx, host, output, log, s.get()),
         Err(turned) => turned_down(State::Rest(put_back(ctx)), turned),
     }
 }
@@ -308,6 +347,7 @@ fn simple<H: Host, K: Roomy<H> + Drop>(
     rest: Opened<K>,
     host: &mut H,
     output: &mut Output,
+    log: &mut Log,
     s: &Stmt,
 ) -> Result<(State<K>, Done), EngineError>
     requires live { IsTrue (K.live rest.keeper) }
@@ -315,11 +355,14 @@ fn simple<H: Host, K: Roomy<H> + Drop>(
     requires aligned { AreAligned (resting_parts rest) }
     ensures serves { (w : ListWorld) → IsWell ode w → IsAtRest H.view K.holds K.live ode w rest host.old → w.bones.transaction < number_limit → HasText ode (statement.Simple s.now)
         → Serves H.view K.holds K.live K.means ode (closed w) (carried ode (closed w) (statement.Simple s.now)) result host.old host.new output.old output.new }
+    ensures logs { (w : ListWorld) (entries : Entries) → IsWell ode w → IsAtRest H.view K.holds K.live ode w rest host.old → w.bones.transaction < number_limit → HasText ode (statement.Simple s.now)
+        → DiskHas K.means entries (H.view host.old) → OnOk result (Logs K.means ode w entries (settlings (carried ode (closed w) (statement.Simple s.now))) log.old log.new (H.view host.new)) }
+    ensures grown { HasGrown log.old log.new }
     ensures usable { IfOk result (λ r. IsUsable K.live r.0) }
     ensures leaves { HostCalls (IsErrOf result EngineError.DiskFault) (IsErrOf result EngineError.WriteFault) (H.view host.old) (H.view host.new) }
 {
     match begin(alloc, rest, host, Origin::Script) {
-        Ok(ctx) => simple_begun(alloc, ctx, host, output, s),
+        Ok(ctx) => simple_begun(alloc, ctx, host, output, log, s),
         Err(error) => Err(error),
     }
 }
@@ -330,6 +373,7 @@ fn class<H: Host, K: Roomy<H> + Drop>(
     rest: Opened<K>,
     host: &mut H,
     output: &mut Output,
+    log: &mut Log,
     decl: &ClassDecl,
 ) -> Result<(State<K>, Done), EngineError>
     requires live { IsTrue (K.live rest.keeper) }
@@ -338,13 +382,16 @@ fn class<H: Host, K: Roomy<H> + Drop>(
     requires numbers { HaveNumbers decl.now }
     ensures serves { (w : ListWorld) → IsWell ode w → IsAtRest H.view K.holds K.live ode w rest host.old → w.bones.transaction < number_limit → HasText ode (statement.Class decl.now)
         → Serves H.view K.holds K.live K.means ode (closed w) (carried ode (closed w) (statement.Class decl.now)) result host.old host.new output.old output.new }
+    ensures logs { (w : ListWorld) (entries : Entries) → IsWell ode w → IsAtRest H.view K.holds K.live ode w rest host.old → w.bones.transaction < number_limit → HasText ode (statement.Class decl.now)
+        → DiskHas K.means entries (H.view host.old) → OnOk result (Logs K.means ode w entries (settlings (carried ode (closed w) (statement.Class decl.now))) log.old log.new (H.view host.new)) }
+    ensures grown { HasGrown log.old log.new }
     ensures usable { IfOk result (λ r. IsUsable K.live r.0) }
     ensures leaves { HostCalls (IsErrOf result EngineError.DiskFault) (IsErrOf result EngineError.WriteFault) (H.view host.old) (H.view host.new) }
 {
-    match declare(alloc, rest, host, output, decl) {
+    match declare(alloc, rest, host, output, log, decl) {
         Ok((rest, refused)) => match refused {
             Some(why) => Ok((State::Rest(rest), Done::Refused(why))),
-            None => settled(alloc, rest, host, output),
+            None => settled(alloc, rest, host, output, log),
         },
         Err(error) => Err(error),
     }
@@ -356,6 +403,7 @@ fn change_numbered<H: Host, K: Roomy<H> + Drop>(
     rest: Opened<K>,
     host: &mut H,
     output: &mut Output,
+    log: &mut Log,
     c: &Change,
 ) -> Result<(State<K>, Done), EngineError>
     requires live { IsTrue (K.live rest.keeper) }
@@ -364,13 +412,16 @@ fn change_numbered<H: Host, K: Roomy<H> + Drop>(
     requires text { HasChange ode c.now }
     ensures serves { (w : ListWorld) → IsWell ode w → IsAtRest H.view K.holds K.live ode w rest host.old → w.bones.transaction < number_limit
         → Serves H.view K.holds K.live K.means ode (closed w) (answer_to_change ode w c.now) result host.old host.new output.old output.new }
+    ensures logs { (w : ListWorld) (entries : Entries) → IsWell ode w → IsAtRest H.view K.holds K.live ode w rest host.old → w.bones.transaction < number_limit
+        → DiskHas K.means entries (H.view host.old) → OnOk result (Logs K.means ode w entries (settlings (answer_to_change ode w c.now)) log.old log.new (H.view host.new)) }
+    ensures grown { HasGrown log.old log.new }
     ensures usable { IfOk result (λ r. IsUsable K.live r.0) }
     ensures leaves { HostCalls (IsErrOf result EngineError.DiskFault) (IsErrOf result EngineError.WriteFault) (H.view host.old) (H.view host.new) }
 {
-    match change(alloc, rest, host, output, c) {
+    match change(alloc, rest, host, output, log, c) {
         Ok((rest, refused)) => match refused {
             Some(why) => Ok((State::Rest(rest), Done::Refused(why))),
-            None => settled(alloc, rest, host, output),
+            None => settled(alloc, rest, host, output, log),
         },
         Err(error) => Err(error),
     }
@@ -382,6 +433,7 @@ fn change_at_rest<H: Host, K: Roomy<H> + Drop>(
     rest: Opened<K>,
     host: &mut H,
     output: &mut Output,
+    log: &mut Log,
     c: &Change,
 ) -> Result<(State<K>, Done), EngineError>
     requires live { IsTrue (K.live rest.keeper) }
@@ -390,6 +442,9 @@ fn change_at_rest<H: Host, K: Roomy<H> + Drop>(
     requires text { HasChange ode c.now }
     ensures serves { (w : ListWorld) → IsWell ode w → IsAtRest H.view K.holds K.live ode w rest host.old
         → Serves H.view K.holds K.live K.means ode (closed w) (changes ode (closed w) c.now) result host.old host.new output.old output.new }
+    ensures logs { (w : ListWorld) (entries : Entries) → IsWell ode w → IsAtRest H.view K.holds K.live ode w rest host.old
+        → DiskHas K.means entries (H.view host.old) → OnOk result (Logs K.means ode w entries (settlings (changes ode (closed w) c.now)) log.old log.new (H.view host.new)) }
+    ensures grown { HasGrown log.old log.new }
     ensures usable { IfOk result (λ r. IsUsable K.live r.0) }
     ensures leaves { HostCalls (IsErrOf result EngineError.DiskFault) (IsErrOf result EngineError.WriteFault) (H.view host.old) (H.view host.new) }
 {
@@ -397,7 +452,7 @@ fn change_at_rest<H: Host, K: Roomy<H> + Drop>(
     if next >= NUMBER_LIMIT {
         return Ok((State::Rest(rest), Done::Refused(Refusal::NumbersSpent)));
     }
-    change_numbered(alloc, rest, host, output, c)
+    change_numbered(alloc, rest, host, output, log, c)
 }
 
 /// A change of a class, which stands outside a transaction.
@@ -406,17 +461,21 @@ pub(crate) fn change_in<H: Host, K: Roomy<H> + Drop>(
     state: State<K>,
     host: &mut H,
     output: &mut Output,
+    log: &mut Log,
     c: &Change,
 ) -> Result<(State<K>, Done), EngineError>
     requires usable { IsUsable K.live state }
     requires text { HasChange ode c.now }
     ensures serves { (session : Session) → IsSession ode session → StandsIn H.view K.holds K.live ode session state host.old
         → Serves H.view K.holds K.live K.means ode session (changes ode session c.now) result host.old host.new output.old output.new }
+    ensures logs { (session : Session) (entries : Entries) → IsSession ode session → StandsIn H.view K.holds K.live ode session state host.old
+        → DiskHas K.means entries (H.view host.old) → OnOk result (Logs K.means ode session.world entries (settlings (changes ode session c.now)) log.old log.new (H.view host.new)) }
+    ensures grown { HasGrown log.old log.new }
     ensures usable { IfOk result (λ r. IsUsable K.live r.0) }
     ensures leaves { HostCalls (IsErrOf result EngineError.DiskFault) (IsErrOf result EngineError.WriteFault) (H.view host.old) (H.view host.new) }
 {
     match state {
-        State::Rest(rest) => change_at_rest(alloc, rest, host, output, c),
+        State::Rest(rest) => change_at_rest(alloc, rest, host, output, log, c),
         State::Running(ctx) => Ok((State::Running(ctx), Done::Refused(Refusal::InTransaction))),
     }
 }
@@ -427,6 +486,7 @@ fn clock<H: Host, K: Roomy<H> + Drop>(
     rest: Opened<K>,
     host: &mut H,
     output: &mut Output,
+    log: &mut Log,
     text: &OdeText,
 ) -> Result<(State<K>, Done), EngineError>
     requires live { IsTrue (K.live rest.keeper) }
@@ -434,10 +494,13 @@ fn clock<H: Host, K: Roomy<H> + Drop>(
     requires aligned { AreAligned (resting_parts rest) }
     ensures serves { (w : ListWorld) → IsWell ode w → IsAtRest H.view K.holds K.live ode w rest host.old → w.bones.transaction < number_limit
         → Serves H.view K.holds K.live K.means ode (closed w) (carried ode (closed w) (statement.Clock text.now)) result host.old host.new output.old output.new }
+    ensures logs { (w : ListWorld) (entries : Entries) → IsWell ode w → IsAtRest H.view K.holds K.live ode w rest host.old → w.bones.transaction < number_limit
+        → DiskHas K.means entries (H.view host.old) → OnOk result (Logs K.means ode w entries (settlings (carried ode (closed w) (statement.Clock text.now))) log.old log.new (H.view host.new)) }
+    ensures grown { HasGrown log.old log.new }
     ensures usable { IfOk result (λ r. IsUsable K.live r.0) }
     ensures leaves { HostCalls (IsErrOf result EngineError.DiskFault) (IsErrOf result EngineError.WriteFault) (H.view host.old) (H.view host.new) }
 {
-    match set_clock(alloc, rest, host, output, text) {
+    match set_clock(alloc, rest, host, output, log, text) {
         Ok((rest, found)) => match found {
             Ok(settled) => Ok((State::Rest(rest), Done::Settled(settled))),
             Err(why) => Ok((State::Rest(rest), Done::Refused(why))),
@@ -457,6 +520,7 @@ fn leave_open<H: Host, K: Roomy<H> + Drop>(
     requires aligned { AreAligned (resting_parts rest) }
     ensures serves { (w : ListWorld) (output : Output) → IsWell ode w → IsAtRest H.view K.holds K.live ode w rest host.old → w.bones.transaction < number_limit
         → Serves H.view K.holds K.live K.means ode (closed w) (carried ode (closed w) statement.Begin) result host.old host.new output output }
+    ensures looks { Looks (H.view host.old) (H.view host.new) }
     ensures usable { IfOk result (λ r. IsUsable K.live r.0) }
     ensures leaves { HostCalls (IsErrOf result EngineError.DiskFault) (IsErrOf result EngineError.WriteFault) (H.view host.old) (H.view host.new) }
 {
@@ -472,6 +536,7 @@ fn carry_out<H: Host, K: Roomy<H> + Drop>(
     rest: Opened<K>,
     host: &mut H,
     output: &mut Output,
+    log: &mut Log,
     s: &Statement,
 ) -> Result<(State<K>, Done), EngineError>
     requires live { IsTrue (K.live rest.keeper) }
@@ -480,14 +545,17 @@ fn carry_out<H: Host, K: Roomy<H> + Drop>(
     requires text { HasText ode s.now }
     ensures serves { (w : ListWorld) → IsWell ode w → IsAtRest H.view K.holds K.live ode w rest host.old → w.bones.transaction < number_limit → place_of s.now false ≡ Ok tt
         → Serves H.view K.holds K.live K.means ode (closed w) (carried ode (closed w) s.now) result host.old host.new output.old output.new }
+    ensures logs { (w : ListWorld) (entries : Entries) → IsWell ode w → IsAtRest H.view K.holds K.live ode w rest host.old → w.bones.transaction < number_limit → place_of s.now false ≡ Ok tt
+        → DiskHas K.means entries (H.view host.old) → OnOk result (Logs K.means ode w entries (settlings (carried ode (closed w) s.now)) log.old log.new (H.view host.new)) }
+    ensures grown { HasGrown log.old log.new }
     ensures usable { IfOk result (λ r. IsUsable K.live r.0) }
     ensures leaves { HostCalls (IsErrOf result EngineError.DiskFault) (IsErrOf result EngineError.WriteFault) (H.view host.old) (H.view host.new) }
 {
     match s {
         Statement::Begin => leave_open(alloc, rest, host),
-        Statement::Class(decl) => class(alloc, rest, host, output, decl),
-        Statement::Clock(text) => clock(alloc, rest, host, output, text),
-        Statement::Simple(s) => simple(alloc, rest, host, output, s),
+        Statement::Class(decl) => class(alloc, rest, host, output, log, decl),
+        Statement::Clock(text) => clock(alloc, rest, host, output, log, text),
+        Statement::Simple(s) => simple(alloc, rest, host, output, log, s),
         _ => Ok((State::Rest(rest), Done::Settled(0))),
     }
 }
@@ -498,6 +566,7 @@ fn numbered<H: Host, K: Roomy<H> + Drop>(
     rest: Opened<K>,
     host: &mut H,
     output: &mut Output,
+    log: &mut Log,
     s: &Statement,
 ) -> Result<(State<K>, Done), EngineError>
     requires live { IsTrue (K.live rest.keeper) }
@@ -506,6 +575,9 @@ fn numbered<H: Host, K: Roomy<H> + Drop>(
     requires text { HasText ode s.now }
     ensures serves { (w : ListWorld) → IsWell ode w → IsAtRest H.view K.holds K.live ode w rest host.old → place_of s.now false ≡ Ok tt → is_lone s.now ≡ false
         → Serves H.view K.holds K.live K.means ode (closed w) (answer_to ode (closed w) s.now) result host.old host.new output.old output.new }
+    ensures logs { (w : ListWorld) (entries : Entries) → IsWell ode w → IsAtRest H.view K.holds K.live ode w rest host.old → place_of s.now false ≡ Ok tt → is_lone s.now ≡ false
+        → DiskHas K.means entries (H.view host.old) → OnOk result (Logs K.means ode w entries (settlings (answer_to ode (closed w) s.now)) log.old log.new (H.view host.new)) }
+    ensures grown { HasGrown log.old log.new }
     ensures usable { IfOk result (λ r. IsUsable K.live r.0) }
     ensures leaves { HostCalls (IsErrOf result EngineError.DiskFault) (IsErrOf result EngineError.WriteFault) (H.view host.old) (H.view host.new) }
 {
@@ -513,7 +585,7 @@ fn numbered<H: Host, K: Roomy<H> + Drop>(
     if number >= NUMBER_LIMIT {
         return Ok((State::Rest(rest), Done::Refused(Refusal::NumbersSpent)));
     }
-    carry_out(alloc, rest, host, output, s)
+    carry_out(alloc, rest, host, output, log, s)
 }
 
 // A statement outside a transaction.
@@ -522,6 +594,7 @@ fn command_at_rest<H: Host, K: Roomy<H> + Drop>(
     rest: Opened<K>,
     host: &mut H,
     output: &mut Output,
+    log: &mut Log,
     s: &Statement,
 ) -> Result<(State<K>, Done), EngineError>
     requires live { IsTrue (K.live rest.keeper) }
@@ -530,6 +603,9 @@ fn command_at_rest<H: Host, K: Roomy<H> + Drop>(
     requires text { HasText ode s.now }
     ensures serves { (w : ListWorld) → IsWell ode w → IsAtRest H.view K.holds K.live ode w rest host.old
         → Serves H.view K.holds K.live K.means ode (closed w) (answer_to ode (closed w) s.now) result host.old host.new output.old output.new }
+    ensures logs { (w : ListWorld) (entries : Entries) → IsWell ode w → IsAtRest H.view K.holds K.live ode w rest host.old
+        → DiskHas K.means entries (H.view host.old) → OnOk result (Logs K.means ode w entries (settlings (answer_to ode (closed w) s.now)) log.old log.new (H.view host.new)) }
+    ensures grown { HasGrown log.old log.new }
     ensures usable { IfOk result (λ r. IsUsable K.live r.0) }
     ensures leaves { HostCalls (IsErrOf result EngineError.DiskFault) (IsErrOf result EngineError.WriteFault) (H.view host.old) (H.view host.new) }
 {
@@ -539,7 +615,7 @@ fn command_at_rest<H: Host, K: Roomy<H> + Drop>(
     if !takes_number(s) {
         return Ok((State::Rest(rest), Done::Settled(0)));
     }
-    numbered(alloc, rest, host, output, s)
+    numbered(alloc, rest, host, output, log, s)
 }
 
 /// A statement, over what is there.
@@ -548,18 +624,22 @@ pub(crate) fn command_in<H: Host, K: Roomy<H> + Drop>(
     state: State<K>,
     host: &mut H,
     output: &mut Output,
+    log: &mut Log,
     s: &Statement,
 ) -> Result<(State<K>, Done), EngineError>
     requires usable { IsUsable K.live state }
     requires text { HasText ode s.now }
     ensures serves { (session : Session) → IsSession ode session → StandsIn H.view K.holds K.live ode session state host.old
         → Serves H.view K.holds K.live K.means ode session (answer_to ode session s.now) result host.old host.new output.old output.new }
+    ensures logs { (session : Session) (entries : Entries) → IsSession ode session → StandsIn H.view K.holds K.live ode session state host.old
+        → DiskHas K.means entries (H.view host.old) → OnOk result (Logs K.means ode session.world entries (settlings (answer_to ode session s.now)) log.old log.new (H.view host.new)) }
+    ensures grown { HasGrown log.old log.new }
     ensures usable { IfOk result (λ r. IsUsable K.live r.0) }
     ensures leaves { HostCalls (IsErrOf result EngineError.DiskFault) (IsErrOf result EngineError.WriteFault) (H.view host.old) (H.view host.new) }
 {
     match state {
-        State::Rest(rest) => command_at_rest(alloc, rest, host, output, s),
-        State::Running(ctx) => command_inside(alloc, ctx, host, output, s),
+        State::Rest(rest) => command_at_rest(alloc, rest, host, output, log, s),
+        State::Running(ctx) => command_inside(alloc, ctx, host, output, log, s),
     }
 }
 
@@ -569,15 +649,19 @@ pub(crate) fn finish_in<H: Host, K: Roomy<H> + Drop>(
     state: State<K>,
     host: &mut H,
     output: &mut Output,
+    log: &mut Log,
 ) -> Result<(State<K>, Done), EngineError>
     requires usable { IsUsable K.live state }
     ensures serves { (session : Session) → IsSession ode session → StandsIn H.view K.holds K.live ode session state host.old
         → Serves H.view K.holds K.live K.means ode session (Ok (finish session)) result host.old host.new output.old output.new }
+    ensures logs { (session : Session) (entries : Entries) → IsSession ode session → StandsIn H.view K.holds K.live ode session state host.old
+        → DiskHas K.means entries (H.view host.old) → OnOk result (Logs K.means ode session.world entries (settlings (Ok (finish session))) log.old log.new (H.view host.new)) }
+    ensures grown { HasGrown log.old log.new }
     ensures usable { IfOk result (λ r. IsUsable K.live r.0) }
     ensures leaves { HostCalls (IsErrOf result EngineError.DiskFault) (IsErrOf result EngineError.WriteFault) (H.view host.old) (H.view host.new) }
 {
     match state {
         State::Rest(rest) => Ok((State::Rest(rest), Done::Settled(0))),
-        State::Running(ctx) => abort(alloc, ctx, host, output, Reason::End),
+        State::Running(ctx) => abort(alloc, ctx, host, output, log, Reason::End),
     }
 }

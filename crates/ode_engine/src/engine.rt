@@ -1,10 +1,12 @@
 //! An engine.
-ghost use Rattle.std.specs.Prelude.{◌≡◌, ◌++◌, ℕ, List as Items, Err, IfOk, IsErrOf, None, OnErr, OnOk, Ok, Some, false, length, true};
+ghost use Rattle.std.specs.Prelude.{[], ◌≡◌, ◌++◌, ℕ, List as Items, Err, IfOk, IsErrOf, None, OnErr, OnOk, Ok, Some, false, length, true};
+ghost use Rattle.std.specs.Option.{option_map, unwrap_or};
 ghost use Rattle.ode_change.specs.Changing.{HasChange};
 ghost use Rattle.ode_declare.specs.Texts.{HasText};
 ghost use Rattle.ode_declared_laws.specs.Adding.{AreAligned};
 ghost use Rattle.ode_engine.specs.Serving.{IsAnswer, IsLive, StandsFor, answer_to, done_in, output_of, rest_in, running_in, session_after, settlings, state_in};
 ghost use Rattle.ode_host.specs.Host.{HostCalls, LeavesOnly, Printed};
+ghost use Rattle.ode_keep.specs.Entries.{Entries};
 ghost use Rattle.ode_language.specs.Languages.{ode};
 ghost use Rattle.ode_machine.specs.Commands.{after, changes, finish};
 ghost use Rattle.ode_machine.specs.Moments.{IsAfterSome};
@@ -13,6 +15,7 @@ ghost use Rattle.ode_machine.specs.Sessions.{Session};
 ghost use Rattle.ode_schema.specs.Parts.{AreFit};
 ghost use Rattle.ode_transact.specs.Errors.{OnDamaged};
 ghost use Rattle.ode_transact.specs.Items.{items_of, texts_of};
+ghost use Rattle.ode_transact.specs.Logging.{DiskHas, HasGrown, Logs};
 ghost use Rattle.ode_transact.specs.Output.{all_heard, counting};
 ghost use Rattle.ode_transact.specs.Resting.{HoldsBy, resting_parts};
 ghost use Rattle.ode_value.specs.Draining.{drain as drained};
@@ -24,9 +27,9 @@ use ode_host::Host;
 use ode_keep::Roomy;
 use ode_opened::Opened;
 use ode_run::Ctx;
-use ode_transact::{EngineError, Output, drain};
+use ode_transact::{EngineError, Kept, Log, Output, drain};
 use ode_value::limits::DRAIN_LIMIT;
-use ode_value::{Change, Refusal, Statement};
+use ode_value::{Change, List, Refusal, Statement};
 use std::alloc::Global;
 
 /// What a statement came to: so many settled transactions, or its refusal.
@@ -44,7 +47,7 @@ fn set<T: Drop>(place: &mut T, value: T)
 }
 
 /// An opened file, or the context of an open transaction over it; whether the texts of what settles are printed, and how many bytes they
-/// had; and whether it may be called: not after an error.
+/// had; whether it may be called: not after an error; and what is kept of what settled, where it is.
 #[derive(Drop)]
 pub struct Engine<K> {
     pub rest: Option<Opened<K>>,
@@ -53,6 +56,7 @@ pub struct Engine<K> {
     pub counted: u64,
     pub live: bool,
     pub alloc: Global,
+    pub log: Log,
 }
 
 impl<K: Drop> Engine<K> {
@@ -62,6 +66,7 @@ impl<K: Drop> Engine<K> {
         requires aligned { AreAligned (resting_parts opened) }
         ensures rest { (result.rest ≡ Some opened) × (result.running ≡ None) }
         ensures output { (result.quiet ≡ quiet) × (result.counted ≡ 0) }
+        ensures log { result.log ≡ None }
         ensures live { result.live ≡ true }
     {
         Engine {
@@ -71,6 +76,7 @@ impl<K: Drop> Engine<K> {
             counted: 0,
             live: true,
             alloc,
+            log: None,
         }
     }
 
@@ -88,11 +94,34 @@ impl<K: Drop> Engine<K> {
         self.counted
     }
 
+    /// From now on what settles is kept, and nothing is kept yet.
+    pub fn keep_log(&mut self)
+        ensures kept { self.new.log ≡ Some [] }
+        ensures same { self.new ≡ record self.old { log = Some [] } }
+    {
+        self.log = Some(List::new(self.alloc));
+    }
+
+    /// What was kept since it was last taken, in order; nothing where it isn't kept. The log is empty then.
+    pub fn take_log(&mut self) -> List<Kept>
+        ensures taken { result ≡ unwrap_or self.old.log [] }
+        ensures empty { self.new ≡ record self.old { log = option_map (λ _. []) self.old.log } }
+    {
+        match self.log.take() {
+            Some(kept) => {
+                self.log = Some(List::new(self.alloc));
+                kept
+            }
+            None => List::new(self.alloc),
+        }
+    }
+
     // What it has from now on.
     fn put(&mut self, state: State<K>)
         ensures has { (self.new.rest ≡ rest_in state) × (self.new.running ≡ running_in state) }
         ensures same { self.new.live ≡ self.old.live }
         ensures output { output_of self.new ≡ output_of self.old }
+        ensures log { self.new.log ≡ self.old.log }
     {
         match state {
             State::Rest(rest) => {
@@ -111,6 +140,7 @@ impl<K: Drop> Engine<K> {
         ensures says { result ≡ Err error }
         ensures dead { self.new.live ≡ false }
         ensures output { output_of self.new ≡ output_of self.old }
+        ensures log { self.new.log ≡ self.old.log }
     {
         self.live = false;
         Err(error)
@@ -122,6 +152,7 @@ impl<K: Drop> Engine<K> {
         ensures has { IfOk step (λ r. (self.new.rest ≡ rest_in r.0) × (self.new.running ≡ running_in r.0) × (self.new.live ≡ self.old.live)) }
         ensures dead { OnErr step (self.new.live ≡ false) }
         ensures output { output_of self.new ≡ output_of self.old }
+        ensures log { self.new.log ≡ self.old.log }
     {
         match step {
             Ok((state, done)) => {
@@ -137,6 +168,7 @@ impl<K: Drop> Engine<K> {
         ensures took { result ≡ state_in self.old.rest self.old.running }
         ensures same { self.new.live ≡ self.old.live }
         ensures output { output_of self.new ≡ output_of self.old }
+        ensures log { self.new.log ≡ self.old.log }
     {
         match self.rest.take() {
             Some(rest) => Some(State::Rest(rest)),
@@ -163,6 +195,10 @@ impl<K: Drop> Engine<K> {
             → OnOk result (Printed (texts_of (all_heard self.old.quiet (settlings (answer_to ode session s.now)))) (H.view host.old) (H.view host.new)) }
         ensures counts { (session : Session) → StandsFor H.view K.holds K.live ode session self.old host.old
             → OnOk result (output_of self.new ≡ counting (output_of self.old) (texts_of (settlings (answer_to ode session s.now)))) }
+        // They are kept in the log, where there is one: numbers, and changes that leave the machine's worlds one behind the other.
+        ensures logs { (session : Session) (entries : Entries) → StandsFor H.view K.holds K.live ode session self.old host.old → DiskHas K.means entries (H.view host.old)
+            → OnOk result (Logs K.means ode session.world entries (settlings (answer_to ode session s.now)) self.old.log self.new.log (H.view host.new)) }
+        ensures grown { HasGrown self.old.log self.new.log }
         // A stop leaves the world that some of them left, and a front of what is printed up to the next one; whatever comes behind.
         ensures any_moment { (session : Session) (said : Items ℕ) (more : Items Item) → StandsFor H.view K.holds K.live ode session self.old host.old → (H.view host.old).text ≡ Some said
             → LeavesOnly (H.view host.old) (H.view host.new) (IsAfterSome (HoldsBy ode K.means) (items_of (all_heard self.old.quiet (settlings (answer_to ode session s.now))) ++ more) session.world said) }
@@ -181,7 +217,7 @@ impl<K: Drop> Engine<K> {
         };
         match self.take() {
             Some(state) => {
-                let step = command_in(self.alloc, state, host, &mut output, s);
+                let step = command_in(self.alloc, state, host, &mut output, &mut self.log, s);
                 self.counted = output.counted;
                 self.answer(step)
             }
@@ -206,6 +242,10 @@ impl<K: Drop> Engine<K> {
             → OnOk result (Printed (texts_of (all_heard self.old.quiet (settlings (changes ode session c.now)))) (H.view host.old) (H.view host.new)) }
         ensures counts { (session : Session) → StandsFor H.view K.holds K.live ode session self.old host.old
             → OnOk result (output_of self.new ≡ counting (output_of self.old) (texts_of (settlings (changes ode session c.now)))) }
+        // They are kept in the log, where there is one: numbers, and changes that leave the machine's worlds one behind the other.
+        ensures logs { (session : Session) (entries : Entries) → StandsFor H.view K.holds K.live ode session self.old host.old → DiskHas K.means entries (H.view host.old)
+            → OnOk result (Logs K.means ode session.world entries (settlings (changes ode session c.now)) self.old.log self.new.log (H.view host.new)) }
+        ensures grown { HasGrown self.old.log self.new.log }
         // A stop leaves the world that some of them left, and a front of what is printed up to the next one; whatever comes behind.
         ensures any_moment { (session : Session) (said : Items ℕ) (more : Items Item) → StandsFor H.view K.holds K.live ode session self.old host.old → (H.view host.old).text ≡ Some said
             → LeavesOnly (H.view host.old) (H.view host.new) (IsAfterSome (HoldsBy ode K.means) (items_of (all_heard self.old.quiet (settlings (changes ode session c.now))) ++ more) session.world said) }
@@ -224,7 +264,7 @@ impl<K: Drop> Engine<K> {
         };
         match self.take() {
             Some(state) => {
-                let step = change_in(self.alloc, state, host, &mut output, c);
+                let step = change_in(self.alloc, state, host, &mut output, &mut self.log, c);
                 self.counted = output.counted;
                 self.answer(step)
             }
@@ -246,6 +286,10 @@ impl<K: Drop> Engine<K> {
             → OnOk result (Printed (texts_of (all_heard self.old.quiet (drained lists drain_limit session.world))) (H.view host.old) (H.view host.new)) }
         ensures counts { (session : Session) → StandsFor H.view K.holds K.live ode session self.old host.old
             → OnOk result (output_of self.new ≡ counting (output_of self.old) (texts_of (drained lists drain_limit session.world))) }
+        // They are kept in the log, where there is one: numbers, and changes that leave the machine's worlds one behind the other.
+        ensures logs { (session : Session) (entries : Entries) → StandsFor H.view K.holds K.live ode session self.old host.old → DiskHas K.means entries (H.view host.old)
+            → OnOk result (Logs K.means ode session.world entries (drained lists drain_limit session.world) self.old.log self.new.log (H.view host.new)) }
+        ensures grown { HasGrown self.old.log self.new.log }
         ensures any_moment { (session : Session) (said : Items ℕ) (more : Items Item) → StandsFor H.view K.holds K.live ode session self.old host.old → (H.view host.old).text ≡ Some said
             → LeavesOnly (H.view host.old) (H.view host.new) (IsAfterSome (HoldsBy ode K.means) (items_of (all_heard self.old.quiet (drained lists drain_limit session.world)) ++ more) session.world said) }
         // The host's faults are those that are told, whatever the records are.
@@ -262,7 +306,14 @@ impl<K: Drop> Engine<K> {
             counted: self.counted,
         };
         match self.rest.take() {
-            Some(rest) => match drain(self.alloc, rest, host, &mut output, DRAIN_LIMIT) {
+            Some(rest) => match drain(
+                self.alloc,
+                rest,
+                host,
+                &mut output,
+                &mut self.log,
+                DRAIN_LIMIT,
+            ) {
                 Ok((rest, ran)) => {
                     self.counted = output.counted;
                     self.put(State::Rest(rest));
@@ -289,6 +340,10 @@ impl<K: Drop> Engine<K> {
             → OnOk result (Printed (texts_of (all_heard self.old.quiet (finish session).1)) (H.view host.old) (H.view host.new)) }
         ensures counts { (session : Session) → StandsFor H.view K.holds K.live ode session self.old host.old
             → OnOk result (output_of self.new ≡ counting (output_of self.old) (texts_of (finish session).1)) }
+        // They are kept in the log, where there is one: numbers, and changes that leave the machine's worlds one behind the other.
+        ensures logs { (session : Session) (entries : Entries) → StandsFor H.view K.holds K.live ode session self.old host.old → DiskHas K.means entries (H.view host.old)
+            → OnOk result (Logs K.means ode session.world entries (finish session).1 self.old.log self.new.log (H.view host.new)) }
+        ensures grown { HasGrown self.old.log self.new.log }
         ensures any_moment { (session : Session) (said : Items ℕ) (more : Items Item) → StandsFor H.view K.holds K.live ode session self.old host.old → (H.view host.old).text ≡ Some said
             → LeavesOnly (H.view host.old) (H.view host.new) (IsAfterSome (HoldsBy ode K.means) (items_of (all_heard self.old.quiet (finish session).1) ++ more) session.world said) }
         // The host's faults are those that are told, whatever the records are.
@@ -306,7 +361,7 @@ impl<K: Drop> Engine<K> {
         };
         match self.take() {
             Some(state) => {
-                let step = finish_in(self.alloc, state, host, &mut output);
+                let step = finish_in(self.alloc, state, host, &mut output, &mut self.log);
                 self.counted = output.counted;
                 self.answer(step)
             }

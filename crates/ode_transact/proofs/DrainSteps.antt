@@ -1,5 +1,5 @@
 -- A drain on its way, over a file at rest.
-use Rattle.std.proofs.Common.{◌≡◌, ◌<◌, ◌≤◌, ◌+◌, ◌-◌, ◌++◌, ◌∙◌, ℕ, List, [], ◌∷◌, length, Bool, Some, append-nil, ap, arith, refl, subst, sym}
+use Rattle.std.proofs.Common.{◌≡◌, ◌<◌, ◌≤◌, ◌+◌, ◌-◌, ◌++◌, ◌∙◌, ℕ, List, [], ◌∷◌, length, Bool, Option, Some, append-nil, ap, arith, refl, subst, sym}
 use Rattle.std.specs.List.{AllByRecursion}
 use Rattle.ode_codec.specs.declared.record.Entry as stored
 use Rattle.ode_host.proofs.Calls.{host_calls_on, rose_none}
@@ -20,6 +20,7 @@ use Rattle.ode_transact.proofs.RestLaws.{image_holds}
 use Rattle.ode_transact.proofs.Settles.{same_text}
 use Rattle.ode_transact.specs.Drained.{IsDrained}
 use Rattle.ode_transact.specs.Items.{items_of, texts_of}
+use Rattle.ode_transact.specs.Logging.{Kept, Logs}
 use Rattle.ode_transact.specs.Output.{all_heard, counting, heard, heard_of}
 use Rattle.ode_transact.specs.Resting.{HoldsBy, IsAtRest}
 use Rattle.ode_transact.specs.Settling.{Meaning}
@@ -78,6 +79,11 @@ module _ {H K : Type 0} (seen : H → View) (held : K → View → Entries → T
     pub counts : last ≡ counting first (texts_of settled)
     pub moments : (said : List ℕ) (more : List Item) → (seen before).text ≡ Some said → LeavesOnly (seen before) (seen after) (IsAfterSome (HoldsBy l means) (items_of (all_heard first.quiet settled) ++ more) w said)
 
+  -- with what was kept of them
+  pub record HasLogged (l : Language) (w : ListWorld) (o : Opened K) (before after : H) (first last : Output) (most ran : ℕ) (entries : Entries) (old new : Option (List Kept)) : Type 0 where
+    pub so : HasDrained l w o before after first last most ran
+    pub logs : Logs means l w entries so.settled old new (seen after)
+
   -- none yet
   pub drain_starts : (l : Language) (w : ListWorld) (o : Opened K) (host : H) (output : Output) (most : ℕ) → IsWell l w → IsAtRest seen held live l w o host → HasDrained l w o host host output output most 0
   drain_starts l w o host output most well rest = record {
@@ -90,6 +96,11 @@ module _ {H K : Type 0} (seen : H → View) (held : K → View → Entries → T
     counts = counting_none output;
     moments = λ said more printed. started (seen host) (IsAfterSome (HoldsBy l means) more w said);
   }
+
+  pub logged_starts : (l : Language) (w : ListWorld) (o : Opened K) (host : H) (output : Output) (most : ℕ) → IsWell l w → IsAtRest seen held live l w o host → (entries : Entries) (log : Option (List Kept))
+      → Logs means l w entries [] log log (seen host) → HasLogged l w o host host output output most 0 entries log log
+  unfolding drain_starts
+  logged_starts l w o host output most well rest entries log logs = record { so = drain_starts l w o host output most well rest; logs = logs }
 
   module _ (stands : (k : K) (h : H) (entries : Entries) → held k (seen h) entries → (file : List ℕ) × Stands file (seen h) × means file entries)
       (text_stands : (h : H) (c o : List ℕ) → (seen h).left (seen h).moment c o → (seen h).text ≡ Some o) where
@@ -207,6 +218,16 @@ module _ {H K : Type 0} (seen : H → View) (held : K → View → Entries → T
         moments = λ said more is. moved number entry front less (seen end) said more is run;
       }
 
+      -- and what was kept of them
+      pub logged_goes : (number : ℕ) (entry : stored.Entry) (front : IsFront so.now number entry) → ran < most → (p : Opened K) (end : H) (output : Output) → IsWell l (settled_entry so.now number entry).0
+          → IsAtRest seen held live l (settled_entry so.now number entry).0 p end → Printed (heard last.quiet (settled_entry so.now number entry).1) (seen after) (seen end)
+          → output ≡ counting last (settled_entry so.now number entry).1
+          → ((text : List ℕ) → (seen after).text ≡ Some text → LeavesOnly (seen after) (seen end) (LeavesSettling (HoldsBy l means) so.now (settled_entry so.now number entry).0 text (heard last.quiet (settled_entry so.now number entry).1)))
+          → (entries : Entries) (old new : Option (List Kept)) → Logs means l w entries (so.settled ++ settled_entry so.now number entry ∷ []) old new (seen end)
+          → HasLogged l w p before end first output most (ran + 1) entries old new
+      unfolding drain_goes
+      logged_goes number entry front less p end output well rest printed counts run entries old new logs = record { so = drain_goes number entry front less p end output well rest printed counts run; logs = logs }
+
   -- where none is left to run, or nothing runs, that is the whole drain
   pub drain_ends : (l : Language) (w : ListWorld) (o : Opened K) (before after : H) (first last : Output) (most ran : ℕ) (so : HasDrained l w o before after first last most ran) → drain lists (most - ran) so.now ≡ []
       → IsAtRest seen held live l (world_after w (drain lists most w)) o after × (ran ≡ length (drain lists most w)) × Printed (texts_of (all_heard first.quiet (drain lists most w))) (seen before) (seen after)
@@ -222,6 +243,12 @@ module _ {H K : Type 0} (seen : H → View) (held : K → View → Entries → T
       → last ≡ counting first (texts_of (drain lists most w))
   drain_counts l w o before after first last most ran so none =
       so.counts ∙ ap (λ (s : Settlings). counting first (texts_of s)) (sym (all_drained most ran w so.now so.settled so.is none))
+
+  -- and what was kept is that of all
+  pub drain_logs : (l : Language) (w : ListWorld) (o : Opened K) (before after : H) (first last : Output) (most ran : ℕ) (so : HasDrained l w o before after first last most ran) → drain lists (most - ran) so.now ≡ []
+      → (entries : Entries) (old new : Option (List Kept)) (view : View) → Logs means l w entries so.settled old new view → Logs means l w entries (drain lists most w) old new view
+  drain_logs l w o before after first last most ran so none entries old new view logs =
+      subst (λ (s : Settlings). Logs means l w entries s old new view) (sym (all_drained most ran w so.now so.settled so.is none)) logs
 
 -- so many ran as may
 pub drained_all : (most ran : ℕ) (w : ListWorld) → most ≤ ran → drain lists (most - ran) w ≡ []

@@ -1,3 +1,4 @@
+pub mod LogLaws
 pub mod OutputLaws
 pub mod Settles
 pub mod JoinLaws

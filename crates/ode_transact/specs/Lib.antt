@@ -6,6 +6,7 @@ pub mod Going
 pub mod Working
 pub mod Ending
 pub mod Items
+pub mod Logging
 pub mod Output
 pub mod Draining
 pub mod Drained

@@ -1,7 +1,8 @@
 //! A transaction settles, and its context goes back to an opened file.
-ghost use Rattle.std.specs.Prelude.{◌≡◌, ◌<◌, ◌≤◌, ◌++◌, ◌^◌, ◌+ℤ◌, ℕ, List as Items, IfOk, IsErrOf, IsTrue, OnOk, Some, length, pos, true};
+ghost use Rattle.std.specs.Prelude.{◌≡◌, ◌<◌, ◌≤◌, ◌++◌, ◌∷◌, [], ◌^◌, ◌+ℤ◌, ℕ, List as Items, IfOk, IsErrOf, IsTrue, OnOk, Some, length, pos, true};
 ghost use Rattle.ode_transact.specs.Ending.{line_of};
 ghost use Rattle.ode_transact.specs.Errors.{OnDamaged, fault_of};
+ghost use Rattle.ode_transact.specs.Logging.{DiskHas, HasGrown, Logs, logged};
 ghost use Rattle.ode_transact.specs.Output.{counting, heard};
 ghost use Rattle.ode_transact.specs.Resting.{HoldsBy, IsAtRest, resting_parts};
 ghost use Rattle.ode_transact.specs.Settling.{LeavesBatch};
@@ -19,6 +20,7 @@ ghost use Rattle.ode_settled_laws.specs.Holding.{SettledOver};
 ghost use Rattle.ode_value.specs.Language.{Language, ListTx, ListWorld};
 
 use crate::error::EngineError;
+use crate::logging::Log;
 use crate::output::Output;
 use crate::settling::hand_over;
 use ode_heap::Heap;
@@ -141,23 +143,27 @@ fn close<H: Host, K: Roomy<H> + Drop>(
     ctx: Ctx<K>,
     host: &mut H,
     output: &mut Output,
-    batch: &Batch,
+    log: &mut Log,
+    number: u64,
+    batch: Batch,
     line: &[u8],
 ) -> Result<Opened<K>, EngineError>
     requires live { IsTrue (K.live ctx.heap) }
-    requires few { length batch.now ≤ MAX_CHANGES }
-    requires short { HasShortValues batch.now }
+    requires few { length batch ≤ MAX_CHANGES }
+    requires short { HasShortValues batch }
     ensures done { IfOk result (λ rest. (entries : Entries) → K.holds ctx.heap (H.view host.old) entries
-        → K.holds rest.keeper (H.view host.new) (applied batch.now entries)) }
+        → K.holds rest.keeper (H.view host.new) (applied batch entries)) }
     ensures printed { OnOk result (Printed (heard output.old.quiet (ctx.text ++ line.now)) (H.view host.old) (H.view host.new)) }
     ensures counts { OnOk result (output.new ≡ counting output.old (ctx.text ++ line.now)) }
+    ensures kept { OnOk result (log.new ≡ logged log.old ((number, batch) ∷ [])) }
+    ensures grown { HasGrown log.old log.new }
     ensures any_moment { (entries : Entries) (said : Items ℕ) → K.holds ctx.heap (H.view host.old) entries → (H.view host.old).text ≡ Some said
-        → LeavesOnly (H.view host.old) (H.view host.new) (LeavesBatch K.means entries batch.now said (heard output.old.quiet (ctx.text ++ line.now))) }
+        → LeavesOnly (H.view host.old) (H.view host.new) (LeavesBatch K.means entries batch said (heard output.old.quiet (ctx.text ++ line.now))) }
     ensures parts { IfOk result (λ rest. resting_parts rest ≡ parts_of ctx) }
     ensures bytes { IfOk result (λ rest. (sum : ℕ) → pos ctx.bytes +ℤ growth_told ctx.classes ctx.overlay ≡ pos sum → sum < 2 ^ 64 → rest.bytes ≡ sum) }
     ensures usable { IfOk result (λ rest. K.live rest.keeper ≡ true) }
     ensures undamaged { OnDamaged result ((entries : Entries) → K.holds ctx.heap (H.view host.old) entries
-        → record_bytes (applied batch.now entries) ≤ MAX_PAGED_BYTES → ⊥) }
+        → record_bytes (applied batch entries) ≤ MAX_PAGED_BYTES → ⊥) }
     ensures leaves { HostCalls (IsErrOf result EngineError.DiskFault) (IsErrOf result EngineError.WriteFault) (H.view host.old) (H.view host.new) }
 {
     let Ctx {
@@ -173,7 +179,7 @@ fn close<H: Host, K: Roomy<H> + Drop>(
     } = ctx;
     let growth = growth_of(&overlay, &classes, &mut heap, host);
     let text = with_line(text, line)?;
-    hand_over(host, &mut heap, output, batch, text.as_slice())?;
+    hand_over(host, &mut heap, output, log, number, batch, text.as_slice())?;
     Ok(Opened {
         keeper: heap.into_keeper(),
         classes,
@@ -191,6 +197,7 @@ pub fn end<H: Host, K: Roomy<H> + Drop>(
     ctx: Ctx<K>,
     host: &mut H,
     output: &mut Output,
+    log: &mut Log,
     ending: Option<Reason>,
 ) -> Result<Opened<K>, EngineError>
     requires live { IsTrue (K.live ctx.heap) }
@@ -202,6 +209,10 @@ pub fn end<H: Host, K: Roomy<H> + Drop>(
         → OnOk result (Printed (heard output.old.quiet (settled_by ending t).1) (H.view host.old) (H.view host.new)) }
     ensures counts { (l : Language) (w : ListWorld) (t : ListTx) → ContextRuns H.view K.holds K.live l w ctx host.old t
         → OnOk result (output.new ≡ counting output.old (settled_by ending t).1) }
+    // What was settled is kept in the log, where there is one.
+    ensures logs { (l : Language) (w : ListWorld) (t : ListTx) (entries : Entries) → ContextRuns H.view K.holds K.live l w ctx host.old t → IsWell l (settled_by ending t).0
+        → DiskHas K.means entries (H.view host.old) → OnOk result (Logs K.means l w entries (settled_by ending t ∷ []) log.old log.new (H.view host.new)) }
+    ensures grown { HasGrown log.old log.new }
     // A stop leaves the world before and none of the text, or the one behind and a front of what is printed of it.
     ensures any_moment { (l : Language) (w : ListWorld) (t : ListTx) (said : Items ℕ) → IsWell l w → ContextRuns H.view K.holds K.live l w ctx host.old t → IsWell l (settled_by ending t).0
         → (H.view host.old).text ≡ Some said
@@ -216,5 +227,5 @@ pub fn end<H: Host, K: Roomy<H> + Drop>(
     let number = number_of(alloc, &mut ctx, host)?;
     let line = last_line(alloc, number, &ending)?;
     let batch = changes_of(alloc, &mut ctx, host, &ending)?;
-    close(ctx, host, output, &batch, line.as_slice())
+    close(ctx, host, output, log, number, batch, line.as_slice())
 }

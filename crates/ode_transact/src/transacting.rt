@@ -1,8 +1,9 @@
 //! Whole transactions, and the entries of the queue that run behind them.
-ghost use Rattle.std.specs.Prelude.{◌≡◌, ◌<◌, ◌≤◌, ◌+◌, ◌++◌, ℕ, List as Items, IfOk, IsErrOf, IsTrue, OnOk, Some, length, nat_lt, cond, None, true};
+ghost use Rattle.std.specs.Prelude.{◌≡◌, ◌<◌, ◌≤◌, ◌+◌, ◌++◌, ◌∷◌, [], ℕ, List as Items, IfOk, IsErrOf, IsTrue, OnOk, Some, length, nat_lt, cond, None, true};
 ghost use Rattle.std.specs.Option.{IfSome};
 ghost use Rattle.ode_transact.specs.Draining.{front_of};
 ghost use Rattle.ode_transact.specs.Errors.{OnDamaged};
+ghost use Rattle.ode_transact.specs.Logging.{DiskHas, HasGrown, Logs};
 ghost use Rattle.ode_transact.specs.Resting.{HoldsBy, IsAtRest, resting_parts};
 ghost use Rattle.ode_transact.specs.Items.{items_of, texts_of};
 ghost use Rattle.ode_transact.specs.Output.{all_heard, counting, heard};
@@ -10,6 +11,7 @@ ghost use Rattle.ode_transact.specs.Working.{IsFromFront, work_of};
 ghost use Rattle.ode_good_laws.specs.Well.{IsWell};
 ghost use Rattle.ode_host.specs.Causes.{RoseIf};
 ghost use Rattle.ode_host.specs.Host.{HostCalls, LeavesOnly, Looks, Printed};
+ghost use Rattle.ode_keep.specs.Entries.{Entries};
 ghost use Rattle.ode_machine.specs.Moments.{IsAfterSome, LeavesSettling};
 ghost use Rattle.ode_machine.specs.Runs.{Item};
 ghost use Rattle.ode_overlay.specs.Layers.{IsGeneration};
@@ -24,6 +26,7 @@ ghost use Rattle.ode_value.specs.Settling.{transaction};
 use crate::beginning::begin;
 use crate::ending::end;
 use crate::error::EngineError;
+use crate::logging::Log;
 use crate::output::Output;
 use crate::work::Work;
 use crate::working::run;
@@ -44,6 +47,7 @@ pub fn transact<H: Host, K: Roomy<H> + Drop>(
     rest: Opened<K>,
     host: &mut H,
     output: &mut Output,
+    log: &mut Log,
     origin: Origin,
     work: Work<'_>,
 ) -> Result<Opened<K>, EngineError>
@@ -56,6 +60,11 @@ pub fn transact<H: Host, K: Roomy<H> + Drop>(
     ensures counts { (l : Language) (w : ListWorld) → IsAtRest H.view K.holds K.live l w rest host.old → IsFromFront origin w
         → let s = transaction lists (origin_as origin) (work_of work.entry lists) w in
         IsWell l s.0 → OnOk result (output.new ≡ counting output.old s.1) }
+    // What was settled is kept in the log, where there is one.
+    ensures logs { (l : Language) (w : ListWorld) (entries : Entries) → IsAtRest H.view K.holds K.live l w rest host.old → IsFromFront origin w → DiskHas K.means entries (H.view host.old)
+        → let s = transaction lists (origin_as origin) (work_of work.entry lists) w in
+        IsWell l s.0 → OnOk result (Logs K.means l w entries (s ∷ []) log.old log.new (H.view host.new)) }
+    ensures grown { HasGrown log.old log.new }
     ensures any_moment { (l : Language) (w : ListWorld) (said : Items ℕ) → IsWell l w → IsAtRest H.view K.holds K.live l w rest host.old → IsFromFront origin w
         → let s = transaction lists (origin_as origin) (work_of work.entry lists) w in
         IsWell l s.0 → (H.view host.old).text ≡ Some said
@@ -69,7 +78,7 @@ pub fn transact<H: Host, K: Roomy<H> + Drop>(
 {
     let mut ctx = begin(alloc, rest, host, origin)?;
     let ending = run(alloc, &mut ctx, host, work)?;
-    end(alloc, ctx, host, output, ending)
+    end(alloc, ctx, host, output, log, ending)
 }
 
 /// The number of the next transaction.
@@ -214,6 +223,7 @@ pub fn drain<H: Host, K: Roomy<H> + Drop>(
     rest: Opened<K>,
     host: &mut H,
     output: &mut Output,
+    log: &mut Log,
     most: u32,
 ) -> Result<(Opened<K>, u32), EngineError>
     requires live { IsTrue (K.live rest.keeper) }
@@ -224,6 +234,10 @@ pub fn drain<H: Host, K: Roomy<H> + Drop>(
         × OnOk result (Printed (texts_of (all_heard output.old.quiet settled)) (H.view host.old) (H.view host.new)) }
     ensures counts { (l : Language) (w : ListWorld) → IsWell l w → IsAtRest H.view K.holds K.live l w rest host.old
         → OnOk result (output.new ≡ counting output.old (texts_of (drain lists most w))) }
+    // What was settled is kept in the log, where there is one.
+    ensures logs { (l : Language) (w : ListWorld) (entries : Entries) → IsWell l w → IsAtRest H.view K.holds K.live l w rest host.old → DiskHas K.means entries (H.view host.old)
+        → OnOk result (Logs K.means l w entries (drain lists most w) log.old log.new (H.view host.new)) }
+    ensures grown { HasGrown log.old log.new }
     // A stop leaves what some of them left, with any more behind them.
     ensures any_moment { (l : Language) (w : ListWorld) (said : Items ℕ) (more : Items Item) → IsWell l w → IsAtRest H.view K.holds K.live l w rest host.old → (H.view host.old).text ≡ Some said
         → LeavesOnly (H.view host.old) (H.view host.new) (IsAfterSome (HoldsBy l K.means) (items_of (all_heard output.old.quiet (drain lists most w)) ++ more) w said) }
@@ -245,7 +259,7 @@ pub fn drain<H: Host, K: Roomy<H> + Drop>(
                     number,
                     generation: entry.generation,
                 };
-                rest = transact(alloc, back, host, output, origin, Work::Entry(&entry))?;
+                rest = transact(alloc, back, host, output, log, origin, Work::Entry(&entry))?;
                 ran += 1;
             }
         }
@@ -259,6 +273,7 @@ pub fn transact_and_drain<H: Host, K: Roomy<H> + Drop>(
     rest: Opened<K>,
     host: &mut H,
     output: &mut Output,
+    log: &mut Log,
     origin: Origin,
     work: Work<'_>,
     most: u32,
@@ -274,6 +289,11 @@ pub fn transact_and_drain<H: Host, K: Roomy<H> + Drop>(
     ensures counts { (l : Language) (w : ListWorld) → IsWell l w → IsAtRest H.view K.holds K.live l w rest host.old → IsFromFront origin w
         → IsWell l (transaction lists (origin_as origin) (work_of work.entry lists) w).0
         → OnOk result (output.new ≡ counting output.old (texts_of (with_drain lists most (transaction lists (origin_as origin) (work_of work.entry lists) w)))) }
+    // What was settled is kept in the log, where there is one.
+    ensures logs { (l : Language) (w : ListWorld) (entries : Entries) → IsAtRest H.view K.holds K.live l w rest host.old → IsFromFront origin w → DiskHas K.means entries (H.view host.old)
+        → let s = transaction lists (origin_as origin) (work_of work.entry lists) w in
+        IsWell l s.0 → OnOk result (Logs K.means l w entries (with_drain lists most s) log.old log.new (H.view host.new)) }
+    ensures grown { HasGrown log.old log.new }
     ensures any_moment { (l : Language) (w : ListWorld) (said : Items ℕ) (more : Items Item) → IsWell l w → IsAtRest H.view K.holds K.live l w rest host.old → IsFromFront origin w
         → IsWell l (transaction lists (origin_as origin) (work_of work.entry lists) w).0 → (H.view host.old).text ≡ Some said
         → LeavesOnly (H.view host.old) (H.view host.new) (IsAfterSome (HoldsBy l K.means) (items_of (all_heard output.old.quiet (with_drain lists most (transaction lists (origin_as origin) (work_of work.entry lists) w))) ++ more) w said) }
@@ -284,6 +304,6 @@ pub fn transact_and_drain<H: Host, K: Roomy<H> + Drop>(
     ensures undamaged { OnDamaged result ((l : Language) (w : ListWorld) → IsWell l w → IsAtRest H.view K.holds K.live l w rest host.old → IsFromFront origin w → w.bones.transaction < transaction_limit
         → IsWell l (transaction lists (origin_as origin) (work_of work.entry lists) w).0 → ⊥) }
 {
-    let rest = transact(alloc, rest, host, output, origin, work)?;
-    drain(alloc, rest, host, output, most)
+    let rest = transact(alloc, rest, host, output, log, origin, work)?;
+    drain(alloc, rest, host, output, log, most)
 }

@@ -1,4 +1,4 @@
-use Rattle.std.proofs.Common.{Err, ◌≡◌, ℕ, ◌∙◌, ◌<◌, ◌≤◌, List, ap, arith, refl, subst, sym}
+use Rattle.std.proofs.Common.{Err, ◌≡◌, ℕ, ◌∙◌, ◌<◌, ◌≤◌, List, [], ◌∷◌, ap, arith, refl, subst, sym}
 use Rattle.std.proofs.lemmas.Result.{err_from_is_err_and}
 use Rattle.ode_change.proofs.Over.{all-over}
 use Rattle.ode_change.proofs.Weighed.{few_changes, heavy_is, new_read, no_fewer, taken_is}
@@ -15,6 +15,8 @@ use Rattle.ode_machine.specs.Works.{changes_class}
 use Rattle.ode_schema.specs.Parts.{AreFit}
 use Rattle.ode_transact.proofs.DamageLaws.{damaged_so}
 use Rattle.ode_transact.proofs.EndingLaws.{before_leaves, fails_apart, looks_leave}
+use Rattle.ode_transact.proofs.LogLaws.{logs_as}
+use Rattle.ode_transact.specs.Logging.{Logs}
 use Rattle.ode_transact.specs.Output.{heard_of}
 use Rattle.ode_transact.specs.Resting.{HoldsBy, resting_parts}
 use Rattle.ode_transact.specs.declared.error.EngineError.TheVariants as engine
@@ -125,6 +127,22 @@ returns-then-bytes-gt-WEIGHT_LIMIT-clause-undamaged g c = damaged_so c.turn_away
     ∙ ap (λ (line : List ℕ). abort lists Space (with_line line (begun Script w))) (sym c.in_ok-line.ensures) in
     damaged ode w rest left (subst (λ (s : Settled Histories Starts). IsWell ode s.0) aborts behind)) c.turn_away.ensures.undamaged
 
+pub returns-then-bytes-gt-WEIGHT_LIMIT-clause-logs : goal.returns-then-bytes-gt-WEIGHT_LIMIT-clause-logs
+returns-then-bytes-gt-WEIGHT_LIMIT-clause-logs g c = λ w classes entries well rest knows is checked disk behind.
+    let change = c.args.change.now in
+    let weighed = c.in_ok-weighed.weighed in
+    let over : weight_limit < weighed.1 = omega (arith, c.if-bytes-gt-WEIGHT_LIMIT.true) in
+    let was = rest.bytes ∙ ap weight rest.world.world.stands.bones in
+    let law = c.changes_weigh_their_records.ensures ode w change classes well.good is in
+    let heavy = heavy_is c.args.known.added c.args.behind.added c.args.behind.classes change c.requires.added ode w classes checked c.args.known.counters c.args.known.trees knows (all-counted ode w.bones well.good.bones) law weighed.0 c.in_ok-weighed.ensures.rows c.args.rest.bytes weighed.1 was c.in_ok-weighed.ensures.bytes over in
+    let aborts = c.changes_settle.ensures.heavy w change classes c.as_bytes-name.ensures.name.short heavy
+    ∙ ap (λ (line : List ℕ). abort lists Space (with_line line (begun Script w))) (sym c.in_ok-line.ensures) in
+    logs_as c.turn_away.result (λ (s : Settled Histories Starts). Logs g.K.Keep.means ode w entries (s ∷ []) c.args.log.now c.turn_away.new.log (g.H.Host.view c.turn_away.new.host)) _ _ (sym aborts)
+    (c.turn_away.ensures.logs ode w entries rest disk (subst (λ (s : Settled Histories Starts). IsWell ode s.0) aborts behind))
+
+pub returns-then-bytes-gt-WEIGHT_LIMIT-clause-grown : goal.returns-then-bytes-gt-WEIGHT_LIMIT-clause-grown
+returns-then-bytes-gt-WEIGHT_LIMIT-clause-grown g c = c.turn_away.ensures.grown
+
 -- ---- there is room for them
 
 pub returns-clause-done : goal.returns-clause-done
@@ -162,6 +180,21 @@ returns-clause-any_moment g c = λ w classes said well rest knows is checked.
     let few = c.changed_classes_have_few_parts.ensures.parts w.bones change classes is.behind all rest.world.few in
     let taken = taken_is c.args.known.added c.args.behind.added c.args.behind.classes change c.requires.added ode w classes checked c.args.known.counters c.args.known.trees knows (all-counted ode w.bones well.good.bones) law weighed.0 c.in_ok-weighed.ensures.rows c.args.rest.bytes weighed.1 was c.in_ok-weighed.ensures.bytes is few below in
     c.take_in.ensures.any_moment ode w classes said well rest taken
+
+pub returns-clause-logs : goal.returns-clause-logs
+returns-clause-logs g c = λ w classes entries well rest knows is checked disk.
+    let change = c.args.change.now in
+    let weighed = c.in_ok-weighed.weighed in
+    let below : weighed.1 ≤ weight_limit = omega (arith, c.if-bytes-gt-WEIGHT_LIMIT.false) in
+    let was = rest.bytes ∙ ap weight rest.world.world.stands.bones in
+    let law = c.changes_weigh_their_records.ensures ode w change classes well.good is in
+    let all = subst AreChecked checked c.as_slice-behind.ensures.checked in
+    let few = c.changed_classes_have_few_parts.ensures.parts w.bones change classes is.behind all rest.world.few in
+    let taken = taken_is c.args.known.added c.args.behind.added c.args.behind.classes change c.requires.added ode w classes checked c.args.known.counters c.args.known.trees knows (all-counted ode w.bones well.good.bones) law weighed.0 c.in_ok-weighed.ensures.rows c.args.rest.bytes weighed.1 was c.in_ok-weighed.ensures.bytes is few below in
+    c.take_in.ensures.logs ode w classes entries rest taken disk
+
+pub returns-clause-grown : goal.returns-clause-grown
+returns-clause-grown g c = c.take_in.ensures.grown
 
 pub returns-clause-undamaged : goal.returns-clause-undamaged
 returns-clause-undamaged g c = damaged_so c.take_in.result _ _ (λ damaged w classes well rest knows is checked left behind.

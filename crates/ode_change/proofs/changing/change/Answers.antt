@@ -11,6 +11,7 @@ use Rattle.ode_machine.specs.Refusals.{changed_in, declared_anew}
 use Rattle.ode_machine.specs.Works.{changes_class}
 use Rattle.ode_transact.proofs.BeginLaws.{still_left}
 use Rattle.ode_transact.proofs.EndingLaws.{before_leaves, calls_as, fails_as, looks_leave, looks_then, none_rose}
+use Rattle.ode_transact.proofs.LogLaws.{disk_looks}
 use Rattle.ode_transact.specs.Output.{heard_of}
 use Rattle.ode_transact.specs.Resting.{HoldsBy}
 use Rattle.ode_value.specs.Answers.{checks}
@@ -70,6 +71,13 @@ returns-in-Err-clause-done g c = λ w well rest.
 
 pub returns-in-Err-clause-counts : goal.returns-in-Err-clause-counts
 returns-in-Err-clause-counts g c = λ w well rest.
+    let known = c.in_ok-read.read.1 in
+    let refused = refused_is w.bones c.args.change.now known.counters known.trees known.added (c.in_ok-read.ensures.known w rest)
+    (c.changes_are_judged_class_by_class.ensures.judged ode w.bones c.args.change.now well.good.bones) c.in-Err.why (err_is c.in_ok-behind.field-0 c.in-Err.why (λ (why : Refusal). checks (change_class known.trees known.added c.args.change.now) ≡ Err why) c.in-Err.is c.in_ok-behind.ensures.refused) in
+    comes_refused (changed_in ode w.bones c.args.change.now) c.in-Err.why _ _ refused refl
+
+pub returns-in-Err-clause-logs : goal.returns-in-Err-clause-logs
+returns-in-Err-clause-logs g c = λ w entries well rest disk.
     let known = c.in_ok-read.read.1 in
     let refused = refused_is w.bones c.args.change.now known.counters known.trees known.added (c.in_ok-read.ensures.known w rest)
     (c.changes_are_judged_class_by_class.ensures.judged ode w.bones c.args.change.now well.good.bones) c.in-Err.why (err_is c.in_ok-behind.field-0 c.in-Err.why (λ (why : Refusal). checks (change_class known.trees known.added c.args.change.now) ≡ Err why) c.in-Err.is c.in_ok-behind.ensures.refused) in
@@ -142,6 +150,24 @@ returns-in_ok-after-in-Ok-clause-counts g c = λ w well rest.
     let checked = classes_checked w.bones c.args.change.now known.counters known.trees known.added knows judged c.in-Ok.behind.classes (ok_is c.in_ok-behind.field-0 c.in-Ok.behind (λ x. checks (change_class known.trees known.added c.args.change.now) ≡ Ok x.classes) c.in-Ok.is c.in_ok-behind.ensures.classes) classes is in
     let its = c.changes_are_behind.ensures c.requires.text.0 c.args.change.now c.requires.text.1 w well classes is in
     comes_changed (changed_in ode w.bones c.args.change.now) classes _ _ is (λ behind. c.in_ok-after-in-Ok.ensures.counts w classes well (c.in_ok-read.ensures.rests w rest) knows its checked behind)
+
+pub returns-in_ok-after-in-Ok-clause-logs : goal.returns-in_ok-after-in-Ok-clause-logs
+returns-in_ok-after-in-Ok-clause-logs g c = λ w entries well rest disk.
+    let known = c.in_ok-read.read.1 in
+    let knows = c.in_ok-read.ensures.known w rest in
+    let judged = c.changes_are_judged_class_by_class.ensures.judged ode w.bones c.args.change.now well.good.bones in
+    let classes : List Declared = declared_anew c.in-Ok.behind.classes w.bones.classes in
+    let is = accepted_is w.bones c.args.change.now known.counters known.trees known.added knows judged c.in-Ok.behind.classes (ok_is c.in_ok-behind.field-0 c.in-Ok.behind (λ x. checks (change_class known.trees known.added c.args.change.now) ≡ Ok x.classes) c.in-Ok.is c.in_ok-behind.ensures.classes) in
+    let checked = classes_checked w.bones c.args.change.now known.counters known.trees known.added knows judged c.in-Ok.behind.classes (ok_is c.in_ok-behind.field-0 c.in-Ok.behind (λ x. checks (change_class known.trees known.added c.args.change.now) ≡ Ok x.classes) c.in-Ok.is c.in_ok-behind.ensures.classes) classes is in
+    let its = c.changes_are_behind.ensures c.requires.text.0 c.args.change.now c.requires.text.1 w well classes is in
+    comes_changed (changed_in ode w.bones c.args.change.now) classes _ _ is (λ behind. c.in_ok-after-in-Ok.ensures.logs w classes entries well (c.in_ok-read.ensures.rests w rest) knows its checked
+    (disk_looks g.K.Keep.means entries _ _ c.read_known.ensures.looks disk) behind)
+
+pub returns-in_ok-after-in-Ok-clause-grown : goal.returns-in_ok-after-in-Ok-clause-grown
+returns-in_ok-after-in-Ok-clause-grown g c = c.bring_in.ensures.grown
+
+pub returns-in_err-after-in-Ok-clause-grown : goal.returns-in_err-after-in-Ok-clause-grown
+returns-in_err-after-in-Ok-clause-grown g c = c.bring_in.ensures.grown
 
 pub returns-in_err-after-in-Ok-clause-undamaged : goal.returns-in_err-after-in-Ok-clause-undamaged
 returns-in_err-after-in-Ok-clause-undamaged g c =

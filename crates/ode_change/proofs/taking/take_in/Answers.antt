@@ -1,5 +1,5 @@
 use Rattle.std.proofs.Common.{rules, Err, ℕ, List, ap, length, refl, ◌≡◌, ◌∙◌, ◌<◌, sym, subst}
-use Rattle.std.proofs.lemmas.Result.{err_from_is_err_and}
+use Rattle.std.proofs.lemmas.Result.{IfOk-weaker, err_from_is_err_and}
 use Rattle.ode_change.proofs.Taken.{taken_over, taken_rests, text_taken}
 use Rattle.ode_change.proofs.taking.take_in.Goals as goal
 use Rattle.ode_changed_laws.specs.Records.{with_counters}
@@ -11,9 +11,11 @@ use Rattle.ode_host.proofs.Moments.{looks_none}
 use Rattle.ode_keep.specs.Entries.{applied}
 use Rattle.ode_machine.specs.Moments.{LeavesSettling}
 use Rattle.ode_machine.specs.Works.{changes_class}
+use Rattle.ode_opened.specs.declared.opened.Opened.{Opened}
 use Rattle.ode_schema.specs.Parts.{AreFit, places_from}
 use Rattle.ode_transact.proofs.DamageLaws.{damaged_so}
 use Rattle.ode_transact.proofs.EndingLaws.{batch_leaves, before_leaves, fails_as, looks_leave, printed_behind}
+use Rattle.ode_transact.proofs.LogLaws.{held_disk, logs_settled}
 use Rattle.ode_transact.proofs.OutputLaws.{counted_as}
 use Rattle.ode_transact.proofs.RecordLaws.{records_are_light}
 use Rattle.ode_transact.specs.Output.{heard, heard_of}
@@ -124,3 +126,17 @@ returns-clause-undamaged g c = damaged_so c.settle.result _ _ (λ damaged l w cl
     let over = taken_over l w change classes c.args.counters c.args.behind.classes (length c.args.behind.added) c.args.batch c.args.bytes taken is.world.world.stored.tables is.entries s c.in_ok-gathered.gathered.batch put own in
     damaged is.entries (subst (λ k. g.K.Keep.holds k (g.H.Host.view c.args.host.now) is.entries) (sym made.keeper) is.records)
     (records_are_light l (applied c.in_ok-gathered.gathered.batch is.entries) s.0 (over.holds behind.good).held.world)) c.settle.ensures.undamaged
+
+pub returns-clause-logs : goal.returns-clause-logs
+returns-clause-logs g c = λ l w classes entries is taken disk well.
+    let change = c.args.change.now in
+    let s = transaction lists Script (changes_class lists classes change) w in
+    let made = c.in_ok-after.ensures in
+    let gathered = c.in_ok-gathered.ensures in
+    let own = c.known_changes_settle.ensures l is.entries w is.world change classes taken.behind taken.few c.as_bytes-name.ensures.name.short taken.light in
+    let put = gathered.batch ∙ ap (λ (n : ℕ). with_counters c.args.counters n c.args.batch) c.len.ensures in
+    let over = taken_over l w change classes c.args.counters c.args.behind.classes (length c.args.behind.added) c.args.batch c.args.bytes taken is.world.world.stored.tables is.entries s c.in_ok-gathered.gathered.batch put own in
+    let same = held_disk g.H.Host.view g.K.Keep.holds g.K.Keep.means g.met.K.Keep.stands g.met.K.Keep.one_map c.args.rest.keeper c.args.host.now is.entries entries is.records disk in
+    logs_settled g.H.Host.view g.K.Keep.holds g.K.Keep.means g.met.K.Keep.stands g.met.K.Keep.one_map (λ (o : Opened g.row.K.Denot). o.keeper) c.settle.result l w s.0 s.1 entries is.entries c.in_ok-gathered.gathered.number c.in_ok-gathered.gathered.batch
+    c.args.log.now c.settle.new.log c.settle.new.host same (gathered.number ∙ ap (λ (k : Counters). k.next_transaction) taken.counters) ((over.holds well.good).held.world, well.ones) c.settle.ensures.kept
+    (IfOk-weaker c.settle.result _ _ (λ after keeps. keeps is.entries (subst (λ k. g.K.Keep.holds k (g.H.Host.view c.args.host.now) is.entries) (sym made.keeper) is.records)) c.settle.ensures.done)

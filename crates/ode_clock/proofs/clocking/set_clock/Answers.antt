@@ -14,7 +14,9 @@ use Rattle.ode_machine.specs.Moments.{IsAfterSome}
 use Rattle.ode_machine.specs.Refusals.{ticks_in}
 use Rattle.ode_opened.specs.declared.opened.Opened.{Opened}
 use Rattle.ode_transact.proofs.BeginLaws.{damaged_before}
+use Rattle.ode_transact.proofs.LogLaws.{disk_looks}
 use Rattle.ode_transact.specs.Items.{items_of, texts_of}
+use Rattle.ode_transact.specs.Logging.{Logs}
 use Rattle.ode_transact.specs.Output.{all_heard, counting}
 use Rattle.ode_transact.specs.Resting.{HoldsBy, IsAtRest}
 use Rattle.ode_value.specs.Answers.{Answer}
@@ -97,3 +99,14 @@ returns-in_ok-rest-in-Ok-clause-any_moment g c = λ w t said more well left rest
     (look_stops g.H.Host.view g.K.Keep.holds g.K.Keep.live g.K.Keep.means g.met.K.Keep.stands g.met.H.Host.text_stands ode w c.args.rest c.args.host.now c.ticks.new.host well rest c.ticks.ensures.looks
     (all_heard c.args.output.now.quiet (clock_settled w (to, c.as_slice.result.now))) said more printed)
     (c.run_clock.ensures.any_moment w said more well due.1 due.2 left at.0 (c.ticks.ensures.looks.text ∙ printed)))
+
+pub returns-in_ok-rest-in-Ok-clause-logs : goal.returns-in_ok-rest-in-Ok-clause-logs
+returns-in_ok-rest-in-Ok-clause-logs g c = λ w entries well left rest disk.
+    let at = c.in_ok-rest.ensures.is w rest in
+    let here : Ok (c.in-Ok.to, c.as_slice.result.now) ≡ ticks_in ode w.bones c.args.text.now = ap (λ (ps : List Position). Ok (c.in-Ok.to, ps)) c.as_slice.ensures ∙ sym c.in-Ok.is ∙ at.1 in
+    let due = due_are w well c.args.text.now (c.in-Ok.to, c.as_slice.result.now) (sym here) in
+    let to = to_z w64 (of_z w64 c.in-Ok.to) in
+    let there : Ok (to, c.as_slice.result.now) ≡ ticks_in ode w.bones c.args.text.now = ap (λ (t : ℤ). Ok (t, c.as_slice.result.now)) (to_z-of_z due.0) ∙ here in
+    subst (λ (a : Answer (ℤ × List Position)). Clocks a (Ok c.in_ok-rest-in-Ok.settled) (c.run_clock.new.log ≡ c.args.log.now)
+    (λ t count. Logs g.K.Keep.means ode w entries (clock_settled w t) c.args.log.now c.run_clock.new.log (g.H.Host.view c.run_clock.new.host))) there
+    (c.in_ok-rest-in-Ok.ensures.logs w entries well due.1 due.2 left at.0 (disk_looks g.K.Keep.means entries (g.H.Host.view c.args.host.now) (g.H.Host.view c.ticks.new.host) c.ticks.ensures.looks disk))

@@ -10,8 +10,10 @@ use Rattle.ode_machine.specs.Works.{ticks}
 use Rattle.ode_opened.specs.declared.opened.Opened.{Opened}
 use Rattle.ode_overlay_laws.specs.Standing.{origin_as}
 use Rattle.ode_transact.proofs.BeginLaws.{damaged_before}
+use Rattle.ode_transact.proofs.LogLaws.{disk_looks, grown_none, logs_none}
 use Rattle.ode_transact.proofs.OutputLaws.{counting_none}
 use Rattle.ode_transact.specs.Items.{items_of, texts_of}
+use Rattle.ode_transact.specs.Logging.{Logs}
 use Rattle.ode_transact.specs.Output.{all_heard, counting}
 use Rattle.ode_transact.specs.Resting.{HoldsBy, IsAtRest}
 use Rattle.ode_transact.specs.Working.{IsFromFront}
@@ -115,3 +117,28 @@ returns-clause-any_moment g c = λ l w said more well is left rest printed.
     (all_heard c.args.output.now.quiet (tick_settled c.args.at.now c.args.most w)) said more printed)
     (subst (λ (s : Settlings). LeavesOnly (g.H.Host.view c.is_there.new.host) (g.H.Host.view c.transact_and_drain.new.host) (IsAfterSome (HoldsBy l g.K.Keep.means) (items_of (all_heard c.args.output.now.quiet s) ++ more) w said)) (sym settled)
     (c.transact_and_drain.ensures.any_moment l w said more well at.0 front behind (c.is_there.ensures.looks.text ∙ printed)))
+
+pub returns-then-not-there-clause-logs : goal.returns-then-not-there-clause-logs
+returns-then-not-there-clause-logs g c = λ l w entries well is left rest disk.
+    let here : is_some (object_at w.bones c.at.inside.object) ≡ is_some (object_at w.bones c.args.at.now.object) = ap (λ (p : Position). is_some (object_at w.bones p.object)) c.at.view_is in
+    let at = c.in_ok-rest.ensures.is l w rest in
+    let none : c.in_ok-rest.there ≡ false = search rules in
+    subst (λ (s : Settlings). Logs g.K.Keep.means l w entries s c.args.log.now c.args.log.now (g.H.Host.view c.is_there.new.host)) (sym (settled_gone c.args.at.now c.args.most w c.in_ok-rest.there (at.1 ∙ here) none))
+    (logs_none g.K.Keep.means l w entries c.args.log.now (g.H.Host.view c.is_there.new.host) (disk_looks g.K.Keep.means entries _ _ c.is_there.ensures.looks disk))
+
+pub returns-clause-logs : goal.returns-clause-logs
+returns-clause-logs g c = λ l w entries well is left rest disk.
+    let here : is_some (object_at w.bones c.at.inside.object) ≡ is_some (object_at w.bones c.args.at.now.object) = ap (λ (p : Position). is_some (object_at w.bones p.object)) c.at.view_is in
+    let at = c.in_ok-rest.ensures.is l w rest in
+    let some : c.in_ok-rest.there ≡ true = search rules in
+    let front = tick_front c.tick_origin-origin.result c.args.at.now w c.tick_origin-origin.ensures in
+    let behind = tick_behind l c.tick_origin-origin.result c.args.at.now w c.tick_origin-origin.ensures (c.transactions_leave_good_worlds.ensures.tick l w well left c.args.at.now is) in
+    subst (λ (s : Settlings). Logs g.K.Keep.means l w entries s c.args.log.now c.transact_and_drain.new.log (g.H.Host.view c.transact_and_drain.new.host))
+    (sym (settled_there c.args.at.now c.args.most w c.in_ok-rest.there (at.1 ∙ here) c.tick_origin-origin.result c.tick_origin-origin.ensures some))
+    (c.in_ok-rest-2.ensures.logs l w entries at.0 front (disk_looks g.K.Keep.means entries _ _ c.is_there.ensures.looks disk) behind)
+
+pub returns-in_err-rest-clause-grown : goal.returns-in_err-rest-clause-grown
+returns-in_err-rest-clause-grown g c = grown_none c.args.log.now
+
+pub returns-then-not-there-clause-grown : goal.returns-then-not-there-clause-grown
+returns-then-not-there-clause-grown g c = grown_none c.args.log.now

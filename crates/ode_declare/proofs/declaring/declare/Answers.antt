@@ -134,3 +134,26 @@ returns-in_err-after-in-Ok-clause-undamaged g c =
     let behind = accepted own is in
     let made = made_as c.args.rest.classes c.args.decl.now c.in-Ok.made c.in-Ok.ensures.answers c.in-Ok.ensures.text w known c.language_has_sound_rules.ensures c.language_reads_well.ensures (good_classes ode w.bones well.good.bones) text (λ few. c.checked_classes_have_few_parts.ensures c.args.rest.classes own c.as_slice-known.ensures.checked c.in-Ok.ensures.checked few) own is behind.0 in
     damaged ode w own well rest made (still_left w.bones.transaction left) behind.1)
+
+pub returns-in_err-after-in-Ok-clause-grown : goal.returns-in_err-after-in-Ok-clause-grown
+returns-in_err-after-in-Ok-clause-grown g c = c.bring_in.ensures.grown
+
+pub returns-in_ok-after-in-Ok-clause-logs : goal.returns-in_ok-after-in-Ok-clause-logs
+returns-in_ok-after-in-Ok-clause-logs g c = λ w entries well text rest disk.
+    let known = classes_are g.H.Host.view g.K.Keep.holds g.K.Keep.live ode w c.args.rest c.args.host.now rest in
+    let own : Declared = record { class = c.in-Ok.made.class; tree = c.args.decl.now } in
+    let is = meant c.args.rest.classes c.args.decl.now c.in-Ok.made c.in-Ok.ensures.answers c.in-Ok.ensures.text w known in
+    declares_so (declared_in ode w.bones c.args.decl.now) own _ _ is (λ few.
+    let made = made_as c.args.rest.classes c.args.decl.now c.in-Ok.made c.in-Ok.ensures.answers c.in-Ok.ensures.text w known c.language_has_sound_rules.ensures c.language_reads_well.ensures (good_classes ode w.bones well.good.bones) text (λ few. c.checked_classes_have_few_parts.ensures c.args.rest.classes own c.as_slice-known.ensures.checked c.in-Ok.ensures.checked few) own is few in
+    c.in_ok-after-in-Ok.ensures.logs ode w own entries well rest made disk)
+
+pub returns-in_ok-after-in-Ok-clause-grown : goal.returns-in_ok-after-in-Ok-clause-grown
+returns-in_ok-after-in-Ok-clause-grown g c = c.bring_in.ensures.grown
+
+pub returns-in-Err-Refused-clause-logs : goal.returns-in-Err-Refused-clause-logs
+returns-in-Err-Refused-clause-logs g c = λ w entries well text rest disk.
+    let known = classes_are g.H.Host.view g.K.Keep.holds g.K.Keep.live ode w c.args.rest c.args.host.now rest in
+    let meant = compiled c.args.rest.classes c.args.decl.now in
+    let stops : meant ≡ Err c.in-Err-Refused.why = subst (Stops meant) c.in-Err-Refused.field-0-is c.in-Err-Refused.ensures.answers in
+    rw c.in-Err-Refused.field-0-is
+    (refuses_so (declared_in ode w.bones c.args.decl.now) c.in-Err-Refused.why _ _ (declares_compiled w.bones c.args.rest.classes c.args.decl.now known ∙ stops) refl)

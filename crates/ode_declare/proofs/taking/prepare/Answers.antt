@@ -34,6 +34,7 @@ returns-clause-settles g c = λ l w d is taken.
       c.declared_classes_settle.ensures l is.entries w is.world d c.args.made.tables c.args.made.alphabets c.args.changes joined.more c.in_ok-gathered.gathered.batch _ (g.met.K.Keep.rising there.0 is.entries there.2) taken.declared short taken.rows
           (λ at q. joined.stands at q ∙ ap (λ (x : Layer). stands_after x at q) begins.overlay) joined.both
           (agree_behind _ d c.args.made.tables c.args.made.alphabets (resting_parts c.args.rest) (resting_parts c.in_ok-after.after) c.args.made.class _ is.tables taken.class parts agrees),
+      c.in_ok-gathered.ensures.number ∙ c.in_ok-number.ensures.is l is.entries w is.world begins.records,
       c.in_ok-gathered.ensures.text ∙ ap (λ n. class_line c.args.made.class.name ++ committed_line n) (c.in_ok-number.ensures.is l is.entries w is.world begins.records)
           ∙ ap (λ (k : Class). class_line k.name ++ committed_line w.bones.transaction) (sym taken.class),
     )

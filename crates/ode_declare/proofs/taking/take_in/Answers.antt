@@ -1,5 +1,5 @@
 use Rattle.std.proofs.Common.{rules, Err, ℕ, List, ap, refl, ◌≡◌, ◌∙◌, sym}
-use Rattle.std.proofs.lemmas.Result.{err_from_is_err_and}
+use Rattle.std.proofs.lemmas.Result.{IfOk-weaker, err_from_is_err_and}
 use Rattle.ode_transact.proofs.DamageLaws.{damaged_so}
 use Rattle.ode_transact.proofs.RecordLaws.{records_are_light}
 use Rattle.ode_declare.proofs.TakeLaws.{damaged_as, parts_alone, parts_kept, taken_rests}
@@ -9,8 +9,10 @@ use Rattle.ode_host.proofs.Moments.{joined}
 use Rattle.ode_keep.specs.Entries.{applied}
 use Rattle.ode_machine.specs.Moments.{LeavesSettling}
 use Rattle.ode_machine.specs.Works.{declares}
+use Rattle.ode_opened.specs.declared.opened.Opened.{Opened}
 use Rattle.ode_schema.specs.Parts.{AreFit}
 use Rattle.ode_transact.proofs.EndingLaws.{batch_leaves, before_leaves, fails_as, looks_leave, looks_then, none_rose, printed_behind}
+use Rattle.ode_transact.proofs.LogLaws.{disk_looks, held_disk, logs_settled}
 use Rattle.ode_transact.proofs.OutputLaws.{counted_as}
 use Rattle.ode_transact.specs.Output.{heard, heard_of}
 use Rattle.ode_transact.specs.Resting.{HoldsBy, resting_parts}
@@ -38,13 +40,13 @@ returns-clause-done g c = λ l w d is taken well.
     let over = made.settles l w d is taken in (
       taken_rests g.H.Host.view g.K.Keep.holds g.K.Keep.live c.settle.result l w d c.args.made c.args.rest c.in_ok-prepared.prepared.0 c.args.host.now c.prepare.new.host c.settle.new.host is.entries c.in_ok-prepared.prepared.1.batch s is
           taken.class made.parts (made.bytes ∙ taken.weighs) over.0 well.good (made.holds l w is) made.fit.0 c.settle.ensures.same c.settle.ensures.done c.settle.ensures.usable,
-      printed_behind c.settle.result _ _ (g.H.Host.view c.args.host.now) (g.H.Host.view c.prepare.new.host) (g.H.Host.view c.settle.new.host) c.prepare.ensures.looks (ap (λ (text : List ℕ). heard c.args.output.now.quiet text) (c.as_slice.ensures ∙ over.1 ∙ sym over.0.prints)) c.settle.ensures.printed,
+      printed_behind c.settle.result _ _ (g.H.Host.view c.args.host.now) (g.H.Host.view c.prepare.new.host) (g.H.Host.view c.settle.new.host) c.prepare.ensures.looks (ap (λ (text : List ℕ). heard c.args.output.now.quiet text) (c.as_slice.ensures ∙ over.2 ∙ sym over.0.prints)) c.settle.ensures.printed,
     )
 
 pub returns-clause-counts : goal.returns-clause-counts
 returns-clause-counts g c = λ l w d is taken well.
     let over = c.in_ok-prepared.ensures.settles l w d is taken in
-    counted_as c.settle.result c.args.output.now c.settle.new.output _ _ (c.as_slice.ensures ∙ over.1 ∙ sym over.0.prints) c.settle.ensures.counts
+    counted_as c.settle.result c.args.output.now c.settle.new.output _ _ (c.as_slice.ensures ∙ over.2 ∙ sym over.0.prints) c.settle.ensures.counts
 
 pub returns-clause-any_moment : goal.returns-clause-any_moment
 returns-clause-any_moment g c = λ l w d said well is taken behind printed.
@@ -55,7 +57,7 @@ returns-clause-any_moment g c = λ l w d said well is taken behind printed.
     (looks_leave _ _ (LeavesSettling (HoldsBy l g.K.Keep.means) w s.0 said s.1)
     (before_leaves l g.K.Keep.means is.entries w s.0 said s.1 _ (g.met.K.Keep.stands c.args.rest.keeper c.args.host.now is.entries is.records) (g.met.H.Host.text_stands c.args.host.now) printed is.world well.ones)
     c.prepare.ensures.looks)
-    (batch_leaves l g.K.Keep.means is.entries c.in_ok-prepared.prepared.1.batch w s.0 said _ s.1 _ _ is.world well.ones (over.0.holds behind.good).held behind.ones (ap (λ (text : List ℕ). heard c.args.output.now.quiet text) (c.as_slice.ensures ∙ over.1 ∙ sym over.0.prints))
+    (batch_leaves l g.K.Keep.means is.entries c.in_ok-prepared.prepared.1.batch w s.0 said _ s.1 _ _ is.world well.ones (over.0.holds behind.good).held behind.ones (ap (λ (text : List ℕ). heard c.args.output.now.quiet text) (c.as_slice.ensures ∙ over.2 ∙ sym over.0.prints))
     (c.settle.ensures.any_moment is.entries said (made.holds l w is) (c.prepare.ensures.looks.text ∙ printed)))
 
 pub returns-clause-leaves : goal.returns-clause-leaves
@@ -82,3 +84,14 @@ returns-clause-undamaged g c = damaged_so c.settle.result _ _ (λ damaged l w d 
     let made = c.in_ok-prepared.ensures in
     let over = made.settles l w d is taken in
     damaged is.entries (made.holds l w is) (records_are_light l (applied c.in_ok-prepared.prepared.1.batch is.entries) s.0 (over.0.holds behind.good).held.world)) c.settle.ensures.undamaged
+
+pub returns-clause-logs : goal.returns-clause-logs
+returns-clause-logs g c = λ l w d entries is taken disk well.
+    let s = transaction lists Script (declares d) w in
+    let over = c.in_ok-prepared.ensures.settles l w d is taken in
+    let holds = c.in_ok-prepared.ensures.holds l w is in
+    let same = held_disk g.H.Host.view g.K.Keep.holds g.K.Keep.means g.met.K.Keep.stands g.met.K.Keep.one_map c.in_ok-prepared.prepared.0.keeper c.prepare.new.host is.entries entries holds
+    (disk_looks g.K.Keep.means entries _ _ c.prepare.ensures.looks disk) in
+    logs_settled g.H.Host.view g.K.Keep.holds g.K.Keep.means g.met.K.Keep.stands g.met.K.Keep.one_map (λ (o : Opened g.row.K.Denot). o.keeper) c.settle.result l w s.0 s.1 entries is.entries c.in_ok-prepared.prepared.1.number c.in_ok-prepared.prepared.1.batch
+    c.args.log.now c.settle.new.log c.settle.new.host same over.1 ((over.0.holds well.good).held.world, well.ones) c.settle.ensures.kept
+    (IfOk-weaker c.settle.result _ _ (λ after keeps. keeps is.entries holds) c.settle.ensures.done)

@@ -7,6 +7,7 @@ use Rattle.ode_machine.specs.Moments.{LeavesSettling}
 use Rattle.ode_schema.specs.Parts.{AreFit}
 use Rattle.ode_transact.proofs.DamageLaws.{damaged_so}
 use Rattle.ode_transact.proofs.EndingLaws.{before_leaves, fails_as, looks_leave, looks_then, none_rose, printed_behind}
+use Rattle.ode_transact.proofs.LogLaws.{disk_looks}
 use Rattle.ode_transact.specs.Output.{heard_of}
 use Rattle.ode_transact.specs.Resting.{HoldsBy}
 use Rattle.ode_value.specs.Acts.{with_line}
@@ -63,3 +64,9 @@ pub returns-clause-undamaged : goal.returns-clause-undamaged
 returns-clause-undamaged g c = damaged_so c.end.result _ _ (λ damaged l w rest left well.
     let runs = says_line g.H.Host.view g.K.Keep.holds g.K.Keep.live l w c.in_ok-ctx.ctx c.begin.new.host _ c.args.line refl (c.in_ok-ctx.ensures.begun l w rest tt) in
     damaged l w (with_line c.args.line (begun Script w)) runs well) c.end.ensures.undamaged
+
+pub returns-clause-logs : goal.returns-clause-logs
+returns-clause-logs g c = λ l w entries rest disk well.
+    let t = with_line c.args.line (begun Script w) in
+    let runs = says_line g.H.Host.view g.K.Keep.holds g.K.Keep.live l w c.in_ok-ctx.ctx c.begin.new.host _ c.args.line refl (c.in_ok-ctx.ensures.begun l w rest tt) in
+    c.end.ensures.logs l w t entries runs well (disk_looks g.K.Keep.means entries _ _ c.begin.ensures.looks disk)

@@ -1,4 +1,4 @@
-use Rattle.std.proofs.Common.{rules, Err, ◌≡◌, ◌∙◌, ◌<◌, ◌≤◌, ℕ, List, ap, arith, length, refl, subst, sym}
+use Rattle.std.proofs.Common.{rules, Err, ◌≡◌, ◌∙◌, ◌<◌, ◌≤◌, ℕ, List, [], ◌∷◌, ap, arith, length, refl, subst, sym}
 use Rattle.std.proofs.lemmas.Result.{err_from_is_err_and}
 use Rattle.ode_compile.proofs.TriggerLaws.{counts_level}
 use Rattle.ode_declare.proofs.TakeLaws.{parts_kept}
@@ -12,6 +12,8 @@ use Rattle.ode_machine.specs.Works.{declares}
 use Rattle.ode_schema.specs.Parts.{AreFit}
 use Rattle.ode_transact.proofs.DamageLaws.{damaged_so, memory_undamaged}
 use Rattle.ode_transact.proofs.EndingLaws.{before_leaves, fails_apart, looks_leave}
+use Rattle.ode_transact.proofs.LogLaws.{logs_as}
+use Rattle.ode_transact.specs.Logging.{Logs}
 use Rattle.ode_transact.specs.Output.{heard_of}
 use Rattle.ode_transact.specs.Resting.{HoldsBy, resting_parts}
 use Rattle.ode_transact.specs.declared.error.EngineError.TheVariants as engine
@@ -159,3 +161,29 @@ returns-else-bytes-gt-WEIGHT_LIMIT-clause-undamaged g c = damaged_so c.take_in.r
     let was = rest.bytes ∙ ap weight rest.world.world.stands.bones in
     let taken = taken_is l w well.good d c.args.made made c.requires.compiled c.requires.trees weighed.0 c.in_ok-weighed.ensures.rows rest.world.world.stored c.args.rest.bytes weighed.1 was c.in_ok-weighed.ensures.bytes below in
     damaged l w d rest taken left c.in_ok-weighed.ensures.few behind) c.take_in.ensures.undamaged
+
+pub returns-in_ok-line-clause-logs : goal.returns-in_ok-line-clause-logs
+returns-in_ok-line-clause-logs g c = λ l w d entries well rest made disk behind.
+    let weighed = c.in_ok-weighed.weighed in
+    let over : weight_limit < weighed.1 = omega (arith, c.if-bytes-gt-WEIGHT_LIMIT.true) in
+    let was = rest.bytes ∙ ap weight rest.world.world.stands.bones in
+    let heavy = heavy_is l w well.good d c.args.made made c.requires.compiled c.requires.trees weighed.0 c.in_ok-weighed.ensures.rows rest.world.world.stored c.args.rest.bytes weighed.1 was c.in_ok-weighed.ensures.bytes over in
+    let short : length d.class.name ≤ name_limit = subst (λ (k : Class). length k.name ≤ name_limit) (sym made.class) (search rules) in
+    let aborts = c.declarations_settle.ensures.heavy l w d well.good short heavy ∙ ap (λ (k : Class). abort lists Space (with_line (class_line k.name) (begun Script w))) made.class
+    ∙ ap (λ (line : List ℕ). abort lists Space (with_line line (begun Script w))) (sym c.in_ok-line.ensures) in
+    logs_as c.turn_away.result (λ (s : Settled Histories Starts). Logs g.K.Keep.means l w entries (s ∷ []) c.args.log.now c.turn_away.new.log (g.H.Host.view c.turn_away.new.host)) _ _ (sym aborts)
+    (c.turn_away.ensures.logs l w entries rest disk (subst (λ (s : Settled Histories Starts). IsWell l s.0) aborts behind))
+
+pub returns-in_ok-line-clause-grown : goal.returns-in_ok-line-clause-grown
+returns-in_ok-line-clause-grown g c = c.turn_away.ensures.grown
+
+pub returns-else-bytes-gt-WEIGHT_LIMIT-clause-logs : goal.returns-else-bytes-gt-WEIGHT_LIMIT-clause-logs
+returns-else-bytes-gt-WEIGHT_LIMIT-clause-logs g c = λ l w d entries well rest made disk.
+    let weighed = c.in_ok-weighed.weighed in
+    let below : weighed.1 ≤ weight_limit = omega (arith, c.if-bytes-gt-WEIGHT_LIMIT.false) in
+    let was = rest.bytes ∙ ap weight rest.world.world.stands.bones in
+    c.take_in.ensures.logs l w d entries rest
+    (taken_is l w well.good d c.args.made made c.requires.compiled c.requires.trees weighed.0 c.in_ok-weighed.ensures.rows rest.world.world.stored c.args.rest.bytes weighed.1 was c.in_ok-weighed.ensures.bytes below) disk
+
+pub returns-else-bytes-gt-WEIGHT_LIMIT-clause-grown : goal.returns-else-bytes-gt-WEIGHT_LIMIT-clause-grown
+returns-else-bytes-gt-WEIGHT_LIMIT-clause-grown g c = c.take_in.ensures.grown

@@ -6,13 +6,16 @@ use Rattle.ode_machine.specs.Commands.{Step, changes}
 use Rattle.ode_machine.specs.Sessions.{closed}
 use Rattle.ode_value.specs.Answers.{Answer}
 use Rattle.ode_value.specs.declared.reason.Refusal.TheVariants as refusal
-use Rattle.ode_engine.specs.Serving.{Serves, answer_to_change}
+use Rattle.ode_engine.specs.Serving.{Serves, answer_to_change, settlings}
 use Rattle.ode_engine.specs.declared.commanding.State.TheVariants as state
 use Rattle.ode_engine.specs.declared.engine.Done.TheVariants as done
 use Rattle.ode_engine.proofs.PlaceLaws.{placed_change_is, spent_change}
 use Rattle.ode_engine.proofs.FaultLaws.{undamaged_by}
 use Rattle.ode_engine.proofs.ServeLaws.{behind_serves, quiet_by, quiet_serves, rest_now, stopped_serves, told_by, told_none, told_on}
 use Rattle.ode_engine.proofs.SessionLaws.{closed_session}
+use Rattle.ode_transact.proofs.LogLaws.{disk_looks, logs_none}
+use Rattle.ode_transact.specs.Logging.{Logs}
+use Rattle.std.specs.Prelude.{OnOk}
 use Rattle.ode_engine.proofs.commanding.change_at_rest.Goals as goal
 
 pub returns-in_err-rest-clause-serves : goal.returns-in_err-rest-clause-serves
@@ -47,3 +50,17 @@ returns-then-next-ge-NUMBER_LIMIT-clause-leaves g c = told_none _ _ _ (quiet_by 
 
 pub returns-clause-leaves : goal.returns-clause-leaves
 returns-clause-leaves g c = told_on _ _ _ _ _ (quiet_by _ _ _ (λ is. cc (is)) c.in_ok-rest.ensures.looks c.in_ok-rest.ensures.cause).1 c.change_numbered.ensures.leaves
+
+pub returns-then-next-ge-NUMBER_LIMIT-clause-logs : goal.returns-then-next-ge-NUMBER_LIMIT-clause-logs
+returns-then-next-ge-NUMBER_LIMIT-clause-logs g c w entries well rests disk =
+    let next = c.in_ok-rest.ensures.is ode w rests in
+    let none : number_limit ≤ w.bones.transaction = omega (arith, next.1, c.if-next-ge-NUMBER_LIMIT.true) in
+    subst (λ (a : Answer Step). Logs g.K.Keep.means ode w entries (settlings a) c.args.log.now c.args.log.now (g.H.Host.view c.next_number.new.host)) (sym (spent_change w c.args.c.now none))
+    (logs_none g.K.Keep.means ode w entries c.args.log.now (g.H.Host.view c.next_number.new.host) (disk_looks g.K.Keep.means entries (g.H.Host.view c.args.host.now) (g.H.Host.view c.next_number.new.host) c.in_ok-rest.ensures.looks disk))
+
+pub returns-clause-logs : goal.returns-clause-logs
+returns-clause-logs g c w entries well rests disk =
+    let next = c.in_ok-rest.ensures.is ode w rests in
+    let less : w.bones.transaction < number_limit = omega (arith, next.1, c.if-next-ge-NUMBER_LIMIT.false) in
+    subst (λ (a : Answer Step). OnOk c.change_numbered.result (Logs g.K.Keep.means ode w entries (settlings a) c.args.log.now c.change_numbered.new.log (g.H.Host.view c.change_numbered.new.host))) (sym (placed_change_is w c.args.c.now less))
+    (c.change_numbered.ensures.logs w entries well next.0 less (disk_looks g.K.Keep.means entries (g.H.Host.view c.args.host.now) (g.H.Host.view c.next_number.new.host) c.in_ok-rest.ensures.looks disk))

@@ -6,6 +6,8 @@ use Rattle.ode_engine.proofs.ChangeLaws.{change_settled, changed_serves, refused
 use Rattle.ode_engine.proofs.FaultLaws.{undamaged_by}
 use Rattle.ode_engine.proofs.ServeLaws.{rest_now, told_on}
 use Rattle.ode_engine.proofs.SessionLaws.{change_is_well}
+use Rattle.ode_transact.proofs.LogLaws.{grown_then}
+use Rattle.ode_engine.proofs.KeptLaws.{changed_kept, refused_change_kept}
 use Rattle.ode_engine.proofs.commanding.change_numbered.Goals as goal
 
 pub returns-in-Err-clause-serves : goal.returns-in-Err-clause-serves
@@ -39,3 +41,18 @@ returns-in-None-clause-serves g c w well rests left =
 
 pub returns-in-None-clause-leaves : goal.returns-in-None-clause-leaves
 returns-in-None-clause-leaves g c = told_on _ _ _ _ _ (host_calls_as _ _ _ _ _ _ (λ is. cc (is)) absurd (λ is. cc (is)) absurd c.in-Ok.ensures.leaves) c.settled.ensures.leaves
+
+pub returns-in-Some-clause-logs : goal.returns-in-Some-clause-logs
+returns-in-Some-clause-logs g c w entries well rests left disk =
+    refused_change_kept g.K.Keep.means w entries c.args.log.now c.change.new.log (g.H.Host.view c.args.host.now) (g.H.Host.view c.change.new.host) c.args.c.now c.in-Some.why _ (changed_in ode w.bones c.args.c.now) (rw c.in-Some.is at (c.in-Ok.ensures.logs w entries well rests disk))
+    (λ why is. c.in-Ok.ensures.declined w why rests is) disk
+
+pub returns-in-None-clause-logs : goal.returns-in-None-clause-logs
+returns-in-None-clause-logs g c w entries well rests left disk =
+    let fine = change_is_well w well left c.args.c.now c.requires.text in
+    changed_kept g.K.Keep.means g.H.Host.view g.K.Keep.holds g.K.Keep.live c.settled.result w entries c.args.log.now c.change.new.log c.settled.new.log c.in-Ok.rest c.args.host.now c.change.new.host c.settled.new.host c.args.output.now.quiet _ _
+    c.args.c.now (changed_in ode w.bones c.args.c.now) (rw c.in-None.is at (c.in-Ok.ensures.done w well rests)) (rw c.in-None.is at (c.in-Ok.ensures.logs w entries well rests disk)) fine
+    (λ classes wells made kept. c.settled.ensures.logs w (change_settled w c.args.c.now classes) c.args.log.now entries wells made kept)
+
+pub returns-in-None-clause-grown : goal.returns-in-None-clause-grown
+returns-in-None-clause-grown g c = grown_then c.args.log.now c.change.new.log c.settled.new.log c.change.ensures.grown c.settled.ensures.grown

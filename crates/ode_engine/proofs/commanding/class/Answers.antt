@@ -6,6 +6,8 @@ use Rattle.ode_engine.proofs.ClassLaws.{class_settled, declared_serves, few_kept
 use Rattle.ode_engine.proofs.FaultLaws.{undamaged_by}
 use Rattle.ode_engine.proofs.ServeLaws.{rest_now, told_on}
 use Rattle.ode_engine.proofs.SessionLaws.{class_is_well}
+use Rattle.ode_transact.proofs.LogLaws.{grown_then}
+use Rattle.ode_engine.proofs.KeptLaws.{declared_kept, refused_class_kept}
 use Rattle.ode_engine.proofs.commanding.class.Goals as goal
 
 pub returns-in-Err-clause-serves : goal.returns-in-Err-clause-serves
@@ -37,3 +39,19 @@ returns-in-None-clause-serves g c w well rests left text =
 
 pub returns-in-None-clause-leaves : goal.returns-in-None-clause-leaves
 returns-in-None-clause-leaves g c = told_on _ _ _ _ _ (host_calls_as _ _ _ _ _ _ (λ is. cc (is)) absurd (λ is. cc (is)) absurd c.in-Ok.ensures.leaves) c.settled.ensures.leaves
+
+pub returns-in-Some-clause-logs : goal.returns-in-Some-clause-logs
+returns-in-Some-clause-logs g c w entries well rests left text disk =
+    refused_class_kept g.K.Keep.means w entries c.args.log.now c.declare.new.log (g.H.Host.view c.args.host.now) (g.H.Host.view c.declare.new.host) c.in-Some.why _ (declared_in ode w.bones c.args.decl.now) (rw c.in-Some.is at (c.in-Ok.ensures.logs w entries well text rests disk))
+    (λ why is. same_looks g.H.Host.view c.args.host.now c.declare.new.host (c.in-Ok.ensures.declined w why rests is)) disk
+
+pub returns-in-None-clause-logs : goal.returns-in-None-clause-logs
+returns-in-None-clause-logs g c w entries well rests left text disk =
+    declared_kept g.K.Keep.means g.H.Host.view g.K.Keep.holds g.K.Keep.live c.settled.result w entries c.args.log.now c.declare.new.log c.settled.new.log c.in-Ok.rest c.args.host.now c.declare.new.host c.settled.new.host c.args.output.now.quiet _ _
+    (declared_in ode w.bones c.args.decl.now) (rw c.in-None.is at (c.in-Ok.ensures.done w well text rests)) (rw c.in-None.is at (c.in-Ok.ensures.logs w entries well text rests disk))
+    (λ k is. few_kept w well c.args.decl.now text k is)
+    (λ k is. class_is_well w well left c.args.decl.now text k is)
+    (λ k wells made kept. c.settled.ensures.logs w (class_settled w k) c.args.log.now entries wells made kept)
+
+pub returns-in-None-clause-grown : goal.returns-in-None-clause-grown
+returns-in-None-clause-grown g c = grown_then c.args.log.now c.declare.new.log c.settled.new.log c.declare.ensures.grown c.settled.ensures.grown

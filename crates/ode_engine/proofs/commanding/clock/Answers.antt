@@ -6,6 +6,7 @@ use Rattle.ode_language.specs.Languages.{ode}
 use Rattle.ode_engine.proofs.ClockLaws.{clocked_serves, refused_clock_serves, unclocked_serves}
 use Rattle.ode_engine.proofs.FaultLaws.{undamaged_by}
 use Rattle.ode_engine.proofs.ServeLaws.{rest_now}
+use Rattle.ode_engine.proofs.KeptLaws.{clocked_kept, refused_clock_kept}
 use Rattle.ode_engine.proofs.commanding.clock.Goals as goal
 
 pub returns-in-Err-clause-serves : goal.returns-in-Err-clause-serves
@@ -30,3 +31,12 @@ pub returns-in-Err-found-clause-serves : goal.returns-in-Err-found-clause-serves
 returns-in-Err-found-clause-serves g c w well rests left =
     refused_clock_serves g.H.Host.view g.K.Keep.holds g.K.Keep.live g.K.Keep.means g.met.K.Keep.stands g.met.H.Host.text_stands c.args.output.now c.set_clock.new.output w c.in-Err-found.why c.in-Ok.rest c.args.host.now c.set_clock.new.host _ _ well (rest_now g.H.Host.view g.K.Keep.holds g.K.Keep.live ode w c.args.rest c.args.host.now well rests) (ticks_in ode w.bones c.args.text.now)
     (rw c.in-Err-found.is at (c.in-Ok.ensures.done w well left rests)) (rw c.in-Err-found.is at (c.in-Ok.ensures.counts w well left rests)) (rw c.in-Err-found.is at c.in-Ok.ensures.refused)
+
+pub returns-in-Ok-found-clause-logs : goal.returns-in-Ok-found-clause-logs
+returns-in-Ok-found-clause-logs g c w entries well rests left disk =
+    clocked_kept g.K.Keep.means w entries c.args.log.now c.set_clock.new.log (g.H.Host.view c.args.host.now) (g.H.Host.view c.set_clock.new.host) c.in-Ok-found.settled _ (ticks_in ode w.bones c.args.text.now) (rw c.in-Ok-found.is at (c.in-Ok.ensures.logs w entries well left rests disk))
+
+pub returns-in-Err-found-clause-logs : goal.returns-in-Err-found-clause-logs
+returns-in-Err-found-clause-logs g c w entries well rests left disk =
+    refused_clock_kept g.K.Keep.means w entries c.args.log.now c.set_clock.new.log (g.H.Host.view c.args.host.now) (g.H.Host.view c.set_clock.new.host) c.in-Err-found.why _ (ticks_in ode w.bones c.args.text.now) (rw c.in-Err-found.is at (c.in-Ok.ensures.logs w entries well left rests disk))
+    (rw c.in-Err-found.is at c.in-Ok.ensures.refused) disk

@@ -7,12 +7,14 @@ use Rattle.ode_machine.specs.Sessions.{closed}
 use Rattle.ode_value.specs.Answers.{Answer}
 use Rattle.ode_value.specs.declared.statement.Statement.{Statement}
 use Rattle.ode_value.specs.declared.statement.Statement.TheVariants as statement
-use Rattle.ode_engine.specs.Serving.{Serves, answer_to}
+use Rattle.ode_engine.specs.Serving.{Serves, answer_to, settlings}
 use Rattle.ode_engine.specs.declared.commanding.State.TheVariants as state
 use Rattle.ode_engine.specs.declared.engine.Done.TheVariants as done
 use Rattle.ode_engine.proofs.PlaceLaws.{lone_empty, misplaced_outside, no_lone, place_ok}
 use Rattle.ode_engine.proofs.ServeLaws.{quiet_none, quiet_serves, rest_now, told_none}
 use Rattle.ode_engine.proofs.SessionLaws.{closed_session}
+use Rattle.ode_transact.proofs.LogLaws.{logs_none}
+use Rattle.ode_transact.specs.Logging.{Logs}
 use Rattle.ode_engine.proofs.commanding.command_at_rest.Goals as goal
 
 pub returns-in-Err-clause-serves : goal.returns-in-Err-clause-serves
@@ -33,3 +35,17 @@ returns-then-not-takes_number-clause-serves g c w well rests =
 pub returns-clause-serves : goal.returns-clause-serves
 returns-clause-serves g c w well rests =
     c.numbered.ensures.serves w well rests (sym c.place_of.ensures ∙ place_ok c.place_of.result c.in_default.not-Err) (no_lone (is_lone c.args.s.now) (sym c.takes_number.ensures ∙ c.if-not-takes_number.false))
+
+pub returns-in-Err-clause-logs : goal.returns-in-Err-clause-logs
+returns-in-Err-clause-logs g c w entries well rests disk =
+    subst (λ (a : Answer Step). Logs g.K.Keep.means ode w entries (settlings a) c.args.log.now c.args.log.now (g.H.Host.view c.args.host.now)) (sym (misplaced_outside w c.args.s.now c.in-Err.why (sym c.place_of.ensures ∙ c.in-Err.is)))
+    (logs_none g.K.Keep.means ode w entries c.args.log.now (g.H.Host.view c.args.host.now) disk)
+
+pub returns-then-not-takes_number-clause-logs : goal.returns-then-not-takes_number-clause-logs
+returns-then-not-takes_number-clause-logs g c w entries well rests disk =
+    let lone : c.args.s.now ≡ statement.Empty = lone_empty c.args.s.now (sym c.takes_number.ensures ∙ c.if-not-takes_number.true) in
+    subst (λ (s : Statement). Logs g.K.Keep.means ode w entries (settlings (answer_to ode (closed w) s)) c.args.log.now c.args.log.now (g.H.Host.view c.args.host.now)) (sym lone) (logs_none g.K.Keep.means ode w entries c.args.log.now (g.H.Host.view c.args.host.now) disk)
+
+pub returns-clause-logs : goal.returns-clause-logs
+returns-clause-logs g c w entries well rests disk =
+    c.numbered.ensures.logs w entries well rests (sym c.place_of.ensures ∙ place_ok c.place_of.result c.in_default.not-Err) (no_lone (is_lone c.args.s.now) (sym c.takes_number.ensures ∙ c.if-not-takes_number.false)) disk

@@ -7,11 +7,14 @@ use Rattle.ode_machine.specs.Sessions.{opened}
 use Rattle.ode_value.specs.Answers.{Answer}
 use Rattle.ode_value.specs.declared.statement.Statement.{Statement}
 use Rattle.ode_value.specs.declared.statement.Statement.TheVariants as statement
-use Rattle.ode_engine.specs.Serving.{Serves, answer_to}
+use Rattle.ode_engine.specs.Serving.{Serves, answer_to, settlings}
 use Rattle.ode_engine.specs.declared.commanding.State.TheVariants as state
 use Rattle.ode_engine.specs.declared.engine.Done.TheVariants as done
 use Rattle.ode_engine.proofs.PlaceLaws.{empty_inside, misplaced_inside, place_ok}
 use Rattle.ode_engine.proofs.ServeLaws.{quiet_none, quiet_serves, running_now, told_none}
+use Rattle.ode_transact.proofs.LogLaws.{logs_none}
+use Rattle.ode_transact.specs.Logging.{Logs}
+use Rattle.std.specs.Prelude.{OnOk}
 use Rattle.ode_engine.proofs.commanding.command_inside.Goals as goal
 
 pub returns-in-Err-clause-serves : goal.returns-in-Err-clause-serves
@@ -44,3 +47,25 @@ returns-in-Err-clause-leaves g c = told_none _ _ _ (quiet_none (g.H.Host.view c.
 
 pub returns-in_default-s-clause-leaves : goal.returns-in_default-s-clause-leaves
 returns-in_default-s-clause-leaves g c = told_none _ _ _ (quiet_none (g.H.Host.view c.args.host.now))
+
+pub returns-in-Err-clause-logs : goal.returns-in-Err-clause-logs
+returns-in-Err-clause-logs g c w t entries session runs disk =
+    subst (λ (a : Answer Step). Logs g.K.Keep.means ode w entries (settlings a) c.args.log.now c.args.log.now (g.H.Host.view c.args.host.now)) (sym (misplaced_inside w t c.args.s.now c.in-Err.why (sym c.place_of.ensures ∙ c.in-Err.is)))
+    (logs_none g.K.Keep.means ode w entries c.args.log.now (g.H.Host.view c.args.host.now) disk)
+
+pub returns-in-Commit-clause-logs : goal.returns-in-Commit-clause-logs
+returns-in-Commit-clause-logs g c w t entries session runs disk =
+    subst (λ (s : Statement). OnOk c.commit.result (Logs g.K.Keep.means ode w entries (settlings (answer_to ode (opened w t) s)) c.args.log.now c.commit.new.log (g.H.Host.view c.commit.new.host))) (sym c.in-Commit.is) (c.commit.ensures.logs w t entries session runs disk)
+
+pub returns-in-Abort-clause-logs : goal.returns-in-Abort-clause-logs
+returns-in-Abort-clause-logs g c w t entries session runs disk =
+    subst (λ (s : Statement). OnOk c.abort.result (Logs g.K.Keep.means ode w entries (settlings (answer_to ode (opened w t) s)) c.args.log.now c.abort.new.log (g.H.Host.view c.abort.new.host))) (sym c.in-Abort.is) (c.abort.ensures.logs w t entries session runs disk)
+
+pub returns-in-Simple-clause-logs : goal.returns-in-Simple-clause-logs
+returns-in-Simple-clause-logs g c w t entries session runs disk =
+    subst (λ (s : Statement). OnOk c.simple_inside.result (Logs g.K.Keep.means ode w entries (settlings (answer_to ode (opened w t) s)) c.args.log.now c.simple_inside.new.log (g.H.Host.view c.simple_inside.new.host))) (sym c.in-Simple.is) (c.simple_inside.ensures.logs w t entries session runs (subst (HasText ode) c.in-Simple.is c.requires.text) disk)
+
+pub returns-in_default-s-clause-logs : goal.returns-in_default-s-clause-logs
+returns-in_default-s-clause-logs g c w t entries session runs disk =
+    let lone : c.args.s.now ≡ statement.Empty = empty_inside c.args.s.now (sym c.place_of.ensures ∙ place_ok c.place_of.result c.in_default.not-Err) c.in_default-s.not-Commit c.in_default-s.not-Abort c.in_default-s.not-Simple in
+    subst (λ (s : Statement). Logs g.K.Keep.means ode w entries (settlings (answer_to ode (opened w t) s)) c.args.log.now c.args.log.now (g.H.Host.view c.args.host.now)) (sym lone) (logs_none g.K.Keep.means ode w entries c.args.log.now (g.H.Host.view c.args.host.now) disk)

@@ -10,6 +10,8 @@ use Rattle.ode_engine.proofs.FaultLaws.{undamaged_by}
 use Rattle.ode_engine.proofs.RunLaws.{ended_serves}
 use Rattle.ode_engine.proofs.ServeLaws.{quiet_by, running_now, stopped_serves, told_by, told_on}
 use Rattle.ode_engine.proofs.SessionLaws.{committed_well}
+use Rattle.ode_transact.proofs.LogLaws.{disk_looks}
+use Rattle.ode_engine.proofs.KeptLaws.{ended_kept}
 use Rattle.ode_engine.proofs.commanding.commit.Goals as goal
 
 pub settle-requires-clause-live : goal.settle-requires-clause-live
@@ -33,3 +35,9 @@ returns-in-Ok-clause-serves g c w t session runs =
 pub returns-in-Ok-clause-leaves : goal.returns-in-Ok-clause-leaves
 returns-in-Ok-clause-leaves g c =
     told_on _ _ _ _ _ (quiet_by _ _ _ (λ is. cc (is)) (c.in-Ok.ensures.looks c.requires.live) (c.in-Ok.ensures.cause c.requires.live)).1 c.settle.ensures.leaves
+
+pub returns-in-Ok-clause-logs : goal.returns-in-Ok-clause-logs
+returns-in-Ok-clause-logs g c w t entries session runs disk =
+    let ended = ended_settles c.in-Ok.ending (ContextRuns g.H.Host.view g.K.Keep.holds g.K.Keep.live ode w c.run_completion.new.ctx c.run_completion.new.host) (completes lists t) (c.in-Ok.ensures.runs ode w t runs) in
+    ended_kept g.K.Keep.means c.settle.result w entries c.args.log.now c.settle.new.log (g.H.Host.view c.settle.new.host) (commits t) c.in-Ok.ending ended.0 ended.2 (committed_well w session.well t session.came)
+    (λ well. c.settle.ensures.logs (opened w t) ended.0 entries session.well ended.1 well (disk_looks g.K.Keep.means entries (g.H.Host.view c.args.host.now) (g.H.Host.view c.run_completion.new.host) (c.in-Ok.ensures.looks c.requires.live) disk))

@@ -9,6 +9,9 @@ use Rattle.ode_value.specs.Pasts.{lists}
 use Rattle.ode_engine.proofs.FaultLaws.{leaves_sound}
 use Rattle.ode_engine.proofs.RunLaws.{done_serves, fault_serves, fault_told, fell_serves}
 use Rattle.ode_engine.proofs.ServeLaws.{quiet_by, running_now, told_none, told_on}
+use Rattle.ode_transact.proofs.LogLaws.{disk_looks}
+use Rattle.ode_engine.proofs.KeptLaws.{done_kept, fell_kept}
+use Rattle.ode_engine.proofs.SessionLaws.{fell_well}
 use Rattle.ode_engine.proofs.commanding.run_inside.Goals as goal
 
 pub settle-requires-clause-live : goal.settle-requires-clause-live
@@ -47,3 +50,15 @@ pub returns-in-Err-clause-leaves : goal.returns-in-Err-clause-leaves
 returns-in-Err-clause-leaves g c =
     let faults = c.in-Err.ensures.faults c.requires.live in
     rw c.fault_of.ensures (fault_told _ c.in-Err.stop _ _ (λ is. cc (is)) (λ is. cc (is)) faults.looks faults.faults)
+
+pub returns-in-Ok-clause-logs : goal.returns-in-Ok-clause-logs
+returns-in-Ok-clause-logs g c w t read entries session runs text checked disk =
+    done_kept g.K.Keep.means w _ (commands lists c.args.s.now t) (c.in-Ok.ensures.runs ode w t runs) entries c.args.log.now (g.H.Host.view c.exec.new.host)
+    (disk_looks g.K.Keep.means entries (g.H.Host.view c.args.host.now) (g.H.Host.view c.exec.new.host) (c.in-Ok.ensures.faults c.requires.live).looks disk)
+
+pub returns-in-Err-Abort-clause-logs : goal.returns-in-Err-Abort-clause-logs
+returns-in-Err-Abort-clause-logs g c w t read entries session runs text checked disk =
+    fell_kept g.K.Keep.means c.settle.result w entries c.args.log.now c.settle.new.log (g.H.Host.view c.settle.new.host) c.in-Err-Abort.why _ (commands lists c.args.s.now t)
+    (λ x runs_on is. c.settle.ensures.logs (opened w t) x entries session.well runs_on (fell_well w session.well t session.came read c.args.s.now text checked c.in-Err-Abort.why x is)
+    (disk_looks g.K.Keep.means entries (g.H.Host.view c.args.host.now) (g.H.Host.view c.exec.new.host) (c.in-Err-Abort.ensures.faults c.requires.live).looks disk))
+    (rw c.in-Err-Abort.field-0-is at (c.in-Err-Abort.ensures.runs ode w t runs))

@@ -11,6 +11,8 @@ use Rattle.ode_value.specs.Transactions.{Script, begun}
 use Rattle.ode_engine.proofs.FaultLaws.{undamaged_by}
 use Rattle.ode_engine.proofs.RunLaws.{ended_serves}
 use Rattle.ode_engine.proofs.ServeLaws.{quiet_by, running_now, stopped_serves, told_by, told_on}
+use Rattle.ode_transact.proofs.LogLaws.{disk_looks}
+use Rattle.ode_engine.proofs.KeptLaws.{ended_kept}
 use Rattle.ode_engine.proofs.commanding.run_whole.Goals as goal
 
 pub settle-requires-clause-live : goal.settle-requires-clause-live
@@ -34,3 +36,9 @@ returns-in-Ok-clause-serves g c w well runs wells =
 pub returns-in-Ok-clause-leaves : goal.returns-in-Ok-clause-leaves
 returns-in-Ok-clause-leaves g c =
     told_on _ _ _ _ _ (quiet_by _ _ _ (λ is. cc (is)) (c.in-Ok.ensures.looks c.requires.live) (c.in-Ok.ensures.cause c.requires.live)).1 c.settle.ensures.leaves
+
+pub returns-in-Ok-clause-logs : goal.returns-in-Ok-clause-logs
+returns-in-Ok-clause-logs g c w entries well runs wells disk =
+    let ended = transaction_settles Script (commands lists c.args.s.now) w c.in-Ok.ending (ContextRuns g.H.Host.view g.K.Keep.holds g.K.Keep.live ode w c.carry.new.ctx c.carry.new.host) (c.in-Ok.ensures.runs w (begun Script w) runs) in
+    ended_kept g.K.Keep.means c.settle.result w entries c.args.log.now c.settle.new.log (g.H.Host.view c.settle.new.host) (transaction lists Script (commands lists c.args.s.now) w) c.in-Ok.ending ended.0 ended.2 wells
+    (λ behind. c.settle.ensures.logs (closed w) ended.0 entries well ended.1 behind (disk_looks g.K.Keep.means entries (g.H.Host.view c.args.host.now) (g.H.Host.view c.carry.new.host) (c.in-Ok.ensures.looks c.requires.live) disk))

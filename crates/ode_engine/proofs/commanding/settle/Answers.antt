@@ -3,6 +3,7 @@ use Rattle.ode_language.specs.Languages.{ode}
 use Rattle.ode_transact.specs.Working.{settled_by}
 use Rattle.ode_engine.proofs.FaultLaws.{undamaged_by}
 use Rattle.ode_engine.proofs.ServeLaws.{told_on, unsettled_serves}
+use Rattle.ode_transact.proofs.LogLaws.{grown_then}
 use Rattle.ode_engine.proofs.commanding.settle.Goals as goal
 
 pub returns-in-Ok-clause-serves : goal.returns-in-Ok-clause-serves
@@ -21,3 +22,10 @@ returns-in-Err-clause-serves g c session t well runs wells =
 
 pub returns-in-Err-clause-leaves : goal.returns-in-Err-clause-leaves
 returns-in-Err-clause-leaves g c = host_calls_as _ _ _ _ _ _ (λ is. cc (is)) (λ is. cc (is)) (λ is. cc (is)) (λ is. cc (is)) c.in-Err.ensures.leaves
+
+pub returns-in-Ok-clause-logs : goal.returns-in-Ok-clause-logs
+returns-in-Ok-clause-logs g c session t entries well runs wells disk =
+    c.settled.ensures.logs session.world (settled_by c.args.ending t) c.args.log.now entries wells (c.in-Ok.ensures.done ode session.world t runs wells) (c.in-Ok.ensures.logs ode session.world t entries runs wells disk)
+
+pub returns-in-Ok-clause-grown : goal.returns-in-Ok-clause-grown
+returns-in-Ok-clause-grown g c = grown_then c.args.log.now c.end.new.log c.settled.new.log c.end.ensures.grown c.settled.ensures.grown

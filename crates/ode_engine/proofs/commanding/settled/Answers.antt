@@ -4,6 +4,11 @@ use Rattle.ode_language.specs.Languages.{ode}
 use Rattle.ode_engine.proofs.FaultLaws.{undamaged_by}
 use Rattle.ode_engine.proofs.ServeLaws.{drained_serves, undrained_serves}
 use Rattle.ode_engine.proofs.SessionLaws.{settled_session}
+use Rattle.ode_transact.proofs.LogLaws.{logs_then}
+use Rattle.ode_transact.specs.Logging.{behind}
+use Rattle.std.proofs.Common.{[], ◌∷◌}
+use Rattle.ode_value.specs.Draining.{drain}
+use Rattle.ode_value.specs.Pasts.{lists}
 use Rattle.ode_engine.proofs.commanding.settled.Goals as goal
 
 pub returns-in-Ok-clause-serves : goal.returns-in-Ok-clause-serves
@@ -28,3 +33,9 @@ returns-in-Err-clause-serves g c session s before start printed counts leaves we
 
 pub returns-in-Err-clause-leaves : goal.returns-in-Err-clause-leaves
 returns-in-Err-clause-leaves g c = host_calls_as _ _ _ _ _ _ (λ is. cc (is)) (λ is. cc (is)) (λ is. cc (is)) (λ is. cc (is)) c.in-Err.ensures.leaves
+
+pub returns-in-Ok-clause-logs : goal.returns-in-Ok-clause-logs
+unfolding drain_limit
+returns-in-Ok-clause-logs g c w s before entries wells rests first =
+    logs_then g.K.Keep.means ode w entries (s ∷ []) (drain lists drain_limit s.0) before c.args.log.now c.drain.new.log (g.H.Host.view c.args.host.now) (g.H.Host.view c.drain.new.host) first
+    (c.in-Ok.ensures.logs ode s.0 (behind entries first.news) wells rests first.disk)

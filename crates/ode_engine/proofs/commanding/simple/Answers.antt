@@ -5,6 +5,7 @@ use Rattle.ode_value.specs.declared.statement.Statement.TheVariants as statement
 use Rattle.ode_engine.proofs.FaultLaws.{undamaged_by}
 use Rattle.ode_engine.proofs.ServeLaws.{behind_serves, quiet_by, rest_now, stopped_serves, told_by, told_on}
 use Rattle.ode_engine.proofs.SessionLaws.{room}
+use Rattle.ode_transact.proofs.LogLaws.{disk_looks}
 use Rattle.ode_engine.proofs.commanding.simple.Goals as goal
 
 pub returns-in-Err-clause-serves : goal.returns-in-Err-clause-serves
@@ -23,3 +24,7 @@ returns-in-Ok-clause-serves g c w well rests left text =
 
 pub returns-in-Ok-clause-leaves : goal.returns-in-Ok-clause-leaves
 returns-in-Ok-clause-leaves g c = told_on _ _ _ _ _ (quiet_by _ _ _ (λ is. cc (is)) c.in-Ok.ensures.looks c.in-Ok.ensures.cause).1 c.simple_begun.ensures.leaves
+
+pub returns-in-Ok-clause-logs : goal.returns-in-Ok-clause-logs
+returns-in-Ok-clause-logs g c w entries well rests left text disk =
+    c.simple_begun.ensures.logs w entries well (c.in-Ok.ensures.begun ode w rests tt) left text (disk_looks g.K.Keep.means entries (g.H.Host.view c.args.host.now) (g.H.Host.view c.begin.new.host) c.in-Ok.ensures.looks disk)

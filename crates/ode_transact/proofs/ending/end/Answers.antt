@@ -1,4 +1,5 @@
 use Rattle.std.proofs.Common.{rules, ◌∙◌, ◌++◌, ◌≤◌, ℕ, List, ap, sym}
+use Rattle.std.proofs.lemmas.Result.{IfOk-weaker}
 use Rattle.ode_good_laws.specs.Well.{IsWell}
 use Rattle.ode_host.proofs.Moments.{joined, looks_joined}
 use Rattle.ode_keep.specs.Entries.{Changes, Entries, applied, record_bytes}
@@ -9,6 +10,7 @@ use Rattle.ode_run.specs.Contexts.{ContextRuns}
 use Rattle.ode_transact.proofs.BeginLaws.{damaged_before}
 use Rattle.ode_transact.proofs.DamageLaws.{damaged_so, memory_undamaged}
 use Rattle.ode_transact.proofs.EndingLaws.{batch_leaves, before_leaves, ends_at_rest, fails_apart, fails_as, looks_leave, looks_then, none_rose, printed_behind}
+use Rattle.ode_transact.proofs.LogLaws.{disk_looks, held_disk, logs_settled}
 use Rattle.ode_transact.proofs.OutputLaws.{counted_as}
 use Rattle.ode_transact.proofs.RecordLaws.{records_are_light}
 use Rattle.ode_transact.specs.Ending.{line_of}
@@ -133,3 +135,16 @@ returns-clause-undamaged g c =
     damaged on.entries context.state.records
     (records_are_light l (applied c.in_ok-batch.batch on.entries) (settled_by c.args.ending t).0 (over.holds well.good).held.world))
     c.close.ensures.undamaged
+
+pub returns-clause-logs : goal.returns-clause-logs
+returns-clause-logs g c = λ l w t entries runs well disk.
+    let s = settled_by c.args.ending t in
+    let on = c.in_ok-number.ensures.stays l w t runs in
+    let over = c.in_ok-batch.ensures.settles l w t on in
+    let context = c.in_ok-batch.ensures.context l w t on in
+    let looks = looks_joined _ _ _ c.number_of.ensures.looks c.changes_of.ensures.looks in
+    let records = held_disk g.H.Host.view g.K.Keep.holds g.K.Keep.means g.met.K.Keep.stands g.met.K.Keep.one_map c.changes_of.new.ctx.heap c.changes_of.new.host on.entries entries context.state.records
+    (disk_looks g.K.Keep.means entries (g.H.Host.view c.args.host.now) (g.H.Host.view c.changes_of.new.host) looks disk) in
+    logs_settled g.H.Host.view g.K.Keep.holds g.K.Keep.means g.met.K.Keep.stands g.met.K.Keep.one_map (λ (rest : Opened g.row.K.Denot). rest.keeper) c.close.result l w s.0 s.1 entries on.entries c.in_ok-number.number c.in_ok-batch.batch
+    c.args.log.now c.close.new.log c.close.new.host records (c.in_ok-number.ensures.is l w t runs) ((over.holds well.good).held.world, well.ones) c.close.ensures.kept
+    (IfOk-weaker c.close.result _ _ (λ rest keeps. keeps on.entries context.state.records) c.close.ensures.done)

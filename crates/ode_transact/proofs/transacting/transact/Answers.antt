@@ -1,4 +1,4 @@
-use Rattle.std.proofs.Common.{rules, ◌∙◌, ◌<◌, Option, ap, subst, sym}
+use Rattle.std.proofs.Common.{rules, ◌∙◌, ◌<◌, ◌∷◌, [], Option, ap, subst, sym}
 use Rattle.std.proofs.lemmas.Result.{IfOk-weaker}
 use Rattle.ode_host.proofs.Moments.{looks_joined}
 use Rattle.ode_overlay_laws.specs.Standing.{origin_as}
@@ -11,7 +11,9 @@ use Rattle.ode_transact.proofs.DamageLaws.{damaged_so}
 use Rattle.ode_transact.proofs.EndingLaws.{fails_as, looks_then, none_rose}
 use Rattle.ode_transact.proofs.TransactLaws.{transaction_settles}
 use Rattle.ode_transact.proofs.TransactSteps.{transact_done, transact_leaves, transact_looks}
+use Rattle.ode_transact.proofs.LogLaws.{disk_looks, logs_as}
 use Rattle.ode_transact.proofs.OutputLaws.{counted_as}
+use Rattle.ode_transact.specs.Logging.{Logs}
 use Rattle.ode_transact.specs.Output.{heard_of}
 use Rattle.ode_transact.specs.Resting.{IsAtRest}
 use Rattle.ode_transact.specs.Working.{IsFromFront, settled_by, work_of}
@@ -112,3 +114,12 @@ returns-clause-undamaged g c =
     (c.in_ok-ending.ensures.runs l w (begun (origin_as c.args.origin) w) begins) in
     damaged l w so.0 so.1 (subst (λ (v : Settled Histories Starts). IsWell l v.0) so.2 behind))
     c.end.ensures.undamaged
+
+pub returns-clause-logs : goal.returns-clause-logs
+returns-clause-logs g c = λ l w entries rest front disk well.
+    let begins = c.in_ok-ctx.ensures.begun l w rest front in
+    let looks = looks_joined _ _ _ c.begin.ensures.looks (c.run.ensures.looks c.in_ok-ctx.ensures.usable) in
+    let so = transaction_settles (origin_as c.args.origin) (work_of c.args.work lists) w c.in_ok-ending.ending (ContextRuns g.H.Host.view g.K.Keep.holds g.K.Keep.live l w c.run.new.ctx c.run.new.host)
+    (c.in_ok-ending.ensures.runs l w (begun (origin_as c.args.origin) w) begins) in
+    logs_as c.end.result (λ (v : Settled Histories Starts). Logs g.K.Keep.means l w entries (v ∷ []) c.args.log.now c.end.new.log (g.H.Host.view c.end.new.host)) _ _ (sym so.2)
+    (c.end.ensures.logs l w so.0 entries so.1 (subst (λ (v : Settled Histories Starts). IsWell l v.0) so.2 well) (disk_looks g.K.Keep.means entries _ (g.H.Host.view c.run.new.host) looks disk))

@@ -1,4 +1,4 @@
-use Rattle.std.proofs.Common.{rules, ◌∙◌, ◌++◌, ◌<◌, ℕ, subst, sym}
+use Rattle.std.proofs.Common.{rules, ◌∙◌, ◌++◌, ◌<◌, ℕ, [], ◌∷◌, subst, sym}
 use Rattle.std.proofs.lemmas.Result.{IfOk-weaker}
 use Rattle.ode_host.proofs.Calls.{host_calls_on}
 use Rattle.ode_machine.proofs.MomentLaws.{settling_leaves}
@@ -9,6 +9,7 @@ use Rattle.ode_good_laws.specs.Well.{IsWell}
 use Rattle.ode_transact.proofs.BeginLaws.{damaged_before}
 use Rattle.ode_transact.proofs.DamageLaws.{damaged_so}
 use Rattle.ode_transact.proofs.EndingLaws.{calls_as}
+use Rattle.ode_transact.proofs.LogLaws.{grown_then, logs_on}
 use Rattle.ode_transact.proofs.OutputLaws.{counted_then}
 use Rattle.ode_transact.proofs.TransactSteps.{drain_leaves, drain_then}
 use Rattle.ode_transact.specs.Items.{items_of, texts_of}
@@ -75,3 +76,16 @@ returns-clause-undamaged g c =
     damaged_so c.drain.result Before Undamaged (λ damaged l w well rest front left behind.
     damaged l (transaction lists (origin_as c.args.origin) (work_of c.args.work lists) w).0 behind (c.in_ok-rest.ensures.done l w rest front behind).0)
     c.drain.ensures.undamaged
+
+pub returns-in_err-rest-clause-grown : goal.returns-in_err-rest-clause-grown
+returns-in_err-rest-clause-grown g c = c.transact.ensures.grown
+
+pub returns-clause-grown : goal.returns-clause-grown
+returns-clause-grown g c = grown_then c.args.log.now c.transact.new.log c.drain.new.log c.transact.ensures.grown c.drain.ensures.grown
+
+pub returns-clause-logs : goal.returns-clause-logs
+returns-clause-logs g c = λ l w entries rest front disk behind.
+    let s = transaction lists (origin_as c.args.origin) (work_of c.args.work lists) w in
+    let first = c.in_ok-rest.ensures.done l w rest front behind in
+    logs_on g.K.Keep.means l c.drain.result w entries (s ∷ []) (drain lists c.args.most s.0) c.args.log.now c.transact.new.log c.drain.new.log (g.H.Host.view c.transact.new.host) (g.H.Host.view c.drain.new.host)
+    (c.in_ok-rest.ensures.logs l w entries rest front disk behind) (λ m has. c.drain.ensures.logs l s.0 m behind first.0 has)

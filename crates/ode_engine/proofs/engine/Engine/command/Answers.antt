@@ -10,6 +10,8 @@ use Rattle.ode_transact.specs.declared.output.Output.{Output}
 use Rattle.ode_transact.specs.declared.error.EngineError.TheVariants as error
 use Rattle.ode_engine.specs.Serving.{IsAnswer, IsLive, StandsFor, answer_to, output_of, session_after, settlings}
 use Rattle.ode_engine.proofs.EngineLaws.{counts_on, err_on, leaves_on, live_on, ok_on, says_on, stands_on, taken_stands, taken_usable, undamaged_on}
+use Rattle.ode_engine.proofs.KeptLaws.{grown_on, kept_on}
+use Rattle.ode_transact.specs.Logging.{Logs}
 use Rattle.ode_engine.proofs.engine.Engine.command.Goals as goal
 
 pub command_in-step-requires-clause-usable : goal.command_in-step-requires-clause-usable
@@ -69,3 +71,15 @@ returns-in-Some-clause-live g c =
 pub returns-in-Some-clause-dead : goal.returns-in-Some-clause-dead
 returns-in-Some-clause-dead g c =
     subst (λ r. OnErr r (c.answer.new.self.live ≡ false)) (sym c.answer.ensures.says) (err_on g.H.Host.view g.K.Keep.holds g.K.Keep.live ode c.command_in-step.result (c.answer.new.self.live ≡ false) c.answer.ensures.dead)
+
+pub returns-in-Some-clause-logs : goal.returns-in-Some-clause-logs
+returns-in-Some-clause-logs g c session entries is disk =
+    let answer = answer_to ode session c.args.s.now in
+    let kept = Logs g.K.Keep.means ode session.world entries (settlings answer) c.args.self.now.log c.answer.new.self.log (g.H.Host.view c.command_in-step.new.host) in
+    subst (λ r. OnOk r kept) (sym c.answer.ensures.says)
+    (ok_on g.H.Host.view g.K.Keep.holds g.K.Keep.live ode c.command_in-step.result kept
+    (kept_on g.K.Keep.means c.command_in-step.result session.world entries (settlings answer) c.args.self.now.log c.take.new.self.log c.command_in-step.new.log c.answer.new.self.log (g.H.Host.view c.command_in-step.new.host) c.take.ensures.log c.answer.ensures.log
+    (c.command_in-step.ensures.logs session entries is.goes_on (taken_stands g.H.Host.view g.K.Keep.holds g.K.Keep.live ode session c.args.self.now.rest c.args.self.now.running c.in-Some.state c.args.host.now (sym c.take.ensures.took ∙ c.in-Some.is) is.has) disk)))
+
+pub returns-in-Some-clause-grown : goal.returns-in-Some-clause-grown
+returns-in-Some-clause-grown g c = grown_on c.args.self.now.log c.take.new.self.log c.command_in-step.new.log c.answer.new.self.log c.take.ensures.log c.answer.ensures.log c.command_in-step.ensures.grown

@@ -1,4 +1,4 @@
-use Rattle.std.proofs.Common.{◌∙◌, ap, refl, subst, sym}
+use Rattle.std.proofs.Common.{◌∙◌, ap, refl, subst, sym, List, Option}
 use Rattle.ode_host.proofs.Calls.{host_calls_as}
 use Rattle.ode_language.specs.Languages.{ode}
 use Rattle.ode_machine.specs.Sessions.{Session, closed}
@@ -12,6 +12,8 @@ use Rattle.ode_engine.specs.declared.commanding.State.TheVariants as state
 use Rattle.ode_engine.proofs.EngineLaws.{closed_rest, put_stands}
 use Rattle.ode_engine.proofs.FaultLaws.{damaged_as}
 use Rattle.ode_engine.proofs.SessionLaws.{drained_session}
+use Rattle.ode_engine.proofs.KeptLaws.{grown_on}
+use Rattle.ode_transact.specs.Logging.{Kept, Logs}
 use Rattle.ode_engine.proofs.engine.Engine.drain.Goals as goal
 
 pub returns-in-Ok-clause-answer : goal.returns-in-Ok-clause-answer
@@ -63,3 +65,16 @@ returns-in-Err-clause-undamaged g c =
     subst (λ r. OnDamaged r ((session : Session) → StandsFor g.H.Host.view g.K.Keep.holds g.K.Keep.live ode session c.args.self.now c.args.host.now → ⊥)) (sym c.fail.ensures.says)
     (damaged_as c.in-Err.error _ _ c.in-Err.ensures.undamaged (λ never session is. never ode session.world is.goes_on.well
     (closed_rest g.H.Host.view g.K.Keep.holds g.K.Keep.live ode session c.args.self.now.rest c.args.self.now.running c.in-Some.rest c.args.host.now (sym c.take.ensures.value ∙ c.in-Some.is) c.requires.closed is.has)))
+
+pub returns-in-Ok-clause-logs : goal.returns-in-Ok-clause-logs
+unfolding drain_limit
+returns-in-Ok-clause-logs g c session entries is disk =
+    let rests = closed_rest g.H.Host.view g.K.Keep.holds g.K.Keep.live ode session c.args.self.now.rest c.args.self.now.running c.in-Some.rest c.args.host.now (sym c.take.ensures.value ∙ c.in-Some.is) c.requires.closed is.has in
+    subst (λ (log : Option (List Kept)). Logs g.K.Keep.means ode session.world entries (drained lists drain_limit session.world) c.args.self.now.log log (g.H.Host.view c.drain.new.host)) (sym c.put.ensures.log)
+    (c.in-Ok.ensures.logs ode session.world entries is.goes_on.well rests disk)
+
+pub returns-in-Ok-clause-grown : goal.returns-in-Ok-clause-grown
+returns-in-Ok-clause-grown g c = grown_on c.args.self.now.log c.args.self.now.log c.drain.new.log c.put.new.self.log refl c.put.ensures.log c.drain.ensures.grown
+
+pub returns-in-Err-clause-grown : goal.returns-in-Err-clause-grown
+returns-in-Err-clause-grown g c = grown_on c.args.self.now.log c.args.self.now.log c.drain.new.log c.fail.new.self.log refl c.fail.ensures.log c.drain.ensures.grown
