@@ -34,8 +34,10 @@ use Rattle.ode_trace.specs.Running.{Carries, Commands, EndsWith}
 use Rattle.ode_trace.specs.Tallies.{settled_in, with_piece, with_refusal, with_settled}
 use Rattle.ode_trace.specs.declared.tally.Tally.{Tally}
 use Rattle.ode_transact.specs.Errors.{OnDamaged}
+use Rattle.ode_transact.proofs.LogLaws.{logs_none}
 use Rattle.ode_transact.proofs.OutputLaws.{counted_none}
 use Rattle.ode_transact.specs.Items.{items_of}
+use Rattle.ode_transact.specs.Logging.{DiskHas, Logs}
 use Rattle.ode_transact.specs.Output.{heard}
 use Rattle.ode_transact.specs.Resting.{HoldsBy, IsAtRest, resting_parts}
 use Rattle.ode_transact.specs.Settling.{Meaning}
@@ -101,6 +103,13 @@ has_statement text s is = (statement_read (closed empty_world) text (change_of t
 
 pub has_change : (text : List ℕ) (c : Change) → piece_of text ≡ Ok (given.Change c) → change_of text ≡ Some (Ok c)
 has_change text c is = (change_read (closed empty_world) text (change_of text) c is).0
+
+-- and what it is answered then
+pub command_said : (session : Session) (text : List ℕ) (s : Statement) → piece_of text ≡ Ok (given.Statement s) → command ode session text ≡ answer_to ode session s
+command_said session text s is = (statement_read session text (change_of text) s is).1
+
+pub command_changed : (session : Session) (text : List ℕ) (c : Change) → piece_of text ≡ Ok (given.Change c) → command ode session text ≡ changes ode session c
+command_changed session text c is = (change_read session text (change_of text) c is).1
 
 -- what is settled at the end of the input
 pub settled_many : (answer : Done) (step : Step) → IsAnswer answer (Ok step) → settled_in answer ≡ length step.1
@@ -231,16 +240,23 @@ module _ {H K : Type 0} (seen : H → View) (held : K → View → Entries → T
   unread_stops session text read.Memory e host is stands_for = uncalled_commands session (command ode session text) e host
   unread_stops session text (read.Refused why) e host is stands_for = unread_commands session text why e host is stands_for
 
+  pub unread_logs : (session : Session) (text : List ℕ) (entries : Entries) (stop : ReadStop) (e : Engine K) (host : H) → Answers {R = Piece} (piece_of text) (Err stop) → DiskHas means entries (seen host)
+      → OnOk (unread stop) (Logs means ode session.world entries (settlings (command ode session text)) e.log e.log (seen host))
+  unread_logs session text entries read.Memory e host is disk = tt
+  unread_logs session text entries (read.Refused why) e host is disk =
+      subst (λ (a : Answer Step). Logs means ode session.world entries (settlings a) e.log e.log (seen host)) (sym (refused_read session text (change_of text) why is))
+      (logs_none means ode session.world entries e.log (seen host) disk)
+
   -- one that gives a statement or a change, which the engine is given
   pub called_commands : (session : Session) (text : List ℕ) (s : Statement) (start : Engine K) (result : Result Done EngineError) (e : Engine K) (old new : H) → piece_of text ≡ Ok (given.Statement s)
       → Came session (answer_to ode session s) start result e old new → Came session (command ode session text) start result e old new
   called_commands session text s start result e old new is came =
-      subst (λ (a : Answer Step). Came session a start result e old new) (sym (statement_read session text (change_of text) s is).1) came
+      subst (λ (a : Answer Step). Came session a start result e old new) (sym (command_said session text s is)) came
 
   pub changed_commands : (session : Session) (text : List ℕ) (c : Change) (start : Engine K) (result : Result Done EngineError) (e : Engine K) (old new : H) → piece_of text ≡ Ok (given.Change c)
       → Came session (changes ode session c) start result e old new → Came session (command ode session text) start result e old new
   changed_commands session text c start result e old new is came =
-      subst (λ (a : Answer Step). Came session a start result e old new) (sym (change_read session text (change_of text) c is).1) came
+      subst (λ (a : Answer Step). Came session a start result e old new) (sym (command_changed session text c is)) came
 
   -- ---- a piece that is carried out
 

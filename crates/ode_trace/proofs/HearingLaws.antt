@@ -22,6 +22,12 @@ heard_aloud [] = refl
 heard_aloud (Settles w text ∷ items) = ap (λ (rest : List Item). Settles w text ∷ rest) (heard_aloud items)
 heard_aloud (Refuses line ∷ items) = ap (λ (rest : List Item). Refuses line ∷ rest) (heard_aloud items)
 
+-- and nothing of a quiet one
+pub nothing_heard : (items : List Item) → text_of (heard_items true items) ≡ []
+nothing_heard [] = refl
+nothing_heard (Settles w text ∷ items) = nothing_heard items
+nothing_heard (Refuses line ∷ items) = nothing_heard items
+
 -- one stretch behind the other
 pub heard_join : (quiet : Bool) (items more : List Item) → heard_items quiet (items ++ more) ≡ heard_items quiet items ++ heard_items quiet more
 heard_join quiet items more = map-append (heard_item quiet) items more

@@ -1,5 +1,6 @@
 -- What a piece comes to: its world, its text, and whether it is refused.
 use Rattle.std.proofs.Common.{◌≡◌, ℕ, ℤ, List, [], ◌∷◌, ◌++◌, Option, Some, None, Ok, Err, refl, sym, ap}
+use Rattle.ode_engine.specs.Serving.{session_after, settlings}
 use Rattle.ode_machine.specs.Commands.{Step, carried, command, does_clock, does_simple, ends_open, finish, goes_on, settles}
 use Rattle.ode_machine.specs.Refusals.{changed_in, checked_in, declared_in, placed, placed_change, ticks_in}
 use Rattle.ode_machine.specs.Runs.{answered, ending_items, final, opening, piece_stretch, pieces_items, stretch_of, text_of}
@@ -101,8 +102,16 @@ answered_ends : (session : Session) (line : ℕ) (answer : Answer Step) → Ends
 answered_ends session line (Ok step) ends = ends
 answered_ends session line (Err refusal) ends = refl
 
+by_answer : (session : Session) (answer : Answer Step) → EndsAnswer session answer → (session_after session answer).world ≡ final session.world (items_of (settlings answer))
+by_answer session (Ok step) ends = ends
+by_answer session (Err refusal) ends = refl
+
 pub piece_ends : (l : Language) (session : Session) (line : ℕ) (piece : List ℕ) → (piece_stretch l session line piece).0.world ≡ final session.world (piece_stretch l session line piece).1
 piece_ends l session line piece = answered_ends session line (command l session piece) (command_ends l session piece)
+
+-- of the session that an answer leaves
+pub answer_ends : (l : Language) (session : Session) (piece : List ℕ) → (session_after session (command l session piece)).world ≡ final session.world (items_of (settlings (command l session piece)))
+answer_ends l session piece = by_answer session (command l session piece) (command_ends l session piece)
 
 pub finish_ends : (session : Session) → (finish session).0.world ≡ final session.world (stretch_of (finish session)).1
 finish_ends session = open_ends session session.open_tx (abort lists reason.End)

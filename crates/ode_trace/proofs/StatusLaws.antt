@@ -75,3 +75,20 @@ script_runs script.LongScript = tt
 pub end_leaves : (refused : Bool) (left : Option (List ℕ)) → left ≡ Some [] → LeavesNothing (status_at End refused) left
 end_leaves true left is = is
 end_leaves false left is = is
+
+-- the statuses at the end of input
+pub end_runs : (refused : Bool) → IsRunStatus (status_at End refused)
+end_runs true = tt
+end_runs false = tt
+
+pub end_no_disk : (refused : Bool) → status_at End refused ≡ status.DiskFault → ⊥
+end_no_disk true is = cc (is)
+end_no_disk false is = cc (is)
+
+pub end_no_print : (refused : Bool) → status_at End refused ≡ status.WriteFault → ⊥
+end_no_print true is = cc (is)
+end_no_print false is = cc (is)
+
+pub end_no_read : (refused : Bool) → status_at End refused ≡ status.ReadFault → ⊥
+end_no_read true is = cc (is)
+end_no_read false is = cc (is)

@@ -1,10 +1,11 @@
 //! A run of a script, piece by piece.
 ghost use Rattle.std.specs.Prelude.{◌≡◌, ◌≢◌, ◌≤◌, ◌⊎◌, ◌++◌, ℕ, Bool, List as Items, IsErrOf, IsTrue, OnOk, Ok, Some, length, true};
 ghost use Rattle.ode_declared_laws.specs.Adding.{AreAligned};
-ghost use Rattle.ode_engine.specs.Serving.{IsLive, StandsFor};
+ghost use Rattle.ode_engine.specs.Serving.{IsLive, StandsFor, settlings};
 ghost use Rattle.ode_good_laws.specs.Well.{IsWell};
 ghost use Rattle.ode_host.specs.Causes.{RoseIf};
 ghost use Rattle.ode_host.specs.Host.{HostCalls, LeavesCut, LeavesOnly, Printed, Stands};
+ghost use Rattle.ode_keep.specs.Entries.{Entries};
 ghost use Rattle.ode_language.specs.Languages.{ode};
 ghost use Rattle.ode_machine.specs.Commands.{command, finish};
 ghost use Rattle.ode_machine.specs.Moments.{IsAfterSome};
@@ -17,6 +18,7 @@ ghost use Rattle.ode_trace.specs.Running.{Begins, Carries, Commands, EndsWith, R
 ghost use Rattle.ode_trace.specs.Statuses.{IsEnding, IsRunStatus, ended_by, status_in, status_of_script, unread};
 ghost use Rattle.ode_trace.specs.Tallies.{Counts, count_pieces, settled_in, tally_of, was_refused, with_refusal};
 ghost use Rattle.ode_transact.specs.Errors.{OnDamaged};
+ghost use Rattle.ode_transact.specs.Logging.{DiskHas, HasGrown, Logs};
 ghost use Rattle.ode_transact.specs.Output.{heard};
 ghost use Rattle.ode_transact.specs.Resting.{HoldsBy, IsAtRest, resting_parts};
 ghost use Rattle.ode_value.specs.Language.{ListWorld};
@@ -34,7 +36,7 @@ use ode_value::{Boxed, Key, Refusal};
 use std::alloc::Global;
 
 // A text is printed, or nothing of it in a quiet run.
-fn say<H: Host>(host: &mut H, quiet: bool, text: &[u8]) -> Result<(), EngineError>
+pub(crate) fn say<H: Host>(host: &mut H, quiet: bool, text: &[u8]) -> Result<(), EngineError>
     ensures printed { OnOk result (Printed (heard quiet text.now) (H.view host.old) (H.view host.new)) }
     ensures any_moment { (file said : Items ℕ) → Stands file (H.view host.old) → (H.view host.old).text ≡ Some said
         → LeavesOnly (H.view host.old) (H.view host.new) (LeavesCut file said (heard quiet text.now)) }
@@ -86,7 +88,7 @@ fn unread(stop: ReadStop) -> Result<Done, EngineError>
 
 // A piece is read, and carried out by the engine.
 #[tactic(auto, unfolding(ode_value::specs::Limits::statement_limit))]
-fn command_piece<H: Host, K: Roomy<H> + Drop>(
+pub(crate) fn command_piece<H: Host, K: Roomy<H> + Drop>(
     alloc: Global,
     host: &mut H,
     engine: &mut Engine<K>,
@@ -96,6 +98,9 @@ fn command_piece<H: Host, K: Roomy<H> + Drop>(
     requires short { length text.now ≤ statement_limit }
     ensures commands { (session : Session) → StandsFor H.view K.holds K.live ode session engine.old host.old
         → Commands H.view K.holds K.live K.means session (command ode session text.now) engine.old result engine.new host.old host.new }
+    ensures logs { (session : Session) (entries : Entries) → StandsFor H.view K.holds K.live ode session engine.old host.old → DiskHas K.means entries (H.view host.old)
+        → OnOk result (Logs K.means ode session.world entries (settlings (command ode session text.now)) engine.old.log engine.new.log (H.view host.new)) }
+    ensures grown { HasGrown engine.old.log engine.new.log }
     ensures leaves { HostCalls (IsErrOf result EngineError.DiskFault) (IsErrOf result EngineError.WriteFault) (H.view host.old) (H.view host.new) }
     ensures live { OnOk result (IsLive K.live engine.new) }
     ensures quiet { engine.new.quiet ≡ engine.old.quiet }
@@ -139,7 +144,7 @@ fn carry_out<H: Host, K: Roomy<H> + Drop>(
 }
 
 // What a run ends with where the engine doesn't answer: a status, or the key of a record that was found damaged.
-fn ended_by(error: EngineError) -> Result<Status, Key>
+pub(crate) fn ended_by(error: EngineError) -> Result<Status, Key>
     ensures { result ≡ ended_by error }
 {
     match error {
@@ -151,7 +156,7 @@ fn ended_by(error: EngineError) -> Result<Status, Key>
 }
 
 // The status that a run ends with where the script gives no piece.
-fn status_of_script(error: ScriptError) -> Status
+pub(crate) fn status_of_script(error: ScriptError) -> Status
     ensures { result ≡ status_of_script error }
 {
     match error {
