@@ -1,0 +1,10 @@
+pub mod CourseLaws
+pub mod LoopLaws
+pub mod Tellings
+pub mod CounterLaws
+pub mod FeedLaws
+pub mod Endings
+pub mod NextLaws
+pub mod PieceLaws
+pub mod ShippedLaws
+pub mod FollowLaws

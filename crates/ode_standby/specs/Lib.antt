@@ -1,0 +1,10 @@
+pub mod Courses
+pub mod Endings
+pub mod Failing
+pub mod Taking
+pub mod Feeding
+pub mod Pieces
+pub mod Following
+pub mod Turns
+pub mod Primary
+pub mod Texts
