@@ -1,0 +1,4 @@
+pub mod Telling
+pub mod Decoding
+pub mod Forming
+pub mod Holding
