@@ -1,5 +1,5 @@
 //! The program: `ode init FILE`, `ode check FILE`, `ode dump FILE` and `ode gen FILE N`, and with a script on standard input `ode run FILE`,
-//! `ode query FILE` and `ode same FILE`.
+//! `ode query FILE`, `ode same FILE`, `ode ship FILE` and `ode follow FILE`.
 #![tactic(auto)]
 
 use ode_host::{FileHost, Status, StdSource};

@@ -14,7 +14,7 @@ use Rattle.ode_value.specs.Decimal.{digits_of}
 use Rattle.ode_top.specs.Answers.{Asks}
 use Rattle.ode_top.specs.Calls.{call_of, is_file, mode_named, number_within, script_number}
 use Rattle.ode_top.specs.declared.call.Mode.{Mode}
-use Rattle.ode_top.specs.declared.call.Mode.TheVariants.{Init, Run, Check, Dump, Ask, Gen}
+use Rattle.ode_top.specs.declared.call.Mode.TheVariants.{Init, Run, Check, Dump, Ask, Ship, Follow, Gen}
 
 -- ---- a word that is read
 
@@ -59,15 +59,18 @@ script_within word n is =
     let m : ℕ = digits_value 10 word in
     below_limit m n (nat_le 1 m) (nat_le m gen_limit) refl (at_test (bytes_eq word (digits_of m)) (cond (nat_le 1 m && nat_le m gen_limit) (Some m) None) n is).1
 
-no_gen : (n : ℕ) (a b c d e f : Bool)
-    → cond a (Some Init) (cond b (Some Run) (cond c (Some Check) (cond d (Some Dump) (cond e (Some (Ask Queries)) (cond f (Some (Ask Comparisons)) None))))) ≡ Some (Gen n) → ⊥
-no_gen n true b c d e f is = cc (is)
-no_gen n false true c d e f is = cc (is)
-no_gen n false false true d e f is = cc (is)
-no_gen n false false false true e f is = cc (is)
-no_gen n false false false false true f is = cc (is)
-no_gen n false false false false false true is = cc (is)
-no_gen n false false false false false false is = cc (is)
+no_gen : (n : ℕ) (a b c d e f g h : Bool)
+    → cond a (Some Init) (cond b (Some Run) (cond c (Some Check) (cond d (Some Dump)
+    (cond e (Some (Ask Queries)) (cond f (Some (Ask Comparisons)) (cond g (Some Ship) (cond h (Some Follow) None))))))) ≡ Some (Gen n) → ⊥
+no_gen n true b c d e f g h is = cc (is)
+no_gen n false true c d e f g h is = cc (is)
+no_gen n false false true d e f g h is = cc (is)
+no_gen n false false false true e f g h is = cc (is)
+no_gen n false false false false true f g h is = cc (is)
+no_gen n false false false false false true g h is = cc (is)
+no_gen n false false false false false false true h is = cc (is)
+no_gen n false false false false false false false true is = cc (is)
+no_gen n false false false false false false false false is = cc (is)
 
 -- the mode of what was asked for
 abbrev mode_in : Option (Mode × List ℕ) → Option Mode
@@ -86,7 +89,9 @@ pub asked_within : (words : List (List ℕ)) (n : ℕ) → Asks (Gen n) words �
 asked_within [] n asks = absurd (cc (asks.1))
 asked_within (mode ∷ []) n asks = absurd (cc (asks.1))
 asked_within (mode ∷ file ∷ []) n asks =
-    absurd (no_gen n (bytes_eq mode (codes "init")) (bytes_eq mode (codes "run")) (bytes_eq mode (codes "check")) (bytes_eq mode (codes "dump")) (bytes_eq mode (codes "query")) (bytes_eq mode (codes "same"))
+    absurd
+    (no_gen n (bytes_eq mode (codes "init")) (bytes_eq mode (codes "run")) (bytes_eq mode (codes "check")) (bytes_eq mode (codes "dump"))
+    (bytes_eq mode (codes "query")) (bytes_eq mode (codes "same")) (bytes_eq mode (codes "ship")) (bytes_eq mode (codes "follow"))
     (mapped_mode (mode_named mode) file asks.0 n (at_test (is_file file) (option_map {U = Mode × List ℕ} (λ (m : Mode). (m, file)) (mode_named mode)) (Gen n, asks.0) asks.1).1))
 asked_within (mode ∷ file ∷ number ∷ []) n asks =
     script_within number n

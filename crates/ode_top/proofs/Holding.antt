@@ -11,7 +11,8 @@ use Rattle.ode_gate.specs.Headers.{IsOfAreas, IsOfPages}
 use Rattle.ode_gate.specs.Slots.{Counts}
 use Rattle.ode_gate.specs.declared.header.Header.{Header}
 use Rattle.ode_gate.specs.declared.places.TheConstants.{FIRST_FORMAT, FORMAT}
-use Rattle.ode_host.specs.Host.{Stands, Tells}
+use Rattle.ode_host.proofs.Moments.{stands_looks}
+use Rattle.ode_host.specs.Host.{Looks, Stands, Tells}
 use Rattle.ode_host.specs.View.{View}
 use Rattle.ode_keep.specs.Entries.{Entries, record_bytes}
 use Rattle.ode_keeper.proofs.Started.{areas_most, pages_most}
@@ -22,11 +23,12 @@ use Rattle.ode_open.specs.Opening.{HasFormat}
 use Rattle.ode_opened_laws.specs.WorldBases.{FitsFirst}
 use Rattle.ode_paging.specs.Meaning.{PagesMeanIn}
 use Rattle.ode_transact.proofs.RecordLaws.{queue_room, records_weigh}
+use Rattle.ode_transact.specs.Logging.{DiskHas}
 use Rattle.ode_value.specs.Language.{ListWorld}
 use Rattle.ode_value.specs.Weights.{weight}
 use Rattle.ode_top.specs.Holds.{Holds, HoldsInPages, IsOfFirst}
 use Rattle.ode_top.specs.Opening.{StandsInFirst}
-use Rattle.ode_top.specs.Stops.{StaysHeld}
+use Rattle.ode_top.specs.Stops.{StaysIn}
 
 two_formats : (n : ℕ) → n ≡ FIRST_FORMAT → n ≡ FORMAT → ⊥
 two_formats n first last = omega (arith, first, last)
@@ -79,7 +81,7 @@ other_first image format has other = ⊎_elim
     (λ (pages : IsOfPages has.header). first_alone has.header.format pages.format.0 pages.format.1 (λ is. other (has.is ∙ is)))
     has.counts.leads.holds.rules.layout
 
-pub in_first : (image : List ℕ) (format : ℕ) (w : ListWorld) (view : View) → Holds image w → HasFormat image format → (format ≡ FORMAT → ⊥) → Stands image view → StandsInFirst w view
+abbrev pub in_first : (image : List ℕ) (format : ℕ) (w : ListWorld) (view : View) → Holds image w → HasFormat image format → (format ≡ FORMAT → ⊥) → Stands image view → StandsInFirst w view
 in_first image format w view holds has other stands =
     record { image = image; stands = stands; held = holds.held; first = holds.format has.header has.counts (other_first image format has other) }
 
@@ -91,26 +93,34 @@ fit_frame entries w world first = record { each = first.room; within = omega (ar
 
 -- each image of the records of a world of the first format holds it
 pub first_stays : (w : ListWorld) (text : List ℕ) (old : View) (first : StandsInFirst w old) → old.text ≡ Some text
-    → (c o : List ℕ) → LeavesRecords first.held.entries old c o → StaysHeld w text c o
+    → (c o : List ℕ) → LeavesRecords first.held.entries old c o → StaysIn w first.held.entries text c o
 first_stays w text old first said c o left =
     let both : Some o ≡ Some text = sym left.text ∙ said in (
-      record {
-        held = record { entries = first.held.entries; are = left.means; world = first.held.world; ones = first.held.ones };
-        format = λ header counts is. first.first;
-      },
-      cc (both),
+      (
+        record {
+          held = record { entries = first.held.entries; are = left.means; world = first.held.world; ones = first.held.ones };
+          format = λ header counts is. first.first;
+        },
+        cc (both),
+      ),
+      left.means,
     )
 
 -- and then its pages hold it
 pub migrated_holds : (w : ListWorld) (view : View) (first : StandsInFirst w view) (now : View) (to : IsMigratedTo first.held.entries now) → HoldsInPages to.image w
 migrated_holds w view first now to = record { entries = first.held.entries; are = to.migrated; world = first.held.world; ones = first.held.ones }
 
--- while they stand a stop leaves it
-pub pages_stay : (w : ListWorld) (text image : List ℕ) (view : View) → HoldsInPages image w → Stands image view → view.text ≡ Some text
-    → ((c o : List ℕ) → view.left view.moment c o → view.text ≡ Some o) → (c o : List ℕ) → view.left view.moment c o → StaysHeld w text c o
-pages_stay w text image view holds stands said text_stands c o left =
-    let both : Some o ≡ Some text = sym (text_stands c o left) ∙ said in
-    (subst (λ (file : List ℕ). Holds file w) (sym (stands.only c o left)) (pages_hold image w holds), cc (both))
+-- while they stand a stop leaves them
+pub pages_stay : (entries : Entries) (old view : View) (to : IsMigratedTo entries view) → view.text ≡ old.text
+    → ((c o : List ℕ) → view.left view.moment c o → view.text ≡ Some o) → (c o : List ℕ) → view.left view.moment c o → LeavesRecords entries old c o
+pages_stay entries old view to same text_stands c o left = record {
+  means = subst (λ (file : List ℕ). FileMeans file entries) (sym (to.stands.only c o left)) (inr to.migrated.means);
+  text = sym same ∙ text_stands c o left;
+}
+
+-- and they still do behind calls that only looked
+pub migrated_disk : (entries : Entries) (old new : View) → Looks old new → IsMigratedTo entries old → DiskHas (PagesMeanIn FORMAT) entries new
+migrated_disk entries old new looks to = (to.image, stands_looks to.image old new looks to.stands, to.migrated)
 
 -- ---- what fits the file
 

@@ -1,6 +1,7 @@
 pub mod Asking
 pub mod Calling
 pub mod Claiming
+pub mod Following
 pub mod Fresh
 pub mod Generating
 pub mod Holding
@@ -10,3 +11,4 @@ pub mod Questioning
 pub mod Refusing
 pub mod Reopening
 pub mod Running
+pub mod Shipping

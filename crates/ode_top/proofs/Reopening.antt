@@ -1,5 +1,5 @@
 -- A file that is opened for a run, over the keeper of its pages.
-use Rattle.std.proofs.Common.{◌≡◌, ◌∙◌, ◌⊎◌, ⊎_elim, inr, ℕ, List, Bool, Result, Ok, Err, IsTrue, ap, length, refl, subst, sym}
+use Rattle.std.proofs.Common.{◌≡◌, ◌∙◌, ◌⊎◌, ⊎_elim, inr, ℕ, List, Bool, Result, Ok, Err, Some, IsTrue, ap, length, refl, subst, sym}
 use Rattle.std.specs.Prelude.{◌==◌, IfErr, IsErrOf, false}
 use Rattle.ode_gate.specs.declared.places.TheConstants.{FIRST_FORMAT}
 use Rattle.ode_declared_laws.specs.Adding.{AreAligned}
@@ -39,7 +39,7 @@ use Rattle.ode_top.proofs.Holding.{tells_one}
 use Rattle.ode_top.specs.Answers.{BreaksRule}
 use Rattle.ode_top.specs.Holds.{Holds, HoldsInPages}
 use Rattle.ode_top.specs.Opening.{HasAreas, IsOver, OpensTo, unmoved}
-use Rattle.ode_top.specs.Stops.{StaysHeld}
+use Rattle.ode_top.specs.Stops.{StaysHeld, StaysIn}
 
 -- records that are opened as those of a format are opened to the same as any
 abbrev pub OpenedAlike : Type 0
@@ -144,16 +144,43 @@ looks_behind E F a b c none first looks rose = record {
 pub looks_only : (E F : Type 0) (a b : View) → Looks a b → RoseIf E a.disk_faults b.disk_faults → (E → F) → (F → E) → DiskCalls F a b
 looks_only E F a b looks rose to back = looks_calls F a b looks (rose_as E F a.disk_faults b.disk_faults to back rose)
 
--- a file that holds a world was only looked at
-module _ (w : ListWorld) (image text : List ℕ) (old new : View) (holds : Holds image w) where
-  pub stays_held : (c o : List ℕ) → Stays image text c o → StaysHeld w text c o
-  stays_held c o same = (subst (λ (file : List ℕ). Holds file w) (sym same.0) holds, same.1)
+-- a file that holds a world in these records was only looked at
+module _ (w : ListWorld) (entries : Entries) (image text : List ℕ) (old new : View) (holds : Holds image w) (means : FileMeans image entries) where
+  pub stays_held : (c o : List ℕ) → Stays image text c o → StaysIn w entries text c o
+  stays_held c o same = (
+    (subst (λ (file : List ℕ). Holds file w) (sym same.0) holds, same.1),
+    subst (λ (file : List ℕ). FileMeans file entries) (sym same.0) means,
+  )
 
-  pub looks_stop : (failed other : Type 0) → SyncedRun old new image failed (Stays image text) → (failed → other) → SyncedRun old new image other (StaysHeld w text)
-  looks_stop failed other run to = synced_as old new image failed other (Stays image text) (StaysHeld w text) stays_held run to
+  pub looks_stop : (failed other : Type 0) → SyncedRun old new image failed (Stays image text) → (failed → other) → SyncedRun old new image other (StaysIn w entries text)
+  looks_stop failed other run to = synced_as old new image failed other (Stays image text) (StaysIn w entries text) stays_held run to
 
-  pub looks_left : Looks old new → Tells old image → (file : List ℕ) → Tells new file → Holds file w
-  looks_left looks tells file now = subst (λ (f : List ℕ). Holds f w) (tells_one new image file (tells_looks image old new looks tells) now) holds
+  pub looks_left : Looks old new → Tells old image → (file : List ℕ) → Tells new file → Holds file w × FileMeans file entries
+  looks_left looks tells file now =
+      let same = tells_one new image file (tells_looks image old new looks tells) now in
+      (subst (λ (f : List ℕ). Holds f w) same holds, subst (λ (f : List ℕ). FileMeans f entries) same means)
+
+-- ---- what holds for a world's records holds for the world
+
+-- of what a stop leaves
+abbrev pub StopsIn : View → View → Type 0 → Type 0
+StopsIn old new failed = (image text : List ℕ) (w : ListWorld) (entries : Entries) → Tells old image → Holds image w → FileMeans image entries → old.text ≡ Some text
+    → SyncedRun old new image failed (StaysIn w entries text)
+
+pub stops_held : (old new : View) (failed : Type 0) → StopsIn old new failed
+    → (image text : List ℕ) (w : ListWorld) → Tells old image → Holds image w → old.text ≡ Some text → SyncedRun old new image failed (StaysHeld w text)
+stops_held old new failed stops image text w tells holds said =
+    synced_as old new image failed failed (StaysIn w holds.held.entries text) (StaysHeld w text) (λ c o stays. stays.0)
+    (stops image text w holds.held.entries tells holds holds.held.are said) (λ is. is)
+
+-- and of what the disk tells
+abbrev pub LeftIn : View → View → Type 0
+LeftIn old new = (image text file : List ℕ) (w : ListWorld) (entries : Entries) → Tells old image → Holds image w → FileMeans image entries → old.text ≡ Some text
+    → Tells new file → Holds file w × FileMeans file entries
+
+pub left_held : (old new : View) → LeftIn old new
+    → (image text file : List ℕ) (w : ListWorld) → Tells old image → Holds image w → old.text ≡ Some text → Tells new file → Holds file w
+left_held old new left image text file w tells holds said now = (left image text file w holds.held.entries tells holds holds.held.are said now).0
 
 -- a file that breaks a rule is the one that a host tells
 pub other_image : (view : View) (image other : List ℕ) → Tells view image → Tells view other → BreaksRule image → BreaksRule other

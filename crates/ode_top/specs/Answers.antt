@@ -40,10 +40,10 @@ Asks mode words = (file : List ℕ) × (call_of words ≡ Some (mode, file))
 
 -- they are a mode's that reads a script
 abbrev pub ReadsScript : List (List ℕ) → Type 0
-ReadsScript words = Asks mode.Run words ⊎ ((asked : Asked) × Asks (mode.Ask asked) words)
+ReadsScript words = Asks mode.Run words ⊎ (Asks mode.Ship words ⊎ (Asks mode.Follow words ⊎ ((asked : Asked) × Asks (mode.Ask asked) words)))
 
 abbrev pub usage_line : List ℕ
-usage_line = line (codes "usage: ode (init|run|check|dump|query|same) FILE | ode gen FILE N")
+usage_line = line (codes "usage: ode (init|run|check|dump|query|same|ship|follow) FILE | ode gen FILE N")
 
 -- The file holds this world, and so does each that a stop from now on leaves, as long as nothing more is written; this is
 -- what was printed.
@@ -143,6 +143,8 @@ mode_text mode.Dump classes entries = dump_text classes entries
 mode_text mode.Init classes entries = []
 mode_text mode.Run classes entries = []
 mode_text (mode.Ask asked) classes entries = []
+mode_text mode.Ship classes entries = []
+mode_text mode.Follow classes entries = []
 mode_text (mode.Gen number) classes entries = []
 
 -- The records of a file, and what they are opened to in its format; this is said of them.

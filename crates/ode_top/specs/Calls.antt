@@ -10,7 +10,7 @@ use Rattle.ode_gen.specs.Generating.{gen_limit}
 use Rattle.ode_questions.specs.declared.asked.Asked.TheVariants.{Queries, Comparisons}
 use Rattle.ode_value.specs.Decimal.{digits_of}
 use Rattle.ode_top.specs.declared.call.Mode.{Mode}
-use Rattle.ode_top.specs.declared.call.Mode.TheVariants.{Init, Run, Check, Dump, Ask, Gen}
+use Rattle.ode_top.specs.declared.call.Mode.TheVariants.{Init, Run, Check, Dump, Ask, Ship, Follow, Gen}
 
 -- a name that isn't empty, and doesn't begin with a dash
 abbrev pub is_file : List ℕ → Bool
@@ -24,7 +24,9 @@ mode_named word =
     cond (bytes_eq word (codes "check")) (Some Check) (
     cond (bytes_eq word (codes "dump")) (Some Dump) (
     cond (bytes_eq word (codes "query")) (Some (Ask Queries)) (
-    cond (bytes_eq word (codes "same")) (Some (Ask Comparisons)) None)))))
+    cond (bytes_eq word (codes "same")) (Some (Ask Comparisons)) (
+    cond (bytes_eq word (codes "ship")) (Some Ship) (
+    cond (bytes_eq word (codes "follow")) (Some Follow) None)))))))
 
 -- a number whose digits these are, from 1 to the largest that a script is made from
 abbrev pub number_within : List ℕ → ℕ → Option ℕ
@@ -42,8 +44,8 @@ file_call mode file = cond (is_file file) (option_map (λ m. (m, file)) (mode_na
 abbrev pub gen_call : List ℕ → List ℕ → List ℕ → Option (Mode × List ℕ)
 gen_call mode file number = cond (bytes_eq mode (codes "gen") && is_file file) (option_map (λ n. (Gen n, file)) (script_number number)) None
 
--- the mode and the file of a right list, which is `init FILE`, `run FILE`, `check FILE`, `dump FILE`, `query FILE`, `same FILE` or
--- `gen FILE N`
+-- the mode and the file of a right list, which is `init FILE`, `run FILE`, `check FILE`, `dump FILE`, `query FILE`, `same FILE`,
+-- `ship FILE`, `follow FILE` or `gen FILE N`
 abbrev pub call_of : List (List ℕ) → Option (Mode × List ℕ)
 call_of (mode ∷ file ∷ []) = file_call mode file
 call_of (mode ∷ file ∷ number ∷ []) = gen_call mode file number

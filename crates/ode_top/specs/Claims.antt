@@ -1,22 +1,28 @@
--- What a call of the program claims, each field a claim: of a run where the file holds a world, of one of a number's script there, of
--- one where the file breaks a rule, of `init`, of `check` and `dump`, and of `query` and `same`. The views are the host's at the start and at
--- the end, and so is what is left of the script.
+-- What a call of the program claims, each field a claim: of a run where the file holds a world, of one that ships there, of one of a
+-- number's script there, of one where the file breaks a rule, of `init`, of `check` and `dump`, and of `query` and `same`. The views are the
+-- host's at the start and at the end, and so is what is left of the script.
 use Rattle.std.specs.Prelude.{◌≡◌, ◌≢◌, ℕ, List, Option, Some}
 use Rattle.ode_host.specs.FirstSync.{SyncedRun}
 use Rattle.ode_host.specs.Host.{Spares, Tells}
 use Rattle.ode_host.specs.View.{View}
 use Rattle.ode_host.specs.declared.status.Status.{Status}
 use Rattle.ode_host.specs.declared.status.Status.TheVariants.{Ok, BadFile, DiskFault, WriteFault}
+use Rattle.ode_gate.specs.declared.places.TheConstants.{FORMAT}
+use Rattle.ode_keep.specs.Entries.{Entries}
+use Rattle.ode_keeper.specs.Files.{FileMeans}
 use Rattle.ode_language.specs.Languages.{ode}
 use Rattle.ode_machine.specs.Moments.{IsAfterSome}
 use Rattle.ode_machine.specs.Runs.{trace}
 use Rattle.ode_make.specs.Making.{IsInUse}
+use Rattle.ode_paging.specs.Meaning.{PagesMeanIn}
 use Rattle.ode_questions.specs.declared.asked.Asked.{Asked}
+use Rattle.ode_script.specs.Cutting.{ending_of, pieces}
+use Rattle.ode_trace.specs.Shipping.{ShippedAs}
 use Rattle.ode_trace.specs.Statuses.{IsEnding, IsRunStatus}
 use Rattle.ode_value.specs.Language.{ListWorld}
 use Rattle.ode_top.specs.Answers.{AreAnswered, AreAnsweredInPart, BreaksRule, IsBadFile, IsBadFileCut, IsGenStatus, IsGenerated, IsIdle, IsInitCut, IsInitStatus, IsInspectStatus, IsInspected, IsInspectedCut, IsMachineRun, IsMade, IsNoRun, IsRefused, IsSilent, gen_items}
 use Rattle.ode_top.specs.Holds.{Holds}
-use Rattle.ode_top.specs.Stops.{CutShort, IsCut}
+use Rattle.ode_top.specs.Stops.{CutShort, IsCut, IsCutAt, ShipsSoFar}
 use Rattle.ode_top.specs.declared.call.Mode.{Mode}
 
 -- At the start the script is this one, the disk tells this file, which holds this world, and this was printed.
@@ -39,6 +45,22 @@ pub record RunsWorld (before after : Option (List ℕ)) (old new : View) (result
   -- leaves what it might have left at the start. The sync lies within the run, unless the disk failed.
   pub stops : (script image text : List ℕ) (w : ListWorld) → Finds script image text w before old
       → SyncedRun old new image (result ≡ DiskFault) (IsAfterSome Holds (trace ode w script) w text)
+  -- It ends as the machine does, by a fault, or for want of memory.
+  pub answers : (image : List ℕ) (w : ListWorld) → Tells old image → Holds image w → IsRunStatus result
+
+-- A run that ships, where the file holds a world in these records. One of the first format is migrated first, and has the same records.
+pub record ShipsWorld (before after : Option (List ℕ)) (old new : View) (result : Status) : Type 0 where
+  -- It prints one frame in place of the text of each transaction that the machine settles.
+  pub run : (script image text : List ℕ) (w : ListWorld) (entries : Entries) → Finds script image text w before old → FileMeans image entries → IsEnding result
+      → ShippedAs (PagesMeanIn FORMAT) (trace ode w script) (ending_of (pieces script)) w entries text after new result
+  -- Where the disk, the output or the script fails or memory is short, the file holds the world after some of the settled transactions, and
+  -- what is printed is a front of the frames of some of the first of these.
+  pub cut : (script image text : List ℕ) (w : ListWorld) (entries : Entries) → Finds script image text w before old → FileMeans image entries → IsCut result
+      → IsCutAt (ShipsSoFar (trace ode w script) w entries text) new
+  -- So does a stop at any moment from the first sync on, at which the file is as it was at the start. Before it, a stop leaves what it might
+  -- have left at the start. The sync lies within the run, unless the disk failed.
+  pub stops : (script image text : List ℕ) (w : ListWorld) (entries : Entries) → Finds script image text w before old → FileMeans image entries
+      → SyncedRun old new image (result ≡ DiskFault) (ShipsSoFar (trace ode w script) w entries text)
   -- It ends as the machine does, by a fault, or for want of memory.
   pub answers : (image : List ℕ) (w : ListWorld) → Tells old image → Holds image w → IsRunStatus result
 

@@ -20,6 +20,10 @@ pub enum Mode {
     Dump,
     /// Answers the questions of a script over a file.
     Ask(Asked),
+    /// Runs a script on a file, and ships what it settles.
+    Ship,
+    /// Goes on with a file by the frames that another one ships.
+    Follow,
     /// Makes a script from a number, and runs it on a file.
     Gen(u32),
 }
@@ -55,6 +59,10 @@ fn mode_named(word: &str) -> Option<Mode>
         Some(Mode::Ask(Asked::Queries))
     } else if word == "same" {
         Some(Mode::Ask(Asked::Comparisons))
+    } else if word == "ship" {
+        Some(Mode::Ship)
+    } else if word == "follow" {
+        Some(Mode::Follow)
     } else {
         None
     }
@@ -112,8 +120,8 @@ pub fn call_of(words: &[String]) -> Option<Call<'_>>
     }
 }
 
-/// The name of the file, where the words are a right list: `init FILE`, `run FILE`, `check FILE`, `dump FILE`, `query FILE`, `same FILE` or
-/// `gen FILE N`.
+/// The name of the file, where the words are a right list: `init FILE`, `run FILE`, `check FILE`, `dump FILE`, `query FILE`, `same FILE`,
+/// `ship FILE`, `follow FILE` or `gen FILE N`.
 pub fn file_word(words: &Vec<String>) -> Option<&str>
     ensures { option_copied result ≡ option_map (λ call. call.1) (call_of (bytes_of words.now.items)) }
 {

@@ -2,7 +2,9 @@
 #![tactic(auto)]
 
 mod call;
+mod copying;
 mod opening;
+mod saying;
 mod top;
 
 pub use call::file_word;

@@ -1,18 +1,24 @@
 //! A file is opened for a run, which goes on over pages of the last format.
 ghost use Rattle.std.specs.Prelude.{◌≡◌, List as Items, ℕ, IfErr, IfOk, IsErrOf, IsTrue, OnErr, Some};
 ghost use Rattle.ode_declared_laws.specs.Adding.{AreAligned};
+ghost use Rattle.ode_gate.specs.declared.places.TheConstants.{FORMAT};
 ghost use Rattle.ode_host.specs.Causes.{RoseIf};
 ghost use Rattle.ode_host.specs.FirstSync.{SyncedRun};
 ghost use Rattle.ode_host.specs.Host.{DiskCalls, LeavesOnly, Looks, Tells};
+ghost use Rattle.ode_keep.specs.Entries.{Entries};
+ghost use Rattle.ode_keeper.specs.Files.{FileMeans};
+ghost use Rattle.ode_migrate.specs.Migrating.{LeavesRecords};
 ghost use Rattle.ode_open.specs.Opening.{IsFromOutside, IsRefused};
 ghost use Rattle.ode_pagemap.specs.Holding.{is_live};
+ghost use Rattle.ode_paging.specs.Meaning.{PagesMeanIn};
 ghost use Rattle.ode_schema.specs.Parts.{AreFit};
+ghost use Rattle.ode_transact.specs.Logging.{DiskHas};
 ghost use Rattle.ode_transact.specs.Resting.{resting_parts};
 ghost use Rattle.ode_value.specs.Language.{ListWorld};
 ghost use Rattle.ode_top.specs.Answers.{BreaksRule};
 ghost use Rattle.ode_top.specs.Holds.{Holds, HoldsInPages};
 ghost use Rattle.ode_top.specs.Opening.{HasAreas, IsOver, OpensTo, StandsInFirst, unmoved};
-ghost use Rattle.ode_top.specs.Stops.{StaysHeld};
+ghost use Rattle.ode_top.specs.Stops.{StaysIn};
 
 use ode_file_laws::files_of_worlds_are_opened;
 use ode_host::Host;
@@ -87,8 +93,9 @@ fn open_pages<H: Host>(alloc: Global, host: &mut H) -> Result<Opened<PageMap>, O
 fn open_migrated<H: Host>(alloc: Global, host: &mut H) -> Result<Opened<PageMap>, OpenError>
     ensures opened { IfOk result (λ o. (w : ListWorld) → StandsInFirst w (H.view host.old) → OpensTo w o (H.view host.new)) }
     ensures outside { (w : ListWorld) → StandsInFirst w (H.view host.old) → IfErr result IsFromOutside }
-    ensures any_moment { (w : ListWorld) (text : Items ℕ) → StandsInFirst w (H.view host.old) → (H.view host.old).text ≡ Some text
-        → LeavesOnly (H.view host.old) (H.view host.new) (StaysHeld w text) }
+    ensures disk { IfOk result (λ _. (w : ListWorld) (first : StandsInFirst w (H.view host.old)) → DiskHas (PagesMeanIn FORMAT) first.held.entries (H.view host.new)) }
+    ensures any_moment { (w : ListWorld) (first : StandsInFirst w (H.view host.old))
+        → LeavesOnly (H.view host.old) (H.view host.new) (LeavesRecords first.held.entries (H.view host.old)) }
     ensures live { IfOk result (λ o. IsTrue (is_live o.keeper)) }
     ensures fit { IfOk result (λ o. AreFit (resting_parts o)) }
     ensures aligned { IfOk result (λ o. AreAligned (resting_parts o)) }
@@ -105,15 +112,18 @@ pub(crate) fn open_to_run<H: Host>(
     alloc: Global,
     host: &mut H,
 ) -> Result<Opened<PageMap>, OpenError>
-    // A file that holds a world is opened to it, unless the outside fails; and a stop leaves the world, in one format or the other.
+    // A file that holds a world is opened to it, unless the outside fails; and a stop leaves the world, in one format or the other, and in
+    // the same records.
     ensures opened { IfOk result (λ o. (image : Items ℕ) (w : ListWorld) → Tells (H.view host.old) image → Holds image w
         → OpensTo w o (H.view host.new)) }
+    ensures disk { IfOk result (λ _. (image : Items ℕ) (w : ListWorld) (entries : Entries) → Tells (H.view host.old) image → Holds image w → FileMeans image entries
+        → DiskHas (PagesMeanIn FORMAT) entries (H.view host.new)) }
     ensures outside { (image : Items ℕ) (w : ListWorld) → Tells (H.view host.old) image → Holds image w
         → IfErr result IsFromOutside }
-    ensures stops { (image text : Items ℕ) (w : ListWorld) → Tells (H.view host.old) image → Holds image w → (H.view host.old).text ≡ Some text
-        → SyncedRun (H.view host.old) (H.view host.new) image (IsErrOf result OpenError.DiskFault) (StaysHeld w text) }
-    ensures left { (image text file : Items ℕ) (w : ListWorld) → Tells (H.view host.old) image → Holds image w → (H.view host.old).text ≡ Some text
-        → Tells (H.view host.new) file → Holds file w }
+    ensures stops { (image text : Items ℕ) (w : ListWorld) (entries : Entries) → Tells (H.view host.old) image → Holds image w → FileMeans image entries → (H.view host.old).text ≡ Some text
+        → SyncedRun (H.view host.old) (H.view host.new) image (IsErrOf result OpenError.DiskFault) (StaysIn w entries text) }
+    ensures left { (image text file : Items ℕ) (w : ListWorld) (entries : Entries) → Tells (H.view host.old) image → Holds image w → FileMeans image entries → (H.view host.old).text ≡ Some text
+        → Tells (H.view host.new) file → Holds file w × FileMeans file entries }
 
     // One that breaks a rule is refused, and stays as it was.
     ensures rules { IfOk result (λ _. (image : Items ℕ) → Tells (H.view host.old) image → BreaksRule image → ⊥) }

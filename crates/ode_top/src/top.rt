@@ -6,7 +6,7 @@ ghost use Rattle.ode_declared_laws.specs.Adding.{AreAligned};
 ghost use Rattle.ode_dump.specs.Dumping.{AreRecords};
 ghost use Rattle.ode_host.specs.Causes.{RoseIf};
 ghost use Rattle.ode_gen.specs.Generating.{gen_limit};
-ghost use Rattle.ode_host.specs.Host.{HostCalls, LeavesCut, LeavesOnly, Looks, Prints, Spares, Stands, Tells};
+ghost use Rattle.ode_host.specs.Host.{HostCalls, LeavesCut, LeavesOnly, Looks, Spares, Stands, Tells};
 ghost use Rattle.ode_keep.specs.Entries.{Entries};
 ghost use Rattle.ode_language.specs.Languages.{ode};
 ghost use Rattle.ode_machine.specs.Moments.{IsAfterSome};
@@ -19,53 +19,39 @@ ghost use Rattle.ode_schema.specs.Parts.{AreFit};
 ghost use Rattle.ode_trace.specs.Statuses.{IsEnding, IsRunStatus};
 ghost use Rattle.ode_transact.specs.Resting.{resting_parts};
 ghost use Rattle.ode_value.specs.Language.{ListWorld};
-ghost use Rattle.ode_top.specs.Answers.{AreAnswered, AreAnsweredInPart, Asks, BreaksRule, EndsFor, IsGenStatus, IsGenerated, IsIdle, IsMachineRun, IsSilent, ReadsScript, SaidFront, SaysRecords, counts_line, gen_items, mode_text, usage_line, why_line};
+ghost use Rattle.ode_top.specs.Answers.{AreAnswered, AreAnsweredInPart, Asks, BreaksRule, IsGenStatus, IsGenerated, IsIdle, IsMachineRun, ReadsScript, SaidFront, SaysRecords, counts_line, gen_items, mode_text, usage_line};
 ghost use Rattle.ode_top.specs.Calls.{bytes_of, call_of};
-ghost use Rattle.ode_top.specs.Claims.{Generates, Initialises, Inspects, Questions, RunsNone, RunsWorld};
+ghost use Rattle.ode_top.specs.Claims.{Generates, Initialises, Inspects, Questions, RunsNone, RunsWorld, ShipsWorld};
+ghost use Rattle.ode_top.specs.Following.{FollowsStream};
 ghost use Rattle.ode_top.specs.Holds.{Holds};
 ghost use Rattle.ode_top.specs.Opening.{OpensAsIs, OpensTo};
 ghost use Rattle.ode_top.specs.Stops.{IsCut};
 
 use crate::call::{Mode, call_of};
+use crate::copying::{follow_stream, ship};
 use crate::opening::open_to_run;
-use ode_causes::{cause_line, format_line};
+use crate::saying::{damaged, end_with, refuse};
 use ode_dump::{check_text, dump_text, tallied_records_decode};
 use ode_file_laws::files_of_worlds_are_opened;
 use ode_gen::{TextSource, gen_line, gen_script, generated_scripts_end};
 use ode_good_runs::runs_stay_good;
 use ode_heap::Heap;
-use ode_host::{Failed, Host, Source, Status};
+use ode_host::{Host, Source, Status};
 use ode_keeper::Keeper;
 use ode_language_laws::language_has_sound_rules;
 use ode_make::{InitError, initialise};
 use ode_open::{OpenError, open_base};
 use ode_opened::Opened;
 use ode_pagemap::PageMap;
-use ode_passes::{Cause, OpenError as ReadError};
+use ode_passes::OpenError as ReadError;
 use ode_questions::{Asked, answer_script};
 use ode_start_laws::opened_files_are_at_rest;
 use ode_trace::{Tally, run_quietly, run_script};
-use ode_value::{Key, List};
+use ode_value::List;
 use std::alloc::Global;
 
-const USAGE: &[u8] = b"usage: ode (init|run|check|dump|query|same) FILE | ode gen FILE N\n";
-
-// Prints a line and ends with a status.
-fn end_with<H: Host>(host: &mut H, line: &[u8], status: Status) -> Status
-    requires { status ≢ Status.WriteFault }
-    ensures status { (result ≡ status) ⊎ (result ≡ Status.WriteFault) }
-    ensures prints { Prints line.now (H.view host.old) (H.view host.new) }
-    ensures printed { result ≢ Status.WriteFault → (text : Items ℕ) → (H.view host.old).text ≡ Some text
-        → (H.view host.new).text ≡ Some (text ++ line.now) }
-    ensures cut { result ≡ Status.WriteFault → (text : Items ℕ) → (H.view host.old).text ≡ Some text
-        → SaidFront line.now text (H.view host.new) }
-    ensures cause { RoseIf (result ≡ Status.WriteFault) (H.view host.old).print_faults (H.view host.new).print_faults }
-{
-    match host.print(line) {
-        Ok(()) => status,
-        Err(Failed) => Status::WriteFault,
-    }
-}
+const USAGE: &[u8] =
+    b"usage: ode (init|run|check|dump|query|same|ship|follow) FILE | ode gen FILE N\n";
 
 fn init<H: Host>(host: &mut H) -> Status
     ensures claims { Initialises (H.view host.old) (H.view host.new) result }
@@ -77,18 +63,6 @@ fn init<H: Host>(host: &mut H) -> Status
         Ok(()) => end_with(host, b"ready\n", Status::Ok),
         Err(InitError::FileExists) => end_with(host, b"file exists\n", Status::BadFile),
         Err(InitError::DiskFault) => Status::DiskFault,
-    }
-}
-
-// Says which record was found damaged, where there is memory for it.
-fn damaged<H: Host>(alloc: Global, host: &mut H, key: Key) -> Status
-    ensures status { (result ≡ Status.Memory) ⊎ ((result ≡ Status.BadFile) ⊎ (result ≡ Status.WriteFault)) }
-    ensures spares { Spares (H.view host.old) (H.view host.new) }
-    ensures leaves { HostCalls (result ≡ Status.DiskFault) (result ≡ Status.WriteFault) (H.view host.old) (H.view host.new) }
-{
-    match cause_line(alloc, &Cause::Record(key)) {
-        Ok(text) => end_with(host, text.as_bytes(), Status::BadFile),
-        Err(_) => Status::Memory,
     }
 }
 
@@ -117,32 +91,6 @@ fn run_opened<H: Host, S: Source>(
     match run_script(alloc, script, host, opened) {
         Ok(status) => status,
         Err(key) => damaged(alloc, host, key),
-    }
-}
-
-// Says why a file isn't opened, where there is a line for it, and memory for the line.
-fn refuse<H: Host>(alloc: Global, host: &mut H, why: OpenError) -> Status
-    ensures ends { EndsFor why result }
-    ensures still { IsSilent result → host.new ≡ host.old }
-    ensures prints { (IsSilent result → ⊥) → Prints (why_line why) (H.view host.old) (H.view host.new) }
-    ensures printed { result ≡ Status.BadFile → (text : Items ℕ) → (H.view host.old).text ≡ Some text
-        → (H.view host.new).text ≡ Some (text ++ why_line why) }
-    ensures cut { result ≡ Status.WriteFault → (text : Items ℕ) → (H.view host.old).text ≡ Some text
-        → SaidFront (why_line why) text (H.view host.new) }
-    ensures cause { RoseIf (result ≡ Status.WriteFault) (H.view host.old).print_faults (H.view host.new).print_faults }
-{
-    match why {
-        OpenError::NoDatabase => end_with(host, b"no database\n", Status::BadFile),
-        OpenError::NewerFormat { found } => match format_line(alloc, found) {
-            Ok(text) => end_with(host, text.as_bytes(), Status::BadFile),
-            Err(_) => Status::Memory,
-        },
-        OpenError::BadFile(cause) => match cause_line(alloc, &cause) {
-            Ok(text) => end_with(host, text.as_bytes(), Status::BadFile),
-            Err(_) => Status::Memory,
-        },
-        OpenError::DiskFault => Status::DiskFault,
-        OpenError::Memory => Status::Memory,
     }
 }
 
@@ -322,7 +270,9 @@ fn text_of<H: Host>(
     match mode {
         Mode::Check => check_text(alloc, &mut keeper, host),
         Mode::Dump => dump_text(alloc, &mut keeper, host, &classes),
-        Mode::Init | Mode::Run | Mode::Ask(_) | Mode::Gen(_) => Ok(List::new(alloc)),
+        Mode::Init | Mode::Run | Mode::Ask(_) | Mode::Ship | Mode::Follow | Mode::Gen(_) => Ok(
+            List::new(alloc),
+        ),
     }
 }
 
@@ -353,7 +303,8 @@ fn inspect<H: Host>(alloc: Global, host: &mut H, mode: Mode) -> Status
 
 /// Does what the words ask for: `init FILE` makes a database in the host's file, `run FILE` runs the script on it, `check FILE` counts its
 /// records, `dump FILE` prints them, `query FILE` and `same FILE` answer the questions of the script over it, which are queries and comparisons
-/// of events, and `gen FILE N` runs the script that a number gives, and says what it came to. Wrong words and `init` take no memory.
+/// of events, `ship FILE` runs the script and prints frames of what it changes, `follow FILE` applies the frames that the script is, and
+/// `gen FILE N` runs the script that a number gives, and says what it came to. Wrong words and `init` take no memory.
 pub fn run_ode<H: Host, S: Source>(
     alloc: Global,
     words: &Vec<String>,
@@ -376,6 +327,16 @@ pub fn run_ode<H: Host, S: Source>(
     ensures questions { (asked : Asked) → Asks (Mode.Ask asked) (bytes_of words.now.items)
         → Questions asked (S.left script.old) (S.left script.new) (H.view host.old) (H.view host.new) result }
     ensures unasked { (asked : Asked) → Asks (Mode.Ask asked) (bytes_of words.now.items)
+        → RunsNone (S.left script.old) (S.left script.new) (H.view host.old) (H.view host.new) result }
+    // `ship` runs a script as `run` would, but prints a frame of changes in place of each settled transaction's text, and no refusal.
+    ensures ships { Asks Mode.Ship (bytes_of words.now.items)
+        → ShipsWorld (S.left script.old) (S.left script.new) (H.view host.old) (H.view host.new) result }
+    ensures unshipped { Asks Mode.Ship (bytes_of words.now.items)
+        → RunsNone (S.left script.old) (S.left script.new) (H.view host.old) (H.view host.new) result }
+    // `follow` applies the frames of a stream, up to the first that stops it, and says what it came to.
+    ensures followed { Asks Mode.Follow (bytes_of words.now.items)
+        → FollowsStream (S.left script.old) (S.left script.new) (H.view host.old) (H.view host.new) result }
+    ensures unfollowed { Asks Mode.Follow (bytes_of words.now.items)
         → RunsNone (S.left script.old) (S.left script.new) (H.view host.old) (H.view host.new) result }
     // `gen` runs a number's script as `run` would, but says only what it came to.
     ensures generated { (number : ℕ) → Asks (Mode.Gen number) (bytes_of words.now.items) → Generates number (H.view host.old) (H.view host.new) result }
@@ -402,6 +363,8 @@ pub fn run_ode<H: Host, S: Source>(
             Mode::Check => inspect(alloc, host, Mode::Check),
             Mode::Dump => inspect(alloc, host, Mode::Dump),
             Mode::Ask(asked) => ask(alloc, asked, script, host),
+            Mode::Ship => ship(alloc, script, host),
+            Mode::Follow => follow_stream(alloc, script, host),
             Mode::Gen(number) => generate(alloc, host, number),
         },
         None => end_with(host, USAGE, Status::Usage),

@@ -1,12 +1,11 @@
 use Rattle.std.proofs.Common.{◌∙◌, Err, ap, subst, sym}
-use Rattle.ode_host.proofs.Moments.{looks_on, weaker}
+use Rattle.ode_host.proofs.Moments.{looks_on}
 use Rattle.ode_migrate.specs.Migrating.{LeavesRecords}
 use Rattle.ode_open.proofs.Refusing.{at_ok}
 use Rattle.ode_open.specs.Opening.{IsFromOutside}
-use Rattle.ode_top.proofs.Holding.{first_stays, fit_frame, migrated_holds, pages_stay}
+use Rattle.ode_top.proofs.Holding.{fit_frame, migrated_disk, migrated_holds, pages_stay}
 use Rattle.ode_top.proofs.Reopening.{disk_as, fault_in, fault_moved, looks_behind, moved_in, outside_moved}
 use Rattle.ode_top.specs.Opening.{unmoved}
-use Rattle.ode_top.specs.Stops.{StaysHeld}
 use Rattle.ode_top.proofs.opening.open_migrated.Goals as goal
 
 -- it was migrated
@@ -23,14 +22,21 @@ returns-in-Ok-clause-outside g c w first =
     let to = c.in-Ok.ensures.migrated first.image first.held.entries first.stands first.held.are in
     c.open_pages.ensures.outside to.image w to.stands.tells (migrated_holds w _ first _ to)
 
+pub returns-in-Ok-clause-disk : goal.returns-in-Ok-clause-disk
+returns-in-Ok-clause-disk g c =
+    at_ok c.open_pages.result
+    (λ p opens w first.
+    migrated_disk first.held.entries _ _ c.open_pages.ensures.looks (c.in-Ok.ensures.migrated first.image first.held.entries first.stands first.held.are))
+    c.open_pages.ensures.opened
+
 pub returns-in-Ok-clause-any_moment : goal.returns-in-Ok-clause-any_moment
-returns-in-Ok-clause-any_moment g c w text first said =
+returns-in-Ok-clause-any_moment g c w first =
     let old = g.H.Host.view c.args.host.now in
     let mid = g.H.Host.view c.migrate.new.host in
     let to = c.in-Ok.ensures.migrated first.image first.held.entries first.stands first.held.are in
-    looks_on old mid (g.H.Host.view c.open_pages.new.host) (StaysHeld w text)
-    (weaker old mid (LeavesRecords first.held.entries old) (StaysHeld w text) (first_stays w text old first said) (c.in-Ok.ensures.any_moment first.image first.held.entries first.stands first.held.are))
-    (pages_stay w text to.image mid (migrated_holds w old first mid to) to.stands (c.in-Ok.ensures.leaves.text ∙ said) (g.met.H.Host.text_stands c.migrate.new.host))
+    looks_on old mid (g.H.Host.view c.open_pages.new.host) (LeavesRecords first.held.entries old)
+    (c.in-Ok.ensures.any_moment first.image first.held.entries first.stands first.held.are)
+    (pages_stay first.held.entries old mid to c.in-Ok.ensures.leaves.text (g.met.H.Host.text_stands c.migrate.new.host))
     c.open_pages.ensures.looks
 
 pub returns-in-Ok-clause-leaves : goal.returns-in-Ok-clause-leaves
@@ -44,10 +50,7 @@ returns-in-Err-clause-outside g c w first =
     (λ at is. c.in-Err.ensures.same at (ap Err is) first.image first.held.entries first.stands first.held.are (fit_frame first.held.entries w first.held.world first.first)))
 
 pub returns-in-Err-clause-any_moment : goal.returns-in-Err-clause-any_moment
-returns-in-Err-clause-any_moment g c w text first said =
-    let old = g.H.Host.view c.args.host.now in
-    let mid = g.H.Host.view c.migrate.new.host in
-    weaker old mid (LeavesRecords first.held.entries old) (StaysHeld w text) (first_stays w text old first said) (c.in-Err.ensures.any_moment first.image first.held.entries first.stands first.held.are)
+returns-in-Err-clause-any_moment g c w first = c.in-Err.ensures.any_moment first.image first.held.entries first.stands first.held.are
 
 pub returns-in-Err-clause-leaves : goal.returns-in-Err-clause-leaves
 returns-in-Err-clause-leaves g c =

@@ -2,14 +2,14 @@ use Rattle.ode_host.proofs.Calls.{disk_host, host_calls_on}
 use Rattle.ode_top.proofs.Claiming.{none_absent, none_where}
 use Rattle.ode_top.proofs.Generating.{generates_opened, generates_refused}
 use Rattle.ode_top.proofs.Refusing.{none_refused, refused_leaves, refused_no_read, refused_no_usage}
-use Rattle.ode_top.proofs.Reopening.{other_image}
+use Rattle.ode_top.proofs.Reopening.{left_held, other_image, stops_held}
 use Rattle.ode_top.proofs.Running.{none_broken}
 use Rattle.ode_top.proofs.top.generate.Goals as goal
 
 -- a file that was opened, so it breaks no rule
 pub returns-in-Ok-clause-world : goal.returns-in-Ok-clause-world
 returns-in-Ok-clause-world g c within =
-    generates_opened c.args.number _ _ _ c.open_to_run.ensures.leaves c.open_to_run.ensures.stops c.in-Ok.opened c.in-Ok.ensures.opened (λ is. cc (is, c.in-Ok.is))
+    generates_opened c.args.number _ _ _ c.open_to_run.ensures.leaves (stops_held _ _ _ c.open_to_run.ensures.stops) c.in-Ok.opened c.in-Ok.ensures.opened (λ is. cc (is, c.in-Ok.is))
     _ _ (g.met.H.Host.may_stay c.gen_opened.new.host) c.gen_opened.ensures.leaves.keeps
     c.gen_opened.ensures.ran c.gen_opened.ensures.any_moment (λ w text opens told. c.gen_opened.ensures.answers w text within opens told)
 
@@ -25,8 +25,8 @@ returns-in-Ok-clause-leaves g c =
 -- a file that wasn't opened
 pub returns-in-Err-clause-world : goal.returns-in-Err-clause-world
 returns-in-Err-clause-world g c within =
-    generates_refused c.args.number g.H.Host.view _ _ _ c.in-Err.why c.refuse.result _ c.open_to_run.ensures.leaves c.open_to_run.ensures.stops
-    c.refuse.ensures.ends c.refuse.ensures.still (λ is. cc (is, c.in-Err.is)) c.in-Err.ensures.outside c.open_to_run.ensures.left
+    generates_refused c.args.number g.H.Host.view _ _ _ c.in-Err.why c.refuse.result _ c.open_to_run.ensures.leaves (stops_held _ _ _ c.open_to_run.ensures.stops)
+    c.refuse.ensures.ends c.refuse.ensures.still (λ is. cc (is, c.in-Err.is)) c.in-Err.ensures.outside (left_held _ _ c.open_to_run.ensures.left)
 
 pub returns-in-Err-clause-no_world : goal.returns-in-Err-clause-no_world
 returns-in-Err-clause-no_world g c left =

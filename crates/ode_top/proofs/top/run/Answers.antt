@@ -1,14 +1,14 @@
 use Rattle.ode_host.proofs.Calls.{disk_host, host_calls_on, rose_none}
 use Rattle.ode_top.proofs.Claiming.{none_absent, none_where, world_opened}
 use Rattle.ode_top.proofs.Refusing.{none_refused, refused_leaves, refused_no_read, refused_no_usage, world_refused}
-use Rattle.ode_top.proofs.Reopening.{other_image}
+use Rattle.ode_top.proofs.Reopening.{left_held, other_image, stops_held}
 use Rattle.ode_top.proofs.Running.{none_broken}
 use Rattle.ode_top.proofs.top.run.Goals as goal
 
 -- a file that was opened, so it breaks no rule
 pub returns-in-Ok-clause-world : goal.returns-in-Ok-clause-world
 returns-in-Ok-clause-world g c =
-    world_opened _ _ _ _ c.open_to_run.ensures.leaves c.open_to_run.ensures.stops c.in-Ok.opened c.in-Ok.ensures.opened (λ is. cc (is, c.in-Ok.is))
+    world_opened _ _ _ _ c.open_to_run.ensures.leaves (stops_held _ _ _ c.open_to_run.ensures.stops) c.in-Ok.opened c.in-Ok.ensures.opened (λ is. cc (is, c.in-Ok.is))
     _ _ _ (g.met.H.Host.may_stay c.run_opened.new.host) c.run_opened.ensures.leaves.keeps
     c.run_opened.ensures.ran c.run_opened.ensures.any_moment c.run_opened.ensures.answers
 
@@ -25,7 +25,7 @@ returns-in-Ok-clause-leaves g c =
 pub returns-in-Err-clause-world : goal.returns-in-Err-clause-world
 returns-in-Err-clause-world g c =
     world_refused g.H.Host.view _ _ _ c.in-Err.why c.refuse.result c.refuse.ensures.ends c.refuse.ensures.still _ c.open_to_run.ensures.leaves _
-    c.open_to_run.ensures.stops (λ is. cc (is, c.in-Err.is)) c.in-Err.ensures.outside c.open_to_run.ensures.left
+    (stops_held _ _ _ c.open_to_run.ensures.stops) (λ is. cc (is, c.in-Err.is)) c.in-Err.ensures.outside (left_held _ _ c.open_to_run.ensures.left)
 
 pub returns-in-Err-clause-no_world : goal.returns-in-Err-clause-no_world
 returns-in-Err-clause-no_world g c =

@@ -34,7 +34,19 @@ pub returns-in-Ask-clause-unread : goal.returns-in-Ask-clause-unread
 returns-in-Ask-clause-unread g c unread =
     let file = c.in-Some.call.file.now in
     let words = rw c.in-Some.is at c.call_of.ensures in
-    absurd (unread (inr (c.in-Ask.asked, (file, ap (λ (l : List (String Global)). call_of (bytes_of l)) (sym c.deref.ensures.value) ∙ sym words ∙ ap (λ (m : Mode). Some (m, file)) c.in-Ask.is))))
+    absurd (unread (inr (inr (inr (c.in-Ask.asked, (file, ap (λ (l : List (String Global)). call_of (bytes_of l)) (sym c.deref.ensures.value) ∙ sym words ∙ ap (λ (m : Mode). Some (m, file)) c.in-Ask.is))))))
+
+pub returns-in-Ship-clause-unread : goal.returns-in-Ship-clause-unread
+returns-in-Ship-clause-unread g c unread =
+    let file = c.in-Some.call.file.now in
+    let words = rw c.in-Some.is at c.call_of.ensures in
+    absurd (unread (inr (inl (file, ap (λ (l : List (String Global)). call_of (bytes_of l)) (sym c.deref.ensures.value) ∙ sym words ∙ ap (λ (m : Mode). Some (m, file)) c.in-Ship.is))))
+
+pub returns-in-Follow-clause-unread : goal.returns-in-Follow-clause-unread
+returns-in-Follow-clause-unread g c unread =
+    let file = c.in-Some.call.file.now in
+    let words = rw c.in-Some.is at c.call_of.ensures in
+    absurd (unread (inr (inr (inl (file, ap (λ (l : List (String Global)). call_of (bytes_of l)) (sym c.deref.ensures.value) ∙ sym words ∙ ap (λ (m : Mode). Some (m, file)) c.in-Follow.is)))))
 
 -- the questions were read from the words
 pub returns-in-Ask-clause-questions : goal.returns-in-Ask-clause-questions
