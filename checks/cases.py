@@ -13,7 +13,7 @@ import sys
 import tempfile
 
 CASES = os.path.join(os.path.dirname(os.path.abspath(__file__)), "..", "crates", "ode_cases")
-WORDS = re.compile(r"(init|run|check|dump|query|same) f|gen f [1-9]\d*")
+WORDS = re.compile(r"(init|run|check|dump|query|same|ship|follow) f|gen f [1-9]\d*")
 SCRIPTS = ("run f", "query f", "same f")
 SKIPPED = re.compile(r'//[^\n]*|"(?:\\[^\n]|[^"\\\n])*"?|[{};]')
 

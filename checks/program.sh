@@ -116,7 +116,7 @@ last_frame() {
 }
 
 printf 'class P { int n; };\n' > declare.ode
-usage=$'usage: ode (init|run|check|dump|query|same) FILE | ode gen FILE N\n'
+usage=$'usage: ode (init|run|check|dump|query|same|ship|follow) FILE | ode gen FILE N\n'
 
 # --- a new file
 
@@ -266,6 +266,87 @@ run same asked.db <<< 'same T(): after put && n > 0, after put; same U(): any, a
 said 'comparisons and a refusal' 1 $'differs 1\npoint after put\nsecond yes\nrefused 1 unknown name U\nsame\n'
 is 'questions leave the file as it was' cmp asked.db asked.before
 
+# --- a standby
+
+mkdir shop
+(cd shop && PATH="$folder:$PATH" sh "$examples/standby.sh" > ../text 2> ../errors)
+status=$?
+printed 'example standby' 0 "$examples/standby.out"
+
+# same_records NAME FILE FILE: a dump of the one is that of the other.
+same_records() {
+    run dump "$2" < /dev/null
+    cp text "$2.dump"
+    run dump "$3" < /dev/null
+    printed "$1" 0 "$2.dump"
+}
+same_records 'a run that ships leaves the records that any run leaves' stock.db shop/shop.db
+
+# the first of the frames, which has its length in front, and those behind it
+frames=shop/frames
+length=$((4 + $(number "$frames" 0 4)))
+head -c $((length + 3)) "$frames" > front
+tail -c +$((length + 1)) "$frames" > behind
+
+fresh standby.db
+run follow standby.db < front
+said 'a frame and three bytes of the next' 0 $'followed 1 skipped 0 rest 3\n'
+run follow standby.db < "$frames"
+said 'and then the whole stream' 0 $'followed 22 skipped 1 rest 0\n'
+same_records 'the standby has the records of its primary' stock.db standby.db
+
+fresh other.db
+cp other.db other.before
+run follow other.db < behind
+said 'a stream without its first frame' 1 $'gap 2 1\n'
+run follow other.db < <(zeros 4)
+said 'four bytes that are no length' 1 $'bad frame 0\n'
+is 'the file is as it was' cmp other.db other.before
+run follow other.db < <(head -c "$length" "$frames" && zeros 4 && cat behind)
+said 'a frame, and such bytes behind it' 1 "bad frame $length"$'\n'
+run follow other.db < <(head -c $((length - 1)) "$frames")
+said 'what was before them is applied, and a frame that is not whole is not' 0 "followed 0 skipped 0 rest $((length - 1))"$'\n'
+run follow other.db < behind
+said 'and the rest goes on' 0 $'followed 22 skipped 0 rest 0\n'
+
+# ship and follow, side by side
+fresh primary.db
+fresh piped.db
+./ode ship primary.db < "$examples/alarms.ode" 2> errors | timeout -k 5 60 ./ode follow piped.db > text 2>> errors
+status=$?
+said 'a standby at the end of a pipe' 0 "followed $(grep -c '^tx ' "$examples/alarms.out") skipped 0 rest 0"$'\n'
+same_records 'it has what the example leaves' alarms.db piped.db
+
+# A standby is killed ten times while it follows. It takes the stream from the start each time.
+follow_rounds() {
+    local round pid
+    { cat declare.ode && yes 'pnew P(n = 5);' | head -n 2000; } > long.ode
+    run ship killed_primary.db < long.ode
+    cp text long.frames
+    for round in $(seq 10); do
+        ./ode follow killed_standby.db < long.frames > shown 2> errors &
+        pid=$!
+        sleep "0.$(printf '%03d' $((RANDOM % 100)))"
+        kill -KILL "$pid" 2> kill.errors
+        wait "$pid" 2> kill.errors
+        run check killed_standby.db < /dev/null
+        if [ "$status" -ne 0 ]; then
+            echo "  round $round: status $status"
+            return 1
+        fi
+    done
+    run follow killed_standby.db < long.frames
+    [[ $(cat text) =~ ^followed\ ([0-9]+)\ skipped\ ([0-9]+)\ rest\ 0$ ]] || return 1
+    echo "  ${BASH_REMATCH[2]} of 2001 frames were there behind 10 kills"
+    [ $((BASH_REMATCH[1] + BASH_REMATCH[2])) -eq 2001 ]
+}
+
+fresh killed_primary.db
+fresh killed_standby.db
+is 'a standby that is killed goes on behind its last frame' follow_rounds 2> kill.shell
+same_records 'and has the records of its primary' killed_primary.db killed_standby.db
+rm -f long.ode long.frames
+
 # --- a file that an earlier program made
 
 # the first slot of layout 1: the snapshot at 4,096 has 64 bytes, the journal begins at 4,160 and ends at 33,558,528
@@ -321,7 +402,7 @@ is 'a new file is one of pages' [ "$(number first.db 13 4)" -eq 2 ]
 run run missing.db < "$examples/first.ode"
 said 'a missing file holds no database' 3 $'no database\n'
 is 'a run makes no file' [ ! -e missing.db ]
-for mode in query same; do
+for mode in query same ship follow; do
     run "$mode" missing.db < /dev/null
     said "mode $mode of a missing file" 3 $'no database\n'
     is 'makes none' [ ! -e missing.db ]
@@ -362,7 +443,7 @@ rm -f made.db again.db
 
 # --- wrong words
 
-for words in '' 'run' 'run -x' 'fly f' 'check' 'dump -f' 'gen f' 'gen f 0' 'gen f 01' 'gen f 4001' 'gen -f 1' 'gen f 1 1' 'init' 'init -f' 'init f f' 'run f f' 'run f 1' 'run f -x' 'query' 'query -f' 'query f 1' 'same' 'same f f' 'ask f'; do
+for words in '' 'run' 'run -x' 'fly f' 'check' 'dump -f' 'gen f' 'gen f 0' 'gen f 01' 'gen f 4001' 'gen -f 1' 'gen f 1 1' 'init' 'init -f' 'init f f' 'run f f' 'run f 1' 'run f -x' 'query' 'query -f' 'query f 1' 'same' 'same f f' 'ship' 'ship f 1' 'follow -f' 'follow' 'ask f'; do
     # shellcheck disable=SC2086 # the words are cut at blanks
     run $words < /dev/null
     said "wrong words: ode $words" 2 "$usage"
@@ -382,6 +463,8 @@ run init directory.db < /dev/null
 said 'init on a directory' 4 ''
 run query directory.db < /dev/null
 said 'query on a directory' 4 ''
+run follow directory.db < /dev/null
+said 'follow on a directory' 4 ''
 run init missing/new.db < /dev/null
 said 'init in a directory that is missing' 4 ''
 
@@ -448,6 +531,8 @@ run run source.db < directory.db
 said 'a script that is a directory' 5 ''
 run query source.db < directory.db
 said 'queries that are a directory' 5 ''
+run follow source.db < directory.db
+said 'a stream that is a directory' 5 ''
 is 'the file is as it was where the script failed' cmp source.db source.before
 
 # --- an output that fails
@@ -692,6 +777,12 @@ if command -v strace > strace.path && strace -o trace true 2> errors; then
     is 'it makes one sync and writes nothing but its rows' [ "$(calls)" = 'fdatasync write ' ]
     is 'its file is as it was' cmp traced.db traced.before
 
+    fresh traced_standby.db
+    timeout -k 5 60 strace -o trace -e "$watched" ./ode follow traced_standby.db < "$frames" > text 2> errors
+    status=$?
+    said 'a standby under strace' 0 $'followed 23 skipped 0 rest 0\n'
+    is 'two syncs a frame, and one at the opening' syncs 47
+
     # 4,096 queued actions, of which 2,048 wait at a time, run in as many transactions, each with its two syncs, and in no more.
     fresh queue.db
     cat > queue.ode << 'END'
@@ -802,6 +893,19 @@ blanks 67108865 > long.ode
 run run over.db < long.ode
 said 'a script of a byte more' 9 $'class P\ntx 1 committed\n'
 rm -f long.ode
+
+# The same frames over and over, one byte too many: those that are whole before it are applied.
+cp "$frames" long.frames
+while [ "$(stat -c %s long.frames)" -lt 67108865 ]; do
+    cat long.frames long.frames > longer.frames
+    mv longer.frames long.frames
+done
+truncate -s 67108865 long.frames
+fresh long_standby.db
+run follow long_standby.db < long.frames
+said 'a stream of a byte more' 9 ''
+same_records 'its frames are applied' stock.db long_standby.db
+rm -f long.frames
 
 if [ "$skipped" -gt 0 ]; then echo "$skipped skipped"; fi
 echo "$passed passed, $failed failed"

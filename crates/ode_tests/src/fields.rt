@@ -11,6 +11,7 @@ fn of_engine<K>(engine: &Engine<K>) {
         counted: _,
         live: _,
         alloc: _,
+        log: _,
     } = engine;
 }
 

@@ -5,7 +5,8 @@ use ode_top::file_word;
 use std::alloc::Global;
 use std::process::Abort;
 
-const USAGE: &str = "usage: ode (init|run|check|dump|query|same) FILE | ode gen FILE N\n";
+const USAGE: &str =
+    "usage: ode (init|run|check|dump|query|same|ship|follow) FILE | ode gen FILE N\n";
 
 // Words that a line of a case can't have; each other list of wrong words is a case.
 const WRONG: [&[&str]; 3] = [&["init", ""], &["run", ""], &["run ", "f"]];
@@ -35,7 +36,7 @@ fn names(rt: &impl Abort, alloc: Global, words: &[&str], file: Option<&str>) {
     );
 }
 
-const NAMELESS: [&[&str]; 11] = [
+const NAMELESS: [&[&str]; 13] = [
     &[],
     &["run"],
     &["run", "-x"],
@@ -43,6 +44,8 @@ const NAMELESS: [&[&str]; 11] = [
     &["dump", "-f"],
     &["query"],
     &["same", "-f"],
+    &["ship"],
+    &["follow", "-f"],
     &["gen", "f"],
     &["gen", "f", "0"],
     &["run", "f", "1"],
@@ -56,7 +59,7 @@ fn wrong_words_name_no_file(rt: HostRuntime) {
     }
 }
 
-const NAMED: [&[&str]; 9] = [
+const NAMED: [&[&str]; 11] = [
     &["init", "f"],
     &["run", "f"],
     &["run", "run"],
@@ -64,6 +67,8 @@ const NAMED: [&[&str]; 9] = [
     &["dump", "f"],
     &["query", "f"],
     &["same", "f"],
+    &["ship", "f"],
+    &["follow", "f"],
     &["gen", "f", "4000"],
     &["init", "a b/c-d.db"],
 ];
