@@ -20,7 +20,7 @@ use Rattle.ode_value.specs.Pasts.{Past}
 use Rattle.ode_value.specs.Posting.{collects, dropped_text, has_room, is_listed, with_entry}
 use Rattle.ode_value.specs.Settling.{arises_last, commit, committed, posted, posts_last, posts_last_listed, says, settled, settled_bones}
 use Rattle.ode_value.specs.Texts.{committed_line}
-use Rattle.ode_value.specs.Transactions.{Firing, Tx}
+use Rattle.ode_value.specs.Transactions.{Firing, Tx, looking, queueing}
 use Rattle.ode_value.specs.Worlds.{Object, World}
 use Rattle.ode_value.specs.declared.event.Kind.{Kind}
 use Rattle.ode_value.specs.declared.event.Kind.TheVariants.{TCommit}
@@ -60,9 +60,9 @@ module _ {O A : Type 0} (past : Past O A) where
 
   collects_alike : (f : Firing) → Alike (collects says true f) (collects says true f)
   collects_alike f y x r = by_room (has_room y) (has_room x) (ap (λ (z : Tx O A). has_room z) r.same) where
-    by_room : (b c : Bool) → b ≡ c → Ends (cond b (does (with_entry true f)) (says (dropped_text f)) y) (cond c (does (with_entry true f)) (says (dropped_text f)) x)
-    by_room true true e = (refl, record { same = ap (with_entry true f) r.same; numbered = r.numbered; numbered_too = r.numbered_too })
-    by_room false false e = (refl, record { same = ap (with_line (dropped_text f)) r.same; numbered = r.numbered; numbered_too = r.numbered_too })
+    by_room : (b c : Bool) → b ≡ c → Ends (cond b (does (with_entry true f)) (says (dropped_text f)) (queueing y)) (cond c (does (with_entry true f)) (says (dropped_text f)) (queueing x))
+    by_room true true e = (refl, record { same = ap (λ (z : Tx O A). with_entry true f (queueing z)) r.same; numbered = r.numbered; numbered_too = r.numbered_too })
+    by_room false false e = (refl, record { same = ap (λ (z : Tx O A). with_line (dropped_text f) (queueing z)) r.same; numbered = r.numbered; numbered_too = r.numbered_too })
     by_room true false e = absurd (cc)
     by_room false true e = absurd (cc)
 
@@ -146,9 +146,10 @@ module _ {O A : Type 0} (past : Past O A) where
     posts_alike : (id : ℕ) → Alike (posts_last past place kind id) (posts_last past place kind id)
     unfolding posts_last
     posts_alike id y x r =
-        subst (λ b. Ends (when (is_live id y) (posts_last_listed past place kind id) y) (when b (posts_last_listed past place kind id) x))
+        subst (λ b. Ends (when (is_live id y) (posts_last_listed past place kind id) (looking (id ∷ []) y)) (when b (posts_last_listed past place kind id) (looking (id ∷ []) x)))
         (some_same (object_at y.now.bones id) (object_at x.now.bones id) (kept_same y x r id))
-        (when_alike (is_live id y) (posts_last_listed past place kind id) (listed_last id) y x r)
+        (when_alike (is_live id y) (posts_last_listed past place kind id) (listed_last id) (looking (id ∷ []) y) (looking (id ∷ []) x)
+        (record { same = ap (looking (id ∷ [])) r.same; numbered = r.numbered; numbered_too = r.numbered_too }))
 
     reached_same : {X : Type 0} (p q : Outcome O A X) → Ends p q → IsSame (reached p) (reached q)
     reached_same (Done r y) (Done t x) h = h.1

@@ -21,7 +21,7 @@ use Rattle.ode_value.specs.Objects.{Activation, Histories, Starts, IsWithin}
 use Rattle.ode_value.specs.Pasts.{Kept, Watch, lists}
 use Rattle.ode_value.specs.Posting.{with_deferred, with_entry}
 use Rattle.ode_value.specs.Settling.{settled_world, posted, commit, abort, committed, aborted}
-use Rattle.ode_value.specs.Transactions.{Firing, Origin, begun, touching}
+use Rattle.ode_value.specs.Transactions.{Firing, Origin, begun, touching, footed}
 use Rattle.ode_value.specs.Worlds.{Declared, Object, Bones, kept_at, with_kept, with_object}
 use Rattle.ode_laws.specs.Numbered.{HasNumbers, AreNumbered}
 use Rattle.ode_laws.proofs.Alone.{Keeps}
@@ -310,6 +310,7 @@ pub pasts_keep : Keeps lists Pastings
 pasts_keep = record {
   less = λ n x h. h;
   statement = λ n x h more. again x (with_statement x) h refl refl;
+  foot = λ n x change h. again x (footed change x) h refl refl;
   line = λ n x line h fits. again x (with_line line x) h refl refl;
   keys = λ n x keys h fits. again x (holding keys x) h refl refl;
   touch = λ n x id h. again x (touching id x) h refl refl;
@@ -362,6 +363,7 @@ module _ (place : Place Histories Starts) (plain : IsPlain place) (cs : List Dec
     other_place = place;
     Related = Still cs;
     same = λ y x r. same_self cs y x r.0 r.1;
+    foot = λ y x change r. (ap (footed change) r.0, r.1, record { numbered = r.2.numbered; now = r.2.now });
     line = λ y x line r. (ap (with_line line) r.0, r.1, record { numbered = r.2.numbered; now = r.2.now });
     collect = λ y x f r room. (ap (with_entry true f) r.0, r.1, record { numbered = r.2.numbered; now = r.2.now });
     point = λ y x id kind r. subst (λ z. EndsBy (Still cs) (Still cs) (arises lists place id kind [] z) (arises lists place id kind [] x)) (sym r.0) (point_still x id kind r.1 r.2);

@@ -8,6 +8,7 @@ use Rattle.ode_value.specs.declared.value.Ref.{Ref}
 use Rattle.ode_value.specs.Acts.{Outcome, Done, Aborted, Deed, with_line}
 use Rattle.ode_value.specs.Completing.{completes}
 use Rattle.ode_value.specs.Executing.{commands}
+use Rattle.ode_value.specs.Footprints.{Footprint}
 use Rattle.ode_value.specs.GoodWorlds.{IsPast, IsPosition}
 use Rattle.ode_value.specs.Keeping.{kept_bones}
 use Rattle.ode_value.specs.Language.{Language, ListWorld, ListTx}
@@ -15,7 +16,7 @@ use Rattle.ode_value.specs.Limits.{output_limit, transaction_limit, weight_limit
 use Rattle.ode_value.specs.Objects.{Histories, Starts}
 use Rattle.ode_value.specs.Pasts.{Past, lists}
 use Rattle.ode_value.specs.Settling.{settle}
-use Rattle.ode_value.specs.Transactions.{Script, begun}
+use Rattle.ode_value.specs.Transactions.{Script, begun, footed}
 use Rattle.ode_value.specs.Weights.{weight}
 use Rattle.ode_types.specs.Kept.{IsTypedStatement}
 use Rattle.ode_laws.specs.Counted.{AreCounted}
@@ -128,6 +129,19 @@ module _ (w : ListWorld) (first : IsFirst w) where
       pasts = pasts_keep.line 0 x line going.kept.pasts fits;
     };
     follows = follows_keep.line 0 x line going.follows fits;
+  }
+
+  -- with another footprint
+  pub foot_going : (x : ListTx) → IsGoing x → (change : Footprint → Footprint) → IsGoing (footed change x)
+  foot_going x going change = record {
+    typed = typed_as x (footed change x) going.typed refl refl refl refl;
+    kept = record {
+      classes = going.kept.classes;
+      within = (within_keeps lists w Script).foot 0 x change going.kept.within;
+      counts = (counting_keeps lists).foot 0 x change going.kept.counts;
+      pasts = pasts_keep.foot 0 x change going.kept.pasts;
+    };
+    follows = follows_keep.foot 0 x change going.follows;
   }
 
   -- ---- settling

@@ -316,6 +316,16 @@ module _ (l : Language) (rules : HasSoundRules l) (reads : ReadsWell l) where
   carried_well s fine piece (statement.Simple t) e place =
       simple_well s fine (λ none. more_room s.world (number_outside s (statement.Simple t) none refl place)) t (reads.literals piece t e)
 
+  -- by itself, over a world
+  pub carried_alone : (w : ListWorld) → IsWell l w → w.bones.transaction < number_limit → (piece : List ℕ) (t : Statement) → l.statement_of piece ≡ Ok t → place_of t false ≡ Ok tt
+      → (step : Step) → carried l (closed w) t ≡ Ok step → AllWell step.1
+  carried_alone w h less piece t read outside step is =
+      by_answer (carried l (closed w) t) (carried_well (closed w) (record { world = h; open_tx = tt }) piece t read (record { number = λ spent. less; unit = tt; outside = outside })) is
+    where
+      by_answer : (a : Answer Step) → AnswersWell a → a ≡ Ok step → AllWell step.1
+      by_answer (Ok s) goes e = let same : s ≡ step = cc in subst (λ (q : Step). AllWell q.1) same goes.all
+      by_answer (Err why) goes e = absurd (cc)
+
   -- a change of a class, which takes a number
   change_number : (s : Session) (u : Unit {0}) → placed_change s ≡ Ok u → s.world.bones.transaction < number_limit
   change_number s u e =

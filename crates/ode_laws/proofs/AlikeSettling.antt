@@ -23,7 +23,7 @@ use Rattle.ode_value.specs.Posting.{with_entry, entry_of, waiting, posts, touche
 use Rattle.ode_value.specs.Settling.{Settled, is_independent, entry_in, clock_after, settled_bones, settled_world, ends_with, posted, settled, commit, abort, settle, committed, aborted, transaction}
 use Rattle.ode_value.specs.Tables.{Table}
 use Rattle.ode_value.specs.Texts.{committed_line, aborted_line}
-use Rattle.ode_value.specs.Transactions.{Origin, Queue, Firing, Collected, generation_of, begun}
+use Rattle.ode_value.specs.Transactions.{Origin, Queue, Firing, Collected, generation_of, begun, footed}
 use Rattle.ode_value.specs.Worlds.{Declared, Object, Bones, Entry, kept_at}
 use Rattle.ode_codec.specs.Standing.{HasTables, ArePasts}
 use Rattle.ode_laws.specs.Alike.{NumberWorld, NumberTx, IsAlike, StaysActive, StaysIn, RunsAs, EndsAs, RunAlike, SettledAs}
@@ -138,7 +138,7 @@ module _ (tables : ℕ → ℕ → Table) (cs : List Declared) (mean : AllByRecu
       told cs y x s (with_entry true f y) (with_entry true f x) refl refl refl refl s.origin s.touched s.deferred
       (ap (λ e. e ++ record { entry = entry_of (generation_of y.origin + 1) f; independent = true } ∷ []) s.collected
       ∙ ap (λ g. x.collected ++ record { entry = entry_of (generation_of g + 1) f; independent = true } ∷ []) s.origin)
-      (ap (λ g. g + 1) s.gathered) s.text s.run s.keys
+      (ap (λ g. g + 1) s.gathered) s.text s.run s.keys s.footprint
 
   abbrev settling : (k : Place (Unit {0}) ℕ) (l : Place Histories Starts) → Places tables cs mean k l → Settlings (Unit {0}) ℕ Histories Starts
   settling k l places = record {
@@ -149,7 +149,8 @@ module _ (tables : ℕ → ℕ → Table) (cs : List Declared) (mean : AllByRecu
     other_place = l;
     Related = Last;
     same = λ y x h. h.same;
-    line = λ y x line h. last_again y x h (with_line line y) (with_line line x) refl refl refl refl (told cs y x h.same (with_line line y) (with_line line x) refl refl refl refl h.same.origin h.same.touched h.same.deferred h.same.collected h.same.gathered (ap (λ t. t ++ line) h.same.text) h.same.run h.same.keys);
+    foot = λ y x change h. last_again y x h (footed change y) (footed change x) refl refl refl refl (told cs y x h.same (footed change y) (footed change x) refl refl refl refl h.same.origin h.same.touched h.same.deferred h.same.collected h.same.gathered h.same.text h.same.run h.same.keys (ap change h.same.footprint));
+    line = λ y x line h. last_again y x h (with_line line y) (with_line line x) refl refl refl refl (told cs y x h.same (with_line line y) (with_line line x) refl refl refl refl h.same.origin h.same.touched h.same.deferred h.same.collected h.same.gathered (ap (λ t. t ++ line) h.same.text) h.same.run h.same.keys h.same.footprint);
     collect = λ y x f h room. last_again y x h (with_entry true f y) (with_entry true f x) refl refl refl refl (collect_same y x f h.same);
     point = λ y x id kind h.
         point_held tables cs mean rising v0 w0 Still (λ w id f g u. tt) k l places (λ w p ds o u. tt) y x id kind [] h;
@@ -199,6 +200,7 @@ module _ (tables : ℕ → ℕ → Table) (cs : List Declared) (mean : AllByRecu
           text = h.same.text;
           run = h.same.run;
           keys = h.same.keys;
+          footprint = h.same.footprint;
         };
         pair =
             subst (λ b. Pair tables cs (kept_bones x.now.bones) (filter_map (kept_row (kept_bones b)) y.now.pasts) (filter_map (kept_row (kept_bones x.now.bones)) x.now.pasts)) (sym h.same.bones)
@@ -233,6 +235,7 @@ module _ (tables : ℕ → ℕ → Table) (v0 : NumberWorld) (w0 : ListWorld) (a
       text = r.text;
       run = r.run;
       keys = r.keys;
+      footprint = r.footprint;
     };
     pair = pair_of tables cs y.now x.now (r.classes ∙ ap (λ (w : ListWorld). w.bones.classes) fx) r.now;
     first_y = fy;
@@ -258,6 +261,7 @@ module _ (tables : ℕ → ℕ → Table) (v0 : NumberWorld) (w0 : ListWorld) (a
     text = h.same.text;
     run = h.same.run;
     keys = h.same.keys;
+    footprint = h.same.footprint;
   }
 
   ends_of : {X : Type 0} (p : Outcome (Unit {0}) ℕ X) (q : Outcome Histories Starts X) → EndsBy TheWork TheWork p q → EndsAs tables p q
@@ -287,6 +291,7 @@ module _ (tables : ℕ → ℕ → Table) (v0 : NumberWorld) (w0 : ListWorld) (a
           text = same.text;
           run = same.run;
           keys = same.keys;
+          footprint = same.footprint;
         };
         pair =
             rewound_pair tables cs alike.stands.mean y.first y.now x.first x.now same.first first_classes first_pair pair
@@ -333,6 +338,7 @@ module _ (tables : ℕ → ℕ → Table) (v0 : NumberWorld) (w0 : ListWorld) (a
       text = refl;
       run = refl;
       keys = refl;
+      footprint = refl;
     };
     pair = pair_of tables cs v0 w0 refl alike;
     first_y = refl;

@@ -17,7 +17,7 @@ use Rattle.ode_value.specs.Objects.{Activation, Histories, Starts, new_starts}
 use Rattle.ode_value.specs.Pasts.{Past, Kept, lists, numbers}
 use Rattle.ode_value.specs.Posting.{with_deferred, with_entry, entry_of}
 use Rattle.ode_value.specs.Tables.{Table}
-use Rattle.ode_value.specs.Transactions.{Firing, generation_of, touching}
+use Rattle.ode_value.specs.Transactions.{Firing, generation_of, touching, footed}
 use Rattle.ode_value.specs.Versions.{Version}
 use Rattle.ode_value.specs.Worlds.{Declared, Object, Bones, with_object, kept_at, with_kept}
 use Rattle.ode_codec.specs.Standing.{HasTables}
@@ -132,6 +132,7 @@ module _ (tables : ℕ → ℕ → Table) (classes : List Declared) (mean : AllB
             text = h.same.text;
             run = h.same.run;
             keys = h.same.keys;
+            footprint = h.same.footprint;
           };
           pair = gentle_pair tables classes id (object_after fired_x) (after_gentle fired_x) x.now.bones (numbers_now y.now.bones.classes) (lists_now x.now.bones.classes) pair_now;
           first_y = h.first_y;
@@ -201,6 +202,7 @@ module _ (tables : ℕ → ℕ → Table) (classes : List Declared) (mean : AllB
       text = h.same.text;
       run = h.same.run;
       keys = h.same.keys;
+      footprint = h.same.footprint;
     };
     pair = gentle_pair tables classes id f g x.now.bones y.now.pasts x.now.pasts h.pair;
     first_y = h.first_y;
@@ -225,6 +227,7 @@ module _ (tables : ℕ → ℕ → Table) (classes : List Declared) (mean : AllB
       text = h.same.text;
       run = h.same.run;
       keys = h.same.keys;
+      footprint = h.same.footprint;
     };
     pair =
         subst (λ n. Pair tables classes (new_bones class fields x.now.bones) (y.now.pasts ++ (n, record { own = tt; activations = [] }) ∷ []) (x.now.pasts ++ (x.now.bones.next, record { own = lists.empty; activations = [] }) ∷ []))
@@ -257,6 +260,7 @@ module _ (tables : ℕ → ℕ → Table) (classes : List Declared) (mean : AllB
       text = h.same.text;
       run = h.same.run;
       keys = h.same.keys;
+      footprint = h.same.footprint;
     };
     pair =
         subst (λ n. Pair tables classes (active_bones id t args x.now.bones) (with_kept id (with_past (numbers tables) n) y.now.pasts) (with_kept id (with_past lists x.now.bones.next) x.now.pasts))
@@ -276,7 +280,7 @@ module _ (tables : ℕ → ℕ → Table) (classes : List Declared) (mean : AllB
       told classes y x s (with_entry independent f y) (with_entry independent f x) refl refl refl refl s.origin s.touched s.deferred
       (ap (λ cs. cs ++ record { entry = entry_of (generation_of y.origin + 1) f; independent = independent } ∷ []) s.collected
       ∙ ap (λ g. x.collected ++ record { entry = entry_of (generation_of g + 1) f; independent = independent } ∷ []) s.origin)
-      (ap (λ g. g + 1) s.gathered) s.text s.run s.keys
+      (ap (λ g. g + 1) s.gathered) s.text s.run s.keys s.footprint
 
   abbrev pub work : Sides (Unit {0}) ℕ Histories Starts
   work = record {
@@ -288,11 +292,12 @@ module _ (tables : ℕ → ℕ → Table) (classes : List Declared) (mean : AllB
     Related = λ n. Work;
     same = λ n y x h. h.same;
     less = λ n y x h. h;
-    statement = λ n y x h more. again y x h (with_statement y) (with_statement x) refl refl refl refl (told classes y x h.same (with_statement y) (with_statement x) refl refl refl refl h.same.origin h.same.touched h.same.deferred h.same.collected h.same.gathered h.same.text (ap (λ r. r + 1) h.same.run) h.same.keys);
-    line = λ n y x line h fits. again y x h (with_line line y) (with_line line x) refl refl refl refl (told classes y x h.same (with_line line y) (with_line line x) refl refl refl refl h.same.origin h.same.touched h.same.deferred h.same.collected h.same.gathered (ap (λ t. t ++ line) h.same.text) h.same.run h.same.keys);
-    keys = λ n y x keys h fits. again y x h (holding keys y) (holding keys x) refl refl refl refl (told classes y x h.same (holding keys y) (holding keys x) refl refl refl refl h.same.origin h.same.touched h.same.deferred h.same.collected h.same.gathered h.same.text h.same.run (ap (λ ks. fold with_key ks keys) h.same.keys));
-    touch = λ n y x id h. again y x h (touching id y) (touching id x) refl refl refl refl (told classes y x h.same (touching id y) (touching id x) refl refl refl refl h.same.origin (ap (λ ids. ids ++ id ∷ []) h.same.touched) h.same.deferred h.same.collected h.same.gathered h.same.text h.same.run h.same.keys);
-    defer = λ n y x f h more. again y x h (with_deferred f y) (with_deferred f x) refl refl refl refl (told classes y x h.same (with_deferred f y) (with_deferred f x) refl refl refl refl h.same.origin h.same.touched (ap (λ fs. fs ++ f ∷ []) h.same.deferred) h.same.collected h.same.gathered h.same.text h.same.run h.same.keys);
+    statement = λ n y x h more. again y x h (with_statement y) (with_statement x) refl refl refl refl (told classes y x h.same (with_statement y) (with_statement x) refl refl refl refl h.same.origin h.same.touched h.same.deferred h.same.collected h.same.gathered h.same.text (ap (λ r. r + 1) h.same.run) h.same.keys h.same.footprint);
+    foot = λ n y x change h. again y x h (footed change y) (footed change x) refl refl refl refl (told classes y x h.same (footed change y) (footed change x) refl refl refl refl h.same.origin h.same.touched h.same.deferred h.same.collected h.same.gathered h.same.text h.same.run h.same.keys (ap change h.same.footprint));
+    line = λ n y x line h fits. again y x h (with_line line y) (with_line line x) refl refl refl refl (told classes y x h.same (with_line line y) (with_line line x) refl refl refl refl h.same.origin h.same.touched h.same.deferred h.same.collected h.same.gathered (ap (λ t. t ++ line) h.same.text) h.same.run h.same.keys h.same.footprint);
+    keys = λ n y x keys h fits. again y x h (holding keys y) (holding keys x) refl refl refl refl (told classes y x h.same (holding keys y) (holding keys x) refl refl refl refl h.same.origin h.same.touched h.same.deferred h.same.collected h.same.gathered h.same.text h.same.run (ap (λ ks. fold with_key ks keys) h.same.keys) h.same.footprint);
+    touch = λ n y x id h. again y x h (touching id y) (touching id x) refl refl refl refl (told classes y x h.same (touching id y) (touching id x) refl refl refl refl h.same.origin (ap (λ ids. ids ++ id ∷ []) h.same.touched) h.same.deferred h.same.collected h.same.gathered h.same.text h.same.run h.same.keys h.same.footprint);
+    defer = λ n y x f h more. again y x h (with_deferred f y) (with_deferred f x) refl refl refl refl (told classes y x h.same (with_deferred f y) (with_deferred f x) refl refl refl refl h.same.origin h.same.touched (ap (λ fs. fs ++ f ∷ []) h.same.deferred) h.same.collected h.same.gathered h.same.text h.same.run h.same.keys h.same.footprint);
     collect = λ n y x independent f h room. again y x h (with_entry independent f y) (with_entry independent f x) refl refl refl refl (collect_same y x independent f h.same);
     set = λ n y x r v place value h is small. altered_work r.object (set_in (stamp_in x) v place value) (set_gentle (stamp_in x) v place value) y x h;
     derive = λ n y x r v o h is there more small. altered_work o.id (derived_from (stamp_in x) v) (derived_gentle (stamp_in x) v) y x h;

@@ -16,16 +16,18 @@ use Rattle.ode_value.specs.Limits.{budget_limit, output_limit, change_limit, cas
 use Rattle.ode_value.specs.Making.{derived_from, with_new, with_active}
 use Rattle.ode_value.specs.Pasts.{Past}
 use Rattle.ode_value.specs.Posting.{has_room, with_deferred, with_entry}
-use Rattle.ode_value.specs.Transactions.{Tx, Firing, touching}
+use Rattle.ode_value.specs.Transactions.{Tx, Firing, touching, footed}
 use Rattle.ode_value.specs.Versions.{Version}
 use Rattle.ode_value.specs.Worlds.{Declared, Object}
 use Rattle.ode_laws.proofs.Each.{all-of}
 use Rattle.ode_laws.proofs.Sides.{EndsBy, Sides, altered, turned, stamp_in, set_in, dropped_from, removed, off_in, same_self}
+use Rattle.ode_value.specs.Footprints.{Footprint}
 
 -- What holds, with how many objects may still be touched in the statement that runs, and what keeps it.
 pub record Keeps {O A : Type 0} (past : Past O A) (Holds : ℕ → Tx O A → Type 0) : Type 0 where
   pub less : (n : ℕ) (x : Tx O A) → Holds (suc n) x → Holds n x
   pub statement : (n : ℕ) (x : Tx O A) → Holds n x → nat_lt x.run budget_limit ≡ true → Holds (suc n) (with_statement x)
+  pub foot : (n : ℕ) (x : Tx O A) (change : Footprint → Footprint) → Holds n x → Holds n (footed change x)
   pub line : (n : ℕ) (x : Tx O A) (line : List ℕ) → Holds n x → nat_le (length x.text + length line) output_limit ≡ true → Holds n (with_line line x)
   pub keys : (n : ℕ) (x : Tx O A) (keys : List Key) → Holds n x → nat_le (key_count (holding keys x)) change_limit ≡ true → Holds n (holding keys x)
   pub touch : (n : ℕ) (x : Tx O A) (id : ℕ) → Holds (suc n) x → Holds n (touching id x)
@@ -72,6 +74,7 @@ module _ {O A : Type 0} (past : Past O A) (Holds : ℕ → Tx O A → Type 0) (k
     same = λ n y x r. same_self cs y x r.0 r.1;
     less = λ n y x r. (r.0, r.1, k.less n x r.2);
     statement = λ n y x r more. (ap with_statement r.0, r.1, k.statement n x r.2 more);
+    foot = λ n y x change r. (ap (footed change) r.0, r.1, k.foot n x change r.2);
     line = λ n y x line r fits. (ap (with_line line) r.0, r.1, k.line n x line r.2 fits);
     keys = λ n y x keys r fits. (ap (holding keys) r.0, r.1, k.keys n x keys r.2 fits);
     touch = λ n y x id r. (ap (touching id) r.0, r.1, k.touch n x id r.2);

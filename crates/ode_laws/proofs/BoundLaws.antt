@@ -92,6 +92,7 @@ module _ {O A : Type 0} (past : Past O A) (old : Tx O A) where
       touched = let here : length x.touched + n + old.run ≤ length old.touched + x.run = b.touched in omega arith;
       more = b.more;
     };
+    foot = λ n x change b. record { bounded = record { run = b.bounded.run; text = b.bounded.text; keys = b.bounded.keys; deferred = b.bounded.deferred }; on = record { first = b.on.first; more = b.on.more; text = b.on.text; keys = b.on.keys; gathered = b.on.gathered }; touched = b.touched; more = b.more };
     line = λ n x line b fits. record {
       bounded = record { run = b.bounded.run; text = let here : length x.text + length line ≤ output_limit = leb-true (length x.text + length line) output_limit fits in omega (arith, length-append x.text line); keys = b.bounded.keys; deferred = b.bounded.deferred };
       on = record { first = b.on.first; more = b.on.more ++ line; text = ap (λ t. t ++ line) b.on.text ∙ append_assoc old.text b.on.more line; keys = b.on.keys; gathered = b.on.gathered };

@@ -13,7 +13,7 @@ use Rattle.ode_value.specs.Pasts.{Past}
 use Rattle.ode_value.specs.Posting.{with_entry}
 use Rattle.ode_value.specs.Settling.{ends_with, posted, commit, abort, committed, aborted}
 use Rattle.ode_value.specs.Texts.{committed_line, aborted_line}
-use Rattle.ode_value.specs.Transactions.{Tx, Firing}
+use Rattle.ode_value.specs.Transactions.{Tx, Firing, footed}
 use Rattle.ode_value.specs.Worlds.{Declared, Object}
 use Rattle.ode_laws.specs.Bounds.{Prints}
 use Rattle.ode_laws.proofs.Sides.{EndsBy, same_self}
@@ -48,6 +48,7 @@ module _ {O A : Type 0} (past : Past O A) (place : Place O A) (cs : List Declare
     other_place = place;
     Related = Alone;
     same = λ y x r. same_self cs y x r.0 r.1;
+    foot = λ y x change r. (ap (footed change) r.0, r.1, record { keys = r.2.keys; more = r.2.more; text = r.2.text });
     line = λ y x line r. (ap (with_line line) r.0, r.1, record { keys = r.2.keys; more = r.2.more ++ line; text = ap (λ t. t ++ line) r.2.text ∙ append_assoc old.text r.2.more line });
     collect = λ y x f r room. (ap (with_entry true f) r.0, r.1, record { keys = let here : key_count x < change_limit = room_for_key x room in omega arith; more = r.2.more; text = r.2.text });
     point = λ y x id kind r.

@@ -125,7 +125,7 @@ module _ {K L : Type 0} (Q : Object → K → L → Type 0) where
 -- ---- look-ups after changes
 
 -- a test by a number that is tested itself
-eq_swap : (a b : ℕ) → (a == b) ≡ (b == a)
+pub eq_swap : (a b : ℕ) → (a == b) ≡ (b == a)
 eq_swap a b = by_both (eqb_tells a b) (eqb_tells b a) where
   by_both : ((a == b) ≡ true × (a ≡ b)) ⊎ ((a == b) ≡ false × (a ≢ b)) → ((b == a) ≡ true × (b ≡ a)) ⊎ ((b == a) ≡ false × (b ≢ a)) → (a == b) ≡ (b == a)
   by_both (inl p) (inl q) = p.0 ∙ sym q.0
@@ -133,10 +133,10 @@ eq_swap a b = by_both (eqb_tells a b) (eqb_tells b a) where
   by_both (inl p) (inr q) = absurd (q.1 (sym p.1))
   by_both (inr p) (inl q) = absurd (p.1 (sym q.1))
 
-at_changed : (a n id : ℕ) (c : Bool) → (a == id) ≡ c → (a == n) ≡ true → (n == id) ≡ c
+pub at_changed : (a n id : ℕ) (c : Bool) → (a == id) ≡ c → (a == n) ≡ true → (n == id) ≡ c
 at_changed a n id c p q = ap (λ m. m == id) (sym (eqb-true a n q)) ∙ p
 
-at_other : (a n id : ℕ) → (a == id) ≡ true → (a == n) ≡ false → (n == id) ≡ false
+pub at_other : (a n id : ℕ) → (a == id) ≡ true → (a == n) ≡ false → (n == id) ≡ false
 at_other a n id p q = ap (λ m. n == m) (sym (eqb-true a id p)) ∙ eq_swap n a ∙ q
 
 pub find-with : (n id : ℕ) (f : Object → Object) → ((o : Object) → (f o).id ≡ o.id) → (os : List Object) (o : Object) → object_numbered n os ≡ Some o

@@ -11,19 +11,20 @@ use Rattle.ode_value.specs.declared.statement.Expr.{Expr}
 use Rattle.ode_value.specs.declared.value.Ref.{Ref}
 use Rattle.ode_value.specs.declared.value.Value.{Value}
 use Rattle.ode_value.specs.declared.value.Value.TheVariants as value
-use Rattle.ode_value.specs.Acts.{Outcome, Done, Aborted, Act, Deed, go_on, ◌>>=◌, ◌>>◌, gives, nothing, aborts, needs, does, when, each, reads, sees, found, finds, valued, computes, prints, counts, with_line, with_statement}
-use Rattle.ode_value.specs.Changes.{with_key, key_count, holding, changes, object, class_of, is_live, lives, version}
+use Rattle.ode_value.specs.Acts.{Outcome, Done, Aborted, Act, Deed, go_on, ◌>>=◌, ◌>>◌, gives, nothing, aborts, needs, does, when, each, reads, sees, found, finds, valued, computes, prints, counts, with_line, with_statement, looks}
+use Rattle.ode_value.specs.Changes.{with_key, key_count, holding, changes, object, class_of, is_live, lives, version, Draw, there, asks_live}
 use Rattle.ode_value.specs.Constraints.{judges, tests, tests_hard, tests_version, tests_soft}
 use Rattle.ode_value.specs.Classes.{constraints_of}
 use Rattle.ode_value.specs.Denoting.{object_at, denoted}
-use Rattle.ode_value.specs.Evaluation.{Frame, evaluate, reason_of}
-use Rattle.ode_value.specs.Expressions.{is_true, ref_in, evaluates, holds, evaluates_all, evaluates_sets, stands, reference, receiver}
+use Rattle.ode_value.specs.Evaluation.{Frame, evaluate, reason_of, looks_in}
+use Rattle.ode_value.specs.Expressions.{denoting, is_true, ref_in, evaluates, holds, evaluates_all, evaluates_sets, stands, reference, receiver}
 use Rattle.ode_value.specs.Limits.{budget_limit, output_limit, change_limit, value_limit}
 use Rattle.ode_value.specs.Masks.{plain}
-use Rattle.ode_value.specs.Transactions.{Tx}
+use Rattle.ode_value.specs.Transactions.{Tx, footed, drawing}
 use Rattle.ode_value.specs.Versions.{Version}
 use Rattle.ode_value.specs.Worlds.{Object, Bones}
 use Rattle.ode_laws.proofs.Sides.{EndsBy, Sides}
+use Rattle.ode_value.specs.Footprints.{Footprint, with_looks, with_draw}
 
 -- a test of which the outcome is known
 abbrev tested : {O A : Type 0} → Bool → Reason → Tx O A → Outcome O A (Unit {0})
@@ -153,6 +154,14 @@ module _ {O A P B : Type 0} (s : Sides O A P B) where
   every_alike n f g are [] = done_alike n tt
   every_alike n f g are (r ∷ rs) = next_alike n n n (f r) (g r) (are r) (each f rs) (each g rs) (every_alike n f g are rs)
 
+  -- ---- footprints
+
+  pub foot_alike : (n : ℕ) (change : Footprint → Footprint) → Alike n n (does (footed change)) (does (footed change))
+  foot_alike n change y x r = (refl, s.foot n y x change r)
+
+  pub looks_alike : (n : ℕ) (ids : List ℕ) → Alike n n (looks ids) (looks ids)
+  looks_alike n ids = foot_alike n (with_looks ids)
+
   -- ---- lines, statements and keys
 
   pub prints_alike : (n : ℕ) (line : List ℕ) → Alike n n (prints line) (prints line)
@@ -190,21 +199,34 @@ module _ {O A P B : Type 0} (s : Sides O A P B) where
   fits size keys x = nat_le size value_limit && nat_le (key_count (holding keys x)) change_limit
 
   -- a change is asked for, and what comes behind it knows that it found its number
-  pub changes_ends : {Y : Type 0} (n k : ℕ) (keys : List Key) (size : ℕ) (draws : Bones → Bool) (next : Act O A Y) (other : Act P B Y) (y : Tx O A) (x : Tx P B) → s.Related n y x
-      → (draws x.now.bones ≡ true → nat_le size value_limit ≡ true → s.Related n (holding keys y) (holding keys x) → Ends k (next (holding keys y)) (other (holding keys x)))
-      → Ends k ((changes keys size draws >> next) y) ((changes keys size draws >> other) x)
-  changes_ends n k keys size draws next other y x r rest =
-      tests_by n k (fits size keys y) (fits size keys x) (ap (λ c. nat_le size value_limit && nat_le c change_limit) (count_same n y x keys r)) reason.Size
-      (needs reason.Space (λ z. draws z.now.bones) >> does (holding keys)) (needs reason.Space (λ z. draws z.now.bones) >> does (holding keys)) next other y x r (λ small.
-      tests_by n k (draws y.now.bones) (draws x.now.bones) (ap draws (bones_same n y x r)) reason.Space (does (holding keys)) (does (holding keys)) next other y x r (λ drawn.
-      rest drawn (fits_size (nat_le size value_limit) (nat_le (key_count (holding keys x)) change_limit) small) (s.keys n y x keys r (fits_limit (nat_le size value_limit) (nat_le (key_count (holding keys x)) change_limit) small))))
+  pub changes_ends : {Y : Type 0} (n k : ℕ) (keys : List Key) (size : ℕ) (draw : Draw) (next : Act O A Y) (other : Act P B Y) (y : Tx O A) (x : Tx P B) → s.Related n y x
+      → (draw.left x.now.bones ≡ true → nat_le size value_limit ≡ true → s.Related n (holding keys (drawing draw.number y)) (holding keys (drawing draw.number x))
+      → Ends k (next (holding keys (drawing draw.number y))) (other (holding keys (drawing draw.number x))))
+      → Ends k ((changes keys size draw >> next) y) ((changes keys size draw >> other) x)
+  changes_ends n k keys size draw next other y x r rest =
+      tests_by n k (fits size keys y) (fits size keys x) (ap (λ c. nat_le size value_limit && nat_le c change_limit) (count_same n y x keys r)) reason.Size spaced spaced next other y x r (λ small.
+      tests_by n k (draw.left y.now.bones) (draw.left x.now.bones) (ap draw.left (bones_same n y x r)) reason.Space (does (holding keys)) (does (holding keys)) next other (drawing draw.number y) (drawing draw.number x) drawn (λ left.
+      rest left (fits_size (nat_le size value_limit) (nat_le (key_count (holding keys x)) change_limit) small)
+      (s.keys n (drawing draw.number y) (drawing draw.number x) keys drawn (fits_limit (nat_le size value_limit) (nat_le (key_count (holding keys x)) change_limit) small))))
+    where
+      spaced : {O A : Type 0} → Deed O A
+      spaced = does (drawing draw.number) >> (needs reason.Space (λ z. draw.left z.now.bones) >> does (holding keys))
 
-  pub changes_alike : (n : ℕ) (keys : List Key) (size : ℕ) (draws : Bones → Bool) → Alike n n (changes keys size draws) (changes keys size draws)
-  changes_alike n keys size draws y x r =
-      needs_ends n n reason.Size (fits size keys) (fits size keys) (needs reason.Space (λ z. draws z.now.bones) >> does (holding keys)) (needs reason.Space (λ z. draws z.now.bones) >> does (holding keys)) y x r
+      drawn : s.Related n (drawing draw.number y) (drawing draw.number x)
+      drawn = s.foot n y x (with_draw draw.number) r
+
+  pub changes_alike : (n : ℕ) (keys : List Key) (size : ℕ) (draw : Draw) → Alike n n (changes keys size draw) (changes keys size draw)
+  changes_alike n keys size draw y x r =
+      needs_ends n n reason.Size (fits size keys) (fits size keys) spaced spaced y x r
       (ap (λ c. nat_le size value_limit && nat_le c change_limit) (count_same n y x keys r)) (λ small.
-      needs_ends n n reason.Space (λ z. draws z.now.bones) (λ z. draws z.now.bones) (does (holding keys)) (does (holding keys)) y x r (ap draws (bones_same n y x r)) (λ drawn.
-      (refl, s.keys n y x keys r (fits_limit (nat_le size value_limit) (nat_le (key_count (holding keys x)) change_limit) small))))
+      needs_ends n n reason.Space (λ z. draw.left z.now.bones) (λ z. draw.left z.now.bones) (does (holding keys)) (does (holding keys)) (drawing draw.number y) (drawing draw.number x) drawn (ap draw.left (bones_same n y x r)) (λ left.
+      (refl, s.keys n (drawing draw.number y) (drawing draw.number x) keys drawn (fits_limit (nat_le size value_limit) (nat_le (key_count (holding keys x)) change_limit) small))))
+    where
+      spaced : {O A : Type 0} → Deed O A
+      spaced = does (drawing draw.number) >> (needs reason.Space (λ z. draw.left z.now.bones) >> does (holding keys))
+
+      drawn : s.Related n (drawing draw.number y) (drawing draw.number x)
+      drawn = s.foot n y x (with_draw draw.number) r
 
   -- ---- what reads the bones alone
 
@@ -230,11 +252,29 @@ module _ {O A P B : Type 0} (s : Sides O A P B) where
   pub version_alike : (n : ℕ) (r : Ref) → Alike n n (version r) (version r)
   version_alike n r = computes_alike n (λ b. denoted b r)
 
+  live_same : (n id : ℕ) (y : Tx O A) (x : Tx P B) → s.Related n y x → is_live id y ≡ is_live id x
+  live_same n id y x r = ap (λ b. is_some (object_at b id)) (bones_same n y x r)
+
+  pub there_alike : (n id : ℕ) → Alike n n (there id) (there id)
+  there_alike n id = needs_alike n (reason.NoObject id) (is_live id) (is_live id) (live_same n id)
+
   pub lives_alike : (n id : ℕ) → Alike n n (lives id) (lives id)
-  lives_alike n id = needs_alike n (reason.NoObject id) (is_live id) (is_live id) (λ y x r. ap (λ b. is_some (object_at b id)) (bones_same n y x r))
+  lives_alike n id = next_alike n n n (looks (id ∷ [])) (looks (id ∷ [])) (looks_alike n (id ∷ [])) (there id) (there id) (there_alike n id)
+
+  pub asks_alike : (n id : ℕ) → Alike n n (asks_live id) (asks_live id)
+  asks_alike n id =
+      next_alike n n n (looks (id ∷ [])) (looks (id ∷ [])) (looks_alike n (id ∷ [])) (reads (is_live id)) (reads (is_live id)) (λ y x r. (live_same n id y x r, r))
 
   pub evaluates_alike : (n : ℕ) (e : Expr) (frame : Frame) → Alike n n (evaluates e frame) (evaluates e frame)
-  evaluates_alike n e frame = computes_alike n (λ b. evaluate e b frame)
+  evaluates_alike n e frame =
+      sees_alike n n (λ b. looks_in e b frame) seen seen (λ ids.
+      next_alike n n n (looks ids) (looks ids) (looks_alike n ids) value value (computes_alike n (λ b. evaluate e b frame)))
+    where
+      value : {O A : Type 0} → Act O A Value
+      value = computes (λ b. evaluate e b frame)
+
+      seen : {O A : Type 0} → List ℕ → Act O A Value
+      seen ids = looks ids >> value
 
   pub holds_alike : (n : ℕ) (e : Expr) (frame : Frame) → Alike n n (holds e frame) (holds e frame)
   holds_alike n e frame = then_alike n n n (evaluates e frame) (evaluates e frame) (evaluates_alike n e frame) (λ v. gives (is_true v)) (λ v. gives (is_true v)) (λ v. done_alike n (is_true v))
@@ -253,7 +293,9 @@ module _ {O A P B : Type 0} (s : Sides O A P B) where
       then_alike n n n (evaluates_sets es frame) (evaluates_sets es frame) (sets_alike n es frame) (λ vs. gives ((e.0, v) ∷ vs)) (λ vs. gives ((e.0, v) ∷ vs)) (λ vs. done_alike n ((e.0, v) ∷ vs)))
 
   pub stands_alike : (n : ℕ) (r : Ref) → Alike n n (stands r) (stands r)
-  stands_alike n r = then_alike n n n (version r) (version r) (version_alike n r) (λ _. nothing) (λ _. nothing) (λ _. done_alike n tt)
+  stands_alike n r =
+      next_alike n n n (looks (r.object ∷ [])) (looks (r.object ∷ [])) (looks_alike n (r.object ∷ [])) (denoting r) (denoting r)
+      (then_alike n n n (version r) (version r) (version_alike n r) (λ _. nothing) (λ _. nothing) (λ _. done_alike n tt))
 
   pub reference_alike : (n : ℕ) (e : Expr) (frame : Frame) → Alike n n (reference e frame) (reference e frame)
   reference_alike n e frame =

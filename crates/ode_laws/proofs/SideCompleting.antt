@@ -1,10 +1,10 @@
 -- Two machines side by side: completion, and the work of entries.
-use Rattle.std.proofs.Common.{◌≡◌, ℕ, zero, suc, ◌+◌, [], length, Option, Some, None, ap, ◌∙◌}
+use Rattle.std.proofs.Common.{◌≡◌, ℕ, zero, suc, ◌+◌, [], length, Option, Some, None, ap, ◌∙◌, List}
 use Rattle.std.specs.Prelude.{◌-◌, nat_le, is_some, slice_get}
 use Rattle.ode_value.specs.declared.event.Kind.TheVariants.{TComplete}
 use Rattle.ode_value.specs.declared.reason.Reason.TheVariants.{Space}
-use Rattle.ode_value.specs.Acts.{Deed, nothing, when, each}
-use Rattle.ode_value.specs.Changes.{is_live}
+use Rattle.ode_value.specs.Acts.{Deed, ◌>>◌, nothing, when, each, looks}
+use Rattle.ode_value.specs.Changes.{is_live, asks_live}
 use Rattle.ode_value.specs.Classes.{trigger_at}
 use Rattle.ode_value.specs.Completing.{rounds, tests_object, tests_touched, tests_all, weighs, posts_tcomplete, round, goes_round, completes}
 use Rattle.ode_value.specs.Denoting.{object_at}
@@ -17,7 +17,7 @@ use Rattle.ode_value.specs.Transactions.{Tx, Firing}
 use Rattle.ode_value.specs.Weights.{weight}
 use Rattle.ode_value.specs.Worlds.{Object, Entry}
 use Rattle.ode_laws.proofs.Sides.{Sides}
-use Rattle.ode_laws.proofs.SideActs.{Alike, next_alike, less_alike, done_alike, reads_alike, sees_alike, finds_alike, needs_alike, cond_alike, when_alike, every_alike, soft_alike}
+use Rattle.ode_laws.proofs.SideActs.{Alike, next_alike, less_alike, done_alike, reads_alike, sees_alike, finds_alike, needs_alike, cond_alike, when_alike, every_alike, soft_alike, then_alike, looks_alike, asks_alike}
 use Rattle.ode_laws.proofs.SidePosting.{posts_alike, touches_alike, runs_alike}
 use Rattle.ode_laws.proofs.SideStatements.{first_alike}
 
@@ -29,8 +29,12 @@ module _ {O A P B : Type 0} (s : Sides O A P B) where
   pub tests_alike : (n : ℕ) → Alike s n n tests_all tests_all
   unfolding tests_all
   tests_alike n =
-      reads_alike s n n (λ x. x.touched) (λ x. x.touched) (λ y x r. (s.same n y x r).touched) (each tests_touched) (each tests_touched) (λ touched.
-      every_alike s n tests_touched tests_touched (λ id. sees_alike s n n (λ b. object_at b id) tests_object tests_object (λ o. object_tests n o)) touched)
+      reads_alike s n n (λ x. x.touched) (λ x. x.touched) (λ y x r. (s.same n y x r).touched) looked looked (λ touched.
+      next_alike s n n n (looks touched) (looks touched) (looks_alike s n touched) (each tests_touched touched) (each tests_touched touched)
+      (every_alike s n tests_touched tests_touched (λ id. sees_alike s n n (λ b. object_at b id) tests_object tests_object (λ o. object_tests n o)) touched))
+    where
+      looked : {O A : Type 0} → List ℕ → Deed O A
+      looked touched = looks touched >> each tests_touched touched
 
   pub weighs_alike : (n : ℕ) → Alike s n n weighs weighs
   unfolding weighs
@@ -44,7 +48,7 @@ module _ {O A P B : Type 0} (s : Sides O A P B) where
   pub tcomplete_alike : (n id : ℕ) → Alike s n n (posts_tcomplete s.past id) (posts_tcomplete s.other id)
   unfolding posts_tcomplete
   tcomplete_alike n id =
-      reads_alike s n n (is_live id) (is_live id) (live_same n id)
+      then_alike s n n n (asks_live id) (asks_live id) (asks_alike s n id)
       (λ live. when live (posts s.past (first_actions s.past) id TComplete [])) (λ live. when live (posts s.other (first_actions s.other) id TComplete [])) (λ live.
       when_alike s n live (posts s.past (first_actions s.past) id TComplete []) (posts s.other (first_actions s.other) id TComplete [])
       (posts_alike s n (first_actions s.past) (first_actions s.other) (first_alike s) id TComplete []))

@@ -11,25 +11,26 @@ use Rattle.ode_value.specs.declared.reason.Reason.TheVariants as reason
 use Rattle.ode_value.specs.declared.statement.Stmt.{Stmt}
 use Rattle.ode_value.specs.declared.value.Ref.{Ref}
 use Rattle.ode_value.specs.declared.value.Value.{Value}
-use Rattle.ode_value.specs.Acts.{Outcome, Done, Aborted, Act, Deed, ◌>>=◌, ◌>>◌, gives, nothing, needs, does, when, each, reads, sees, turns, prints}
-use Rattle.ode_value.specs.Changes.{holding, activation_keys, has_number, draws_none, changes, object, version, lives, alters_object, version_keys}
+use Rattle.ode_value.specs.Acts.{Outcome, Done, Aborted, Act, Deed, ◌>>=◌, ◌>>◌, gives, nothing, needs, does, when, each, reads, sees, turns, prints, looks}
+use Rattle.ode_value.specs.Changes.{holding, activation_keys, draws_none, changes, object, version, lives, alters_object, version_keys, draws_number, draws_version}
 use Rattle.ode_value.specs.Classes.{Trigger, lists_kind}
 use Rattle.ode_value.specs.Denoting.{object_at, denoted}
 use Rattle.ode_value.specs.Evaluation.{Frame}
 use Rattle.ode_value.specs.Firings.{arises, both_lists}
 use Rattle.ode_value.specs.Keys.{object_key, version_key, activation_key}
 use Rattle.ode_value.specs.Lengths.{values_length, version_size}
-use Rattle.ode_value.specs.Limits.{cascade_limit, change_limit, generation_limit, queue_limit, number_limit, args_limit, version_limit}
-use Rattle.ode_value.specs.Making.{stamp_now, with_new, with_active, derived_from, next_version, pinned, sets_field, derives, spares, drops, removes, switches_off, makes, switches_on}
+use Rattle.ode_value.specs.Limits.{cascade_limit, change_limit, generation_limit, queue_limit, number_limit, args_limit}
+use Rattle.ode_value.specs.Making.{stamp_now, with_new, with_active, derived_from, next_version, pinned, sets_field, derives, spares, drops, removes, switches_off, makes, switches_on, sets_own}
 use Rattle.ode_value.specs.Objects.{Activation}
 use Rattle.ode_value.specs.Pasts.{Past}
 use Rattle.ode_value.specs.Posting.{Body, frame_of, fired_text, dropped_text, waiting, enters, runs, with_deferred, defers, has_room, with_entry, collects, by_mode, treats, is_listed, is_touched, joins, posts_listed, posts, touches_first, touches}
 use Rattle.ode_value.specs.Texts.{new_line, version_line, active_line}
-use Rattle.ode_value.specs.Transactions.{Tx, Firing, Origin, generation_of, touching}
+use Rattle.ode_value.specs.Transactions.{Tx, Firing, Origin, generation_of, touching, drawing, queueing}
 use Rattle.ode_value.specs.Versions.{Version}
 use Rattle.ode_value.specs.Worlds.{Declared, Object, Bones}
 use Rattle.ode_laws.proofs.Sides.{EndsBy, Same, Sides, altered, turned, stamp_in, set_in, dropped_from, removed, off_in}
-use Rattle.ode_laws.proofs.SideActs.{Ends, Alike, lower, then_alike, next_alike, less_alike, done_alike, aborts_alike, reads_alike, sees_ends, sees_alike, finds_ends, computes_ends, needs_ends, needs_alike, cond_alike, when_alike, every_alike, prints_alike, changes_ends, changes_alike, object_alike, version_alike, lives_alike}
+use Rattle.ode_laws.proofs.SideActs.{Ends, Alike, lower, then_alike, next_alike, less_alike, done_alike, aborts_alike, reads_alike, sees_ends, sees_alike, finds_ends, computes_ends, needs_ends, needs_alike, cond_alike, when_alike, every_alike, prints_alike, changes_ends, changes_alike, object_alike, version_alike, lives_alike, looks_alike}
+use Rattle.ode_value.specs.Footprints.{with_queue}
 
 abbrev room_in : Origin → ℕ → ℕ → Bones → ℕ → Bool
 room_in origin keys gathered first collected =
@@ -72,12 +73,16 @@ module _ {O A P B : Type 0} (s : Sides O A P B) where
       set_to : {O A : Type 0} → Version → Deed O A
       set_to v = sees stamp_now >>= stamped v
 
+  pub own_alike : (n : ℕ) (r : Ref) (place : ℕ) (value : Value) → Alike s n n (sets_own r place value) (sets_own r place value)
+  own_alike n r place value =
+      next_alike s n n n (looks (r.object ∷ [])) (looks (r.object ∷ [])) (looks_alike s n (r.object ∷ [])) (sets_field r place value) (sets_field r place value) (field_alike n r place value)
+
   pub derives_alike : (n : ℕ) (r : Ref) → Alike s n n (derives r) (derives r)
   derives_alike n r y x h =
       computes_ends s n n (λ b. denoted b r) derived derived y x h (λ v is.
       finds_ends s n n (λ b. object_at b r.object) (copied v) (copied v) y x h (λ o there.
       sees_ends s n n stamp_now (stamped v o) (stamped v o) y x h
-      (changes_ends s n n (keys_of o) (version_size (stamp_in x) v.fields) (λ b. nat_lt o.last version_limit) (put v o (stamp_in x)) (put v o (stamp_in x)) y x h (λ drawn small held.
+      (changes_ends s n n (keys_of o) (version_size (stamp_in x) v.fields) (draws_version o) (put v o (stamp_in x)) (put v o (stamp_in x)) y x h (λ drawn small held.
       next_alike s n n n (prints (version_line (next_version o))) (prints (version_line (next_version o))) (prints_alike s n (version_line (next_version o)))
       (gives (next_version o)) (gives (next_version o)) (done_alike s n (next_version o))
       (altered o.id (derived_from (stamp_in x) v) (holding (keys_of o) y)) (altered o.id (derived_from (stamp_in x) v) (holding (keys_of o) x))
@@ -90,7 +95,7 @@ module _ {O A P B : Type 0} (s : Sides O A P B) where
       put v o stamp = alters_object o.id (derived_from stamp v) >> (prints (version_line (next_version o)) >> gives (next_version o))
 
       stamped : {O A : Type 0} → Version → Object → ℕ → Act O A Ref
-      stamped v o stamp = changes (keys_of o) (version_size stamp v.fields) (λ b. nat_lt o.last version_limit) >> put v o stamp
+      stamped v o stamp = changes (keys_of o) (version_size stamp v.fields) (draws_version o) >> put v o stamp
 
       copied : {O A : Type 0} → Version → Object → Act O A Ref
       copied v o = sees stamp_now >>= stamped v o
@@ -149,20 +154,24 @@ module _ {O A P B : Type 0} (s : Sides O A P B) where
   makes_alike n class fields =
       sees_alike s (suc n) n (λ b. b.next) (making s.past) (making s.other) (λ id y x h.
       sees_ends s (suc n) n stamp_now (stamped s.past id) (stamped s.other id) y x h
-      (changes_ends s (suc n) n (keys_of id) (version_size (stamp_in x) fields) has_number (put s.past id) (put s.other id) y x h (λ drawn small held.
-      next_alike s n n n (prints (new_line id)) (prints (new_line id)) (prints_alike s n (new_line id)) (gives id) (gives id) (done_alike s n id)
-      (touching id (turned (with_new s.past class fields) (holding (keys_of id) y))) (touching id (turned (with_new s.other class fields) (holding (keys_of id) x)))
-      (s.touch n (turned (with_new s.past class fields) (holding (keys_of id) y)) (turned (with_new s.other class fields) (holding (keys_of id) x)) id
-      (s.new (suc n) (holding (keys_of id) y) (holding (keys_of id) x) class fields held drawn small)))))
+      (changes_ends s (suc n) n (keys_of id) (version_size (stamp_in x) fields) draws_number (put s.past id) (put s.other id) y x h (λ drawn small held.
+      next_alike s n n n (looks (id ∷ [])) (looks (id ∷ [])) (looks_alike s n (id ∷ [])) (told id) (told id)
+      (next_alike s n n n (prints (new_line id)) (prints (new_line id)) (prints_alike s n (new_line id)) (gives id) (gives id) (done_alike s n id))
+      (touching id (turned (with_new s.past class fields) (holding (keys_of id) (drawing true y)))) (touching id (turned (with_new s.other class fields) (holding (keys_of id) (drawing true x))))
+      (s.touch n (turned (with_new s.past class fields) (holding (keys_of id) (drawing true y))) (turned (with_new s.other class fields) (holding (keys_of id) (drawing true x))) id
+      (s.new (suc n) (holding (keys_of id) (drawing true y)) (holding (keys_of id) (drawing true x)) class fields held drawn small)))))
     where
       keys_of : ℕ → List Key
       keys_of id = object_key id ∷ version_key id 1 ∷ []
 
+      told : {O A : Type 0} → ℕ → Act O A ℕ
+      told id = prints (new_line id) >> gives id
+
       put : {O A : Type 0} → Past O A → ℕ → Act O A ℕ
-      put past id = turns (with_new past class fields) >> (does (touching id) >> (prints (new_line id) >> gives id))
+      put past id = turns (with_new past class fields) >> (does (touching id) >> (looks (id ∷ []) >> told id))
 
       stamped : {O A : Type 0} → Past O A → ℕ → ℕ → Act O A ℕ
-      stamped past id stamp = changes (keys_of id) (version_size stamp fields) has_number >> put past id
+      stamped past id stamp = changes (keys_of id) (version_size stamp fields) draws_number >> put past id
 
       making : {O A : Type 0} → Past O A → ℕ → Act O A ℕ
       making past id = sees stamp_now >>= stamped past id
@@ -172,16 +181,16 @@ module _ {O A P B : Type 0} (s : Sides O A P B) where
   switches_on_alike n id t args known =
       sees_alike s n n (λ b. b.next) (switching s.past) (switching s.other) (λ number y x h.
       needs_ends s n n reason.Size (λ z. nat_le (values_length args) args_limit) (λ z. nat_le (values_length args) args_limit) (changed s.past number) (changed s.other number) y x h refl (λ short.
-      changes_ends s n n (activation_key id number ∷ []) 0 has_number (put s.past number) (put s.other number) y x h (λ drawn small held.
+      changes_ends s n n (activation_key id number ∷ []) 0 draws_number (put s.past number) (put s.other number) y x h (λ drawn small held.
       next_alike s n n n (prints (active_line number)) (prints (active_line number)) (prints_alike s n (active_line number)) (gives number) (gives number) (done_alike s n number)
-      (turned (with_active s.past id t args) (holding (activation_key id number ∷ []) y)) (turned (with_active s.other id t args) (holding (activation_key id number ∷ []) x))
-      (s.active n (holding (activation_key id number ∷ []) y) (holding (activation_key id number ∷ []) x) id t args held drawn short known))))
+      (turned (with_active s.past id t args) (holding (activation_key id number ∷ []) (drawing true y))) (turned (with_active s.other id t args) (holding (activation_key id number ∷ []) (drawing true x)))
+      (s.active n (holding (activation_key id number ∷ []) (drawing true y)) (holding (activation_key id number ∷ []) (drawing true x)) id t args held drawn short known))))
     where
       put : {O A : Type 0} → Past O A → ℕ → Act O A ℕ
       put past number = turns (with_active past id t args) >> (prints (active_line number) >> gives number)
 
       changed : {O A : Type 0} → Past O A → ℕ → Act O A ℕ
-      changed past number = changes (activation_key id number ∷ []) 0 has_number >> put past number
+      changed past number = changes (activation_key id number ∷ []) 0 draws_number >> put past number
 
       switching : {O A : Type 0} → Past O A → ℕ → Act O A ℕ
       switching past number = needs reason.Size (λ z. nat_le (values_length args) args_limit) >> changed past number
@@ -221,10 +230,13 @@ module _ {O A P B : Type 0} (s : Sides O A P B) where
 
   pub collects_alike : (n : ℕ) (independent : Bool) (f : Firing) → Alike s n n (collects prints independent f) (collects prints independent f)
   collects_alike n independent f y x r = by_room (has_room y) (has_room x) (room_same n y x r) refl where
+    queued : s.Related n (queueing y) (queueing x)
+    queued = s.foot n y x with_queue r
+
     by_room : (b c : Bool) → b ≡ c → has_room x ≡ c
-        → Ends s n (cond b (does (with_entry independent f)) (prints (dropped_text f)) y) (cond c (does (with_entry independent f)) (prints (dropped_text f)) x)
-    by_room true true e room = (refl, s.collect n y x independent f r room)
-    by_room false false e room = prints_alike s n (dropped_text f) y x r
+        → Ends s n (cond b (does (with_entry independent f)) (prints (dropped_text f)) (queueing y)) (cond c (does (with_entry independent f)) (prints (dropped_text f)) (queueing x))
+    by_room true true e room = (refl, s.collect n (queueing y) (queueing x) independent f queued room)
+    by_room false false e room = prints_alike s n (dropped_text f) (queueing y) (queueing x) queued
     by_room true false e room = absurd (cc)
     by_room false true e room = absurd (cc)
 

@@ -11,10 +11,11 @@ use Rattle.ode_value.specs.Firings.{Place, arises}
 use Rattle.ode_value.specs.Pasts.{Past}
 use Rattle.ode_value.specs.Posting.{has_room, with_entry, collects, dropped_text, is_listed}
 use Rattle.ode_value.specs.Settling.{says, arises_last, posts_last_listed, posts_last, posted}
-use Rattle.ode_value.specs.Transactions.{Tx, Firing}
+use Rattle.ode_value.specs.Transactions.{Tx, Firing, footed, looking, queueing}
 use Rattle.ode_value.specs.Worlds.{Declared, Object}
 use Rattle.ode_laws.proofs.Sides.{EndsBy, Same}
 use Rattle.ode_laws.proofs.SidePosting.{room_by}
+use Rattle.ode_value.specs.Footprints.{Footprint, with_looks, with_queue}
 
 -- The relation in settling, the place of the last points, and what keeps it.
 pub record Settlings (O A P B : Type 0) : Type 1 where
@@ -25,6 +26,7 @@ pub record Settlings (O A P B : Type 0) : Type 1 where
   pub other_place : Place P B
   pub Related : Tx O A → Tx P B → Type 0
   pub same : (y : Tx O A) (x : Tx P B) → Related y x → Same classes y x
+  pub foot : (y : Tx O A) (x : Tx P B) (change : Footprint → Footprint) → Related y x → Related (footed change y) (footed change x)
   pub line : (y : Tx O A) (x : Tx P B) (line : List ℕ) → Related y x → Related (with_line line y) (with_line line x)
   pub collect : (y : Tx O A) (x : Tx P B) (f : Firing) → Related y x → has_room x ≡ true → Related (with_entry true f y) (with_entry true f x)
   pub point : (y : Tx O A) (x : Tx P B) (id : ℕ) (kind : Kind) → Related y x → EndsBy Related Related (arises past place id kind [] y) (arises other other_place id kind [] x)
@@ -52,9 +54,13 @@ module _ {O A P B : Type 0} (s : Settlings O A P B) where
 
   collects_alike : (f : Firing) → Alike (collects says true f) (collects says true f)
   collects_alike f y x r = by_room (has_room y) (has_room x) (room_by s.classes y x (s.same y x r)) refl where
-    by_room : (b c : Bool) → b ≡ c → has_room x ≡ c → Ends (cond b (does (with_entry true f)) (says (dropped_text f)) y) (cond c (does (with_entry true f)) (says (dropped_text f)) x)
-    by_room true true e room = (refl, s.collect y x f r room)
-    by_room false false e room = (refl, s.line y x (dropped_text f) r)
+    queued : s.Related (queueing y) (queueing x)
+    queued = s.foot y x with_queue r
+
+    by_room : (b c : Bool) → b ≡ c → has_room x ≡ c
+        → Ends (cond b (does (with_entry true f)) (says (dropped_text f)) (queueing y)) (cond c (does (with_entry true f)) (says (dropped_text f)) (queueing x))
+    by_room true true e room = (refl, s.collect (queueing y) (queueing x) f queued room)
+    by_room false false e room = (refl, s.line (queueing y) (queueing x) (dropped_text f) queued)
     by_room true false e room = absurd (cc)
     by_room false true e room = absurd (cc)
 
@@ -79,8 +85,8 @@ module _ {O A P B : Type 0} (s : Settlings O A P B) where
   posts_alike : (kind : Kind) (id : ℕ) → Alike (posts_last s.past s.place kind id) (posts_last s.other s.other_place kind id)
   unfolding posts_last
   posts_alike kind id y x r =
-      subst (λ b. Ends (when (is_live id y) (posts_last_listed s.past s.place kind id) y) (when b (posts_last_listed s.other s.other_place kind id) x)) (ap (λ b. is_some (object_at b id)) (s.same y x r).bones)
-      (when_alike (is_live id y) (posts_last_listed s.past s.place kind id) (posts_last_listed s.other s.other_place kind id) listed y x r)
+      subst (λ b. Ends (when (is_live id y) (posts_last_listed s.past s.place kind id) (looking (id ∷ []) y)) (when b (posts_last_listed s.other s.other_place kind id) (looking (id ∷ []) x))) (ap (λ b. is_some (object_at b id)) (s.same y x r).bones)
+      (when_alike (is_live id y) (posts_last_listed s.past s.place kind id) (posts_last_listed s.other s.other_place kind id) listed (looking (id ∷ []) y) (looking (id ∷ []) x) (s.foot y x (with_looks (id ∷ [])) r))
     where
       listed : Alike (posts_last_listed s.past s.place kind id) (posts_last_listed s.other s.other_place kind id)
       listed v w h =

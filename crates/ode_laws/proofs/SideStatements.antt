@@ -27,7 +27,7 @@ use Rattle.ode_value.specs.Evaluation.{Frame, no_frame, with_local}
 use Rattle.ode_value.specs.Executing.{Flow, Goes, Gives, returned, Doing, actions_of, goes, follows, in_turn, sets, right, counted_doing, execute, executes, deeper, outermost, first_actions, commands}
 use Rattle.ode_value.specs.Expressions.{evaluates, evaluates_all, evaluates_sets, holds, stands, reference, receiver, text_in}
 use Rattle.ode_value.specs.Limits.{depth_limit}
-use Rattle.ode_value.specs.Making.{makes, derives, spares, switches_on, sets_field}
+use Rattle.ode_value.specs.Making.{makes, derives, spares, switches_on, sets_own}
 use Rattle.ode_value.specs.Objects.{Activation}
 use Rattle.ode_value.specs.Posting.{Body, posts, touches}
 use Rattle.ode_value.specs.Statements.{Inner, first_value, is_on, generic, calls_after, calls_behind, calls_inside, calls_deeper, calls, activates_initial, makes_named, creates, copies, deletes, drops_version, switches_on_named, activates, switches_off_found, switches_off_numbered, deactivates}
@@ -36,7 +36,7 @@ use Rattle.ode_value.specs.Worlds.{Declared, Object, class_named}
 use Rattle.ode_laws.proofs.Each.{all-filter, all-find}
 use Rattle.ode_laws.proofs.Sides.{Sides}
 use Rattle.ode_laws.proofs.SideActs.{Ends, Alike, then_alike, next_alike, less_alike, done_alike, aborts_alike, sees_alike, finds_alike, finds_ends, cond_alike, when_alike, each_alike, prints_alike, counts_alike, object_alike, class_alike, lives_alike, evaluates_alike, holds_alike, all_alike, sets_alike, stands_alike, reference_alike, receiver_alike, hard_alike}
-use Rattle.ode_laws.proofs.SidePosting.{field_alike, derives_alike, spares_alike, drops_alike, removes_alike, switches_off_alike, makes_alike, switches_on_alike, Levels, posts_alike, touches_alike}
+use Rattle.ode_laws.proofs.SidePosting.{own_alike, derives_alike, spares_alike, drops_alike, removes_alike, switches_off_alike, makes_alike, switches_on_alike, Levels, posts_alike, touches_alike}
 
 module _ {O A P B : Type 0} (s : Sides O A P B) where
   -- two levels of bodies
@@ -207,7 +207,7 @@ module _ {O A P B : Type 0} (s : Sides O A P B) where
 
   var_alike : (n : ℕ) (v : Var) (w : Value) (frame : Frame) → Alike s n n (sets v w frame) (sets v w frame)
   var_alike n (var.Local place) w frame = done_alike s n (Goes (with_local place w frame))
-  var_alike n (var.Own place) w frame = goes_alike n n (sets_field frame.this place w) (sets_field frame.this place w) (field_alike s n frame.this place w) frame
+  var_alike n (var.Own place) w frame = goes_alike n n (sets_own frame.this place w) (sets_own frame.this place w) (own_alike s n frame.this place w) frame
   var_alike n (var.Name name) w frame = done_alike s n (Goes frame)
 
   module _ (d : Option (Inner O A)) (e : Option (Inner P B)) (inners : Inners d e) where

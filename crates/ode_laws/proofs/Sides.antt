@@ -16,9 +16,10 @@ use Rattle.ode_value.specs.Limits.{budget_limit, output_limit, change_limit, cas
 use Rattle.ode_value.specs.Making.{stamp_now, with_fields, without_version, derived_from, switched_off, with_new, with_active}
 use Rattle.ode_value.specs.Pasts.{Past}
 use Rattle.ode_value.specs.Posting.{has_room, with_deferred, with_entry}
-use Rattle.ode_value.specs.Transactions.{Tx, Firing, touching, with_bones}
+use Rattle.ode_value.specs.Transactions.{Tx, Firing, touching, with_bones, footed}
 use Rattle.ode_value.specs.Versions.{Version}
 use Rattle.ode_value.specs.Worlds.{Declared, Object, World, with_object}
+use Rattle.ode_value.specs.Footprints.{Footprint}
 
 -- both outcomes are done with one answer, or aborted with one reason, and the transactions reached are related
 abbrev pub EndsBy : {O A P B X : Type 0} → (done failed : Tx O A → Tx P B → Type 0) → Outcome O A X → Outcome P B X → Type 0
@@ -40,11 +41,12 @@ pub record Same {O A P B : Type 0} (cs : List Declared) (y : Tx O A) (x : Tx P B
   pub text : y.text ≡ x.text
   pub run : y.run ≡ x.run
   pub keys : y.keys ≡ x.keys
+  pub footprint : y.footprint ≡ x.footprint
 
 -- what two transactions have in common that have the worlds of two that do
 pub told : {O A P B : Type 0} (cs : List Declared) (y : Tx O A) (x : Tx P B) → Same cs y x → (v : Tx O A) (w : Tx P B) → v.now ≡ y.now → w.now ≡ x.now → v.first ≡ y.first → w.first ≡ x.first
-    → v.origin ≡ w.origin → v.touched ≡ w.touched → v.deferred ≡ w.deferred → v.collected ≡ w.collected → v.gathered ≡ w.gathered → v.text ≡ w.text → v.run ≡ w.run → v.keys ≡ w.keys → Same cs v w
-told cs y x s v w vn wn vf wf origin touched deferred collected gathered text run keys = record {
+    → v.origin ≡ w.origin → v.touched ≡ w.touched → v.deferred ≡ w.deferred → v.collected ≡ w.collected → v.gathered ≡ w.gathered → v.text ≡ w.text → v.run ≡ w.run → v.keys ≡ w.keys → v.footprint ≡ w.footprint → Same cs v w
+told cs y x s v w vn wn vf wf origin touched deferred collected gathered text run keys footprint = record {
   bones = ap (λ z. z.bones) vn ∙ s.bones ∙ sym (ap (λ z. z.bones) wn);
   classes = ap (λ z. z.bones.classes) wn ∙ s.classes;
   first = ap (λ z. z.bones) vf ∙ s.first ∙ sym (ap (λ z. z.bones) wf);
@@ -56,6 +58,7 @@ told cs y x s v w vn wn vf wf origin touched deferred collected gathered text ru
   text = text;
   run = run;
   keys = keys;
+  footprint = footprint;
 }
 
 -- a transaction has all in common with itself
@@ -72,6 +75,7 @@ same_self cs y x is classes = record {
   text = ap (λ z. z.text) is;
   run = ap (λ z. z.run) is;
   keys = ap (λ z. z.keys) is;
+  footprint = ap (λ z. z.footprint) is;
 }
 
 -- a transaction with a change of an object
@@ -110,6 +114,7 @@ pub record Sides (O A P B : Type 0) : Type 1 where
   pub same : (n : ℕ) (y : Tx O A) (x : Tx P B) → Related n y x → Same classes y x
   pub less : (n : ℕ) (y : Tx O A) (x : Tx P B) → Related (suc n) y x → Related n y x
   pub statement : (n : ℕ) (y : Tx O A) (x : Tx P B) → Related n y x → nat_lt x.run budget_limit ≡ true → Related (suc n) (with_statement y) (with_statement x)
+  pub foot : (n : ℕ) (y : Tx O A) (x : Tx P B) (change : Footprint → Footprint) → Related n y x → Related n (footed change y) (footed change x)
   pub line : (n : ℕ) (y : Tx O A) (x : Tx P B) (line : List ℕ) → Related n y x → nat_le (length x.text + length line) output_limit ≡ true → Related n (with_line line y) (with_line line x)
   pub keys : (n : ℕ) (y : Tx O A) (x : Tx P B) (keys : List Key) → Related n y x → nat_le (key_count (holding keys x)) change_limit ≡ true → Related n (holding keys y) (holding keys x)
   pub touch : (n : ℕ) (y : Tx O A) (x : Tx P B) (id : ℕ) → Related (suc n) y x → Related n (touching id y) (touching id x)

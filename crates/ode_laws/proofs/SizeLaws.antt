@@ -22,7 +22,7 @@ use Rattle.ode_value.specs.Objects.{Activation}
 use Rattle.ode_value.specs.Pasts.{Past}
 use Rattle.ode_value.specs.Posting.{with_deferred, with_entry}
 use Rattle.ode_value.specs.Settling.{posted, settled_world, commit, abort, committed, aborted}
-use Rattle.ode_value.specs.Transactions.{Tx, Firing, touching}
+use Rattle.ode_value.specs.Transactions.{Tx, Firing, touching, footed}
 use Rattle.ode_value.specs.Versions.{Version}
 use Rattle.ode_value.specs.Worlds.{Declared, Object, Bones, with_object}
 use Rattle.ode_laws.specs.Sized.{IsShortVersion, IsShortActivation, HasSizes, AreSized, IsSized, StaysSized}
@@ -70,6 +70,7 @@ module _ {O A : Type 0} (past : Past O A) where
   sizing_keeps = record {
     less = λ n x h. h;
     statement = λ n x h more. record { first = h.first; now = h.now };
+    foot = λ n x change h. record { first = h.first; now = h.now };
     line = λ n x line h fits. record { first = h.first; now = h.now };
     keys = λ n x keys h fits. record { first = h.first; now = h.now };
     touch = λ n x id h. record { first = h.first; now = h.now };
@@ -163,6 +164,7 @@ module _ {O A : Type 0} (past : Past O A) where
     other_place = place;
     Related = Still cs;
     same = λ y x r. same_self cs y x r.0 r.1;
+    foot = λ y x change r. (ap (footed change) r.0, r.1, record { first = r.2.first; now = r.2.now });
     line = λ y x line r. (ap (with_line line) r.0, r.1, record { first = r.2.first; now = r.2.now });
     collect = λ y x f r room. (ap (with_entry true f) r.0, r.1, record { first = r.2.first; now = r.2.now });
     point = λ y x id kind r. subst (λ z. EndsBy (Still cs) (Still cs) (arises past place id kind [] z) (arises past place id kind [] x)) (sym r.0) (point_still place cs x id kind r.1 r.2);

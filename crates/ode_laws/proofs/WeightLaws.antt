@@ -21,7 +21,7 @@ use Rattle.ode_value.specs.Objects.{Activation}
 use Rattle.ode_value.specs.Pasts.{Past}
 use Rattle.ode_value.specs.Posting.{with_entry}
 use Rattle.ode_value.specs.Settling.{settled_world, posted, commit, abort, committed, aborted}
-use Rattle.ode_value.specs.Transactions.{Tx, Firing}
+use Rattle.ode_value.specs.Transactions.{Tx, Firing, footed}
 use Rattle.ode_value.specs.Weights.{added_weight, class_weight, version_weight, activation_weight, object_weight, weight}
 use Rattle.ode_value.specs.Worlds.{Declared, Object, Bones, with_object}
 use Rattle.ode_laws.proofs.SideSettling.{Settlings, posted_related}
@@ -118,6 +118,7 @@ module _ {O A : Type 0} (past : Past O A) where
     other_place = place;
     Related = Still cs;
     same = λ y x r. same_self cs y x r.0 r.1;
+    foot = λ y x change r. (ap (footed change) r.0, r.1, r.2);
     line = λ y x line r. (ap (with_line line) r.0, r.1, r.2);
     collect = λ y x f r room. (ap (with_entry true f) r.0, r.1, r.2);
     point = λ y x id kind r. subst (λ z. EndsBy (Still cs) (Still cs) (arises past place id kind [] z) (arises past place id kind [] x)) (sym r.0) (point_still place cs x id kind r.1 r.2);

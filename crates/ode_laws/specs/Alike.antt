@@ -57,6 +57,7 @@ pub record RunsAs (tables : ℕ → ℕ → Table) (y : NumberTx) (x : ListTx) :
   pub text : y.text ≡ x.text
   pub run : y.run ≡ x.run
   pub keys : y.keys ≡ x.keys
+  pub footprint : y.footprint ≡ x.footprint
 
 -- both outcomes are done with one answer, or aborted with one reason
 abbrev pub EndsAs : {R : Type 0} → (ℕ → ℕ → Table) → Outcome (Unit {0}) ℕ R → Outcome Histories Starts R → Type 0

@@ -14,7 +14,7 @@ use Rattle.ode_value.specs.Making.{derived_from, with_new, with_active}
 use Rattle.ode_value.specs.Pasts.{Past}
 use Rattle.ode_value.specs.Posting.{waiting, with_deferred, with_entry, entry_of}
 use Rattle.ode_value.specs.Settling.{is_independent, entry_in, settled_world, posted, commit, abort, settle, committed, aborted, transaction}
-use Rattle.ode_value.specs.Transactions.{Tx, Origin, Firing, Collected, generation_of, begun, touching}
+use Rattle.ode_value.specs.Transactions.{Tx, Origin, Firing, Collected, generation_of, begun, touching, footed}
 use Rattle.ode_value.specs.Worlds.{Declared, Entry, Object, Bones, World}
 use Rattle.ode_laws.proofs.Alone.{Keeps, Alone, alone}
 use Rattle.ode_laws.proofs.Each.{all-append, all-filter, all-map}
@@ -76,6 +76,7 @@ module _ (origin : Origin) (b0 : Bones) where
       collecting_keeps = record {
         less = λ n x h. h;
         statement = λ n x h left. again x (with_statement x) h refl refl refl;
+        foot = λ n x change h. again x (footed change x) h refl refl refl;
         line = λ n x line h fits. again x (with_line line x) h refl refl refl;
         keys = λ n x keys h fits. again x (holding keys x) h refl refl refl;
         touch = λ n x id h. again x (touching id x) h refl refl refl;
@@ -121,6 +122,7 @@ module _ (origin : Origin) (b0 : Bones) where
         other_place = place;
         Related = Still cs;
         same = λ y x r. same_self cs y x r.0 r.1;
+        foot = λ y x change r. (ap (footed change) r.0, r.1, again x (footed change x) r.2 refl refl refl);
         line = λ y x line r. (ap (with_line line) r.0, r.1, again x (with_line line x) r.2 refl refl refl);
         collect = λ y x f r room. (ap (with_entry true f) r.0, r.1, more x true f r.2);
         point = λ y x id kind r. subst (λ z. EndsBy (Still cs) (Still cs) (arises past place id kind [] z) (arises past place id kind [] x)) (sym r.0) (point_still place cs x id kind r.1 r.2);

@@ -101,6 +101,7 @@ module _ (tables : ℕ → ℕ → Table) (v : NumberWorld) (w : ListWorld) (ali
     text = refl;
     run = refl;
     keys = refl;
+    footprint = refl;
   }
 
   same_declared : Same after (declared c v) (declared c w)
@@ -116,6 +117,7 @@ module _ (tables : ℕ → ℕ → Table) (v : NumberWorld) (w : ListWorld) (ali
     text = refl;
     run = refl;
     keys = refl;
+    footprint = refl;
   }
 
   pair_old : Pair tables w.bones.classes (more_classes c w.bones) v.pasts w.pasts

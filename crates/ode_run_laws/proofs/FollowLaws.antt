@@ -141,6 +141,7 @@ module _ (b0 : Bones) where
     following_keeps = record {
       less = λ n x h. record { first = h.first; next = h.next; objects = h.objects; numbered = h.numbered; versions = h.versions };
       statement = λ n x h more. record { first = h.first; next = h.next; objects = h.objects; numbered = h.numbered; versions = h.versions };
+      foot = λ n x change h. record { first = h.first; next = h.next; objects = h.objects; numbered = h.numbered; versions = h.versions };
       line = λ n x line h fits. record { first = h.first; next = h.next; objects = h.objects; numbered = h.numbered; versions = h.versions };
       keys = λ n x keys h fits. record { first = h.first; next = h.next; objects = h.objects; numbered = h.numbered; versions = h.versions };
       touch = λ n x id h. record { first = h.first; next = h.next; objects = h.objects; numbered = h.numbered; versions = h.versions };

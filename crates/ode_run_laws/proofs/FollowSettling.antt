@@ -17,7 +17,7 @@ use Rattle.ode_value.specs.Objects.{Activation}
 use Rattle.ode_value.specs.Pasts.{Past}
 use Rattle.ode_value.specs.Posting.{with_entry}
 use Rattle.ode_value.specs.Settling.{settled_world, posted, commit, abort, settle, committed, aborted, transaction}
-use Rattle.ode_value.specs.Transactions.{Tx, Origin, Firing, begun}
+use Rattle.ode_value.specs.Transactions.{Tx, Origin, Firing, begun, footed}
 use Rattle.ode_value.specs.Versions.{Version, version_numbered}
 use Rattle.ode_value.specs.Worlds.{Declared, Object, Bones, World}
 use Rattle.ode_machine.specs.Stability.{IsOldVersion, StaysObject, IsOldActivation, AreActivations, FollowsObject, Follows}
@@ -155,7 +155,9 @@ module _ {O A : Type 0} (past : Past O A) (b0 : Bones) (ordered : IsOrdered b0) 
       text = ap (λ (z : Tx O A). z.text) r.0;
       run = ap (λ (z : Tx O A). z.run) r.0;
       keys = ap (λ (z : Tx O A). z.keys) r.0;
+      footprint = ap (λ (z : Tx O A). z.footprint) r.0;
     };
+    foot = λ y x change r. (ap (footed change) r.0, r.1, record { first = r.2.first; next = r.2.next; objects = r.2.objects; numbered = r.2.numbered; versions = r.2.versions });
     line = λ y x line r. (ap (with_line line) r.0, r.1, record { first = r.2.first; next = r.2.next; objects = r.2.objects; numbered = r.2.numbered; versions = r.2.versions });
     collect = λ y x f r room. (ap (with_entry true f) r.0, r.1, record { first = r.2.first; next = r.2.next; objects = r.2.objects; numbered = r.2.numbered; versions = r.2.versions });
     point = λ y x id kind r. subst (λ z. EndsBy (Still cs) (Still cs) (arises past place id kind [] z) (arises past place id kind [] x)) (sym r.0) (point_still place cs x id kind r.1 r.2);

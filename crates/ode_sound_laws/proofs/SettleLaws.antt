@@ -18,7 +18,7 @@ use Rattle.ode_value.specs.Objects.{Activation}
 use Rattle.ode_value.specs.Pasts.{Past}
 use Rattle.ode_value.specs.Posting.{entry_of, has_room, with_entry, collects, is_listed, dropped_text, waiting}
 use Rattle.ode_value.specs.Settling.{is_independent, entry_in, settled_bones, settled_world, says, arises_last, posts_last_listed, posts_last, posted, committed, commit, aborted, abort}
-use Rattle.ode_value.specs.Transactions.{Tx, Firing, Collected, Origin, Script, Queue, Clock, generation_of}
+use Rattle.ode_value.specs.Transactions.{Tx, Firing, Collected, Origin, Script, Queue, Clock, generation_of, footed, looking, queueing}
 use Rattle.ode_value.specs.Worlds.{Entry, Object, Bones, kept_at}
 use Rattle.ode_laws.proofs.AlikePairs.{altered_bones, all_found}
 use Rattle.ode_laws.proofs.Each.{all-append, all-map, all-then, all-filter, all-passing, all-of}
@@ -33,6 +33,7 @@ use Rattle.ode_sound_laws.proofs.Basics.{same_some}
 use Rattle.ode_sound_laws.proofs.FitLaws.{follows_itself, follows_on, object_follows, entry_follows, firing_follows}
 use Rattle.ode_sound_laws.proofs.GrowLaws.{mild_grows, altered_fit, after_mild, after_fits}
 use Rattle.ode_sound_laws.proofs.WalkPosting.{fired_fit, Firings}
+use Rattle.ode_value.specs.Footprints.{Footprint, with_looks, with_queue}
 
 -- ---- what is kept
 
@@ -197,12 +198,19 @@ module _ {O A : Type 0} where
   when_ends true deed x h ends = ends
   when_ends false deed x h ends = (h, follows_itself x.now.bones, tt)
 
+  -- with another footprint
+  foot_last : (change : Footprint → Footprint) (x : Tx O A) → IsLast x → IsLast (footed change x)
+  foot_last change x h = record { sound = h.sound; follows = h.follows; waiting = h.waiting; now = h.now; collected = h.collected }
+
   collects_ends : (f : Firing) (x : Tx O A) → IsLast x → FitsFiring x.now.bones f → LastEnds x.now.bones (λ c u. Unit {0}) (collects says true f x)
   collects_ends f x h fits = by_room (has_room x) where
+    queued : IsLast (queueing x)
+    queued = foot_last with_queue x h
+
     new : Collected
     new = record { entry = entry_of (generation_of x.origin + 1) f; independent = true }
 
-    by_room : (t : Bool) → LastEnds x.now.bones (λ c u. Unit {0}) (cond t (does (with_entry true f)) (says (dropped_text f)) x)
+    by_room : (t : Bool) → LastEnds x.now.bones (λ c u. Unit {0}) (cond t (does (with_entry true f)) (says (dropped_text f)) (queueing x))
     by_room true = (
       record {
         sound = h.sound;
@@ -251,10 +259,13 @@ module _ {O A : Type 0} where
 
     posts_ends : (id : ℕ) (x : Tx O A) → IsLast x → LastEnds x.now.bones (λ c u. Unit {0}) (posts_last past place kind id x)
     unfolding posts_last
-    posts_ends id x h = when_ends (is_live id x) (posts_last_listed past place kind id) x h
-        (ends_then x.now.bones (λ (c : Bones) (t : Bool). Unit {0}) (λ c u. Unit {0}) (is_listed id kind x) (listed_ends id x h) (λ listed. when listed (arises_last past place kind id)) (λ listed y last follows is.
-        when_ends listed (arises_last past place kind id) y last
-        (ends_then y.now.bones Firings (λ c u. Unit {0}) (arises past place id kind [] y) (arises_ends id y last) (each (collects says true)) (λ fs z later more fit. each_collects fs z later fit))))
+    posts_ends id x h = seen (looking (id ∷ []) x) (foot_last (with_looks (id ∷ [])) x h) where
+      seen : (x : Tx O A) → IsLast x → LastEnds x.now.bones (λ c u. Unit {0}) (when (is_live id x) (posts_last_listed past place kind id) x)
+      seen x h =
+          when_ends (is_live id x) (posts_last_listed past place kind id) x h
+          (ends_then x.now.bones (λ (c : Bones) (t : Bool). Unit {0}) (λ c u. Unit {0}) (is_listed id kind x) (listed_ends id x h) (λ listed. when listed (arises_last past place kind id)) (λ listed y last follows is.
+          when_ends listed (arises_last past place kind id) y last
+          (ends_then y.now.bones Firings (λ c u. Unit {0}) (arises past place id kind [] y) (arises_ends id y last) (each (collects says true)) (λ fs z later more fit. each_collects fs z later fit))))
 
     all_posts : (ids : List ℕ) (x : Tx O A) → IsLast x → LastEnds x.now.bones (λ c u. Unit {0}) (each (posts_last past place kind) ids x)
     all_posts [] x h = (h, follows_itself x.now.bones, tt)

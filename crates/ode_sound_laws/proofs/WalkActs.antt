@@ -11,7 +11,7 @@ use Rattle.ode_value.specs.declared.reason.Reason.TheVariants as reason
 use Rattle.ode_value.specs.declared.value.Ref.{Ref}
 use Rattle.ode_value.specs.declared.value.Value.{Value}
 use Rattle.ode_value.specs.Acts.{Outcome, Done, Aborted, Act, Deed, go_on, ◌>>=◌, ◌>>◌, needs, does, when, each, found, valued, sees, prints, counts, with_line, with_statement}
-use Rattle.ode_value.specs.Changes.{key_count, holding, draws_none, changes, alters_object, version_keys, activation_keys}
+use Rattle.ode_value.specs.Changes.{key_count, holding, draws_none, changes, alters_object, version_keys, activation_keys, Draw}
 use Rattle.ode_value.specs.Denoting.{object_at, denoted}
 use Rattle.ode_value.specs.Fitting.{FitsRef, FitsSort}
 use Rattle.ode_value.specs.Keys.{object_key, version_key, activation_key}
@@ -19,7 +19,7 @@ use Rattle.ode_value.specs.Lengths.{version_size}
 use Rattle.ode_value.specs.Limits.{budget_limit, output_limit, change_limit, value_limit}
 use Rattle.ode_value.specs.Making.{stamp_now, pinned, sets_field, spares, drops, removes, switches_off}
 use Rattle.ode_value.specs.Objects.{Activation}
-use Rattle.ode_value.specs.Transactions.{Tx, Collected}
+use Rattle.ode_value.specs.Transactions.{Tx, Collected, footed, looking, drawing}
 use Rattle.ode_value.specs.Worlds.{Object, Bones, class_numbered}
 use Rattle.ode_laws.proofs.AlikePairs.{altered_bones}
 use Rattle.ode_laws.proofs.Each.{all-then}
@@ -32,6 +32,7 @@ use Rattle.ode_sound_laws.proofs.Basics.{same_some}
 use Rattle.ode_sound_laws.proofs.ExprLaws.{denotes_fit, version_all}
 use Rattle.ode_sound_laws.proofs.FitLaws.{sort_follows, entry_follows, firing_follows}
 use Rattle.ode_sound_laws.proofs.GrowLaws.{grows_itself, grows_on, IsMild, mild_grows, altered_fit, changed_fit, removed_mild, removed_fits, off_mild, off_fits, stamp_follows, born_follows, set_mild, set_fits, dropped_mild, dropped_fits}
+use Rattle.ode_value.specs.Footprints.{Footprint, with_looks, with_draw}
 
 -- nothing is said of the answer
 abbrev pub Any : (X : Type 0) → Bones → X → Type 0
@@ -135,6 +136,13 @@ module _ {O A : Type 0} where
       needs_ends x.now.bones (Any (Unit {0})) (nat_lt x.run budget_limit) reason.Budget x h (does with_statement) (λ more.
       (typed_as x (with_statement x) h refl refl refl refl, grows_itself x.now.bones, tt))
 
+  -- with another footprint
+  pub foot_typed : (change : Footprint → Footprint) (x : Tx O A) → IsTyped x → IsTyped (footed change x)
+  foot_typed change x h = typed_as x (footed change x) h refl refl refl refl
+
+  pub look_typed : (ids : List ℕ) (x : Tx O A) → IsTyped x → IsTyped (looking ids x)
+  look_typed ids = foot_typed (with_looks ids)
+
   held_typed : (keys : List Key) (x : Tx O A) → IsTyped x → IsTyped (holding keys x)
   held_typed keys x h = typed_as x (holding keys x) h refl refl refl refl
 
@@ -144,11 +152,13 @@ module _ {O A : Type 0} where
   tests_then b post false reason x h f next rest = h
 
   -- a change is asked for; what comes behind it knows that it found its number
-  pub changes_ends : {Y : Type 0} (b : Bones) (post : Bones → Y → Type 0) (keys : List Key) (size : ℕ) (draws : Bones → Bool) (x : Tx O A) → IsTyped x → (next : Act O A Y)
-      → (draws x.now.bones ≡ true → IsTyped (holding keys x) → Ends b post (next (holding keys x))) → Ends b post ((changes keys size draws >> next) x)
-  changes_ends b post keys size draws x h next rest =
-      tests_then b post (nat_le size value_limit && nat_le (key_count (holding keys x)) change_limit) reason.Size x h (needs reason.Space (λ z. draws z.now.bones) >> does (holding keys)) next (λ small.
-      tests_then b post (draws x.now.bones) reason.Space x h (does (holding keys)) next (λ drawn. rest drawn (held_typed keys x h)))
+  pub changes_ends : {Y : Type 0} (b : Bones) (post : Bones → Y → Type 0) (keys : List Key) (size : ℕ) (draw : Draw) (x : Tx O A) → IsTyped x → (next : Act O A Y)
+      → (draw.left x.now.bones ≡ true → IsTyped (holding keys (drawing draw.number x)) → Ends b post (next (holding keys (drawing draw.number x)))) → Ends b post ((changes keys size draw >> next) x)
+  changes_ends b post keys size draw x h next rest =
+      let drawn : IsTyped (drawing draw.number x) = foot_typed (with_draw draw.number) x h in
+      tests_then b post (nat_le size value_limit && nat_le (key_count (holding keys x)) change_limit) reason.Size x h
+      (does (drawing draw.number) >> (needs reason.Space (λ z. draw.left z.now.bones) >> does (holding keys))) next (λ small.
+      tests_then b post (draw.left x.now.bones) reason.Space (drawing draw.number x) drawn (does (holding keys)) next (λ left. rest left (held_typed keys (drawing draw.number x) drawn)))
 
   -- ---- changes of objects
 

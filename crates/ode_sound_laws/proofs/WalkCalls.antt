@@ -16,7 +16,7 @@ use Rattle.ode_value.specs.declared.value.Ref.{Ref}
 use Rattle.ode_value.specs.declared.value.Value.{Value}
 use Rattle.ode_value.specs.declared.value.Value.TheVariants as value
 use Rattle.ode_value.specs.Acts.{Done, Aborted, Act, Deed, go_on, ◌>>=◌, ◌>>◌, gives, each, sees, found, finds, valued}
-use Rattle.ode_value.specs.Changes.{object, class_of, is_live, lives}
+use Rattle.ode_value.specs.Changes.{object, class_of, is_live, lives, there}
 use Rattle.ode_value.specs.Classes as machine
 use Rattle.ode_value.specs.Classes.{is_a, method_named, default_of}
 use Rattle.ode_value.specs.Constraints.{judges, tests, tests_hard, tests_version, tests_soft}
@@ -27,7 +27,7 @@ use Rattle.ode_value.specs.Masks.{plain}
 use Rattle.ode_value.specs.Pasts.{Past}
 use Rattle.ode_value.specs.Posting.{Body, posts, touches}
 use Rattle.ode_value.specs.Statements.{Inner, calls_after, calls_behind, calls_inside}
-use Rattle.ode_value.specs.Transactions.{Tx}
+use Rattle.ode_value.specs.Transactions.{Tx, looking}
 use Rattle.ode_value.specs.Versions.{Version}
 use Rattle.ode_value.specs.Worlds as worlds
 use Rattle.ode_value.specs.Worlds.{Declared, Object, Bones}
@@ -42,7 +42,7 @@ use Rattle.ode_sound_laws.specs.Sound.{IsKnown, IsTypedIn, Redefines, checked_cl
 use Rattle.ode_sound_laws.proofs.Basics.{if_some_at, same_some, found_same}
 use Rattle.ode_sound_laws.proofs.FitLaws.{alive_of, fits_follows}
 use Rattle.ode_sound_laws.proofs.GrowLaws.{grows_itself, grows_on}
-use Rattle.ode_sound_laws.proofs.WalkActs.{Any, Ends, ends_then, ends_done, when_ends, each_ends}
+use Rattle.ode_sound_laws.proofs.WalkActs.{Any, Ends, ends_then, ends_done, when_ends, each_ends, look_typed}
 use Rattle.ode_sound_laws.proofs.WalkMaking.{reference_fits}
 use Rattle.ode_sound_laws.proofs.WalkPosting.{FitsResult, BodyFits, LevelFits, posts_ends, touches_ends}
 use Rattle.ode_sound_laws.proofs.WalkValues.{default_fits, IsAt, at_later, FitArgs, args_later, stands_ends}
@@ -110,11 +110,14 @@ module _ {O A : Type 0} where
   pub soft_ends : (o : Object) (x : Tx O A) → IsTyped x → Ends x.now.bones (Any (Unit {0})) (tests_soft o x)
   soft_ends o x h = each_any (tests_version o) (λ v y typed. each_any (tests v) (tests_ends v) (machine.constraints_of true y.now.bones.classes o.class) y typed) o.versions x h
 
-  pub lives_ends : (id : ℕ) (x : Tx O A) → IsTyped x → Ends x.now.bones (Any (Unit {0})) (lives id x)
-  lives_ends id x h = by_test (is_live id x) where
+  pub there_ends : (id : ℕ) (x : Tx O A) → IsTyped x → Ends x.now.bones (Any (Unit {0})) (there id x)
+  there_ends id x h = by_test (is_live id x) where
     by_test : (t : Bool) → Ends x.now.bones (Any (Unit {0})) (cond t (Done tt x) (Aborted (reason.NoObject id) x))
     by_test true = (h, grows_itself x.now.bones, tt)
     by_test false = h
+
+  pub lives_ends : (id : ℕ) (x : Tx O A) → IsTyped x → Ends x.now.bones (Any (Unit {0})) (lives id x)
+  lives_ends id x h = there_ends id (looking (id ∷ []) x) (look_typed (id ∷ []) x h)
 
   -- ---- levels
 

@@ -1,5 +1,5 @@
 -- Completion of typed transactions, and the work of entries.
-use Rattle.std.proofs.Common.{◌≡◌, ℕ, zero, suc, Bool, true, false, cond, List, [], Option, Some, None, refl, sym, ap, ◌∙◌, subst}
+use Rattle.std.proofs.Common.{◌≡◌, ℕ, zero, suc, Bool, true, false, cond, List, [], ◌∷◌, Option, Some, None, refl, sym, ap, ◌∙◌, subst}
 use Rattle.std.specs.Prelude.{nat_le, slice_get}
 use Rattle.std.specs.Option.{IsSomeAnd, option_and_then}
 use Rattle.ode_value.specs.declared.class.Class.{Class}
@@ -18,7 +18,7 @@ use Rattle.ode_value.specs.Keeping.{kept_bones}
 use Rattle.ode_value.specs.Limits.{weight_limit}
 use Rattle.ode_value.specs.Pasts.{Past}
 use Rattle.ode_value.specs.Posting.{posts, runs, touches}
-use Rattle.ode_value.specs.Transactions.{Tx, Firing}
+use Rattle.ode_value.specs.Transactions.{Tx, Firing, looking}
 use Rattle.ode_value.specs.Weights.{weight}
 use Rattle.ode_value.specs.Worlds.{Declared, Entry, Object, Bones, class_numbered}
 use Rattle.ode_sound_laws.specs.Typed.{IsTyped}
@@ -26,7 +26,7 @@ use Rattle.ode_sound_laws.specs.Fits.{all_alive, FitsEntry, FitsFiring}
 use Rattle.ode_sound_laws.proofs.Basics.{all_at, map_some}
 use Rattle.ode_sound_laws.proofs.FitLaws.{entry_follows}
 use Rattle.ode_sound_laws.proofs.GrowLaws.{grows_itself}
-use Rattle.ode_sound_laws.proofs.WalkActs.{Any, Ends, ends_then, found_ends, when_ends}
+use Rattle.ode_sound_laws.proofs.WalkActs.{Any, Ends, ends_then, found_ends, when_ends, look_typed}
 use Rattle.ode_sound_laws.proofs.WalkCalls.{each_any, soft_ends}
 use Rattle.ode_sound_laws.proofs.WalkPosting.{runs_ends, posts_ends, touches_ends}
 use Rattle.ode_sound_laws.proofs.WalkStatements.{first_fits}
@@ -60,7 +60,7 @@ module _ {O A : Type 0} where
 
   tests_ends : (x : Tx O A) → IsTyped x → Ends x.now.bones (Any (Unit {0})) (tests_all x)
   unfolding tests_all
-  tests_ends x h = each_any tests_touched (λ id y typed. object_tests (object_at y.now.bones id) y typed) x.touched x h
+  tests_ends x h = each_any tests_touched (λ id y typed. object_tests (object_at y.now.bones id) y typed) x.touched (looking x.touched x) (look_typed x.touched x h)
 
   weighs_ends : (x : Tx O A) → IsTyped x → Ends x.now.bones (Any (Unit {0})) (weighs x)
   unfolding weighs
@@ -72,7 +72,9 @@ module _ {O A : Type 0} where
   module _ (past : Past O A) where
     tcomplete_ends : (id : ℕ) (x : Tx O A) → IsTyped x → Ends x.now.bones (Any (Unit {0})) (posts_tcomplete past id x)
     unfolding posts_tcomplete
-    tcomplete_ends id x h = when_ends (is_live id x) (posts past (first_actions past) id TComplete []) x h (λ live. posts_ends past (first_actions past) (first_fits past) id TComplete [] x h)
+    tcomplete_ends id x h =
+        let typed = look_typed (id ∷ []) x h in
+        when_ends (is_live id x) (posts past (first_actions past) id TComplete []) (looking (id ∷ []) x) typed (λ live. posts_ends past (first_actions past) (first_fits past) id TComplete [] (looking (id ∷ []) x) typed)
 
     round_ends : (id : Option ℕ) (f : Option Firing) (at ran : ℕ) (rest : ℕ → ℕ → Deed O A) → ((at ran : ℕ) (y : Tx O A) → IsTyped y → Ends y.now.bones (Any (Unit {0})) (rest at ran y)) → (x : Tx O A) → IsTyped x
         → ((g : Firing) → f ≡ Some g → FitsFiring x.now.bones g) → Ends x.now.bones (Any (Unit {0})) (round past id f at ran rest x)

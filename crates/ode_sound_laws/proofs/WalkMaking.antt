@@ -10,8 +10,8 @@ use Rattle.ode_value.specs.declared.key.Key.{Key}
 use Rattle.ode_value.specs.declared.reason.Reason.TheVariants as reason
 use Rattle.ode_value.specs.declared.value.Ref.{Ref}
 use Rattle.ode_value.specs.declared.value.Value.{Value}
-use Rattle.ode_value.specs.Acts.{Act, ◌>>=◌, ◌>>◌, gives, does, sees, turns, prints}
-use Rattle.ode_value.specs.Changes.{holding, has_number, changes, object, alters_object}
+use Rattle.ode_value.specs.Acts.{Act, ◌>>=◌, ◌>>◌, gives, does, sees, turns, prints, looks}
+use Rattle.ode_value.specs.Changes.{holding, changes, object, alters_object, draws_number, draws_version}
 use Rattle.ode_value.specs.Classes.{Trigger, is_a}
 use Rattle.ode_value.specs.Denoting.{object_numbered, object_at, object_of, denoted}
 use Rattle.ode_value.specs.Fitting.{FitsObject, FitsRef, FitsSort, FitFields}
@@ -22,7 +22,7 @@ use Rattle.ode_value.specs.Making.{stamp_now, with_new, with_active, derived_fro
 use Rattle.ode_value.specs.Pasts.{Past}
 use Rattle.ode_value.specs.Statements.{generic}
 use Rattle.ode_value.specs.Texts.{new_line, version_line, active_line}
-use Rattle.ode_value.specs.Transactions.{Tx, touching}
+use Rattle.ode_value.specs.Transactions.{Tx, touching, looking, drawing}
 use Rattle.ode_value.specs.Versions.{Version, version_of}
 use Rattle.ode_value.specs.Worlds.{Object, Bones}
 use Rattle.ode_laws.proofs.AlikePairs.{altered_bones}
@@ -102,7 +102,7 @@ module _ {O A : Type 0} where
   derives_ends class r x h fits =
       valued_ends x.now.bones (FitsIn class) (denoted x.now.bones r) x h derived (λ v e.
       found_ends x.now.bones (FitsIn class) (object_at x.now.bones r.object) x h (copied v) (λ o there.
-      changes_ends x.now.bones (FitsIn class) (keys_of o) (version_size now v.fields) (λ b. nat_lt o.last version_limit) x h (put now v o) (λ more held.
+      changes_ends x.now.bones (FitsIn class) (keys_of o) (version_size now v.fields) (draws_version o) x h (put now v o) (λ more held.
       made v o e there more held)))
     where
       now : ℕ
@@ -115,7 +115,7 @@ module _ {O A : Type 0} where
       put stamp v o = alters_object o.id (derived_from stamp v) >> (prints (version_line (next_version o)) >> gives (next_version o))
 
       copied : Version → Object → Act O A Ref
-      copied v o = sees stamp_now >>= λ stamp. changes (keys_of o) (version_size stamp v.fields) (λ b. nat_lt o.last version_limit) >> put stamp v o
+      copied v o = sees stamp_now >>= λ stamp. changes (keys_of o) (version_size stamp v.fields) (draws_version o) >> put stamp v o
 
       derived : Version → Act O A Ref
       derived v = object r.object >>= copied v
@@ -148,17 +148,17 @@ module _ {O A : Type 0} where
     pub makes_ends : (c : Class) (fields : List Value) (x : Tx O A) → IsTyped x → IsKnown x.now.bones.classes c → FitFields (all_alive x.now.bones) c.fields fields
         → Ends x.now.bones (IsNew c) (makes past c.number fields x)
     makes_ends c fields x h known fits =
-        changes_ends x.now.bones (IsNew c) (made_keys x.now.bones.next) (version_size (stamp_now x.now.bones) fields) has_number x h put (λ left held.
+        changes_ends x.now.bones (IsNew c) (made_keys x.now.bones.next) (version_size (stamp_now x.now.bones) fields) draws_number x h put (λ left held.
         let fit = new_fit x.now.bones c fields known.numbered fits left h.now in
         let grows = new_grows x.now.bones c.number fields in
-        let made : Tx O A = touching x.now.bones.next (turned (with_new past c.number fields) (holding (made_keys x.now.bones.next) x)) in
+        let made : Tx O A = looking (x.now.bones.next ∷ []) (touching x.now.bones.next (turned (with_new past c.number fields) (holding (made_keys x.now.bones.next) (drawing true x)))) in
         let typed : IsTyped made = typed_now x made h refl refl refl grows fit in
         ends_from x.now.bones (new_bones c.number fields x.now.bones) grows (IsNew c) ((prints (new_line x.now.bones.next) >> gives x.now.bones.next) made)
         (ends_then (new_bones c.number fields x.now.bones) (Any (Unit {0})) (IsNew c) (prints (new_line x.now.bones.next) made) (prints_ends (new_line x.now.bones.next) made typed) (λ u. gives x.now.bones.next) (λ u y later more is.
         ends_done (IsNew c) x.now.bones.next y later (new_later c (new_bones c.number fields x.now.bones) y.now.bones x.now.bones.next more is_new))))
       where
         put : Act O A ℕ
-        put = turns (with_new past c.number fields) >> (does (touching x.now.bones.next) >> (prints (new_line x.now.bones.next) >> gives x.now.bones.next))
+        put = turns (with_new past c.number fields) >> (does (touching x.now.bones.next) >> (looks (x.now.bones.next ∷ []) >> (prints (new_line x.now.bones.next) >> gives x.now.bones.next)))
 
         none_of : (n : ℕ) (os : List Object) (new : Object) → AllByRecursion (λ (o : Object). o.id < n) os → new.id ≡ n → object_numbered n (os ++ new ∷ []) ≡ Some new
         none_of n [] new all is = ap (λ t. cond t (Some new) None) (eq-eqb new.id n is)
@@ -179,10 +179,10 @@ module _ {O A : Type 0} where
         → AllZip (λ (p : Param). FitsSort (all_alive x.now.bones) p.sort) t.decl.params args → Ends x.now.bones IsBelow (switches_on past id t args x)
     switches_on_ends id t args o x h there sound sorts =
         needs_ends x.now.bones IsBelow (nat_le (values_length args) args_limit) reason.Size x h changed (λ short.
-        changes_ends x.now.bones IsBelow (active_keys id x.now.bones.next) 0 has_number x h put (λ left held.
+        changes_ends x.now.bones IsBelow (active_keys id x.now.bones.next) 0 draws_number x h put (λ left held.
         let fit = active_fit x.now.bones id t args o there sound (record { sorts = sorts; short = leb-true (values_length args) args_limit short }) left h.now in
         let grows = active_grows x.now.bones id t args in
-        let made : Tx O A = turned (with_active past id t args) (holding (active_keys id x.now.bones.next) x) in
+        let made : Tx O A = turned (with_active past id t args) (holding (active_keys id x.now.bones.next) (drawing true x)) in
         let typed : IsTyped made = typed_now x made h refl refl refl grows fit in
         ends_from x.now.bones (active_bones id t args x.now.bones) grows IsBelow ((prints (active_line x.now.bones.next) >> gives x.now.bones.next) made)
         (ends_then (active_bones id t args x.now.bones) (Any (Unit {0})) IsBelow (prints (active_line x.now.bones.next) made) (prints_ends (active_line x.now.bones.next) made typed) (λ u. gives x.now.bones.next) (λ u y later more is.
@@ -192,4 +192,4 @@ module _ {O A : Type 0} where
         put = turns (with_active past id t args) >> (prints (active_line x.now.bones.next) >> gives x.now.bones.next)
 
         changed : Act O A ℕ
-        changed = changes (active_keys id x.now.bones.next) 0 has_number >> put
+        changed = changes (active_keys id x.now.bones.next) 0 draws_number >> put

@@ -16,7 +16,7 @@ use Rattle.ode_value.specs.declared.statement.Sort.TheVariants as sort
 use Rattle.ode_value.specs.declared.statement.Stmt.{Stmt}
 use Rattle.ode_value.specs.declared.value.Value.{Value}
 use Rattle.ode_value.specs.Acts.{Act, Deed, ◌>>=◌, ◌>>◌, gives, nothing, does, when, each, reads, sees, turns, prints}
-use Rattle.ode_value.specs.Changes.{holding, activation_keys, draws_none, changes, is_live, lives, alters_object}
+use Rattle.ode_value.specs.Changes.{holding, activation_keys, draws_none, changes, is_live, lives, alters_object, there}
 use Rattle.ode_value.specs.Classes.{Trigger, triggers_of, trigger_at, lists_kind}
 use Rattle.ode_value.specs.Denoting.{object_numbered, object_at}
 use Rattle.ode_value.specs.Evaluation.{Frame}
@@ -26,7 +26,7 @@ use Rattle.ode_value.specs.Limits.{cascade_limit}
 use Rattle.ode_value.specs.Objects.{Activation}
 use Rattle.ode_value.specs.Pasts.{Past, Kept}
 use Rattle.ode_value.specs.Posting.{Body, frame_of, entry_of, fired_text, dropped_text, enters, runs, with_deferred, defers, has_room, with_entry, collects, by_mode, treats, is_listed, is_touched, joins, posts_listed, posts, touches_first, touches}
-use Rattle.ode_value.specs.Transactions.{Tx, Firing, Collected, generation_of, touching}
+use Rattle.ode_value.specs.Transactions.{Tx, Firing, Collected, generation_of, touching, looking, queueing}
 use Rattle.ode_value.specs.Worlds.{Declared, Object, Bones, kept_at}
 use Rattle.ode_laws.proofs.AlikePairs.{altered_bones, all_found}
 use Rattle.ode_laws.proofs.Each.{all-append, all-map, all-then, all-passing, all-filter, all-find}
@@ -40,8 +40,9 @@ use Rattle.ode_sound_laws.proofs.Basics.{some_and, and_some, map_some, same_some
 use Rattle.ode_sound_laws.proofs.ExprLaws.{sort_fits, find_passes}
 use Rattle.ode_sound_laws.proofs.FitLaws.{firing_follows}
 use Rattle.ode_sound_laws.proofs.GrowLaws.{grows_itself, mild_grows, altered_fit, after_mild, after_fits}
-use Rattle.ode_sound_laws.proofs.WalkActs.{Any, typed_as, typed_now, Ends, ends_then, ends_done, found_ends, needs_ends, when_ends, each_ends, changes_ends, prints_ends}
+use Rattle.ode_sound_laws.proofs.WalkActs.{Any, typed_as, typed_now, Ends, ends_then, ends_done, found_ends, needs_ends, when_ends, each_ends, changes_ends, prints_ends, foot_typed, look_typed}
 use Rattle.ode_sound_laws.proofs.WalkMaking.{reference_fits}
+use Rattle.ode_value.specs.Footprints.{with_queue}
 
 -- ---- firings
 
@@ -152,14 +153,18 @@ module _ {O A : Type 0} where
   unfolding runs
   runs_ends d level f x h fits =
       ends_then x.now.bones (Any (Unit {0})) (Any (Unit {0})) (prints (fired_text f) x) (prints_ends (fired_text f) x h) (λ u. lives f.object >> acts) (λ u y typed grows is.
-      needs_ends y.now.bones (Any (Unit {0})) (is_live f.object y) (reason.NoObject f.object) y typed acts (λ live.
-      let o = live_found f.object y.now.bones live in
-      let place = action_placed y.now.bones typed.sound typed.now f (firing_follows x.now.bones y.now.bones grows.follows f fits) o.0 o.1 in
-      ends_then y.now.bones (FitsResult place.at.result) (Any (Unit {0})) (enters d f.trigger.decl.action (frame_of f) y)
-      (enters_ends d level f.trigger.decl.action place.at place.typed (frame_of f) y typed place.frame) (λ v. nothing) (λ v z later more given. ends_done (Any (Unit {0})) tt z later tt)))
+      seen (looking (f.object ∷ []) y) (look_typed (f.object ∷ []) y typed) (firing_follows x.now.bones y.now.bones grows.follows f fits))
     where
       acts : Deed O A
       acts = enters d f.trigger.decl.action (frame_of f) >>= λ v. nothing
+
+      seen : (y : Tx O A) → IsTyped y → FitsFiring y.now.bones f → Ends y.now.bones (Any (Unit {0})) ((there f.object >> acts) y)
+      seen y typed fits =
+          needs_ends y.now.bones (Any (Unit {0})) (is_live f.object y) (reason.NoObject f.object) y typed acts (λ live.
+          let o = live_found f.object y.now.bones live in
+          let place = action_placed y.now.bones typed.sound typed.now f fits o.0 o.1 in
+          ends_then y.now.bones (FitsResult place.at.result) (Any (Unit {0})) (enters d f.trigger.decl.action (frame_of f) y)
+          (enters_ends d level f.trigger.decl.action place.at place.typed (frame_of f) y typed place.frame) (λ v. nothing) (λ v z later more given. ends_done (Any (Unit {0})) tt z later tt))
 
   defers_ends : (f : Firing) (x : Tx O A) → IsTyped x → FitsFiring x.now.bones f → Ends x.now.bones (Any (Unit {0})) (defers f x)
   defers_ends f x h fits =
@@ -182,9 +187,12 @@ module _ {O A : Type 0} where
 
   collects_ends : (independent : Bool) (f : Firing) (x : Tx O A) → IsTyped x → FitsFiring x.now.bones f → Ends x.now.bones (Any (Unit {0})) (collects prints independent f x)
   collects_ends independent f x h fits = by_room (has_room x) where
-    by_room : (t : Bool) → Ends x.now.bones (Any (Unit {0})) (cond t (does (with_entry independent f)) (prints (dropped_text f)) x)
-    by_room true = (with_entry_typed independent f x h fits, grows_itself x.now.bones, tt)
-    by_room false = prints_ends (dropped_text f) x h
+    queued : IsTyped (queueing x)
+    queued = foot_typed with_queue x h
+
+    by_room : (t : Bool) → Ends x.now.bones (Any (Unit {0})) (cond t (does (with_entry independent f)) (prints (dropped_text f)) (queueing x))
+    by_room true = (with_entry_typed independent f (queueing x) queued fits, grows_itself x.now.bones, tt)
+    by_room false = prints_ends (dropped_text f) (queueing x) queued
 
   mode_ends : (d : Option (Body O A)) → LevelFits d → (f : Firing) (m : Mode) (x : Tx O A) → IsTyped x → FitsFiring x.now.bones f → Ends x.now.bones (Any (Unit {0})) (by_mode d f m x)
   mode_ends d level f Immediate x h fits = runs_ends d level f x h fits
@@ -234,7 +242,12 @@ module _ {O A : Type 0} where
 
     pub touches_ends : (d : Option (Body O A)) → LevelFits d → (id : ℕ) (x : Tx O A) → IsTyped x → Ends x.now.bones (Any (Unit {0})) (touches past d id x)
     unfolding touches
-    touches_ends d level id x h =
-        needs_ends x.now.bones (Any (Unit {0})) (is_live id x) (reason.NoObject id) x h (reads (is_touched id) >>= λ touched. when (not touched) (touches_first past d id)) (λ live.
-        when_ends (not (is_touched id x)) (touches_first past d id) x h (λ yes.
-        ends_then x.now.bones (Any (Unit {0})) (Any (Unit {0})) (joins id x) (joins_ends id x h) (λ u. posts past d id TBegin []) (λ u y typed grows is. posts_ends d level id TBegin [] y typed)))
+    touches_ends d level id x h = seen (looking (id ∷ []) x) (look_typed (id ∷ []) x h) where
+      first : Deed O A
+      first = reads (is_touched id) >>= λ touched. when (not touched) (touches_first past d id)
+
+      seen : (x : Tx O A) → IsTyped x → Ends x.now.bones (Any (Unit {0})) ((there id >> first) x)
+      seen x h =
+          needs_ends x.now.bones (Any (Unit {0})) (is_live id x) (reason.NoObject id) x h first (λ live.
+          when_ends (not (is_touched id x)) (touches_first past d id) x h (λ yes.
+          ends_then x.now.bones (Any (Unit {0})) (Any (Unit {0})) (joins id x) (joins_ends id x h) (λ u. posts past d id TBegin []) (λ u y typed grows is. posts_ends d level id TBegin [] y typed)))

@@ -23,11 +23,11 @@ use Rattle.ode_value.specs.Executing.{Flow, Goes, Gives, returned, Doing, action
 use Rattle.ode_value.specs.Expressions.{evaluates, holds, is_true, text_in}
 use Rattle.ode_value.specs.Fitting.{FitsRef}
 use Rattle.ode_value.specs.Limits.{depth_limit}
-use Rattle.ode_value.specs.Making.{sets_field}
+use Rattle.ode_value.specs.Making.{sets_own}
 use Rattle.ode_value.specs.Pasts.{Past}
 use Rattle.ode_value.specs.Statements.{Inner, deletes, drops_version, deactivates}
 use Rattle.ode_value.specs.Texts.{value_line, said_line}
-use Rattle.ode_value.specs.Transactions.{Tx}
+use Rattle.ode_value.specs.Transactions.{Tx, looking}
 use Rattle.ode_value.specs.Worlds.{Bones}
 use Rattle.ode_types.specs.Sorts.{fits as is_fitting, is_void, starting}
 use Rattle.ode_sound_laws.specs.Growing.{Grows}
@@ -39,7 +39,7 @@ use Rattle.ode_sound_laws.proofs.Basics.{if_some_at, then_some, map_some, so_som
 use Rattle.ode_sound_laws.proofs.FitLaws.{frame_follows}
 use Rattle.ode_sound_laws.proofs.GrowLaws.{grows_itself}
 use Rattle.ode_sound_laws.proofs.SlotLaws.{IsPrefix, prefix_itself, prefix_on, narrow, new_slots, set_slots, with_frame}
-use Rattle.ode_sound_laws.proofs.WalkActs.{Any, Ends, ends_then, ends_done, prints_ends, counts_ends, field_ends}
+use Rattle.ode_sound_laws.proofs.WalkActs.{Any, Ends, ends_then, ends_done, prints_ends, counts_ends, field_ends, look_typed}
 use Rattle.ode_sound_laws.proofs.WalkCalls.{DeeperFits}
 use Rattle.ode_sound_laws.proofs.WalkPosting.{FitsResult, BodyFits, LevelFits}
 use Rattle.ode_sound_laws.proofs.WalkRights.{deletes_ends, drops_version_ends, deactivates_ends, actions_fit, right_ends}
@@ -139,8 +139,8 @@ module _ {O A : Type 0} where
         then_right at at.slots r t.0 t.1 (λ w frame. sets (var.Own place) w frame) (λ w frame y h fits value.
         let known : IsKnown y.now.bones.classes class.0 = if_some_at (IsKnown y.now.bones.classes) at.class fits.known class.0 class.1 in
         let this : FitsRef (all_alive y.now.bones) class.0.name frame.this = if_some_at (λ (c : Class). FitsRef (all_alive y.now.bones) c.name frame.this) at.class fits.this class.0 class.1 in
-        goes_ends at frame (sets_field frame.this place w) y fits
-        (field_ends frame.this place w class.0 field.0 y h known this class.2
+        goes_ends at frame (sets_own frame.this place w) y fits
+        (field_ends frame.this place w class.0 field.0 (looking (frame.this.object ∷ []) y) (look_typed (frame.this.object ∷ []) y h) known this class.2
         (strictly y.now.bones field.0.sort w (fields_at class.0.fields (h.sound.sorts class.0 known) place field.0 class.2) (sort_fits_as y.now.bones h.sound h.now t.0 field.0.sort (subst (λ cs. is_fitting cs t.0 field.0.sort ≡ true) fits.classes t.2) w value))))
     assigned at (var.Name name) r is = absurd (cc)
 

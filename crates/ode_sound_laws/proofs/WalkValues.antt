@@ -19,11 +19,11 @@ use Rattle.ode_value.specs.declared.value.Value.TheVariants as value
 use Rattle.ode_value.specs.Acts.{go_on, ◌>>=◌, ◌>>◌, gives, nothing, found, valued}
 use Rattle.ode_value.specs.Classes.{null, default_of}
 use Rattle.ode_value.specs.Denoting.{object_of, denoted}
-use Rattle.ode_value.specs.Evaluation.{Frame, evaluate}
+use Rattle.ode_value.specs.Evaluation.{Frame, evaluate, looks_in}
 use Rattle.ode_value.specs.Expressions.{ref_in, evaluates, evaluates_all, evaluates_sets, stands, reference, receiver}
 use Rattle.ode_value.specs.Fitting.{FitsObject, FitsRef, FitsSort, FitFields}
 use Rattle.ode_value.specs.Statements.{first_value}
-use Rattle.ode_value.specs.Transactions.{Tx}
+use Rattle.ode_value.specs.Transactions.{Tx, looking}
 use Rattle.ode_value.specs.Versions.{Version}
 use Rattle.ode_value.specs.Worlds.{Bones}
 use Rattle.ode_types.specs.Families.{field_named}
@@ -37,7 +37,8 @@ use Rattle.ode_sound_laws.proofs.Basics.{if_some_at, if_some_from, then_some, sa
 use Rattle.ode_sound_laws.proofs.ExprLaws.{sort_same, denoted_ok, sort_class, expr_fits, find_passes}
 use Rattle.ode_sound_laws.proofs.FitLaws.{fits_follows, frame_follows, ref_follows}
 use Rattle.ode_sound_laws.proofs.GrowLaws.{grows_itself}
-use Rattle.ode_sound_laws.proofs.WalkActs.{Ends, ends_then, ends_as, ends_done, found_ends}
+use Rattle.ode_sound_laws.proofs.WalkActs.{Ends, ends_then, ends_as, ends_done, found_ends, look_typed}
+use Rattle.ode_value.specs.Changes.{version}
 
 -- ---- sorts that fit others
 
@@ -216,23 +217,33 @@ module _ {O A : Type 0} where
   value_ends post (Ok r) x h is = (h, grows_itself x.now.bones, is r refl)
   value_ends post (Err fault) x h is = h
 
-  pub stands_ends : (r : Ref) (x : Tx O A) → IsTyped x → Ends x.now.bones (λ b u. (r.object == 0) ≡ false) (stands r x)
-  stands_ends r x h = by_denoted (denoted x.now.bones r) refl where
+  denoted_ends : (r : Ref) (x : Tx O A) → IsTyped x → Ends x.now.bones (λ b u. (r.object == 0) ≡ false) (go_on (version r x) (λ v. nothing))
+  denoted_ends r x h = by_denoted (denoted x.now.bones r) refl where
     by_denoted : (m : Result Version Fault) → denoted x.now.bones r ≡ m → Ends x.now.bones (λ b u. (r.object == 0) ≡ false) (go_on (valued m x) (λ v. nothing))
     by_denoted (Ok v) e = (h, grows_itself x.now.bones, (denoted_ok x.now.bones r v e).1)
     by_denoted (Err fault) e = h
 
+  pub stands_ends : (r : Ref) (x : Tx O A) → IsTyped x → Ends x.now.bones (λ b u. (r.object == 0) ≡ false) (stands r x)
+  stands_ends r x h = denoted_ends r (looking (r.object ∷ []) x) (look_typed (r.object ∷ []) x h)
+
   module _ (at : Setting) (frame : Frame) where
+    -- behind what an expression looks at
+    abbrev looked : Expr → Tx O A → Tx O A
+    looked e x = looking (looks_in e x.now.bones frame) x
+
+    looked_typed : (e : Expr) (x : Tx O A) → IsTyped x → IsTyped (looked e x)
+    looked_typed e x h = look_typed (looks_in e x.now.bones frame) x h
+
     readable : (x : Tx O A) → IsTyped x → FitsFrame x.now.bones at frame → IsReadable x.now.bones at frame
     readable x h fits = record { sound = h.sound; fit = h.now; here = fits }
 
     pub evaluates_ends : (e : Expr) (s : Option Sort) → sort_in e at ≡ Some s → (x : Tx O A) → IsTyped x → FitsFrame x.now.bones at frame → Ends x.now.bones (λ b v. Fits b s v) (evaluates e frame x)
-    evaluates_ends e s typed x h fits = value_ends (λ b v. Fits b s v) (evaluate e x.now.bones frame) x h (λ v is. expr_fits e x.now.bones at frame (readable x h fits) s typed v is)
+    evaluates_ends e s typed x h fits = value_ends (λ b v. Fits b s v) (evaluate e x.now.bones frame) (looked e x) (looked_typed e x h) (λ v is. expr_fits e x.now.bones at frame (readable x h fits) s typed v is)
 
     pub fitting_ends : (e : Expr) (s : Sort) → is_fit at s e ≡ true → (x : Tx O A) → IsTyped x → FitsFrame x.now.bones at frame → Ends x.now.bones (λ b v. Fits b (Some s) v) (evaluates e frame x)
     fitting_ends e s is x h fits =
         let t = fit_sort at s e is in
-        value_ends (λ b v. Fits b (Some s) v) (evaluate e x.now.bones frame) x h (λ v ok.
+        value_ends (λ b v. Fits b (Some s) v) (evaluate e x.now.bones frame) (looked e x) (looked_typed e x h) (λ v ok.
         sort_fits_as x.now.bones h.sound h.now t.0 s (subst (λ cs. is_fitting cs t.0 s ≡ true) fits.classes t.2) v (expr_fits e x.now.bones at frame (readable x h fits) t.0 t.1 v ok))
 
     pub all_ends : (params : List Param) (es : List Expr) → are_fit at params es ≡ true → (x : Tx O A) → IsTyped x → FitsFrame x.now.bones at frame → Ends x.now.bones (FitArgs params) (evaluates_all es frame x)

@@ -6,7 +6,7 @@ use Rattle.ode_value.specs.declared.event.Kind.{Kind}
 use Rattle.ode_value.specs.declared.reason.Reason.{Reason}
 use Rattle.ode_value.specs.declared.reason.Reason.TheVariants.{Output, Space}
 use Rattle.ode_value.specs.Acts.{Done, Aborted, Deed, go_on, ◌>>=◌, ◌>>◌, nothing, does, finds, with_line}
-use Rattle.ode_value.specs.Changes.{object, lives}
+use Rattle.ode_value.specs.Changes.{object, there}
 use Rattle.ode_value.specs.Completing.{completes}
 use Rattle.ode_value.specs.Denoting.{object_at}
 use Rattle.ode_value.specs.Draining.{with_drain, world_after}
@@ -29,7 +29,7 @@ use Rattle.ode_run_laws.proofs.AlikeClasses.{more_classes, declared, printable, 
 use Rattle.ode_sound_laws.specs.Typed.{IsTypedWorld, IsTyped}
 use Rattle.ode_sound_laws.proofs.SettleLaws.{commit_typed, abort_typed}
 use Rattle.ode_sound_laws.proofs.WalkActs.{Any, Ends, ends_then, found_ends, typed_as}
-use Rattle.ode_sound_laws.proofs.WalkCalls.{lives_ends}
+use Rattle.ode_sound_laws.proofs.WalkCalls.{there_ends}
 use Rattle.ode_sound_laws.proofs.WalkPosting.{posts_ends, touches_ends}
 use Rattle.ode_sound_laws.proofs.WalkStatements.{first_fits}
 use Rattle.ode_sound_laws.proofs.WorldLaws.{stays, begun_typed, whole_typed, drain_typed}
@@ -52,8 +52,8 @@ with_drain_typed most s h = (h, drain_typed lists most s.0 h)
 
 ticks_typed : (p : Position) (x : ListTx) → IsTyped x → Ends x.now.bones (Any (Unit {0})) (ticks lists p x)
 ticks_typed p x h =
-    ends_then x.now.bones (Any (Unit {0})) (Any (Unit {0})) (touches lists (first_actions lists) p.object x) (touches_ends lists (first_actions lists) (first_fits lists) p.object x h) (λ u. lives p.object >> of_object) (λ u y h1 g1 is1.
-    ends_then y.now.bones (Any (Unit {0})) (Any (Unit {0})) (lives p.object y) (lives_ends p.object y h1) (λ u. of_object) (λ u z h2 g2 is2.
+    ends_then x.now.bones (Any (Unit {0})) (Any (Unit {0})) (touches lists (first_actions lists) p.object x) (touches_ends lists (first_actions lists) (first_fits lists) p.object x h) (λ u. there p.object >> of_object) (λ u y h1 g1 is1.
+    ends_then y.now.bones (Any (Unit {0})) (Any (Unit {0})) (there p.object y) (there_ends p.object y h1) (λ u. of_object) (λ u z h2 g2 is2.
     found_ends z.now.bones (Any (Unit {0})) (object_at z.now.bones p.object) z h2 of_kind (λ o there.
     found_ends z.now.bones (Any (Unit {0})) (slice_get (kinds_of z.now.bones.classes o.class) p.place) z h2 posted_kind (λ kind at.
     posts_ends lists (first_actions lists) (first_fits lists) p.object kind [] z h2))))

@@ -7,6 +7,7 @@ pub mod FreeNames
 pub mod LeafLaws
 pub mod LengthLaws
 pub mod LocalPoints
+pub mod LooksLaws
 pub mod MovedEvents
 pub mod MovedMarks
 pub mod MovingLaws

@@ -5,7 +5,7 @@ use Rattle.ode_value.specs.declared.reason.Reason.{Reason}
 use Rattle.ode_value.specs.declared.reason.Reason.TheVariants.{NoObject, Budget, Output}
 use Rattle.ode_value.specs.Evaluation.{reason_of}
 use Rattle.ode_value.specs.Limits.{budget_limit, output_limit}
-use Rattle.ode_value.specs.Transactions.{Tx, with_bones}
+use Rattle.ode_value.specs.Transactions.{Tx, with_bones, looking}
 use Rattle.ode_value.specs.Worlds.{Bones, World}
 
 -- how an act ends: done, with an answer, or aborted, with a reason; and the transaction reached
@@ -73,6 +73,10 @@ module _ {O A : Type 0} where
   -- what is seen of the bones of the world now
   abbrev pub sees : {R : Type 0} → (Bones → R) → Act O A R
   sees f x = Done (f x.now.bones) x
+
+  -- a look at the objects of these numbers
+  abbrev pub looks : List ℕ → Deed O A
+  looks ids = does (looking ids)
 
   -- what was found; nothing reads as null does
   abbrev pub found : {R : Type 0} → Option R → Act O A R

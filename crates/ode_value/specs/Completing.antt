@@ -3,8 +3,8 @@ use Rattle.std.specs.Prelude.{ℕ, zero, suc, ◌+◌, ◌-◌, [], length, nat_
 use Rattle.ode_value.specs.declared.event.Kind.TheVariants.{TComplete}
 use Rattle.ode_value.specs.declared.reason.Reason.TheVariants.{Space}
 use Rattle.ode_value.specs.Pasts.{Past}
-use Rattle.ode_value.specs.Acts.{Deed, ◌>>=◌, ◌>>◌, needs, reads, sees, nothing, when, each}
-use Rattle.ode_value.specs.Changes.{is_live}
+use Rattle.ode_value.specs.Acts.{Deed, ◌>>=◌, ◌>>◌, needs, reads, sees, looks, nothing, when, each}
+use Rattle.ode_value.specs.Changes.{asks_live}
 use Rattle.ode_value.specs.Constraints.{tests_soft}
 use Rattle.ode_value.specs.Executing.{first_actions}
 use Rattle.ode_value.specs.Keeping.{kept_bones}
@@ -32,10 +32,11 @@ module _ {O A : Type 0} where
     o ← sees (λ b. object_at b id)
     tests_object o
 
-  -- of all touched objects
+  -- of all touched objects, by a look at each
   unfoldable pub tests_all : Deed O A
   tests_all = do
     touched ← reads (λ x. x.touched)
+    looks touched
     each tests_touched touched
 
   -- what is to be kept isn't too heavy
@@ -46,7 +47,7 @@ module _ {O A : Type 0} (past : Past O A) where
   -- the last point of an object that is still there
   unfoldable pub posts_tcomplete : ℕ → Deed O A
   posts_tcomplete id = do
-    live ← reads (is_live id)
+    live ← asks_live id
     when live (posts past (first_actions past) id TComplete [])
 
   -- a round, and what comes behind it: the first object that hasn't had its last point; else the first action that hasn't run

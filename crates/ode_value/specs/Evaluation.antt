@@ -6,7 +6,7 @@ use Rattle.ode_value.specs.declared.operator.BinOp.{BinOp}
 use Rattle.ode_value.specs.declared.operator.BinOp.TheVariants.{Add, And, Or}
 use Rattle.ode_value.specs.declared.reason.Reason.{Reason}
 use Rattle.ode_value.specs.declared.reason.Reason.TheVariants as reason
-use Rattle.ode_value.specs.declared.statement.Expr.{Expr, fold-Expr}
+use Rattle.ode_value.specs.declared.statement.Expr.{Expr, fold-Expr, map-Expr, roll-Expr}
 use Rattle.ode_value.specs.declared.statement.Expr.TheOpen as expr
 use Rattle.ode_value.specs.declared.value.Ref.{Ref}
 use Rattle.ode_value.specs.declared.value.Value.{Value}
@@ -87,6 +87,49 @@ evaluation_of _ b frame = misread
 -- the same of a whole expression
 unfoldable pub evaluate : Expr → Evaluation
 evaluate = fold-Expr Evaluation evaluation_of
+
+-- what an expression looks at, in a world and with a frame: the numbers of objects, in order
+abbrev pub Looks : Type 0
+Looks = Bones → Frame → List ℕ
+
+-- the object behind what an expression came to
+abbrev pub object_in : Result Value Fault → List ℕ
+object_in (Ok (value.Reference r)) = r.object ∷ []
+object_in _ = []
+
+-- what the right side of an operator looks at, where the left side's value needs it: true before `&&`, false before `||`, any before another
+abbrev pub after_and : Result Value Fault → List ℕ → List ℕ
+after_and (Ok (value.Bool b)) ids = cond b ids []
+after_and _ ids = []
+
+abbrev pub after_or : Result Value Fault → List ℕ → List ℕ
+after_or (Ok (value.Bool b)) ids = cond b [] ids
+after_or _ ids = []
+
+abbrev pub after_value : Result Value Fault → List ℕ → List ℕ
+after_value (Ok v) ids = ids
+after_value (Err fault) ids = []
+
+abbrev pub right_looks : BinOp → Result Value Fault → List ℕ → List ℕ
+right_looks And left ids = after_and left ids
+right_looks Or left ids = after_or left ids
+right_looks op left ids = after_value left ids
+
+-- from left to right, by one level, of parts with what they look at
+abbrev pub looks_of : expr.Expr-F (Expr × Looks) → Looks
+looks_of (expr.Own place) b frame = frame.this.object ∷ []
+looks_of (expr.Slot e place) b frame = e.1 b frame ++ object_in (evaluate e.0 b frame)
+looks_of (expr.Version e) b frame = e.1 b frame ++ object_in (evaluate e.0 b frame)
+looks_of (expr.Unary op e) b frame = e.1 b frame
+looks_of (expr.Binary op e f) b frame = e.1 b frame ++ right_looks op (evaluate e.0 b frame) (f.1 b frame)
+looks_of _ b frame = []
+
+-- an expression with what it looks at
+abbrev pub with_looks_of : expr.Expr-F (Expr × Looks) → Expr × Looks
+with_looks_of d = (roll-Expr (map-Expr (Expr × Looks) Expr (λ p. p.0) d), looks_of d)
+
+unfoldable pub looks_in : Expr → Looks
+looks_in e = (fold-Expr (Expr × Looks) with_looks_of e).1
 
 -- the reason of the abort that a fault brings
 abbrev pub reason_of : Fault → Reason

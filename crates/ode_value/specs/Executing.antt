@@ -16,7 +16,7 @@ use Rattle.ode_value.specs.Classes.{null}
 use Rattle.ode_value.specs.Evaluation.{Frame, no_frame, with_local}
 use Rattle.ode_value.specs.Expressions.{evaluates, holds, text_in}
 use Rattle.ode_value.specs.Limits.{depth_limit}
-use Rattle.ode_value.specs.Making.{sets_field}
+use Rattle.ode_value.specs.Making.{sets_own}
 use Rattle.ode_value.specs.Posting.{Body}
 use Rattle.ode_value.specs.Statements.{Inner, calls, creates, copies, deletes, drops_version, activates, deactivates}
 
@@ -56,7 +56,7 @@ module _ {O A : Type 0} where
   -- what a `let` makes or a statement sets; no checked tree has a name there
   abbrev pub sets : Var → Value → Doing O A
   sets (var.Local place) v frame = gives (Goes (with_local place v frame))
-  sets (var.Own place) v frame = goes (sets_field frame.this place v) frame
+  sets (var.Own place) v frame = goes (sets_own frame.this place v) frame
   sets (var.Name name) v frame = gives (Goes frame)
 
 module _ {O A : Type 0} (past : Past O A) where

@@ -4,9 +4,9 @@ use Rattle.ode_value.specs.declared.statement.Expr.{Expr}
 use Rattle.ode_value.specs.declared.value.Ref.{Ref}
 use Rattle.ode_value.specs.declared.value.Value.{Value}
 use Rattle.ode_value.specs.declared.value.Value.TheVariants as value
-use Rattle.ode_value.specs.Acts.{Act, Deed, ◌>>=◌, ◌>>◌, gives, nothing, found, computes}
+use Rattle.ode_value.specs.Acts.{Act, Deed, ◌>>=◌, ◌>>◌, gives, nothing, sees, looks, found, computes}
 use Rattle.ode_value.specs.Changes.{version}
-use Rattle.ode_value.specs.Evaluation.{Frame, evaluate}
+use Rattle.ode_value.specs.Evaluation.{Frame, evaluate, looks_in}
 
 -- the text that a value is
 abbrev pub text_in : Value → List ℕ
@@ -26,7 +26,10 @@ ref_in _ = None
 module _ {O A : Type 0} where
   -- the value of an expression
   abbrev pub evaluates : Expr → Frame → Act O A Value
-  evaluates e frame = computes (λ b. evaluate e b frame)
+  evaluates e frame = do
+    ids ← sees (λ b. looks_in e b frame)
+    looks ids
+    computes (λ b. evaluate e b frame)
 
   -- whether a test is true
   abbrev pub holds : Expr → Frame → Act O A Bool
@@ -51,10 +54,14 @@ module _ {O A : Type 0} where
     gives ((set.0, v) ∷ vs)
 
   -- a reference denotes a version
-  abbrev pub stands : Ref → Deed O A
-  stands r = do
+  abbrev pub denoting : Ref → Deed O A
+  denoting r = do
     _ ← version r
     nothing
+
+  -- the same, by a look at its object
+  abbrev pub stands : Ref → Deed O A
+  stands r = looks (r.object ∷ []) >> denoting r
 
   -- the reference that an expression gives; it denotes a version
   abbrev pub reference : Expr → Frame → Act O A Ref

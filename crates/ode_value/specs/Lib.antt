@@ -18,6 +18,7 @@ pub mod Expressions
 pub mod Fields
 pub mod Firings
 pub mod Fitting
+pub mod Footprints
 pub mod GoodWorlds
 pub mod Views
 pub mod Instants

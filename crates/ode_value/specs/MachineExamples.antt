@@ -11,6 +11,7 @@ use Rattle.ode_value.specs.declared.reason.Reason.{Reason}
 use Rattle.ode_value.specs.declared.reason.Reason.TheVariants.{Asked}
 use Rattle.ode_value.specs.declared.value.Value.{Value}
 use Rattle.ode_value.specs.Acts.{Outcome, Done, Aborted, Deed, aborts, ◌>>◌}
+use Rattle.ode_value.specs.Changes.{Draw}
 use Rattle.ode_value.specs.Language.{ListWorld}
 use Rattle.ode_value.specs.Executing.{level}
 use Rattle.ode_value.specs.Keeping.{is_active}
@@ -108,3 +109,7 @@ call_at_the_last_level t = calls_inside lists (level lists None) (generic 1) (co
 abbrev pub aborted_for : {R : Type 0} → Outcome Histories Starts R → Option Reason
 aborted_for (Done answer x) = None
 aborted_for (Aborted reason x) = Some reason
+
+-- a change that finds no number for an object or an activation
+abbrev pub none_left : Draw
+none_left = record { left = λ b. false; number = true }

@@ -10,10 +10,10 @@ use Rattle.ode_value.specs.Pasts.{Past, Kept}
 use Rattle.ode_value.specs.Keys.{object_key, version_key, activation_key}
 use Rattle.ode_value.specs.Texts.{new_line, version_line, active_line}
 use Rattle.ode_value.specs.Versions.{Version}
-use Rattle.ode_value.specs.Acts.{Act, Deed, ◌>>=◌, ◌>>◌, needs, sees, does, turns, gives, prints}
-use Rattle.ode_value.specs.Changes.{version_keys, activation_keys, has_number, draws_none, changes, object, version, alters_object}
+use Rattle.ode_value.specs.Acts.{Act, Deed, ◌>>=◌, ◌>>◌, needs, sees, looks, does, turns, gives, prints}
+use Rattle.ode_value.specs.Changes.{version_keys, activation_keys, draws_number, draws_version, draws_none, changes, object, version, alters_object}
 use Rattle.ode_value.specs.Classes.{Trigger}
-use Rattle.ode_value.specs.Limits.{args_limit, version_limit}
+use Rattle.ode_value.specs.Limits.{args_limit}
 use Rattle.ode_value.specs.Transactions.{touching}
 use Rattle.ode_value.specs.Worlds.{Object, Bones, World, with_object, with_kept}
 
@@ -79,13 +79,17 @@ module _ {O A : Type 0} where
     changes (version_key r.object v.number ∷ []) (version_size stamp fields) draws_none
     alters_object r.object (λ o. record o { versions = map (with_fields stamp v.number fields) o.versions })
 
+  -- the same, by a look at the object
+  abbrev pub sets_own : Ref → ℕ → Value → Deed O A
+  sets_own r place value = looks (r.object ∷ []) >> sets_field r place value
+
   -- a new version of an object, derived from the one that a reference denotes
   abbrev pub derives : Ref → Act O A Ref
   derives r = do
     v ← version r
     o ← object r.object
     stamp ← sees stamp_now
-    changes (object_key o.id ∷ version_key o.id (o.last + 1) ∷ []) (version_size stamp v.fields) (λ b. nat_lt o.last version_limit)
+    changes (object_key o.id ∷ version_key o.id (o.last + 1) ∷ []) (version_size stamp v.fields) (draws_version o)
     alters_object o.id (derived_from stamp v)
     prints (version_line (next_version o))
     gives (next_version o)
@@ -144,9 +148,10 @@ module _ {O A : Type 0} (past : Past O A) where
   makes class fields = do
     id ← sees (λ b. b.next)
     stamp ← sees stamp_now
-    changes (object_key id ∷ version_key id 1 ∷ []) (version_size stamp fields) has_number
+    changes (object_key id ∷ version_key id 1 ∷ []) (version_size stamp fields) draws_number
     turns (with_new class fields)
     does (touching id)
+    looks (id ∷ [])
     prints (new_line id)
     gives id
 
@@ -155,7 +160,7 @@ module _ {O A : Type 0} (past : Past O A) where
   switches_on id t args = do
     number ← sees (λ b. b.next)
     needs Size (λ x. nat_le (values_length args) args_limit)
-    changes (activation_key id number ∷ []) 0 has_number
+    changes (activation_key id number ∷ []) 0 draws_number
     turns (with_active id t args)
     prints (active_line number)
     gives number

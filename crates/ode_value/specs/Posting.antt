@@ -17,7 +17,7 @@ use Rattle.ode_value.specs.Evaluation.{Frame}
 use Rattle.ode_value.specs.Firings.{arises, both_lists}
 use Rattle.ode_value.specs.Limits.{cascade_limit, change_limit, generation_limit, queue_limit, number_limit}
 use Rattle.ode_value.specs.Texts.{fired_line, dropped_line}
-use Rattle.ode_value.specs.Transactions.{Tx, Firing, Origin, Script, Queue, Clock, generation_of, touching}
+use Rattle.ode_value.specs.Transactions.{Tx, Firing, Origin, Script, Queue, Clock, generation_of, touching, queueing}
 
 -- how a body runs with a frame; it gives the value that it returns, if it returns one
 abbrev pub Body : (O A : Type 0) → Type 0
@@ -85,6 +85,7 @@ module _ {O A : Type 0} where
   -- a detached firing is collected, or dropped with its line
   abbrev pub collects : (List ℕ → Deed O A) → Bool → Firing → Deed O A
   collects says independent f = do
+    does queueing
     room ← reads has_room
     cond room (does (with_entry independent f)) (says (dropped_text f))
 

@@ -7,8 +7,8 @@ use Rattle.ode_value.specs.declared.reason.Reason.{Reason}
 use Rattle.ode_value.specs.Pasts.{Past}
 use Rattle.ode_value.specs.Texts.{committed_line, aborted_line}
 use Rattle.ode_value.specs.Worlds.{Entry, Position, Bones, World}
-use Rattle.ode_value.specs.Acts.{Deed, Outcome, Done, Aborted, ◌>>=◌, ◌>>◌, reads, does, when, each, with_line, reached}
-use Rattle.ode_value.specs.Changes.{is_live}
+use Rattle.ode_value.specs.Acts.{Deed, Outcome, Done, Aborted, ◌>>=◌, ◌>>◌, does, when, each, with_line, reached}
+use Rattle.ode_value.specs.Changes.{asks_live}
 use Rattle.ode_value.specs.Completing.{completes}
 use Rattle.ode_value.specs.Firings.{Place, both_lists, whole_list, arises}
 use Rattle.ode_value.specs.Keeping.{kept_world, rewound_world}
@@ -72,7 +72,7 @@ module _ {O A : Type 0} (past : Past O A) where
   -- and where its object is there
   unfoldable pub posts_last : Place O A → Kind → ℕ → Deed O A
   posts_last place kind id = do
-    live ← reads (is_live id)
+    live ← asks_live id
     when live (posts_last_listed place kind id)
 
   -- behind such points for the touched objects, in the order of touching
@@ -98,6 +98,11 @@ module _ {O A : Type 0} (past : Past O A) where
   -- abort
   abbrev pub abort : Reason → Tx O A → Settled O A
   abort reason x = settled (whole_list past) TAbort (aborted_line x.first.bones.transaction reason) (aborted x)
+
+  -- behind the last points, as its work ended
+  abbrev pub ended : Outcome O A (Unit {0}) → Tx O A
+  ended (Done answer x) = posted (both_lists past) TCommit (committed x)
+  ended (Aborted reason x) = posted (whole_list past) TAbort (aborted x)
 
   -- as its work ended
   abbrev pub settle : Outcome O A (Unit {0}) → Settled O A

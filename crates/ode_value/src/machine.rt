@@ -9,12 +9,12 @@ ghost use Rattle.ode_value.specs.Executing.{deeper, level, outermost};
 ghost use Rattle.ode_value.specs.GoodWorlds.{IsGood};
 ghost use Rattle.ode_value.specs.Language.{Language, ListTx, ListWorld};
 ghost use Rattle.ode_value.specs.Limits.{value_limit};
-ghost use Rattle.ode_value.specs.MachineExamples.{aborted_for, active, call_at_the_last_level, firing_there, no_points, one_lost_point, posts_and_aborts, posts_before, watched_world, watching};
+ghost use Rattle.ode_value.specs.MachineExamples.{aborted_for, active, call_at_the_last_level, firing_there, no_points, none_left, one_lost_point, posts_and_aborts, posts_before, watched_world, watching};
 ghost use Rattle.ode_value.specs.Pasts.{lists};
 ghost use Rattle.ode_value.specs.Posting.{collects, dropped_text, fired_text, with_entry};
 ghost use Rattle.ode_value.specs.Settling.{transaction};
 ghost use Rattle.ode_value.specs.Texts.{aborted_line, committed_line};
-ghost use Rattle.ode_value.specs.Transactions.{Firing, Queue, Script, begun};
+ghost use Rattle.ode_value.specs.Transactions.{Firing, Queue, Script, begun, drawing, queueing};
 ghost use Rattle.ode_value.specs.Worlds.{empty_bones, empty_world};
 
 /// An empty transaction takes a number and prints its settling line.
@@ -25,14 +25,14 @@ pub fn empty_transactions()
 
 /// A firing that would wait in generation 17 is dropped with its line; one in generation 16 waits.
 pub fn dropped_firings()
-    ensures dropped { (w : ListWorld) (f : Firing) → collects prints false f (begun (Queue 1 16) w) ≡ prints (dropped_text f) (begun (Queue 1 16) w) }
-    ensures waits { (f : Firing) → let x : ListTx = begun (Queue 1 15) empty_world in collects prints false f x ≡ Done tt (with_entry false f x) }
+    ensures dropped { (w : ListWorld) (f : Firing) → collects prints false f (begun (Queue 1 16) w) ≡ prints (dropped_text f) (queueing (begun (Queue 1 16) w)) }
+    ensures waits { (f : Firing) → let x : ListTx = begun (Queue 1 15) empty_world in collects prints false f x ≡ Done tt (with_entry false f (queueing x)) }
 {}
 
-/// Of a change that is too long and finds no number either, the length is told.
+/// Of a change that is too long and finds no number either, the length is told, and that it asked for one isn't marked.
 pub fn changes_are_tested_in_order()
-    ensures size { (x : ListTx) → changes [] (value_limit + 1) (λ b. false) x ≡ Aborted Size x }
-    ensures space { (w : ListWorld) → changes [] value_limit (λ b. false) (begun Script w) ≡ Aborted Space (begun Script w) }
+    ensures size { (x : ListTx) → changes [] (value_limit + 1) none_left x ≡ Aborted Size x }
+    ensures space { (w : ListWorld) → changes [] value_limit none_left (begun Script w) ≡ Aborted Space (drawing true (begun Script w)) }
 {}
 
 /// A once-only trigger on whole histories fires in a transaction that aborts. It went off there; behind the abort it is on again, the

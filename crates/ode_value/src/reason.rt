@@ -61,9 +61,9 @@ pub enum Refusal {
     /// A literal of a version that isn't there.
     NoVersion(Ref),
     Check(CheckError),
-    /// The alphabet of this trigger has too many symbols, this many.
+    /// The alphabet of an event expression has too many symbols, this many.
     TooManySymbols { trigger: Name, count: u32 },
-    /// The event of this trigger has too many states.
+    /// An event expression has too many states.
     TooManyStates { trigger: Name },
     /// The class needs too many records, this many.
     ClassTooLarge { count: u32 },
