@@ -7,7 +7,7 @@ use Rattle.ode_laws.specs.Alike.{NumberTx, NumberWorld}
 use Rattle.ode_objects.specs.declared.tracked.Tracked.{Tracked}
 use Rattle.ode_overlay.specs.Changing.{activate, activate_with, deactivate, deactivate_with, derive, drop_version, fresh, write}
 use Rattle.ode_overlay.specs.Layers.{Layer}
-use Rattle.ode_overlay_laws.specs.Following.{Follows, on_live}
+use Rattle.ode_overlay_laws.specs.Following.{Follows, FollowsDrawing, on_live}
 use Rattle.ode_overlay_laws.specs.Standing.{IsFresh}
 use Rattle.ode_value.specs.Acts.{Outcome, Done, Aborted, does, gives, go_on, prints, reached, with_line}
 use Rattle.ode_value.specs.Classes.{Trigger}
@@ -23,11 +23,11 @@ use Rattle.ode_value.specs.declared.value.Ref.{Ref}
 use Rattle.ode_value.specs.declared.value.Value.{Value}
 use Rattle.ode_value.specs.declared.value.Value.TheVariants as value
 use Rattle.ode_version_laws.specs.Denoting.{tells_version}
-use Rattle.ode_view_laws.proofs.ActLaws.{behind_read, gives_quiet, line_quiet, live_tidy}
+use Rattle.ode_view_laws.proofs.ActLaws.{behind_drawing, behind_read, gives_quiet, line_quiet, live_tidy}
 use Rattle.ode_view_laws.proofs.DrawnLaws.{AreDrawn, Leaves, activate_leaves, deactivate_leaves, derive_leaves, drop_leaves, leaves_then, write_leaves}
 use Rattle.ode_view_laws.proofs.OrderLaws.{derive_tidy, drop_tidy, initial_tidy, named_tidy, off_tidy, set_tidy}
-use Rattle.ode_view_laws.proofs.ShowLaws.{shown, view}
-use Rattle.ode_view_laws.specs.Showing.{IsViewed, Shows, StaysViewed}
+use Rattle.ode_view_laws.proofs.ShowLaws.{draws_shown, shown, view}
+use Rattle.ode_view_laws.specs.Showing.{IsViewed, Shows, ShowsDrawing, StaysViewed}
 use Rattle.ode_view_laws.specs.Viewing.{Beside, running}
 
 -- a line alone leaves the world as it was
@@ -83,24 +83,24 @@ module _ (classes : List Declared) (first : NumberWorld) (beside : Beside) (x : 
   -- ---- activations
 
   module _ (declared : List Class) (base : Entries) (id : ℕ) (new : Option Tracked) (read : fresh declared base id x ≡ Ok new) (is : IsFresh x y id new) where
-    pub initial_shown : (tables : ℕ → ℕ → Table) (t : Trigger) → Follows y tells_line (activate_with new id t.class t.place [] x) (on_live id (activates_initial (numbers tables) id t) y)
-        → Shows now tells_line x (activate declared base id t.class t.place [] x) (on_live id (activates_initial (numbers tables) id t) y)
+    pub initial_shown : (tables : ℕ → ℕ → Table) (t : Trigger) → FollowsDrawing y tells_line (activate_with new id t.class t.place [] x) (on_live id (activates_initial (numbers tables) id t) y)
+        → ShowsDrawing now tells_line x (activate declared base id t.class t.place [] x) (on_live id (activates_initial (numbers tables) id t) y)
         × StaysViewed first (activate declared base id t.class t.place [] x)
     unfolding activate
     initial_shown tables t follows =
-        behind_read classes first beside x viewed declared base id new read is tells_line (λ o. activate_with o id t.class t.place [] x) (on_live id (activates_initial (numbers tables) id t) y)
-        (shown classes first beside x tells_line (on_live id (activates_initial (numbers tables) id t)) viewed (live_tidy id (activates_initial (numbers tables) id t) (initial_tidy tables id t))
+        behind_drawing classes first beside x viewed declared base id new read is tells_line (λ o. activate_with o id t.class t.place [] x) (on_live id (activates_initial (numbers tables) id t) y)
+        (draws_shown classes first beside x tells_line (on_live id (activates_initial (numbers tables) id t)) viewed (live_tidy id (activates_initial (numbers tables) id t) (initial_tidy tables id t))
         (λ n z. line_alone (active_line n) z) (activate_with new id t.class t.place [] x) (activate_leaves new x viewed.touched id t.class t.place []) follows)
 
   pub named_shown : (declared : List Class) (base : Entries) (r : Ref) (new : Option Tracked) (read : fresh declared base r.object x ≡ Ok new) (is : IsFresh x y r.object new)
       (tables : ℕ → ℕ → Table) (name : List ℕ) (t : Trigger) (args : List Value)
-      → Follows y tells_value (activate_with new r.object t.class t.place args x) (switches_on_named (numbers tables) r name args y)
-      → Shows now tells_value x (activate declared base r.object t.class t.place args x) (switches_on_named (numbers tables) r name args y)
+      → FollowsDrawing y tells_value (activate_with new r.object t.class t.place args x) (switches_on_named (numbers tables) r name args y)
+      → ShowsDrawing now tells_value x (activate declared base r.object t.class t.place args x) (switches_on_named (numbers tables) r name args y)
       × StaysViewed first (activate declared base r.object t.class t.place args x)
   unfolding activate
   named_shown declared base r new read is tables name t args follows =
-      behind_read classes first beside x viewed declared base r.object new read is tells_value (λ o. activate_with o r.object t.class t.place args x) (switches_on_named (numbers tables) r name args y)
-      (shown classes first beside x tells_value (switches_on_named (numbers tables) r name args) viewed (named_tidy tables r name args)
+      behind_drawing classes first beside x viewed declared base r.object new read is tells_value (λ o. activate_with o r.object t.class t.place args x) (switches_on_named (numbers tables) r name args y)
+      (draws_shown classes first beside x tells_value (switches_on_named (numbers tables) r name args) viewed (named_tidy tables r name args)
       (λ n z. line_quiet (active_line n) (value.Int (pos n)) z) (activate_with new r.object t.class t.place args x) (activate_leaves new x viewed.touched r.object t.class t.place args) follows)
 
   pub off_shown : (declared : List Class) (base : Entries) (r : Ref) (number : ℕ) (new : Option Tracked) (read : fresh declared base r.object x ≡ Ok new) (is : IsFresh x y r.object new)

@@ -19,7 +19,7 @@ ghost use Rattle.ode_value.specs.declared.class.Class.{Class};
 ghost use Rattle.ode_value.specs.declared.value.Ref.{Ref};
 ghost use Rattle.ode_value.specs.declared.value.Value.{Value};
 ghost use Rattle.ode_value.specs.declared.value.Value.TheVariants as value;
-ghost use Rattle.ode_view_laws.specs.Showing.{IsViewed, Shows, StaysViewed};
+ghost use Rattle.ode_view_laws.specs.Showing.{IsViewed, Shows, ShowsDrawing, StaysViewed};
 ghost use Rattle.ode_view_laws.specs.Viewing.{Beside, running};
 
 use ode_activation_laws::{activations_follow, deactivations_follow};
@@ -32,12 +32,12 @@ pub fn activations_show()
         → fresh declared base r.object x ≡ Ok new → IsFresh x (running classes first x beside) r.object new
         → (tables : ℕ → ℕ → Table) (o : Object) (name : Items ℕ) (t : Trigger) (args : Items Value)
         → object_at (running classes first x beside).now.bones r.object ≡ Some o → trigger_named (running classes first x beside).now.bones.classes o.class name ≡ Some t
-        → Shows (λ now. running classes first now beside) tells_value x (activate declared base r.object t.class t.place args x)
+        → ShowsDrawing (λ now. running classes first now beside) tells_value x (activate declared base r.object t.class t.place args x)
         (switches_on_named (numbers tables) r name args (running classes first x beside))
         × StaysViewed first (activate declared base r.object t.class t.place args x) }
     ensures initial { (classes : Items Declared) (first : NumberWorld) (beside : Beside) (x : Layer) → IsViewed first x → (declared : Items Class) (base : Entries) (id : ℕ) (new : Option Tracked)
         → fresh declared base id x ≡ Ok new → IsFresh x (running classes first x beside) id new → (tables : ℕ → ℕ → Table) (t : Trigger)
-        → Shows (λ now. running classes first now beside) tells_line x (activate declared base id t.class t.place [] x)
+        → ShowsDrawing (λ now. running classes first now beside) tells_line x (activate declared base id t.class t.place [] x)
         (on_live id (activates_initial (numbers tables) id t) (running classes first x beside))
         × StaysViewed first (activate declared base id t.class t.place [] x) }
 {

@@ -7,7 +7,7 @@ ghost use Rattle.ode_laws.specs.Alike.{NumberTx};
 ghost use Rattle.ode_objects.specs.declared.tracked.Tracked.{Tracked};
 ghost use Rattle.ode_overlay.specs.Changing.{activate_with, deactivate_with};
 ghost use Rattle.ode_overlay.specs.Layers.{Layer};
-ghost use Rattle.ode_overlay_laws.specs.Following.{Follows, on_live};
+ghost use Rattle.ode_overlay_laws.specs.Following.{Follows, FollowsDrawing, on_live};
 ghost use Rattle.ode_overlay_laws.specs.Standing.{IsFresh, Stands};
 ghost use Rattle.ode_value.specs.Acts.{gives};
 ghost use Rattle.ode_value.specs.Classes.{Trigger, trigger_named};
@@ -24,13 +24,13 @@ ghost use Rattle.ode_value.specs.declared.value.Value.TheVariants as value;
 /// An activation of a trigger goes on in the overlay as in the machine, up to its line: that of a trigger, that of a name which the object's class has, and one without arguments of a new object.
 pub fn activations_follow()
     ensures trigger { (tables : ℕ → ℕ → Table) (t : Trigger) (args : Items Value) (x : Layer) (y : NumberTx) (id : ℕ) (new : Option Tracked) → Stands x y → IsFresh x y id new
-        → Follows y tells_active (activate_with new id t.class t.place args x) (on_live id (switches_on (numbers tables) id t args) y) }
+        → FollowsDrawing y tells_active (activate_with new id t.class t.place args x) (on_live id (switches_on (numbers tables) id t args) y) }
     ensures named { (tables : ℕ → ℕ → Table) (o : Object) (name : Items ℕ) (t : Trigger) (args : Items Value) (x : Layer) (y : NumberTx) (r : Ref) (new : Option Tracked) → Stands x y
         → IsFresh x y r.object new
         → object_at y.now.bones r.object ≡ Some o → trigger_named y.now.bones.classes o.class name ≡ Some t
-        → Follows y tells_value (activate_with new r.object t.class t.place args x) (switches_on_named (numbers tables) r name args y) }
+        → FollowsDrawing y tells_value (activate_with new r.object t.class t.place args x) (switches_on_named (numbers tables) r name args y) }
     ensures initial { (tables : ℕ → ℕ → Table) (t : Trigger) (x : Layer) (y : NumberTx) (id : ℕ) (new : Option Tracked) → Stands x y → IsFresh x y id new
-        → Follows y tells_line (activate_with new id t.class t.place [] x) (on_live id (activates_initial (numbers tables) id t) y) }
+        → FollowsDrawing y tells_line (activate_with new id t.class t.place [] x) (on_live id (activates_initial (numbers tables) id t) y) }
 {}
 
 /// An activation of an object goes off in the overlay as in the machine, where there is one of the number that is on; else both do

@@ -28,7 +28,7 @@ use Rattle.ode_value.specs.Posting.{with_entry}
 use Rattle.ode_value.specs.Settling.{Settled, abort, aborted, commit, posted, settled}
 use Rattle.ode_value.specs.Tables.{Table}
 use Rattle.ode_value.specs.Texts.{committed_line}
-use Rattle.ode_value.specs.Transactions.{Firing, Tx}
+use Rattle.ode_value.specs.Transactions.{Firing, Tx, footed}
 use Rattle.ode_value.specs.Worlds.{Bones, Declared, Object, World}
 use Rattle.ode_value.specs.declared.event.Kind.{Kind}
 use Rattle.ode_value.specs.declared.event.Kind.TheVariants.{TAbort, TCommit}
@@ -64,6 +64,7 @@ module _ {O A : Type 0} (past : Past O A) (place : Place O A) (cs : List Declare
     other_place = place;
     Related = Alone;
     same = λ y x r. same_self cs y x r.0 r.1.0;
+    foot = λ y x change r. (ap (footed change) r.0, r.1);
     line = λ y x line r. (ap (with_line line) r.0, r.1);
     collect = λ y x f r room. (ap (with_entry true f) r.0, r.1);
     point = λ y x id kind r. subst (λ z. EndsBy Alone Alone (arises past place id kind [] z) (arises past place id kind [] x)) (sym r.0) (point_stays x id kind r.1);

@@ -1,5 +1,5 @@
 -- What an evaluation's answer says of what an expression comes to.
-use Rattle.std.specs.Prelude.{◌≡◌, ℕ, Option, Some, Result, Ok, Err}
+use Rattle.std.specs.Prelude.{◌≡◌, ℕ, List, Option, Some, Result, Ok, Err}
 use Rattle.ode_value.specs.declared.arithmetic.Fault.{Fault}
 use Rattle.ode_value.specs.declared.operator.BinOp.{BinOp}
 use Rattle.ode_value.specs.declared.operator.BinOp.TheVariants.{And, Or}
@@ -28,6 +28,13 @@ stopped_by (Ok v) before = before
 stopped_by (Err (stop.Fault fault)) before = before
 stopped_by (Err (stop.Frame s)) before = Some s
 stopped_by (Err stop.Memory) before = before
+
+-- what was looked at by then is this, where a call answers a value or a fault
+abbrev pub LookedAs : {T S : Type 0} → Result T (EvalStop S) → List ℕ → List ℕ → Type 0
+LookedAs (Ok v) looked is = looked ≡ is
+LookedAs (Err (stop.Fault fault)) looked is = looked ≡ is
+LookedAs (Err (stop.Frame s)) looked is = Unit {0}
+LookedAs (Err stop.Memory) looked is = Unit {0}
 
 -- the number of the version that a reference denotes, or why it denotes none
 abbrev pub number_in : Result Version Fault → Result ℕ Fault

@@ -1,9 +1,9 @@
 //! Expressions, evaluated from left to right.
-ghost use Rattle.std.specs.Prelude.{◌≡◌, None};
-ghost use Rattle.ode_value.specs.Evaluation.{at_ref, evaluate, field_of, version_reference};
+ghost use Rattle.std.specs.Prelude.{◌≡◌, ◌++◌, [], ◌∷◌, None, Ok};
+ghost use Rattle.ode_value.specs.Evaluation.{at_ref, evaluate, field_of, looks_in, object_in, right_looks, version_reference};
 ghost use Rattle.ode_value.specs.Masks.{value_at};
 ghost use Rattle.ode_value.specs.Operators.{unary_value};
-ghost use Rattle.ode_expr.specs.Answers.{Answers, side_of, stopped_by};
+ghost use Rattle.ode_expr.specs.Answers.{Answers, LookedAs, side_of, stopped_by};
 
 use crate::frame::Frame;
 use crate::operators::{combined, unary};
@@ -27,11 +27,13 @@ fn local<F: Frame>(alloc: Global, slot: u16, frame: &F) -> Result<Value, EvalSto
     }
 }
 
+#[tactic(auto, using(crate::proofs::EvaluationLaws::looks_nothing))]
 fn field<F: Frame>(of: &Value, slot: u16, frame: &mut F) -> Result<Value, EvalStop<F::Stop>>
     ensures value { (k : F.Known) → F.shows frame.old k → Answers (at_ref (field_of (F.bones k) slot) of.now) result }
     ensures stopped { F.stopped frame.new ≡ stopped_by result (F.stopped frame.old) }
     ensures shows { (k : F.Known) → F.shows frame.old k → F.shows frame.new k }
     ensures follows { (b : F.Base) → F.follows frame.old b → F.follows frame.new b }
+    ensures looks { LookedAs result (F.looked frame.new) (F.looked frame.old ++ object_in (Ok of.now)) }
     ensures scene { F.scene frame.new ≡ F.scene frame.old }
 {
     match of {
@@ -45,6 +47,7 @@ fn current<F: Frame>(of: Ref, frame: &mut F) -> Result<Value, EvalStop<F::Stop>>
     ensures stopped { F.stopped frame.new ≡ stopped_by result (F.stopped frame.old) }
     ensures shows { (k : F.Known) → F.shows frame.old k → F.shows frame.new k }
     ensures follows { (b : F.Base) → F.follows frame.old b → F.follows frame.new b }
+    ensures looks { LookedAs result (F.looked frame.new) (F.looked frame.old ++ of.object ∷ []) }
     ensures scene { F.scene frame.new ≡ F.scene frame.old }
 {
     match frame.current(of) {
@@ -56,11 +59,13 @@ fn current<F: Frame>(of: Ref, frame: &mut F) -> Result<Value, EvalStop<F::Stop>>
     }
 }
 
+#[tactic(auto, using(crate::proofs::EvaluationLaws::looks_nothing))]
 fn version<F: Frame>(of: &Value, frame: &mut F) -> Result<Value, EvalStop<F::Stop>>
     ensures value { (k : F.Known) → F.shows frame.old k → Answers (at_ref (version_reference (F.bones k)) of.now) result }
     ensures stopped { F.stopped frame.new ≡ stopped_by result (F.stopped frame.old) }
     ensures shows { (k : F.Known) → F.shows frame.old k → F.shows frame.new k }
     ensures follows { (b : F.Base) → F.follows frame.old b → F.follows frame.new b }
+    ensures looks { LookedAs result (F.looked frame.new) (F.looked frame.old ++ object_in (Ok of.now)) }
     ensures scene { F.scene frame.new ≡ F.scene frame.old }
 {
     match of {
@@ -79,13 +84,14 @@ fn of_one<S>(op: UnOp, v: &Value) -> Result<Value, EvalStop<S>>
 /// The value that an expression comes to, or why there is none: its fault, or what stopped the frame. The frame shows the same
 /// worlds behind it.
 #[cycle(eval)]
-#[tactic(auto, using(crate::proofs::EvaluationLaws::evaluations, crate::proofs::EvaluationLaws::stops_through))]
+#[tactic(auto, using(crate::proofs::EvaluationLaws::evaluations, crate::proofs::EvaluationLaws::looked_parts, crate::proofs::EvaluationLaws::stops_through, crate::proofs::EvaluationLaws::none_behind, crate::proofs::EvaluationLaws::looks_nothing, crate::proofs::EvaluationLaws::looks_behind, crate::proofs::EvaluationLaws::object_stops, crate::proofs::EvaluationLaws::right_stops))]
 pub fn eval<F: Frame>(alloc: Global, e: &Expr, frame: &mut F) -> Result<Value, EvalStop<F::Stop>>
     requires { F.stopped frame.old ≡ None }
     ensures value { (k : F.Known) → F.shows frame.old k → Answers (evaluate e.now (F.bones k) (F.scene frame.old)) result }
     ensures stopped { F.stopped frame.new ≡ stopped_by result None }
     ensures shows { (k : F.Known) → F.shows frame.old k → F.shows frame.new k }
     ensures follows { (b : F.Base) → F.follows frame.old b → F.follows frame.new b }
+    ensures looks { (k : F.Known) → F.shows frame.old k → LookedAs result (F.looked frame.new) (F.looked frame.old ++ looks_in e.now (F.bones k) (F.scene frame.old)) }
     ensures scene { F.scene frame.new ≡ F.scene frame.old }
 {
     match e {
@@ -118,7 +124,7 @@ pub fn eval<F: Frame>(alloc: Global, e: &Expr, frame: &mut F) -> Result<Value, E
 
 // The right side of an operator, and what the operator makes of both. It is evaluated only where it is needed.
 #[cycle(eval)]
-#[tactic(auto, using(crate::proofs::EvaluationLaws::stops_through))]
+#[tactic(auto, using(crate::proofs::EvaluationLaws::stops_through, crate::proofs::EvaluationLaws::looks_nothing))]
 fn eval_right<F: Frame>(
     alloc: Global,
     op: BinOp,
@@ -131,6 +137,7 @@ fn eval_right<F: Frame>(
     ensures stopped { F.stopped frame.new ≡ stopped_by result None }
     ensures shows { (k : F.Known) → F.shows frame.old k → F.shows frame.new k }
     ensures follows { (b : F.Base) → F.follows frame.old b → F.follows frame.new b }
+    ensures looks { (k : F.Known) → F.shows frame.old k → LookedAs result (F.looked frame.new) (F.looked frame.old ++ right_looks op (Ok v.now) (looks_in f.now (F.bones k) (F.scene frame.old))) }
     ensures scene { F.scene frame.new ≡ F.scene frame.old }
 {
     match op {

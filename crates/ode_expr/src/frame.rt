@@ -1,9 +1,9 @@
 //! What expressions are evaluated over.
-ghost use Rattle.std.specs.Prelude.{◌≡◌, Option, slice_get};
+ghost use Rattle.std.specs.Prelude.{◌≡◌, ◌++◌, [], ◌∷◌, ℕ, List as Items, Option, slice_get};
 ghost use Rattle.std.specs.Option.{option_copied};
 ghost use Rattle.ode_value.specs.Evaluation.{Frame as Scene, field_of};
 ghost use Rattle.ode_value.specs.Worlds.{Bones};
-ghost use Rattle.ode_expr.specs.Answers.{Answers, number_of, stopped_by};
+ghost use Rattle.ode_expr.specs.Answers.{Answers, LookedAs, number_of, stopped_by};
 
 use crate::stop::EvalStop;
 use ode_value::{Ref, Value};
@@ -31,6 +31,9 @@ pub trait Frame {
     /// The reference, and the parameters and locals.
     ghost scene: { Self → Scene };
 
+    /// The objects that it was looked at for, by number, in order.
+    ghost looked: { Self → Items ℕ };
+
     /// What it stopped by.
     ghost stopped: { Self → Option Self.Stop };
 
@@ -48,6 +51,7 @@ pub trait Frame {
         ensures stopped { stopped self.new ≡ stopped_by result (stopped self.old) }
         ensures shows { (k : Known) → shows self.old k → shows self.new k }
         ensures follows { (b : Base) → follows self.old b → follows self.new b }
+        ensures looks { LookedAs result (looked self.new) (looked self.old ++ of.object ∷ []) }
         ensures scene { scene self.new ≡ scene self.old };
 
     /// The number of the version that a reference denotes.
@@ -56,5 +60,6 @@ pub trait Frame {
         ensures stopped { stopped self.new ≡ stopped_by result (stopped self.old) }
         ensures shows { (k : Known) → shows self.old k → shows self.new k }
         ensures follows { (b : Base) → follows self.old b → follows self.new b }
+        ensures looks { LookedAs result (looked self.new) (looked self.old ++ of.object ∷ []) }
         ensures scene { scene self.new ≡ scene self.old };
 }

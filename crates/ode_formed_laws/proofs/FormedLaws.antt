@@ -24,7 +24,7 @@ use Rattle.ode_objects.specs.declared.tracked.Tracked.{Tracked}
 use Rattle.ode_overlay.specs.After.{held_after, is_among, value_after}
 use Rattle.ode_overlay.specs.Answers.{Answer, ◌>>=◌}
 use Rattle.ode_overlay.specs.Changing.{kept_as, live_of, needs, next_number, now_tracked, object_of, with_now}
-use Rattle.ode_overlay.specs.Layers.{Layer, begun, holding, key_count, tracked_at}
+use Rattle.ode_overlay.specs.Layers.{Layer, begun, holding, key_count, queueing, tracked_at}
 use Rattle.ode_overlay.specs.Records.{becomes, becomes_of}
 use Rattle.ode_overlay.specs.Settling.{collect, has_room, with_entry}
 use Rattle.ode_overlay.specs.declared.error.OverlayError.{OverlayError}
@@ -196,10 +196,10 @@ formed_begun classes base counters queued origin = record { keys = tt; each = λ
 
 -- ---- a firing is collected
 
-collected_stays : (classes : List Declared) (base : Entries) (x : Layer) (e : Entry) (independent : Bool) → IsFormed classes base x → (b : Bool) → IsFormed classes base (cond {A = Bool × Layer} b (true, with_entry e independent x) (false, x)).1
+collected_stays : (classes : List Declared) (base : Entries) (x : Layer) (e : Entry) (independent : Bool) → IsFormed classes base x → (b : Bool) → IsFormed classes base (cond {A = Bool × Layer} b (true, with_entry e independent (queueing x)) (false, queueing x)).1
 unfolding becomes
 collected_stays classes base x e independent formed true = record { keys = formed.keys; each = formed.each; newest = formed.newest }
-collected_stays classes base x e independent formed false = formed
+collected_stays classes base x e independent formed false = record { keys = formed.keys; each = formed.each; newest = formed.newest }
 
 pub collect_stays : (classes : List Declared) (base : Entries) (x : Layer) (e : Entry) (independent : Bool) → IsFormed classes base x → IsFormed classes base (collect e independent x).1
 unfolding collect

@@ -18,8 +18,8 @@ use Rattle.ode_value.specs.declared.statement.Expr.{Expr}
 use Rattle.ode_value.specs.declared.statement.Stmt.{Stmt}
 use Rattle.ode_value.specs.declared.value.Ref.{Ref}
 use Rattle.ode_value.specs.declared.value.Value.{Value}
-use Rattle.ode_value.specs.Acts.{Act, Outcome, Done, Aborted, go_on, ◌>>=◌, ◌>>◌, does, each, finds, found, gives, nothing, prints, reads, sees, turns, when}
-use Rattle.ode_value.specs.Changes.{activation_keys, alters_object, changes, class_of, draws_none, has_number, is_live, lives, object}
+use Rattle.ode_value.specs.Acts.{Act, Outcome, Done, Aborted, go_on, ◌>>=◌, ◌>>◌, does, each, finds, found, gives, looks, nothing, prints, reads, sees, turns, when}
+use Rattle.ode_value.specs.Changes.{activation_keys, alters_object, changes, class_of, draws_none, draws_number, is_live, lives, object}
 use Rattle.ode_value.specs.Classes.{Trigger, initial_triggers, method_named}
 use Rattle.ode_value.specs.Constraints.{tests_hard}
 use Rattle.ode_value.specs.Denoting.{denotes, object_at}
@@ -36,7 +36,7 @@ use Rattle.ode_value.specs.Settling.{arises_last, posts_last, posts_last_listed,
 use Rattle.ode_value.specs.Statements.{activates_initial, first_value, makes_named}
 use Rattle.ode_value.specs.Tables.{Table}
 use Rattle.ode_value.specs.Texts.{new_line}
-use Rattle.ode_value.specs.Transactions.{Firing, Tx, touching}
+use Rattle.ode_value.specs.Transactions.{Firing, Tx, looking, queueing, touching}
 use Rattle.ode_value.specs.Worlds.{Declared, Object, class_named}
 use Rattle.ode_interpreter.proofs.Fronts.{found_method}
 use Rattle.ode_interpreter.proofs.Touches.{touch_is}
@@ -126,6 +126,7 @@ module _ {O A : Type 0} (past : Past O A) (id : ℕ) where
   touched_keeps = record {
     less = λ n x h. h;
     statement = λ n x h more. h;
+    foot = λ n x change h. h;
     line = λ n x line h fits. h;
     keys = λ n x keys h fits. h;
     touch = λ n x other h. still_among id other x.touched h;
@@ -226,7 +227,7 @@ module _ {O A : Type 0} (past : Past O A) (id : ℕ) where
   module _ (place : Place O A) where
     collect_still : (f : Firing) (x : Tx O A) → IsTouched x → Still (collects says true f x)
     collect_still f x h = by_room (has_room x) where
-      by_room : (room : Bool) → Still (cond room (does (with_entry true f)) (says (dropped_text f)) x)
+      by_room : (room : Bool) → Still (cond room (does (with_entry true f)) (says (dropped_text f)) (queueing x))
       by_room true = h
       by_room false = h
 
@@ -252,11 +253,12 @@ module _ {O A : Type 0} (past : Past O A) (id : ℕ) where
     pub last_stays : (on : ℕ) (kind : Kind) (x y : Tx O A) → posts_last past place kind on x ≡ Done tt y → IsTouched x → IsTouched y
     unfolding posts_last
     last_stays on kind x y is h =
+        let seen = looking (on ∷ []) x in
         led (λ _ z. IsTouched z) (posts_last past place kind on x) tt y is
-        (when_still (is_live on x) (posts_last_listed past place kind on) (λ v there.
+        (when_still (is_live on seen) (posts_last_listed past place kind on) (λ v there.
         leads_on (λ _ z. IsTouched z) (λ _ z. IsTouched z) (is_listed on kind v) (λ listed. when listed (arises_last past place kind on))
         (still 0 0 (is_listed on kind) (λ cs. listed_alike (side cs) 0 on kind) v there)
-        (λ listed z so. when_still listed (arises_last past place kind on) (last_still on kind) z so)) x h)
+        (λ listed z so. when_still listed (arises_last past place kind on) (last_still on kind) z so)) seen h)
 
 -- ---- those that ask for no table
 
@@ -324,11 +326,11 @@ module _ {O A : Type 0} (past : Past O A) where
       let id = x.now.bones.next in
       let keys : List Key = object_key id ∷ version_key id 1 ∷ [] in
       let size : ℕ = version_size (stamp_now x.now.bones) fields in
-      leads_on Any (λ (i : ℕ) y. is_touched i y ≡ true) (changes keys size has_number x) put (any (changes keys size has_number x)) (λ _ z _.
-      leads_on (λ _ y. is_touched id y ≡ true) (λ (i : ℕ) y. is_touched i y ≡ true) (prints (new_line id) (touching id (turned (with_new past class fields) z))) (λ _. gives id)
-      (line_still past id (new_line id) (touching id (turned (with_new past class fields) z)) (last_among id z.touched)) (λ _ w h. h)) where
+      leads_on Any (λ (i : ℕ) y. is_touched i y ≡ true) (changes keys size draws_number x) put (any (changes keys size draws_number x)) (λ _ z _.
+      leads_on (λ _ y. is_touched id y ≡ true) (λ (i : ℕ) y. is_touched i y ≡ true) (prints (new_line id) (looking (id ∷ []) (touching id (turned (with_new past class fields) z)))) (λ _. gives id)
+      (line_still past id (new_line id) (looking (id ∷ []) (touching id (turned (with_new past class fields) z))) (last_among id z.touched)) (λ _ w h. h)) where
         put : Unit {0} → Act O A ℕ
-        put _ = let id = x.now.bones.next in turns (with_new past class fields) >> (does (touching id) >> (prints (new_line id) >> gives id))
+        put _ = let id = x.now.bones.next in turns (with_new past class fields) >> (does (touching id) >> (looks (id ∷ []) >> (prints (new_line id) >> gives id)))
 
   initials_still : (id class : ℕ) (x : Tx O A) → is_touched id x ≡ true
       → Leads (λ (i : ℕ) y. is_touched i y ≡ true) ((sees (λ b. initial_triggers b.classes class) >>= λ triggers. each (activates_initial past id) triggers >> gives id) x)

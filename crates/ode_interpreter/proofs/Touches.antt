@@ -1,5 +1,5 @@
 -- A touch, by whether it is the first.
-use Rattle.std.proofs.Common.{◌≡◌, ℕ, Bool, true, false, cond, [], Option, Result, refl, sym, ap, subst, ◌∙◌}
+use Rattle.std.proofs.Common.{◌≡◌, ℕ, Bool, true, false, cond, [], ◌∷◌, Option, Result, refl, sym, ap, subst, ◌∙◌}
 use Rattle.std.specs.Prelude.{not}
 use Rattle.ode_value.specs.declared.event.Kind.TheVariants.{TBegin}
 use Rattle.ode_value.specs.declared.reason.Reason.{Reason}
@@ -8,7 +8,7 @@ use Rattle.ode_value.specs.Pasts.{Past}
 use Rattle.ode_value.specs.Acts.{Outcome, Done, Aborted, ◌>>=◌, ◌>>◌, gives, go_on, reads, when}
 use Rattle.ode_value.specs.Changes.{is_live}
 use Rattle.ode_value.specs.Posting.{Body, is_touched, joins, posts, touches, touches_first}
-use Rattle.ode_value.specs.Transactions.{Tx}
+use Rattle.ode_value.specs.Transactions.{Tx, looking}
 use Rattle.ode_interpreter.specs.declared.stop.Stop.{Stop}
 use Rattle.ode_interpreter.specs.Seen.{Ends, NumberTx}
 use Rattle.ode_interpreter.specs.Touching.{joins_first}
@@ -36,7 +36,7 @@ module _ {O A : Type 0} (past : Past O A) (d : Option (Body O A)) (id : ℕ) whe
 
   pub touch_is : (x : Tx O A) → touches past d id x ≡ go_on (joins_first id x) (λ first. when first (posts past d id TBegin []))
   unfolding touches
-  touch_is x = by_live x (is_live id x)
+  touch_is x = let seen = looking (id ∷ []) x in by_live seen (is_live id seen)
 
 module _ (past : Past (Unit {0}) ℕ) (d : Option (Body (Unit {0}) ℕ)) (id : ℕ) (x : NumberTx) where
   -- by what the joining answers

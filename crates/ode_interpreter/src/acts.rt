@@ -3,13 +3,13 @@ ghost use Rattle.std.specs.Prelude.{◌≡◌, ℕ, List as Items, Option, map, 
 ghost use Rattle.std.specs.List.{All};
 ghost use Rattle.std.specs.Option.{option_map};
 ghost use Rattle.ode_value.specs.Acts.{counts, prints, reads, sees};
-ghost use Rattle.ode_value.specs.Changes.{class_of, is_live, lives};
+ghost use Rattle.ode_value.specs.Changes.{asks_live, class_of, lives};
 ghost use Rattle.ode_value.specs.Completing.{rounds, tests_all, weighs};
 ghost use Rattle.ode_value.specs.Constraints.{tests_hard};
 ghost use Rattle.ode_value.specs.Denoting.{denotes};
 ghost use Rattle.ode_value.specs.Expressions.{evaluates, stands, text_in};
 ghost use Rattle.ode_value.specs.Firings.{arises, both_lists, whole_list};
-ghost use Rattle.ode_value.specs.Making.{derives, drops, removes, sets_field, spares};
+ghost use Rattle.ode_value.specs.Making.{derives, drops, removes, sets_own, spares};
 ghost use Rattle.ode_value.specs.Pasts.{numbers};
 ghost use Rattle.ode_value.specs.Posting.{collects, defers, fired_text, is_listed, is_touched};
 ghost use Rattle.ode_value.specs.Settling.{says};
@@ -86,7 +86,7 @@ pub trait Acts<S: Schema> {
 
     /// Whether it is there.
     fn is_live(&mut self, schema: &S, id: u64) -> Result<bool, Stop>
-        ensures acts { (classes : Items Declared) (g : Known) → S.declares schema.now classes → knows self.old schema.now g → Ends result (with_classes classes (view self.new g)) (reads (is_live id) (with_classes classes (view self.old g))) }
+        ensures acts { (classes : Items Declared) (g : Known) → S.declares schema.now classes → knows self.old schema.now g → Ends result (with_classes classes (view self.new g)) (asks_live id (with_classes classes (view self.old g))) }
         ensures kept { (g : Known) → knows self.old schema.now g → Leaves result (knows self.new schema.now g) (failed self.new g) }
         ensures faults { (b : Base) → usable self.old b → Leaves result (usable self.new b) (ended self.new b) }
         ensures fault { IfErr result IsFault };
@@ -176,7 +176,7 @@ pub trait Acts<S: Schema> {
 
     /// A field of the version that a reference denotes is set.
     fn set_field(&mut self, schema: &S, r: Ref, place: u16, v: Value) -> Result<(), Stop>
-        ensures acts { (classes : Items Declared) (g : Known) → S.declares schema.now classes → knows self.old schema.now g → Ends result (with_classes classes (view self.new g)) (sets_field r place v (with_classes classes (view self.old g))) }
+        ensures acts { (classes : Items Declared) (g : Known) → S.declares schema.now classes → knows self.old schema.now g → Ends result (with_classes classes (view self.new g)) (sets_own r place v (with_classes classes (view self.old g))) }
         ensures kept { (g : Known) → knows self.old schema.now g → Leaves result (knows self.new schema.now g) (failed self.new g) }
         ensures faults { (b : Base) → usable self.old b → Leaves result (usable self.new b) (ended self.new b) };
 

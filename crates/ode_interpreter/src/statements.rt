@@ -470,7 +470,7 @@ pub(crate) fn post_around<S: Schema, T: Acts<S>>(
 
 /// An object is touched. The first touch posts a point.
 #[cycle(go)]
-#[tactic(auto, using(crate::proofs::Touches::touched_anew, crate::proofs::Touches::touched_again, crate::proofs::Touches::not_touched))]
+#[tactic(auto, using(crate::proofs::Touches::not_touched))]
 pub(crate) fn touch<S: Schema, T: Acts<S>>(
     alloc: Global,
     schema: &S,

@@ -30,7 +30,7 @@ use Rattle.ode_objects.specs.declared.tracked.First.TheVariants.{Same, Other, Ab
 use Rattle.ode_objects.specs.declared.tracked.Tracked.{Tracked}
 use Rattle.ode_overlay.specs.Answers.{◌>>=◌, from_records}
 use Rattle.ode_overlay.specs.Changing.{activate, activate_with, create, created, deactivate, deactivate_with, denoted_in, derive, derive_with, drop_version, drop_with, fields_with, fresh, fresh_at, kept_now, needs, next_drawn, now_tracked, object_of, put_acts, put_new, put_of, put_with, remove, remove_with, switch_off, touch, touch_first, touch_with, touched_with, with_now, write, write_with}
-use Rattle.ode_overlay.specs.Layers.{Layer, begun, is_touched, tracked_at}
+use Rattle.ode_overlay.specs.Layers.{Layer, begun, is_touched, queueing, tracked_at}
 use Rattle.ode_overlay.specs.Reading.{not_null}
 use Rattle.ode_overlay.specs.Settling.{collect, has_room, with_entry}
 use Rattle.ode_overlay.specs.declared.error.OverlayError.TheVariants.{LastVersion, NoNumber, TooLong}
@@ -250,9 +250,9 @@ begun_holds first counters queued origin = record {
   gone = λ id touched is. absurd (false≢true touched);
 }
 
-collected_by : (first : NumberWorld) (e : Entry) (independent : Bool) (x : Layer) → HoldsKeys first x → (b : Bool) → HoldsKeys first (cond {A = Bool × Layer} b (true, with_entry e independent x) (false, x)).1
+collected_by : (first : NumberWorld) (e : Entry) (independent : Bool) (x : Layer) → HoldsKeys first x → (b : Bool) → HoldsKeys first (cond {A = Bool × Layer} b (true, with_entry e independent (queueing x)) (false, queueing x)).1
 collected_by first e independent x holds true = record { now = holds.now; grown = holds.grown; gone = holds.gone }
-collected_by first e independent x holds false = holds
+collected_by first e independent x holds false = record { now = holds.now; grown = holds.grown; gone = holds.gone }
 
 pub collect_holds : (first : NumberWorld) (x : Layer) (e : Entry) (independent : Bool) → HoldsKeys first x → HoldsKeys first (collect e independent x).1
 unfolding collect

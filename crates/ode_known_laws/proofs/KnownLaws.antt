@@ -15,7 +15,8 @@ use Rattle.ode_objects.specs.Values.{are_args}
 use Rattle.ode_objects.specs.declared.tracked.Tracked.{Tracked}
 use Rattle.ode_overlay.specs.Answers.{Answer}
 use Rattle.ode_overlay.specs.Changing.{object_of}
-use Rattle.ode_overlay.specs.Layers.{Layer}
+use Rattle.ode_overlay.specs.Layers.{Layer, queueing}
+use Rattle.ode_overlay.specs.Records.{becomes}
 use Rattle.ode_overlay.specs.Settling.{collect, has_room, with_entry}
 use Rattle.ode_overlay.specs.declared.origin.Origin.{Origin}
 use Rattle.ode_overlay_laws.proofs.AlteredLaws.{Has, has_found}
@@ -24,6 +25,7 @@ use Rattle.ode_overlay_laws.specs.Standing.{IsFresh, Stands, object_as}
 use Rattle.ode_settling_laws.specs.Formed.{IsFormed}
 use Rattle.ode_value.specs.Acts.{Act, Outcome}
 use Rattle.ode_value.specs.Denoting.{object_at, object_numbered}
+use Rattle.ode_value.specs.Footprints.{Footprint}
 use Rattle.ode_value.specs.Worlds.{Bones, Declared, Object}
 use Rattle.ode_version_laws.specs.Denoting.{HasVersions, HaveVersions}
 use Rattle.ode_version_laws.specs.Growing.{GoesOnNumbered}
@@ -31,7 +33,7 @@ use Rattle.ode_version_laws.specs.Leaving.{StillHaveVersions, StillRemembers}
 use Rattle.ode_view_laws.proofs.ShowLaws.{ordered_by}
 use Rattle.ode_view_laws.proofs.ViewLaws.{view_stands}
 use Rattle.ode_view_laws.specs.Ordering.{IsOrdered}
-use Rattle.ode_view_laws.specs.Showing.{IsViewed, Shows, StaysViewed}
+use Rattle.ode_view_laws.specs.Showing.{IsViewed, Shows, ShowsDrawing, StaysViewed}
 use Rattle.ode_view_laws.specs.Viewing.{Beside, began_over, nothing_beside, running, world_now}
 
 -- ---- at the start
@@ -143,6 +145,33 @@ module _ (classes : List Declared) (first : NumberWorld) (beside : Beside) (base
           (record { remembers = left.remembers; versions = left.versions; numbers = left.numbers; triggers = left.triggers; formed = left.formed; keys = left.keys }),
     )
 
+    -- the same of a call that draws a number
+    pub known_drawn : (answer : Answer (R × Layer)) → ShowsDrawing now next x answer outcome × StaysViewed first answer → Leaves base y answer
+        → ShowsDrawing now next x answer outcome × StaysKnown base first answer
+    known_drawn (Err why) shows left = (shows.0, tt)
+    known_drawn (Ok done) shows left = known_then (Ok done) shows left
+
+-- ---- a footprint
+
+-- whatever the transaction looked at, drew and queued
+pub footed_known : (base : Entries) (first : NumberWorld) (x : Layer) (footprint : Footprint) → IsKnown base first x → IsKnown base first (record x { footprint = footprint })
+unfolding world_now becomes
+footed_known base first x footprint known = record {
+  held = known.held;
+  viewed = record {
+    over = record { counters = known.viewed.over.counters; queued = known.viewed.over.queued };
+    began = known.viewed.began;
+    now = record { rising = known.viewed.now.rising; drawn = known.viewed.now.drawn; rows = known.viewed.now.rows };
+    touched = known.viewed.touched;
+  };
+  remembers = known.remembers;
+  versions = known.versions;
+  numbered = record { first = known.numbered.first; now = known.numbered.now; next = known.numbered.next; classes = refl };
+  formed = record { keys = known.formed.keys; each = known.formed.each; newest = known.formed.newest };
+  keys = record { now = known.keys.now; grown = known.keys.grown; gone = known.keys.gone };
+  triggers = known.triggers;
+}
+
 -- ---- activations
 
 -- the class of an object that is there has a trigger
@@ -157,7 +186,7 @@ taken_at classes b id class place o at takes q is =
 
 module _ (base : Entries) (first : NumberWorld) (x : Layer) (known : IsKnown base first x) (e : Entry) (independent : Bool) where
   abbrev collected : Bool → Bool × Layer
-  collected b = cond b (true, with_entry e independent x) (false, x)
+  collected b = cond b (true, with_entry e independent (queueing x)) (false, queueing x)
 
   by_room : (b : Bool) → IsViewed first (collected b).1 → IsFormed first.bones.classes base (collected b).1 → HoldsKeys first (collected b).1 → IsKnown base first (collected b).1
   unfolding world_now
@@ -171,7 +200,16 @@ module _ (base : Entries) (first : NumberWorld) (x : Layer) (known : IsKnown bas
     keys = keys;
     triggers = known.triggers;
   }
-  by_room false viewed formed keys = known
+  by_room false viewed formed keys = record {
+    held = known.held;
+    viewed = viewed;
+    remembers = known.remembers;
+    versions = known.versions;
+    numbered = record { first = known.numbered.first; now = known.numbered.now; next = known.numbered.next; classes = refl };
+    formed = formed;
+    keys = keys;
+    triggers = known.triggers;
+  }
 
   pub collected_known : IsViewed first (collect e independent x).1 → IsFormed first.bones.classes base (collect e independent x).1 → HoldsKeys first (collect e independent x).1 → IsKnown base first (collect e independent x).1
   unfolding collect

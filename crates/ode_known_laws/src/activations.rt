@@ -18,7 +18,7 @@ ghost use Rattle.ode_value.specs.Worlds.{Declared, Object};
 ghost use Rattle.ode_value.specs.declared.value.Ref.{Ref};
 ghost use Rattle.ode_value.specs.declared.value.Value.{Value};
 ghost use Rattle.ode_value.specs.declared.value.Value.TheVariants as value;
-ghost use Rattle.ode_view_laws.specs.Showing.{Shows};
+ghost use Rattle.ode_view_laws.specs.Showing.{Shows, ShowsDrawing};
 ghost use Rattle.ode_view_laws.specs.Viewing.{Beside, running};
 
 use ode_act_laws::{activations_show, deactivations_show};
@@ -35,13 +35,13 @@ pub fn activations_known()
         → (tables : ℕ → ℕ → Table) (o : Object) (name : Items ℕ) (t : Trigger) (args : Items Value)
         → object_at (running classes first x beside).now.bones r.object ≡ Some o → trigger_named (running classes first x beside).now.bones.classes o.class name ≡ Some t
         → TakesTrigger first.bones.classes o.class t.class t.place
-        → Shows (λ now. running classes first now beside) tells_value x (activate (declared_in first) base r.object t.class t.place args x)
+        → ShowsDrawing (λ now. running classes first now beside) tells_value x (activate (declared_in first) base r.object t.class t.place args x)
         (switches_on_named (numbers tables) r name args (running classes first x beside))
         × StaysKnown base first (activate (declared_in first) base r.object t.class t.place args x) }
     ensures initial { (classes : Items Declared) (first : NumberWorld) (beside : Beside) (base : Entries) (x : Layer) → IsKnown base first x → (id : ℕ)
         → (tables : ℕ → ℕ → Table) (t : Trigger) (o : Object) → object_at (running classes first x beside).now.bones id ≡ Some o
         → TakesTrigger first.bones.classes o.class t.class t.place
-        → Shows (λ now. running classes first now beside) tells_line x (activate (declared_in first) base id t.class t.place [] x)
+        → ShowsDrawing (λ now. running classes first now beside) tells_line x (activate (declared_in first) base id t.class t.place [] x)
         (on_live id (activates_initial (numbers tables) id t) (running classes first x beside))
         × StaysKnown base first (activate (declared_in first) base id t.class t.place [] x) }
 {

@@ -10,7 +10,7 @@ ghost use Rattle.ode_overlay_laws.specs.Following.{entry_by};
 ghost use Rattle.ode_value.specs.Acts.{prints};
 ghost use Rattle.ode_value.specs.Posting.{collects, dropped_text};
 ghost use Rattle.ode_value.specs.Settling.{says};
-ghost use Rattle.ode_value.specs.Transactions.{Firing};
+ghost use Rattle.ode_value.specs.Transactions.{Firing, queueing};
 ghost use Rattle.ode_value.specs.Worlds.{Declared};
 ghost use Rattle.ode_view_laws.specs.Showing.{ShowsCollected};
 ghost use Rattle.ode_view_laws.specs.Viewing.{Beside, running};
@@ -26,13 +26,13 @@ pub fn collections_known()
         → (independent : Bool) (f : Firing) → are_args f.args ≡ true
         → let e = entry_by (generation_of x.origin + 1) f in
         ShowsCollected (collect e independent x).0 (λ now. running classes first now beside) (collect e independent x).1 (running classes first x beside)
-        (prints (dropped_text f) (running classes first x beside)) (collects prints independent f (running classes first x beside))
+        (prints (dropped_text f) (queueing (running classes first x beside))) (collects prints independent f (running classes first x beside))
         × IsKnown base first (collect e independent x).1 }
     ensures settling { (classes : Items Declared) (first : NumberWorld) (beside : Beside) (base : Entries) (x : Layer) → IsKnown base first x
         → (independent : Bool) (f : Firing) → are_args f.args ≡ true
         → let e = entry_by (generation_of x.origin + 1) f in
         ShowsCollected (collect e independent x).0 (λ now. running classes first now beside) (collect e independent x).1 (running classes first x beside)
-        (says (dropped_text f) (running classes first x beside)) (collects says independent f (running classes first x beside))
+        (says (dropped_text f) (queueing (running classes first x beside))) (collects says independent f (running classes first x beside))
         × IsKnown base first (collect e independent x).1 }
 {
     collections_show();

@@ -12,7 +12,7 @@ ghost use Rattle.ode_value.specs.Pasts.{numbers};
 ghost use Rattle.ode_value.specs.Tables.{Table};
 ghost use Rattle.ode_value.specs.Worlds.{Declared};
 ghost use Rattle.ode_value.specs.declared.value.Value.{Value};
-ghost use Rattle.ode_view_laws.specs.Showing.{Shows};
+ghost use Rattle.ode_view_laws.specs.Showing.{Shows, ShowsDrawing};
 ghost use Rattle.ode_view_laws.specs.Viewing.{Beside, running};
 
 use ode_formed_laws::{changes_stay_formed, objects_are_read_as_stored};
@@ -62,7 +62,7 @@ pub fn removals_known()
 pub fn makings_known()
     ensures { (classes : Items Declared) (first : NumberWorld) (beside : Beside) (base : Entries) (x : Layer) → IsKnown base first x
         → (tables : ℕ → ℕ → Table) (class : ℕ) (fields : Items Value)
-        → Shows (λ now. running classes first now beside) tells_new x (create class fields x) (makes (numbers tables) class fields (running classes first x beside))
+        → ShowsDrawing (λ now. running classes first now beside) tells_new x (create class fields x) (makes (numbers tables) class fields (running classes first x beside))
         × StaysKnown base first (create class fields x) }
 {
     overlays_have_views();

@@ -1,5 +1,6 @@
-pub mod Maps
-pub mod Rising
 pub mod Batches
 pub mod Counts
+pub mod Looks
+pub mod Maps
+pub mod Rising
 pub mod Slots

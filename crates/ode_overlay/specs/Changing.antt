@@ -7,7 +7,7 @@ use Rattle.std.specs.Option.{option_map}
 use Rattle.std.specs.Ordering.{nat_cmp}
 use Rattle.ode_keep.specs.Entries.{Entries}
 use Rattle.ode_overlay.specs.Answers.{Answer, ◌>>=◌, from_records}
-use Rattle.ode_overlay.specs.Layers.{Layer, holding, is_touched, touching, tracked_at}
+use Rattle.ode_overlay.specs.Layers.{Layer, drawing, holding, is_touched, touching, tracked_at}
 use Rattle.ode_objects.specs.Loading.{whole_in}
 use Rattle.ode_objects.specs.Objects.{activated, activation_keys, dead, derived, is_on, made, new_active, object_keys, switched_off, values_of, version_of, with_states, without, written}
 use Rattle.ode_objects.specs.Tracked.{changed_to, made_object, read_object}
@@ -161,9 +161,14 @@ touch classes base id x = fresh classes base id x >>= λ new. touch_with new id 
 abbrev pub next_number : Layer → Answer ℕ
 next_number x = cond (nat_lt x.next number_limit) (Ok x.next) (Err NoNumber)
 
+-- what a call that draws a number leaves at an error: it found none left, or nothing changed
+abbrev pub left_by : OverlayError → Layer → Layer
+left_by NoNumber x = drawing x
+left_by why x = x
+
 -- a new object with its first version, which counts as touched
 abbrev pub created : ℕ → ℕ × List Value → List Key → Layer → Layer
-created class fields keys x = touching x.next (record (with_now x.next None (made class fields) keys x) { next = x.next + 1 })
+created class fields keys x = touching x.next (record (with_now x.next None (made class fields) keys (drawing x)) { next = x.next + 1 })
 
 unfoldable pub create : ℕ → List Value → Layer → Answer (ℕ × Layer)
 create class fields x = do
@@ -185,7 +190,7 @@ remove classes base id x = fresh classes base id x >>= λ new. remove_with new i
 -- ---- activations
 
 abbrev pub next_drawn : Layer → Layer
-next_drawn x = record x { next = x.next + 1 }
+next_drawn x = record (drawing x) { next = x.next + 1 }
 
 -- a new activation of an object
 unfoldable pub activate_with : Option Tracked → ℕ → ℕ → ℕ → List Value → Layer → Answer (ℕ × Layer)

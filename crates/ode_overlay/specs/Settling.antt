@@ -3,7 +3,7 @@ use Rattle.std.specs.Prelude.{ℕ, ℤ, pos, ◌+◌, ◌-◌, ◌^◌, ◌-ℤ�
 use Rattle.std.specs.List.{sum_by}
 use Rattle.std.specs.Map.{values_of}
 use Rattle.ode_codec.specs.declared.record.Entry.{Entry}
-use Rattle.ode_overlay.specs.Layers.{Layer, generation_of, key_count}
+use Rattle.ode_overlay.specs.Layers.{Layer, generation_of, key_count, queueing}
 use Rattle.ode_objects.specs.Values.{are_args}
 use Rattle.ode_objects.specs.Weights.{weight_after, weight_before}
 use Rattle.ode_overlay.specs.declared.overlay.Collected.{Collected}
@@ -28,7 +28,7 @@ with_entry e independent x = record x { collected = x.collected ++ collected_by 
 
 -- whether it is collected, and what that leaves
 unfoldable pub collect : Entry → Bool → Layer → Bool × Layer
-collect e independent x = cond (has_room x && are_args e.args) (true, with_entry e independent x) (false, x)
+collect e independent x = cond (has_room x && are_args e.args) (true, with_entry e independent (queueing x)) (false, queueing x)
 
 -- ---- the weight
 

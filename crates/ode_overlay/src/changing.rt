@@ -11,7 +11,7 @@ ghost use Rattle.ode_overlay.specs.Layers.{holding, key_count, touching};
 ghost use Rattle.ode_overlay.specs.declared.error.OverlayError.TheVariants.{NoNumber};
 ghost use Rattle.ode_value.specs.Keys.{object_key, version_key};
 ghost use Rattle.ode_value.specs.Limits.{change_limit, number_limit, version_limit};
-ghost use Rattle.ode_overlay.specs.Changing.{create, created, denoted_in, derive, derive_with, drop_version, drop_with, fresh, kept_as, live, needs, next_drawn, next_number, remove, remove_with, touch, touch_first, touch_with, touched_with, with_now, write, write_with};
+ghost use Rattle.ode_overlay.specs.Changing.{create, created, denoted_in, derive, derive_with, drop_version, drop_with, fresh, kept_as, left_by, live, needs, next_drawn, next_number, remove, remove_with, touch, touch_first, touch_with, touched_with, with_now, write, write_with};
 
 use crate::error::OverlayError;
 use crate::overlay::{Change, Overlay, put_new, put_now};
@@ -472,15 +472,26 @@ impl Overlay {
         }
     }
 
+    // A call that draws a number ended so: where none was left, that is marked.
+    pub(crate) fn undrawn(&mut self, why: OverlayError) -> OverlayError
+        ensures same { result ≡ why }
+        ensures left { self.new ≡ left_by why self.old }
+    {
+        if let OverlayError::NoNumber = why {
+            self.drew = true;
+        }
+        why
+    }
+
     // Makes an object with these fields.
     fn create_kept(&mut self, class: u32, fields: KeptFields) -> Result<u64, OverlayError>
         ensures acts { Leaves result self.new (bind (holding (object_key self.old.next ∷ version_key self.old.next 1 ∷ []) self.old) (λ keys. bind (next_number self.old) (λ id. Ok (id, created class fields keys self.old)))) }
-        ensures err { OnErr result (self.new ≡ self.old) }
+        ensures err { IfErr result (λ why. self.new ≡ left_by why self.old) }
     {
         let keys = [object_key(self.next), version_key(self.next, 1)];
         match self.change_drawn(&keys, Object::made(self.alloc, class, fields)) {
             Ok(change) => self.put_created(change),
-            Err(why) => Err(why),
+            Err(why) => Err(self.undrawn(why)),
         }
     }
 
@@ -500,13 +511,14 @@ impl Overlay {
         let _ = self.touched.insert(id);
         self.keys = keys;
         self.next = id + 1;
+        self.drew = true;
         Ok(id)
     }
 
     #[tactic(auto, unfolding(crate::specs::Changing::create))]
     fn create_in(&mut self, class: u32, fields: List<Value>) -> Result<u64, OverlayError>
         ensures acts { Leaves result self.new (create class fields self.old) }
-        ensures err { OnErr result (self.new ≡ self.old) }
+        ensures err { IfErr result (λ why. self.new ≡ left_by why self.old) }
     {
         let Some(fields) = KeptFields::new(self.first.added, fields) else {
             return Err(OverlayError::TooLong);
@@ -525,7 +537,7 @@ impl Overlay {
         fields: List<Value>,
     ) -> Result<u64, OverlayError>
         ensures acts { Leaves result self.new (create class fields self.old) }
-        ensures err { OnErr result (self.new ≡ self.old) }
+        ensures err { IfErr result (λ why. self.new ≡ left_by why self.old) }
         ensures heap { _heap.new ≡ _heap.old }
         ensures host { _host.new ≡ _host.old }
     {

@@ -4,7 +4,7 @@ use ode_heap::HeapError;
 use ode_value::{Key, Ref};
 use std::alloc::{AllocError, AllocFailed};
 
-/// Why the overlay doesn't answer. Nothing changed.
+/// Why the overlay doesn't answer. Nothing changed, but for the mark that a number was asked for where none was left.
 #[derive(Clone, Copy, Debug, PartialEq, Eq)]
 pub enum OverlayError {
     /// There was no memory.

@@ -3,6 +3,7 @@
 
 mod changing;
 mod error;
+mod looking;
 mod origin;
 mod overlay;
 mod reading;

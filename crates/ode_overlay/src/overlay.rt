@@ -51,6 +51,9 @@ pub struct Overlay {
     pub(crate) touched: IndexSet<u64>,
     pub(crate) collected: List<Collected>,
     pub(crate) gathered: u32,
+    pub(crate) looked: List<u64>,
+    pub(crate) drew: bool,
+    pub(crate) met_queue: bool,
     pub(crate) alloc: Global,
 }
 
@@ -59,9 +62,9 @@ impl Model for Overlay {
 
     ghost Value = { Layer };
 
-    ghost view = { λ o. record { first = o.first; queued = o.queued; origin = o.origin; next = o.next; objects = o.objects.entries; keys = o.keys; touched = o.touched.keys; collected = o.collected; gathered = o.gathered } };
+    ghost view = { λ o. record { first = o.first; queued = o.queued; origin = o.origin; next = o.next; objects = o.objects.entries; keys = o.keys; touched = o.touched.keys; collected = o.collected; gathered = o.gathered; footprint = record { looked = o.looked; drew = o.drew; queued = o.met_queue } } };
 
-    ghost invariant = { λ o. IsLayer (record { first = o.first; queued = o.queued; origin = o.origin; next = o.next; objects = o.objects.entries; keys = o.keys; touched = o.touched.keys; collected = o.collected; gathered = o.gathered }) };
+    ghost invariant = { λ o. IsLayer (record { first = o.first; queued = o.queued; origin = o.origin; next = o.next; objects = o.objects.entries; keys = o.keys; touched = o.touched.keys; collected = o.collected; gathered = o.gathered; footprint = record { looked = o.looked; drew = o.drew; queued = o.met_queue } }) };
 }
 
 impl Overlay {
@@ -85,6 +88,9 @@ impl Overlay {
             touched: IndexSet::new(alloc),
             collected: List::new(alloc),
             gathered: 0,
+            looked: List::new(alloc),
+            drew: false,
+            met_queue: false,
             alloc,
         }
     }

@@ -4,7 +4,7 @@ ghost use Rattle.ode_host.specs.Causes.{RoseIf};
 ghost use Rattle.ode_host.specs.Host.{Looks};
 ghost use Rattle.ode_keep.specs.Entries.{Entries};
 ghost use Rattle.ode_overlay.specs.Answers.{Gives, Leaves, UnlessFault, is_usable};
-ghost use Rattle.ode_overlay.specs.Changing.{activate, activate_with, deactivate, deactivate_with, next_drawn, put_acts, put_with, with_now};
+ghost use Rattle.ode_overlay.specs.Changing.{activate, activate_with, deactivate, deactivate_with, left_by, next_drawn, put_acts, put_with, with_now};
 ghost use Rattle.ode_objects.specs.Objects.{activated, activation_keys, switched_off, with_states};
 ghost use Rattle.ode_overlay.specs.Layers.{holding, key_count};
 ghost use Rattle.ode_value.specs.Keys.{activation_key};
@@ -84,6 +84,7 @@ impl Overlay {
         let number = self.next;
         self.put(id, new, change)?;
         self.next = number + 1;
+        self.drew = true;
         Ok(number)
     }
 
@@ -96,13 +97,13 @@ impl Overlay {
         args: List<Value>,
     ) -> Result<u64, OverlayError>
         ensures acts { Leaves result self.new (activate_with new id class trigger args self.old) }
-        ensures err { OnErr result (self.new ≡ self.old) }
+        ensures err { IfErr result (λ why. self.new ≡ left_by why self.old) }
         ensures usable { is_usable result ≡ true }
         ensures calm { IsErrOf result OverlayError.DiskFault → ⊥ }
     {
         match self.activated(&new, id, class, trigger, args) {
             Ok(change) => self.put_drawn(id, new, change),
-            Err(why) => Err(why),
+            Err(why) => Err(self.undrawn(why)),
         }
     }
 
@@ -120,7 +121,7 @@ impl Overlay {
     ) -> Result<u64, OverlayError>
         requires live { IsTrue (K.live heap.old) }
         ensures acts { (base : Entries) → K.holds heap.old (H.view host.old) base → Leaves result self.new (activate classes.now base id class trigger args self.old) }
-        ensures err { OnErr result (self.new ≡ self.old) }
+        ensures err { IfErr result (λ why. self.new ≡ left_by why self.old) }
         ensures holds { UnlessFault result ((base : Entries) → K.holds heap.old (H.view host.old) base → K.holds heap.new (H.view host.new) base) }
         ensures looks { Looks (H.view host.old) (H.view host.new) }
         ensures usable { K.live heap.new ≡ is_usable result }
@@ -128,7 +129,7 @@ impl Overlay {
     {
         match self.fresh(classes, heap, host, id) {
             Ok(new) => self.activate_in(new, id, class, trigger, args),
-            Err(why) => Err(why),
+            Err(why) => Err(self.undrawn(why)),
         }
     }
 

@@ -1,7 +1,7 @@
 //! Firings are collected for the queue; and how much the records grow.
-ghost use Rattle.std.specs.Prelude.{◌≡◌, ◌+◌, Ok, IfOk, OnErr, length, nat_le, nat_lt, pos};
+ghost use Rattle.std.specs.Prelude.{◌≡◌, ◌+◌, false, Ok, IfOk, OnErr, length, nat_le, nat_lt, pos};
 ghost use Rattle.ode_objects.specs.Weights.{capped};
-ghost use Rattle.ode_overlay.specs.Layers.{generation_of, key_count};
+ghost use Rattle.ode_overlay.specs.Layers.{generation_of, key_count, queueing};
 ghost use Rattle.ode_value.specs.Limits.{change_limit, generation_limit, number_limit, queue_limit};
 ghost use Rattle.ode_overlay.specs.Settling.{bytes_after, bytes_before, collect, growth_told, has_room, within};
 
@@ -62,6 +62,14 @@ impl Overlay {
         self.has_generation() && self.has_key() && self.has_place() && self.has_entry_number()
     }
 
+    // A firing isn't collected.
+    fn drop_firing(&mut self) -> bool
+        ensures { (result ≡ false) × (self.new ≡ queueing self.old) }
+    {
+        self.met_queue = true;
+        false
+    }
+
     /// Collects a firing for the queue, where there are a generation, a key, a place and a number for it. Whether it did. It stays
     /// at an abort where it is independent.
     #[tactic(auto, unfolding(crate::specs::Settling::collect, ode_value::specs::Limits::change_limit))]
@@ -70,7 +78,7 @@ impl Overlay {
         ensures err { OnErr result (self.new ≡ self.old) }
     {
         if !self.has_room() {
-            return Ok(false);
+            return Ok(self.drop_firing());
         }
         let Entry {
             object,
@@ -80,7 +88,7 @@ impl Overlay {
             args,
         } = entry;
         let Some(args) = KeptArgs::new(args) else {
-            return Ok(false);
+            return Ok(self.drop_firing());
         };
         self.collected.push(Collected {
             object,
@@ -91,6 +99,7 @@ impl Overlay {
             independent: keep_on_abort,
         })?;
         self.gathered += 1;
+        self.met_queue = true;
         Ok(true)
     }
 

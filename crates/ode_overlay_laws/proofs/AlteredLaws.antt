@@ -117,4 +117,5 @@ module _ (x : Layer) (y : NumberTx) (id : ℕ) (new : Option Tracked) (was o : O
     collected = stands.collected;
     gathered = stands.gathered;
     keys = ap (λ zs. fold with_key zs ks) stands.keys ∙ all_between x.origin ks parts x.keys;
+    footprint = stands.footprint;
   }

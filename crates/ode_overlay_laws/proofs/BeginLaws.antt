@@ -29,4 +29,5 @@ begun_law origin w = record {
   collected = refl;
   gathered = refl;
   keys = first_between origin;
+  footprint = refl;
 }

@@ -15,7 +15,7 @@ use Rattle.ode_overlay.specs.declared.error.OverlayError.{OverlayError}
 use Rattle.ode_overlay.specs.declared.error.OverlayError.TheVariants.{NoObject, TooManyChanges}
 use Rattle.ode_overlay_laws.proofs.AlteredLaws.{Has}
 use Rattle.ode_overlay_laws.proofs.KeySets.{IsPart, all_between, counted_between}
-use Rattle.ode_overlay_laws.specs.Following.{Follows, on_live}
+use Rattle.ode_overlay_laws.specs.Following.{Follows, FollowsDrawing, on_live}
 use Rattle.ode_overlay_laws.specs.Standing.{IsIn, Stands, last_keys, object_as}
 use Rattle.ode_value.specs.Acts.{Act, Outcome, Done, Aborted, ◌>>◌, does, go_on, found, needs}
 use Rattle.ode_value.specs.Changes as machine
@@ -24,6 +24,7 @@ use Rattle.ode_value.specs.Denoting.{if_live, object_at}
 use Rattle.ode_value.specs.Keys.{counters_key}
 use Rattle.ode_value.specs.Limits.{change_limit, value_limit}
 use Rattle.ode_value.specs.Making.{stamp_now}
+use Rattle.ode_value.specs.Transactions.{drawing}
 use Rattle.ode_value.specs.Worlds as worlds
 use Rattle.ode_value.specs.declared.key.Key.{Key}
 use Rattle.ode_value.specs.declared.reason.Reason.TheVariants as reason
@@ -42,6 +43,9 @@ live_at y id o at b e = ap (λ (q : Option worlds.Object). option_and_then if_li
 pub as_well : {R S : Type 0} (y : NumberTx) (go : R → Act (Unit {0}) ℕ S) (answer : Answer (R × Layer)) (m n : Outcome (Unit {0}) ℕ S) → m ≡ n → Follows y go answer n → Follows y go answer m
 as_well {R} {S} y go answer m n same follows = subst (λ (o : Outcome (Unit {0}) ℕ S). Follows y go answer o) (sym same) follows
 
+pub as_drawing : {R S : Type 0} (y : NumberTx) (go : R → Act (Unit {0}) ℕ S) (answer : Answer (R × Layer)) (m n : Outcome (Unit {0}) ℕ S) → m ≡ n → FollowsDrawing y go answer n → FollowsDrawing y go answer m
+as_drawing {R} {S} y go answer m n same follows = subst (λ (o : Outcome (Unit {0}) ℕ S). FollowsDrawing y go answer o) (sym same) follows
+
 pub follows_live : {R S : Type 0} (y : NumberTx) (id : ℕ) (go : R → Act (Unit {0}) ℕ S) (act : Act (Unit {0}) ℕ S) (rest : Object → Answer (R × Layer)) (f : Option Tracked) → Has y id f
     → ((t : Tracked) → f ≡ Some t → IsIn y.now id t.current → t.current.live ≡ true → Follows y go (rest t.current) (act y))
     → Follows y go (live_of id f >>= rest) (on_live id act y)
@@ -50,6 +54,17 @@ follows_live {R} {S} y id go act rest None has next =
 follows_live {R} {S} y id go act rest (Some t) has next = by_live t.current.live refl where
   by_live : (b : Bool) → t.current.live ≡ b → Follows y go (cond b (Ok t.current) (Err (NoObject id)) >>= rest) (on_live id act y)
   by_live true e = as_well y go (rest t.current) (on_live id act y) (act y) (gone y id act true (ap is_some (live_at y id t.current has true e))) (next t refl has e)
+  by_live false e = (reason.NoObject id, (refl, gone y id act false (ap is_some (live_at y id t.current has false e))))
+
+-- the same of a call that draws a number
+pub draws_live : {R S : Type 0} (y : NumberTx) (id : ℕ) (go : R → Act (Unit {0}) ℕ S) (act : Act (Unit {0}) ℕ S) (rest : Object → Answer (R × Layer)) (f : Option Tracked) → Has y id f
+    → ((t : Tracked) → f ≡ Some t → IsIn y.now id t.current → t.current.live ≡ true → FollowsDrawing y go (rest t.current) (act y))
+    → FollowsDrawing y go (live_of id f >>= rest) (on_live id act y)
+draws_live {R} {S} y id go act rest None has next =
+    (reason.NoObject id, (refl, gone y id act false (ap (λ (q : Option worlds.Object). is_some (option_and_then if_live q)) has)))
+draws_live {R} {S} y id go act rest (Some t) has next = by_live t.current.live refl where
+  by_live : (b : Bool) → t.current.live ≡ b → FollowsDrawing y go (cond b (Ok t.current) (Err (NoObject id)) >>= rest) (on_live id act y)
+  by_live true e = as_drawing y go (rest t.current) (on_live id act y) (act y) (gone y id act true (ap is_some (live_at y id t.current has true e))) (next t refl has e)
   by_live false e = (reason.NoObject id, (refl, gone y id act false (ap is_some (live_at y id t.current has false e))))
 
 -- an act that finds its object
@@ -76,7 +91,7 @@ tested y b = cond b (Done tt y) (Aborted reason.Size y)
 
 abbrev sized : {S : Type 0} → NumberTx → List Key → Act (Unit {0}) ℕ S → Bool → Outcome (Unit {0}) ℕ S
 sized y ks act b =
-    go_on (go_on (tested y b) (λ _. needs reason.Space (λ (z : NumberTx). draws_none z.now.bones) >> does (machine.holding ks))) (λ _. act)
+    go_on (go_on (tested y b) (λ _. does (drawing false) >> (needs reason.Space (λ (z : NumberTx). draws_none.left z.now.bones) >> does (machine.holding ks)))) (λ _. act)
 
 module _ (x : Layer) (y : NumberTx) (ks : List Key) (stands : Stands x y) (parts : AllByRecursion IsPart ks) where
   pub counts_same : machine.key_count (machine.holding ks y) ≡ key_count (fold with_key x.keys ks) x

@@ -22,22 +22,22 @@ use Rattle.ode_overlay.specs.Changing.{create, created, next_number, now_tracked
 use Rattle.ode_overlay.specs.Layers.{Layer, few, holding, key_count, tracked_at}
 use Rattle.ode_overlay.specs.declared.error.OverlayError.TheVariants.{TooLong, TooManyChanges}
 use Rattle.ode_overlay_laws.proofs.AlteredLaws.{at_same, now_current}
-use Rattle.ode_overlay_laws.proofs.FollowingLaws.{as_well, asks_first, counts_same, stamps_same, tested}
+use Rattle.ode_overlay_laws.proofs.FollowingLaws.{as_drawing, asks_first, counts_same, stamps_same, tested}
 use Rattle.ode_overlay_laws.proofs.KeySets.{IsPart, all_between, object_part, version_part}
-use Rattle.ode_overlay_laws.specs.Following.{Follows, IsNewNumber, tells_new}
+use Rattle.ode_overlay_laws.specs.Following.{FollowsDrawing, IsNewNumber, tells_new}
 use Rattle.ode_overlay_laws.specs.Standing.{IsAsAtFirst, IsIn, Stands, kept_as, object_as}
-use Rattle.ode_value.specs.Acts.{Act, Outcome, Done, Aborted, ◌>>◌, does, gives, go_on, needs, prints, turns}
+use Rattle.ode_value.specs.Acts.{Act, Outcome, Done, Aborted, ◌>>◌, does, go_on, needs, turns}
 use Rattle.ode_value.specs.Changes as machine
-use Rattle.ode_value.specs.Changes.{changes, has_number, with_key}
+use Rattle.ode_value.specs.Changes.{changes, draws_number, has_number, with_key}
 use Rattle.ode_value.specs.Denoting.{object_numbered}
+use Rattle.ode_value.specs.Footprints.{with_draw}
 use Rattle.ode_value.specs.Keys.{object_key, version_key}
 use Rattle.ode_value.specs.Lengths.{version_size}
 use Rattle.ode_value.specs.Limits.{change_limit, number_limit, value_limit}
 use Rattle.ode_value.specs.Making.{makes, object_with, stamp_now, with_new}
 use Rattle.ode_value.specs.Pasts.{numbers}
 use Rattle.ode_value.specs.Tables.{Table}
-use Rattle.ode_value.specs.Texts.{new_line}
-use Rattle.ode_value.specs.Transactions.{touching}
+use Rattle.ode_value.specs.Transactions.{drawing, touching}
 use Rattle.ode_value.specs.Worlds as worlds
 use Rattle.ode_value.specs.Worlds.{kept_at}
 use Rattle.ode_value.specs.declared.key.Key.{Key}
@@ -77,34 +77,34 @@ module _ (x : Layer) (y : NumberTx) (ks : List Key) (stands : Stands x y) (parts
   held = fold with_key x.keys ks
 
   -- by a test of its size and its keys, and by one of the number
-  abbrev drawing : {S : Type 0} → Act (Unit {0}) ℕ S → Bool → Outcome (Unit {0}) ℕ S
-  drawing act b = go_on (go_on (tested y b) (λ _. needs reason.Space (λ (z : NumberTx). has_number z.now.bones) >> does (machine.holding ks))) (λ _. act)
+  abbrev drawn : {S : Type 0} → Act (Unit {0}) ℕ S → Bool → Outcome (Unit {0}) ℕ S
+  drawn act b = go_on (go_on (tested y b) (λ _. does (drawing true) >> (needs reason.Space (λ (z : NumberTx). has_number z.now.bones) >> does (machine.holding ks)))) (λ _. act)
 
   abbrev spaced : {S : Type 0} → Act (Unit {0}) ℕ S → Bool → Outcome (Unit {0}) ℕ S
   spaced {S} act b =
-      let m : Outcome (Unit {0}) ℕ (Unit {0}) = cond b (Done tt y) (Aborted reason.Space y) in
+      let m : Outcome (Unit {0}) ℕ (Unit {0}) = cond b (Done tt (drawing true y)) (Aborted reason.Space (drawing true y)) in
       go_on (go_on m (λ _. does (machine.holding ks))) (λ _. act)
 
   by_number : {R S : Type 0} (go : R → Act (Unit {0}) ℕ S) (rest : ℕ → Answer (R × Layer)) (act : Act (Unit {0}) ℕ S)
-      → Follows y go (rest x.next) (act (machine.holding ks y)) → Follows y go (next_number x >>= rest) (drawing act true)
+      → FollowsDrawing y go (rest x.next) (act (machine.holding ks (drawing true y))) → FollowsDrawing y go (next_number x >>= rest) (drawn act true)
   by_number {R} {S} go rest act next =
-      subst (λ (b : Bool). Follows y go (next_number x >>= rest) (spaced act b)) (sym (ap (λ n. nat_lt n number_limit) stands.next)) (by_room (nat_lt x.next number_limit)) where
-        by_room : (b : Bool) → Follows y go (cond b (Ok x.next) (Err error.NoNumber) >>= rest) (spaced act b)
+      subst (λ (b : Bool). FollowsDrawing y go (next_number x >>= rest) (spaced act b)) (sym (ap (λ n. nat_lt n number_limit) stands.next)) (by_room (nat_lt x.next number_limit)) where
+        by_room : (b : Bool) → FollowsDrawing y go (cond b (Ok x.next) (Err error.NoNumber) >>= rest) (spaced act b)
         by_room true = next
         by_room false = (reason.Space, (refl, refl))
 
   pub follows_drawing : {R S : Type 0} (size : ℕ) (short : Bool) (go : R → Act (Unit {0}) ℕ S) (rest : List Key → ℕ → Answer (R × Layer)) (act : Act (Unit {0}) ℕ S)
-      → short ≡ nat_le size value_limit → Follows y go (rest held x.next) (act (machine.holding ks y))
-      → Follows y go (calls.needs TooLong short >>= λ _. holding ks x >>= λ keys. next_number x >>= rest keys) (go_on (changes ks size has_number y) (λ _. act))
+      → short ≡ nat_le size value_limit → FollowsDrawing y go (rest held x.next) (act (machine.holding ks (drawing true y)))
+      → FollowsDrawing y go (calls.needs TooLong short >>= λ _. holding ks x >>= λ keys. next_number x >>= rest keys) (go_on (changes ks size draws_number y) (λ _. act))
   unfolding holding
   follows_drawing {R} {S} size short go rest act same next =
-      subst (λ (b : Bool). Follows y go (calls.needs TooLong short >>= λ _. few held x >>= λ keys. next_number x >>= rest keys) (drawing act b)) (sym test) (by_tests short (nat_le (key_count held x) change_limit)) where
+      subst (λ (b : Bool). FollowsDrawing y go (calls.needs TooLong short >>= λ _. few held x >>= λ keys. next_number x >>= rest keys) (drawn act b)) (sym test) (by_tests short (nat_le (key_count held x) change_limit)) where
         test : (nat_le size value_limit && nat_le (machine.key_count (machine.holding ks y)) change_limit) ≡ (short && nat_le (key_count held x) change_limit)
         test =
             ap (λ s. s && nat_le (machine.key_count (machine.holding ks y)) change_limit) (sym same)
             ∙ ap (λ n. short && nat_le n change_limit) (counts_same x y ks stands parts)
 
-        by_tests : (a b : Bool) → Follows y go (calls.needs TooLong a >>= λ _. cond b (Ok held) (Err TooManyChanges) >>= λ keys. next_number x >>= rest keys) (drawing act (a && b))
+        by_tests : (a b : Bool) → FollowsDrawing y go (calls.needs TooLong a >>= λ _. cond b (Ok held) (Err TooManyChanges) >>= λ keys. next_number x >>= rest keys) (drawn act (a && b))
         by_tests true true = by_number go (rest held) act next
         by_tests true false = (reason.Size, (refl, refl))
         by_tests false b = (reason.Size, (refl, refl))
@@ -126,7 +126,7 @@ module _ (tables : ℕ → ℕ → Table) (class : ℕ) (fields : List Value) (x
   then_x = created class stamped (fold with_key x.keys ks) x
 
   abbrev then_y : NumberTx
-  then_y = touching id (record (machine.holding ks y) { now = with_new (numbers tables) class fields y.now })
+  then_y = touching id (record (machine.holding ks (drawing true y)) { now = with_new (numbers tables) class fields y.now })
 
   abbrev tracked_then : Tracked
   tracked_then = now_tracked (made class stamped) (tracked_at id x)
@@ -185,24 +185,25 @@ module _ (tables : ℕ → ℕ → Table) (class : ℕ) (fields : List Value) (x
     collected = stands.collected;
     gathered = stands.gathered;
     keys = ap (λ zs. fold with_key zs ks) stands.keys ∙ all_between x.origin ks (object_part id, (version_part id 1, tt)) x.keys;
+    footprint = ap (with_draw true) stands.footprint;
   }
 
   -- what follows once the keys are held
   abbrev act_at : ℕ → Act (Unit {0}) ℕ ℕ
-  act_at n = turns (with_new (numbers tables) class fields) >> (does (touching n) >> (prints (new_line n) >> gives n))
+  act_at n = turns (with_new (numbers tables) class fields) >> (does (touching n) >> tells_new n)
 
   abbrev made_at : ℕ → ℕ → Outcome (Unit {0}) ℕ ℕ
-  made_at stamp n = go_on (changes (object_key n ∷ version_key n 1 ∷ []) (version_size stamp fields) has_number y) (λ _. act_at n)
+  made_at stamp n = go_on (changes (object_key n ∷ version_key n 1 ∷ []) (version_size stamp fields) draws_number y) (λ _. act_at n)
 
   abbrev rest : ℕ × List Value → List Key → ℕ → Answer (ℕ × Layer)
   rest fields keys n = Ok (n, created class fields keys x)
 
-  pub made_law : Follows y tells_new (create class fields x) (makes (numbers tables) class fields y)
+  pub made_law : FollowsDrawing y tells_new (create class fields x) (makes (numbers tables) class fields y)
   unfolding create
   made_law =
-      subst (λ (answer : Answer (ℕ × Layer)). Follows y tells_new answer (makes (numbers tables) class fields y))
+      subst (λ (answer : Answer (ℕ × Layer)). FollowsDrawing y tells_new answer (makes (numbers tables) class fields y))
       (sym (asks_first TooLong (are_fields x.first.added fields) stamped (λ kept. holding ks x >>= λ keys. next_number x >>= rest kept keys)))
-      (as_well y tells_new (calls.needs TooLong (are_fields x.first.added fields) >>= λ _. holding ks x >>= λ keys. next_number x >>= rest stamped keys) (makes (numbers tables) class fields y)
+      (as_drawing y tells_new (calls.needs TooLong (are_fields x.first.added fields) >>= λ _. holding ks x >>= λ keys. next_number x >>= rest stamped keys) (makes (numbers tables) class fields y)
       (made_at x.first.added id) (ap (λ n. made_at (stamp_now y.now.bones) n) stands.next ∙ ap (λ s. made_at s id) (stamps_same x y stands))
       (follows_drawing x y ks stands (object_part id, (version_part id 1, tt)) (version_size x.first.added fields) (are_fields x.first.added fields) tells_new (rest stamped) (act_at id) (fields_room x.first.added fields)
       (then_y, (made_stands, (record { first = refl; bones = refl; deferred = refl; text = refl; run = refl }, refl)))))

@@ -78,6 +78,7 @@ module _ (x : Layer) (y : NumberTx) (id : ℕ) (new : Option Tracked) (stands : 
     collected = stands.collected;
     gathered = stands.gathered;
     keys = ap (λ zs. fold with_key zs (activation_keys id o.activations)) stands.keys ∙ all_between x.origin (activation_keys id o.activations) (activation_parts id o.activations) x.keys;
+    footprint = stands.footprint;
   }
 
   abbrev rest : Object → Answer (Bool × Layer)

@@ -1,5 +1,5 @@
 -- When a call of the overlay does what an act of the machine does.
-use Rattle.std.specs.Prelude.{◌≡◌, ℕ, Bool, true, false, cond, Option, Some, None, Ok, Err}
+use Rattle.std.specs.Prelude.{◌≡◌, ℕ, [], ◌∷◌, Bool, true, false, cond, Option, Some, None, Ok, Err}
 use Rattle.ode_codec.specs.declared.record.Entry.{Entry}
 use Rattle.ode_laws.specs.Alike.{NumberTx}
 use Rattle.ode_overlay.specs.Answers.{Answer}
@@ -7,13 +7,13 @@ use Rattle.ode_overlay.specs.Layers.{Layer, is_touched as is_touched_yet}
 use Rattle.ode_overlay.specs.declared.error.OverlayError.{OverlayError}
 use Rattle.ode_overlay.specs.declared.error.OverlayError.TheVariants as error
 use Rattle.ode_overlay_laws.specs.Standing.{Stands}
-use Rattle.ode_value.specs.Acts.{Act, Outcome, Done, Aborted, ◌>>=◌, ◌>>◌, gives, prints, reads}
-use Rattle.ode_value.specs.Changes.{lives}
+use Rattle.ode_value.specs.Acts.{Act, Outcome, Done, Aborted, ◌>>=◌, ◌>>◌, gives, prints, reads, looks}
+use Rattle.ode_value.specs.Changes.{there}
 use Rattle.ode_value.specs.Denoting.{object_numbered}
 use Rattle.ode_value.specs.Posting.{is_touched, joins}
 use Rattle.ode_value.specs.Worlds.{kept_at}
 use Rattle.ode_value.specs.Texts.{new_line}
-use Rattle.ode_value.specs.Transactions.{Firing}
+use Rattle.ode_value.specs.Transactions.{Firing, drawing, queueing}
 use Rattle.ode_value.specs.declared.reason.Reason.{Reason}
 use Rattle.ode_value.specs.declared.reason.Reason.TheVariants as reason
 
@@ -44,9 +44,19 @@ abbrev pub Follows : {R S : Type 0} → NumberTx → (R → Act (Unit {0}) ℕ S
 Follows y next (Ok done) outcome = (z : NumberTx) × (Stands done.1 z × (Continues y z × (outcome ≡ next done.0 z)))
 Follows y next (Err why) outcome = (r : Reason) × ((reason_as why ≡ Some r) × (outcome ≡ Aborted r y))
 
+-- what a call that draws a number leaves at an error: it found none left, or nothing changed
+abbrev pub drawn_by : OverlayError → NumberTx → NumberTx
+drawn_by error.NoNumber y = drawing true y
+drawn_by why y = y
+
+-- the same of such a call
+abbrev pub FollowsDrawing : {R S : Type 0} → NumberTx → (R → Act (Unit {0}) ℕ S) → Answer (R × Layer) → Outcome (Unit {0}) ℕ S → Type 0
+FollowsDrawing y next (Ok done) outcome = (z : NumberTx) × (Stands done.1 z × (Continues y z × (outcome ≡ next done.0 z)))
+FollowsDrawing y next (Err why) outcome = (r : Reason) × ((reason_as why ≡ Some r) × (outcome ≡ Aborted r (drawn_by why y)))
+
 -- an act on an object that is there
 abbrev pub on_live : {R : Type 0} → ℕ → Act (Unit {0}) ℕ R → Act (Unit {0}) ℕ R
-on_live id act = lives id >> act
+on_live id act = there id >> act
 
 -- a firing's entry
 abbrev pub entry_by : ℕ → Firing → Entry
@@ -55,7 +65,7 @@ entry_by generation f = record { object = f.object; class = f.trigger.class; tri
 -- where it is collected, so it is in the machine; where it isn't, the machine drops it
 abbrev pub Collects : Bool → Layer → NumberTx → Outcome (Unit {0}) ℕ (Unit {0}) → Outcome (Unit {0}) ℕ (Unit {0}) → Type 0
 Collects true x y dropped outcome = (z : NumberTx) × (Stands x z × (Continues y z × (outcome ≡ Done tt z)))
-Collects false x y dropped outcome = Stands x y × (outcome ≡ dropped)
+Collects false x y dropped outcome = Stands x (queueing y) × (outcome ≡ dropped)
 
 -- the first touch of an object, before its point is posted: whether it is the first
 abbrev pub joins_first : ℕ → Act (Unit {0}) ℕ Bool
@@ -69,6 +79,6 @@ pub record IsNewNumber (x : Layer) (y : NumberTx) (id : ℕ) : Type 0 where
   pub kept : kept_at id y.now.pasts ≡ None
   pub touched : is_touched_yet id x ≡ false
 
--- the line of a new object, and its number
+-- a look at a new object, its line, and its number
 abbrev pub tells_new : ℕ → Act (Unit {0}) ℕ ℕ
-tells_new n = prints (new_line n) >> gives n
+tells_new n = looks (n ∷ []) >> (prints (new_line n) >> gives n)

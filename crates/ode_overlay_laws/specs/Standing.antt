@@ -88,6 +88,7 @@ pub record Stands (x : Layer) (y : NumberTx) : Type 0 where
   pub collected : y.collected ≡ map collected_as x.collected
   pub gathered : y.gathered ≡ x.gathered
   pub keys : y.keys ≡ counters_key ∷ (x.keys ++ last_keys x.origin)
+  pub footprint : y.footprint ≡ x.footprint
 
 -- what was read of an object is what the world now has; where nothing was, it is tracked or not there
 abbrev pub IsFresh : Layer → NumberTx → ℕ → Option Tracked → Type 0

@@ -4,7 +4,7 @@ ghost use Rattle.ode_laws.specs.Alike.{NumberTx};
 ghost use Rattle.ode_objects.specs.declared.tracked.Tracked.{Tracked};
 ghost use Rattle.ode_overlay.specs.Changing.{create, remove_with, touch_with};
 ghost use Rattle.ode_overlay.specs.Layers.{Layer};
-ghost use Rattle.ode_overlay_laws.specs.Following.{Follows, IsNewNumber, joins_first, on_live, tells_new};
+ghost use Rattle.ode_overlay_laws.specs.Following.{Follows, FollowsDrawing, IsNewNumber, joins_first, on_live, tells_new};
 ghost use Rattle.ode_overlay_laws.specs.Standing.{IsFresh, Stands};
 ghost use Rattle.ode_value.specs.Acts.{gives};
 ghost use Rattle.ode_value.specs.Making.{makes, removes};
@@ -20,7 +20,7 @@ pub fn touches_follow()
 /// An object is made in the overlay as in the machine, up to its line, where the next number is a new one.
 pub fn makings_follow()
     ensures { (tables : ℕ → ℕ → Table) (class : ℕ) (fields : Items Value) (x : Layer) (y : NumberTx) → Stands x y → IsNewNumber x y x.next
-        → Follows y tells_new (create class fields x) (makes (numbers tables) class fields y) }
+        → FollowsDrawing y tells_new (create class fields x) (makes (numbers tables) class fields y) }
 {}
 
 /// An object is removed in the overlay as in the machine.

@@ -114,6 +114,7 @@ module _ (by : ℕ → ℕ → Table) (place : Place (Unit {0}) ℕ) (kind : Kin
         collected = stands.collected;
         gathered = stands.gathered;
         keys = stands.keys;
+        footprint = stands.footprint;
       };
     } where
       becomes : object_after firings o ≡ object_as id (with_states behind t.current)

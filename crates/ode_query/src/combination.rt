@@ -19,7 +19,7 @@ use ode_host::Host;
 use ode_interpreter::Scene;
 use ode_keep::Keep;
 use ode_overlay::Overlay;
-use ode_run_frame::{Unread, evaluate};
+use ode_run_frame::{Evaluated, Unread, evaluate};
 use ode_types::Classes;
 use ode_value::{Expr, List, Ref, Value};
 use std::alloc::{AllocError, Global};
@@ -79,7 +79,8 @@ pub(crate) fn value_of<H: Host, K: Keep<H>>(
     ensures looks { Looks (H.view host.old) (H.view host.new) }
     ensures cause { RoseIf (IsErrOf result QueryError.DiskFault) (H.view host.old).disk_faults (H.view host.new).disk_faults }
 {
-    match evaluate(alloc, scene, classes, overlay, heap, host, e) {
+    let Evaluated { value, .. } = evaluate(alloc, scene, classes, overlay, heap, host, e);
+    match value {
         Ok(value) => Ok(value),
         Err(stop) => Err(stopped_by(stop)),
     }

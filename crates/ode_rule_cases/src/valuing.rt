@@ -2,16 +2,18 @@
 
 use crate::ruling::shown;
 use ode_expr::{EvalStop, Frame, eval};
-use ode_value::{Expr, Fault, OdeText, Ref, Rhs, Stmt, Value, ref_text};
+use ode_value::{Expr, Fault, List, OdeText, Ref, Rhs, Stmt, Value, ref_text};
 use std::alloc::{AllocError, Global};
 use std::io;
 
 // The longest text that is printed as it is.
 const SHORT: usize = 64;
 
-// A frame without locals, over no objects.
+// A frame without locals, over no objects, with what it was looked at for.
 #[derive(Drop)]
-struct Empty;
+struct Empty {
+    looked: List<u64>,
+}
 
 impl Frame for Empty {
     ghost use Rattle.std.specs.Prelude.{◌≡◌, None};
@@ -32,6 +34,8 @@ impl Frame for Empty {
 
     ghost scene = { λ _. no_frame };
 
+    ghost looked = { λ f. f.looked };
+
     ghost stopped = { λ _. None };
 
     fn local(&self, _: u16) -> Option<&Value> {
@@ -46,16 +50,21 @@ impl Frame for Empty {
     }
 
     fn read_field(&mut self, of: Ref, _: u16) -> Result<Value, EvalStop<()>> {
+        self.looked.push(of.object)?;
         Err(EvalStop::Fault(Fault::NoObject(of.object)))
     }
 
     fn current(&mut self, of: Ref) -> Result<u32, EvalStop<()>> {
+        self.looked.push(of.object)?;
         Err(EvalStop::Fault(Fault::NoObject(of.object)))
     }
 }
 
 fn value_of(alloc: Global, e: &Expr) -> Result<Value, EvalStop<()>> {
-    eval(alloc, e, &mut Empty)
+    let mut frame = Empty {
+        looked: List::new(alloc),
+    };
+    eval(alloc, e, &mut frame)
 }
 
 /// What the shown expression of a checked statement comes to, where it shows one.

@@ -13,11 +13,12 @@ use Rattle.ode_value.specs.declared.class.Class.{Class}
 
 module _ {H K : Type 0} (seen : H → View) (holds : K → View → Entries → Type 0) (live : K → Bool) where
   -- at first
-  pub begins : (heap_name host_name : ℕ) (h : H) (k : K) (classes : List Class) (x : Layer) (base : Entries) (b : Bones) → IsTrue (live k) → holds k (seen h) base → Reads classes base x b
-      → Shown seen (holds k (seen h)) (live k) heap_name host_name h None classes x (record { heap = heap_name; host = host_name; began = h; entries = base; bones = b })
-  begins heap_name host_name h k classes x base b usable held reads = record {
+  pub begins : (heap_name host_name looked_name : ℕ) (h : H) (k : K) (classes : List Class) (x : Layer) (base : Entries) (b : Bones) → IsTrue (live k) → holds k (seen h) base → Reads classes base x b
+      → Shown seen (holds k (seen h)) (live k) heap_name host_name looked_name h None classes x (record { heap = heap_name; host = host_name; looked = looked_name; began = h; entries = base; bones = b })
+  begins heap_name host_name looked_name h k classes x base b usable held reads = record {
     heap = refl;
     host = refl;
+    looked = refl;
     behind = record {
       sound = tt;
       looks = looks_none (seen h);
@@ -37,11 +38,12 @@ module _ {H K : Type 0} (seen : H → View) (holds : K → View → Entries → 
 
 module _ {H K : Type 0} (seen : H → View) (live : K → Bool) where
   -- at first, where no records are known
-  pub begins_plain : (heap_name host_name : ℕ) (h : H) (k : K) → IsTrue (live k)
-      → Follows seen (live k) heap_name host_name h None (record { heap = heap_name; host = host_name; began = h })
-  begins_plain heap_name host_name h k usable = record {
+  pub begins_plain : (heap_name host_name looked_name : ℕ) (h : H) (k : K) → IsTrue (live k)
+      → Follows seen (live k) heap_name host_name looked_name h None (record { heap = heap_name; host = host_name; looked = looked_name; began = h })
+  begins_plain heap_name host_name looked_name h k usable = record {
     heap = refl;
     host = refl;
+    looked = refl;
     since = record {
       looks = looks_none (seen h);
       faults = record { later = omega arith; rose = λ is. absurd (cc is); calm = inr refl };

@@ -11,10 +11,11 @@ use Rattle.ode_run_frame.specs.declared.unread.Unread.TheVariants.{Damaged, Disk
 use Rattle.ode_value.specs.Worlds.{Bones}
 use Rattle.ode_value.specs.declared.class.Class.{Class}
 
--- the names of the heap and the host that are lent, the host as it began, the records, and the bones that are read
+-- the names of the heap, the host and the list of looks that are lent, the host as it began, the records, and the bones that are read
 pub record Known (H : Type 0) : Type 0 where
   pub heap : ℕ
   pub host : ℕ
+  pub looked : ℕ
   pub began : H
   pub entries : Entries
   pub bones : Bones
@@ -41,19 +42,21 @@ pub record Behind (before after : View) (holds : Entries → Type 0) (live : Boo
   pub faults : RoseIf (stopped ≡ Some DiskFault) before.disk_faults after.disk_faults
   pub keeps : Until stopped (Keeps holds live entries)
 
--- the frame still has the heap and the host that it was lent
-pub record Shown {H : Type 0} (seen : H → View) (holds : Entries → Type 0) (live : Bool) (heap_name host_name : ℕ) (now : H) (stopped : Option Unread) (classes : List Class) (x : Layer) (k : Known H) : Type 0 where
+-- the frame still has the heap, the host and the list that it was lent
+pub record Shown {H : Type 0} (seen : H → View) (holds : Entries → Type 0) (live : Bool) (heap_name host_name looked_name : ℕ) (now : H) (stopped : Option Unread) (classes : List Class) (x : Layer) (k : Known H) : Type 0 where
   pub heap : heap_name ≡ k.heap
   pub host : host_name ≡ k.host
+  pub looked : looked_name ≡ k.looked
   pub behind : Behind (seen k.began) (seen now) holds live stopped k.entries
   pub reads : Reads classes k.entries x k.bones
 
 -- ---- where no records are known
 
--- the names of the heap and the host that are lent, and the host as it began
+-- the names of the heap, the host and the list of looks that are lent, and the host as it began
 pub record Base (H : Type 0) : Type 0 where
   pub heap : ℕ
   pub host : ℕ
+  pub looked : ℕ
   pub began : H
 
 -- The host only looked; the disk failed exactly where that stopped it, and till then the keeper may be used.
@@ -62,8 +65,9 @@ pub record Since (before after : View) (live : Bool) (stopped : Option Unread) :
   pub faults : RoseIf (stopped ≡ Some DiskFault) before.disk_faults after.disk_faults
   pub usable : Until stopped (live ≡ true)
 
--- the frame still has the heap and the host that it was lent
-pub record Follows {H : Type 0} (seen : H → View) (live : Bool) (heap_name host_name : ℕ) (now : H) (stopped : Option Unread) (b : Base H) : Type 0 where
+-- the frame still has the heap, the host and the list that it was lent
+pub record Follows {H : Type 0} (seen : H → View) (live : Bool) (heap_name host_name looked_name : ℕ) (now : H) (stopped : Option Unread) (b : Base H) : Type 0 where
   pub heap : heap_name ≡ b.heap
   pub host : host_name ≡ b.host
+  pub looked : looked_name ≡ b.looked
   pub since : Since (seen b.began) (seen now) live stopped

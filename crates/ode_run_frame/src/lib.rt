@@ -5,5 +5,5 @@ mod evaluation;
 mod reading;
 mod unread;
 
-pub use evaluation::evaluate;
+pub use evaluation::{Evaluated, evaluate};
 pub use unread::Unread;

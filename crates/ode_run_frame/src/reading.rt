@@ -16,9 +16,10 @@ use ode_interpreter::Scene;
 use ode_keep::Keep;
 use ode_overlay::{Overlay, OverlayError};
 use ode_types::Classes;
-use ode_value::{Fault, Key, Ref, Value};
+use ode_value::{Fault, Key, List, Ref, Value};
 
-/// What an expression is evaluated over: the reference and the locals of a body, and the objects of an overlay over a heap.
+/// What an expression is evaluated over: the reference and the locals of a body, and the objects of an overlay over a heap. It lists
+/// the objects that are looked at.
 #[derive(Drop)]
 pub struct Reading<'a, H, K> {
     pub scene: &'a Scene,
@@ -26,6 +27,7 @@ pub struct Reading<'a, H, K> {
     pub overlay: &'a Overlay,
     pub heap: &'a mut Heap<K>,
     pub host: &'a mut H,
+    pub looked: &'a mut List<u64>,
     pub stopped: Option<Unread>,
 }
 
@@ -93,13 +95,15 @@ impl<'a, H: Host, K: Keep<H>> Frame for Reading<'a, H, K> {
 
     ghost bones = { λ k. k.bones };
 
-    ghost shows = { λ f k. Shown H.view (K.holds f.heap.now (H.view f.host.now)) (K.live f.heap.now) f.heap.ghost_name f.host.ghost_name f.host.now f.stopped f.classes.now f.overlay.now k };
+    ghost shows = { λ f k. Shown H.view (K.holds f.heap.now (H.view f.host.now)) (K.live f.heap.now) f.heap.ghost_name f.host.ghost_name f.looked.ghost_name f.host.now f.stopped f.classes.now f.overlay.now k };
 
     ghost Base = { Beginning H };
 
-    ghost follows = { λ f b. Follows H.view (K.live f.heap.now) f.heap.ghost_name f.host.ghost_name f.host.now f.stopped b };
+    ghost follows = { λ f b. Follows H.view (K.live f.heap.now) f.heap.ghost_name f.host.ghost_name f.looked.ghost_name f.host.now f.stopped b };
 
     ghost scene = { λ f. record { this = f.scene.now.this; locals = f.scene.now.locals } };
+
+    ghost looked = { λ f. f.looked.now };
 
     ghost stopped = { λ f. f.stopped };
 
@@ -116,6 +120,7 @@ impl<'a, H: Host, K: Keep<H>> Frame for Reading<'a, H, K> {
         if let Some(stop) = self.stopped {
             return Err(EvalStop::Frame(stop));
         }
+        self.looked.push(of.object)?;
         if !self.heap.live() {
             self.stopped = Some(Unread::DiskFault);
             return Err(EvalStop::Frame(Unread::DiskFault));
@@ -140,6 +145,7 @@ impl<'a, H: Host, K: Keep<H>> Frame for Reading<'a, H, K> {
         if let Some(stop) = self.stopped {
             return Err(EvalStop::Frame(stop));
         }
+        self.looked.push(of.object)?;
         if !self.heap.live() {
             self.stopped = Some(Unread::DiskFault);
             return Err(EvalStop::Frame(Unread::DiskFault));

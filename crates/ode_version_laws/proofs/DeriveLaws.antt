@@ -23,7 +23,7 @@ use Rattle.ode_overlay_laws.specs.Following.{Follows}
 use Rattle.ode_overlay_laws.specs.Standing.{IsIn, Stands, object_as, version_as}
 use Rattle.ode_value.specs.Acts.{Act, ◌>>◌, gives, go_on, prints}
 use Rattle.ode_value.specs.Changes as machine
-use Rattle.ode_value.specs.Changes.{alters_object, changes}
+use Rattle.ode_value.specs.Changes.{alters_object, changes, draws_version}
 use Rattle.ode_value.specs.Denoting.{denoted}
 use Rattle.ode_value.specs.Keys.{object_key, version_key}
 use Rattle.ode_value.specs.Lengths.{version_size}
@@ -72,7 +72,7 @@ module _ (x : Layer) (y : NumberTx) (r : Ref) (new : Option Tracked) (stands : S
   change_by stamp v q = alters_object q.id (derived_from stamp v) >> (prints (version_line (next_version q)) >> gives (next_version q))
 
   abbrev acts_by : ℕ → versions.Version → worlds.Object → Act (Unit {0}) ℕ Ref
-  acts_by stamp v q = changes (object_key q.id ∷ version_key q.id (q.last + 1) ∷ []) (version_size stamp v.fields) (λ b. nat_lt q.last version_limit) >> change_by stamp v q
+  acts_by stamp v q = changes (object_key q.id ∷ version_key q.id (q.last + 1) ∷ []) (version_size stamp v.fields) (draws_version q) >> change_by stamp v q
 
   abbrev acts_on : versions.Version → worlds.Object → Act (Unit {0}) ℕ Ref
   acts_on v q z = acts_by (stamp_now z.now.bones) v q z

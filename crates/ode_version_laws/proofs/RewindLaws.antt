@@ -151,6 +151,7 @@ module _ (tables : ℕ → ℕ → Table) (x : Layer) (y : NumberTx) (stands : S
     collected = ap (filter is_independent) stands.collected ∙ independent_same x.collected;
     gathered = stands.gathered;
     keys = stands.keys;
+    footprint = stands.footprint;
   }
 
 -- ---- what was remembered

@@ -10,7 +10,7 @@ use Rattle.ode_objects.specs.Values.{are_args}
 use Rattle.ode_objects.specs.declared.tracked.Tracked.{Tracked}
 use Rattle.ode_overlay.specs.Answers.{Answer, ◌>>=◌}
 use Rattle.ode_overlay.specs.Changing.{create, fresh, object_of, remove, remove_with, touch, touch_with}
-use Rattle.ode_overlay.specs.Layers.{Layer, generation_of}
+use Rattle.ode_overlay.specs.Layers.{Layer, generation_of, queueing}
 use Rattle.ode_overlay.specs.Settling.{collect, has_room, with_entry}
 use Rattle.ode_overlay_laws.proofs.AlteredLaws.{Has, has_found}
 use Rattle.ode_overlay_laws.proofs.CollectLaws.{collects_law}
@@ -28,7 +28,8 @@ use Rattle.ode_value.specs.Posting as posting
 use Rattle.ode_value.specs.Posting.{collects, dropped_text, joins}
 use Rattle.ode_value.specs.Tables.{Table}
 use Rattle.ode_value.specs.Texts.{new_line}
-use Rattle.ode_value.specs.Transactions.{Firing}
+use Rattle.ode_value.specs.Transactions as transactions
+use Rattle.ode_value.specs.Transactions.{Firing, looking}
 use Rattle.ode_value.specs.Worlds.{Declared, Object, kept_at}
 use Rattle.ode_value.specs.declared.class.Class.{Class}
 use Rattle.ode_value.specs.declared.reason.Reason.{Reason}
@@ -36,9 +37,9 @@ use Rattle.ode_value.specs.declared.reason.Reason.TheVariants.{NoObject, Output}
 use Rattle.ode_value.specs.declared.value.Value.{Value}
 use Rattle.ode_view_laws.proofs.DrawnLaws.{AreDrawn, create_leaves, remove_leaves, touch_leaves}
 use Rattle.ode_view_laws.proofs.OrderLaws.{join_tidy, makes_tidy, remove_tidy}
-use Rattle.ode_view_laws.proofs.ShowLaws.{IsQuiet, ordered_by, shown, view, viewed_then}
+use Rattle.ode_view_laws.proofs.ShowLaws.{IsQuiet, draws_shown, ordered_by, shown, view, viewed_then}
 use Rattle.ode_view_laws.proofs.ViewLaws.{view_stands}
-use Rattle.ode_view_laws.specs.Showing.{IsViewed, Shows, ShowsCollected, StaysViewed}
+use Rattle.ode_view_laws.specs.Showing.{IsViewed, Shows, ShowsCollected, ShowsDrawing, StaysViewed}
 use Rattle.ode_view_laws.specs.Ordering.{IsOrdered, number_of, row_number}
 use Rattle.ode_view_laws.specs.Viewing.{Beside, running, world_now}
 
@@ -148,6 +149,13 @@ module _ (classes : List Declared) (first : NumberWorld) (beside : Beside) (x : 
     behind_read {R} {S} next with outcome h =
         subst (λ (a : Answer (Option Tracked)). Shows (view classes first beside) next x (a >>= with) outcome × StaysViewed first (a >>= with)) (sym read) h
 
+    -- the same of a call that draws a number
+    pub behind_drawing : {R S : Type 0} (next : R → Act (Unit {0}) ℕ S) (with : Option Tracked → Answer (R × Layer)) (outcome : Outcome (Unit {0}) ℕ S)
+        → ShowsDrawing (view classes first beside) next x (with new) outcome × StaysViewed first (with new)
+        → ShowsDrawing (view classes first beside) next x (fresh declared base id x >>= with) outcome × StaysViewed first (fresh declared base id x >>= with)
+    behind_drawing {R} {S} next with outcome h =
+        subst (λ (a : Answer (Option Tracked)). ShowsDrawing (view classes first beside) next x (a >>= with) outcome × StaysViewed first (a >>= with)) (sym read) h
+
     pub touch_shows : Shows (view classes first beside) gives x (touch declared base id x) (on_live id (joins_first id) y) × StaysViewed first (touch declared base id x)
     unfolding touch
     touch_shows =
@@ -165,22 +173,36 @@ module _ (classes : List Declared) (first : NumberWorld) (beside : Beside) (x : 
   -- ---- a new object
 
   pub create_shows : (tables : ℕ → ℕ → Table) (class : ℕ) (fields : List Value)
-      → Shows (view classes first beside) tells_new x (create class fields x) (makes (numbers tables) class fields y) × StaysViewed first (create class fields x)
+      → ShowsDrawing (view classes first beside) tells_new x (create class fields x) (makes (numbers tables) class fields y) × StaysViewed first (create class fields x)
   create_shows tables class fields =
-      shown classes first beside x tells_new (makes (numbers tables) class fields) viewed (makes_tidy tables class fields) (λ n z. line_quiet (new_line n) n z) (create class fields x)
+      draws_shown classes first beside x tells_new (makes (numbers tables) class fields) viewed (makes_tidy tables class fields) (λ n z. line_quiet (new_line n) n (looking (n ∷ []) z)) (create class fields x)
       (create_leaves class fields x viewed.touched) (made_law tables class fields x y stands is_new)
 
   -- ---- firings
 
-  module _ (says : List ℕ → Deed (Unit {0}) ℕ) (tidy : (line : List ℕ) → IsOrdered (reached (says line y)).now) (independent : Bool) (f : Firing) (kept : are_args f.args ≡ true) where
+  -- behind the mark that it met the queue
+  queued_viewed : IsViewed first (queueing x)
+  unfolding world_now
+  queued_viewed = record {
+    over = record { counters = viewed.over.counters; queued = viewed.over.queued };
+    began = viewed.began;
+    now = record { rising = viewed.now.rising; drawn = viewed.now.drawn; rows = viewed.now.rows };
+    touched = viewed.touched;
+  }
+
+  queued_view : view classes first beside (queueing x) ≡ transactions.queueing y
+  unfolding world_now
+  queued_view = refl
+
+  module _ (says : List ℕ → Deed (Unit {0}) ℕ) (tidy : (line : List ℕ) → IsOrdered (reached (says line (transactions.queueing y))).now) (independent : Bool) (f : Firing) (kept : are_args f.args ≡ true) where
     abbrev now : Layer
     now = (collect (entry_by (generation_of x.origin + 1) f) independent x).1
 
-    room_tidy : (b : Bool) → IsOrdered (reached (cond b (does (posting.with_entry independent f)) (says (dropped_text f)) y)).now
+    room_tidy : (b : Bool) → IsOrdered (reached (cond b (does (posting.with_entry independent f)) (says (dropped_text f)) (transactions.queueing y))).now
     room_tidy true = ordered_y
     room_tidy false = tidy (dropped_text f)
 
-    drawn_then : (b : Bool) → AreDrawn (cond {A = Bool × Layer} b (true, with_entry (entry_by (generation_of x.origin + 1) f) independent x) (false, x)).1
+    drawn_then : (b : Bool) → AreDrawn (cond {A = Bool × Layer} b (true, with_entry (entry_by (generation_of x.origin + 1) f) independent (queueing x)) (false, queueing x)).1
     drawn_then true = viewed.touched
     drawn_then false = viewed.touched
 
@@ -188,23 +210,24 @@ module _ (classes : List Declared) (first : NumberWorld) (beside : Beside) (x : 
     unfolding collect
     drawn_now = drawn_then (has_room x && are_args f.args)
 
-    same_then : (b : Bool) → (let c : Bool × Layer = cond b (true, with_entry (entry_by (generation_of x.origin + 1) f) independent x) (false, x) in c.0 ≡ false → c.1 ≡ x)
+    same_then : (b : Bool) → (let c : Bool × Layer = cond b (true, with_entry (entry_by (generation_of x.origin + 1) f) independent (queueing x)) (false, queueing x) in c.0 ≡ false → c.1 ≡ queueing x)
     same_then true is = absurd (cc)
     same_then false is = refl
 
-    same_now : (collect (entry_by (generation_of x.origin + 1) f) independent x).0 ≡ false → now ≡ x
+    same_now : (collect (entry_by (generation_of x.origin + 1) f) independent x).0 ≡ false → now ≡ queueing x
     unfolding collect
     same_now = same_then (has_room x && are_args f.args)
 
     by_room : (b : Bool) → (collect (entry_by (generation_of x.origin + 1) f) independent x).0 ≡ b
-        → Collects b now y (says (dropped_text f) y) (collects says independent f y) → ShowsCollected b (view classes first beside) now y (says (dropped_text f) y) (collects says independent f y) × IsViewed first now
+        → Collects b now y (says (dropped_text f) (transactions.queueing y)) (collects says independent f y)
+        → ShowsCollected b (view classes first beside) now y (says (dropped_text f) (transactions.queueing y)) (collects says independent f y) × IsViewed first now
     by_room true is c =
         let z = c.0 in
         let ends : IsOrdered z.now = subst (λ (o : Outcome (Unit {0}) ℕ (Unit {0})). IsOrdered (reached o).now) c.1.1.1 (room_tidy (posting.has_room y)) in
         let then = viewed_then classes first beside x now z viewed drawn_now c.1.0 c.1.1.0 ends in
         (c.1.1.1 ∙ ap (Done tt) then.0, then.1)
-    by_room false is c = ((ap (view classes first beside) (same_now is), c.1), subst (IsViewed first) (sym (same_now is)) viewed)
+    by_room false is c = ((ap (view classes first beside) (same_now is) ∙ queued_view, c.1), subst (IsViewed first) (sym (same_now is)) queued_viewed)
 
     pub collect_shows : let e = entry_by (generation_of x.origin + 1) f in
-        ShowsCollected (collect e independent x).0 (view classes first beside) (collect e independent x).1 y (says (dropped_text f) y) (collects says independent f y) × IsViewed first (collect e independent x).1
+        ShowsCollected (collect e independent x).0 (view classes first beside) (collect e independent x).1 y (says (dropped_text f) (transactions.queueing y)) (collects says independent f y) × IsViewed first (collect e independent x).1
     collect_shows = by_room (collect (entry_by (generation_of x.origin + 1) f) independent x).0 refl (collects_law x y stands says independent f kept)

@@ -85,6 +85,7 @@ module _ (tables : ℕ → ℕ → Table) where
   ordering_keeps = record {
     less = λ n x h. h;
     statement = λ n x h more. h;
+    foot = λ n x change h. h;
     line = λ n x line h fits. h;
     keys = λ n x keys h fits. h;
     touch = λ n x id h. h;

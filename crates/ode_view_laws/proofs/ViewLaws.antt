@@ -121,6 +121,7 @@ module _ (classes : List Declared) (first : NumberWorld) (x : Layer) (beside : B
     collected = refl;
     gathered = refl;
     keys = refl;
+    footprint = refl;
   }
 
 -- the numbers of the world now rise
@@ -174,6 +175,7 @@ module _ (first : NumberWorld) (ordered : IsOrdered first) (x : Layer) (z : Numb
     text = text i;
     run = run i;
     keys = stands.keys i;
+    footprint = stands.footprint i;
   }
 
 -- what continues the view of an overlay is the view of the overlay for which it stands

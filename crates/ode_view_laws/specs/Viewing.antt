@@ -55,6 +55,7 @@ running classes first x beside = record {
   text = beside.text;
   run = beside.run;
   keys = counters_key ∷ (x.keys ++ last_keys x.origin);
+  footprint = x.footprint;
 }
 
 -- ---- when it is what it stands for

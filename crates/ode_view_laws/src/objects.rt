@@ -14,7 +14,7 @@ ghost use Rattle.ode_value.specs.Tables.{Table};
 ghost use Rattle.ode_value.specs.Worlds.{Declared};
 ghost use Rattle.ode_value.specs.declared.class.Class.{Class};
 ghost use Rattle.ode_value.specs.declared.value.Value.{Value};
-ghost use Rattle.ode_view_laws.specs.Showing.{IsViewed, Shows, StaysViewed};
+ghost use Rattle.ode_view_laws.specs.Showing.{IsViewed, Shows, ShowsDrawing, StaysViewed};
 ghost use Rattle.ode_view_laws.specs.Viewing.{Beside, running};
 
 /// A touch through the overlay is the machine's on its view, up to the point that the first one posts.
@@ -37,6 +37,6 @@ pub fn removals_show()
 pub fn makings_show()
     ensures { (classes : Items Declared) (first : NumberWorld) (beside : Beside) (x : Layer) → IsViewed first x
         → (tables : ℕ → ℕ → Table) (class : ℕ) (fields : Items Value)
-        → Shows (λ now. running classes first now beside) tells_new x (create class fields x) (makes (numbers tables) class fields (running classes first x beside))
+        → ShowsDrawing (λ now. running classes first now beside) tells_new x (create class fields x) (makes (numbers tables) class fields (running classes first x beside))
         × StaysViewed first (create class fields x) }
 {}

@@ -7,7 +7,7 @@ use Rattle.ode_interpreter.specs.Seen.{with_classes}
 use Rattle.ode_interpreter.proofs.Fronts.{calls_by, calls_found}
 use Rattle.ode_interpreter.proofs.Levels.{execute_if}
 use Rattle.ode_interpreter.proofs.Stays.{body_stays, denotes_stays, derive_stays, hard_stays, joins_touch, makes_touch, method_stays, post_stays, spare_stays, stand_stays, touches_touch}
-use Rattle.ode_interpreter.proofs.Touches.{touched_anew}
+use Rattle.ode_interpreter.proofs.Touches.{touched_again, touched_anew}
 use Rattle.ode_interpreter.proofs.statements.+go.Goals as goal
 
 pub exec-returns-in-If-clause-acts : goal.exec-returns-in-If-clause-acts
@@ -21,6 +21,11 @@ touch-returns-then-branch-clause-acts g t c = λ classes k d known.
     let joined = c.in_ok-join.ensures.acts classes k d known in
     let kept = c.in_ok-join.ensures.kept k known in
     touched_anew _ _ _ _ _ _ _ _ c.if-branch.true joined (c.post.ensures.acts classes k d kept (joins_touch _ _ _ _ joined))
+
+pub touch-returns-clause-acts : goal.touch-returns-clause-acts
+touch-returns-clause-acts g t c = λ classes k d known.
+    let joined = c.in_ok-join.ensures.acts classes k d known in
+    touched_again _ _ _ _ _ _ c.if-branch.false joined
 
 pub create-returns-in_err-post-clause-acts : goal.create-returns-in_err-post-clause-acts
 unfolding creates

@@ -1,7 +1,7 @@
 use Rattle.std.proofs.Common.{refl}
 use Rattle.ode_known_laws.proofs.FormedLaws.{activate_formed}
 use Rattle.ode_known_laws.proofs.HeldLaws.{read_now, stored_now}
-use Rattle.ode_known_laws.proofs.KnownLaws.{known_then, numbers_now, taken_at, triggers_now, versions_now}
+use Rattle.ode_known_laws.proofs.KnownLaws.{known_drawn, numbers_now, taken_at, triggers_now, versions_now}
 use Rattle.ode_known_laws.proofs.activations.activations_known.Goals as goal
 use Rattle.ode_known_laws.specs.Knowing.{declared_in}
 use Rattle.ode_activation_laws.specs.Switching.{tells_line, tells_value}
@@ -18,7 +18,7 @@ returns-clause-named c = λ classes first beside base x known r tables o name t 
     let stands = c.overlays_have_views.ensures.stands classes first x beside known.viewed.over in
     let read = read_now base first known.held x y r.object stands refl c.objects_are_read_fresh.ensures in
     let stored = stored_now base first known.held x r.object read.object read.read c.objects_are_read_as_stored.ensures in
-    known_then classes first beside base x known tells_value (switches_on_named (numbers tables) r name args y) (activate (declared_in first) base r.object t.class t.place args x)
+    known_drawn classes first beside base x known tells_value (switches_on_named (numbers tables) r name args y) (activate (declared_in first) base r.object t.class t.place args x)
     (c.activations_show.ensures.named classes first beside x known.viewed (declared_in first) base r read.object read.read read.is tables o name t args at found)
     (record {
       remembers = c.calls_remember_firsts.ensures.activate (declared_in first) base x y r.object t.class t.place args stands known.remembers read;
@@ -35,7 +35,7 @@ returns-clause-initial c = λ classes first beside base x known id tables t o at
     let stands = c.overlays_have_views.ensures.stands classes first x beside known.viewed.over in
     let read = read_now base first known.held x y id stands refl c.objects_are_read_fresh.ensures in
     let stored = stored_now base first known.held x id read.object read.read c.objects_are_read_as_stored.ensures in
-    known_then classes first beside base x known tells_line (on_live id (activates_initial (numbers tables) id t) y) (activate (declared_in first) base id t.class t.place [] x)
+    known_drawn classes first beside base x known tells_line (on_live id (activates_initial (numbers tables) id t) y) (activate (declared_in first) base id t.class t.place [] x)
     (c.activations_show.ensures.initial classes first beside x known.viewed (declared_in first) base id read.object read.read read.is tables t)
     (record {
       remembers = c.calls_remember_firsts.ensures.activate (declared_in first) base x y id t.class t.place [] stands known.remembers read;

@@ -1,6 +1,6 @@
 use Rattle.std.proofs.Common.{refl}
 use Rattle.ode_known_laws.proofs.HeldLaws.{unused_now}
-use Rattle.ode_known_laws.proofs.KnownLaws.{known_then, numbers_now, triggers_now, versions_now}
+use Rattle.ode_known_laws.proofs.KnownLaws.{known_drawn, numbers_now, triggers_now, versions_now}
 use Rattle.ode_known_laws.proofs.objects.makings_known.Goals as goal
 use Rattle.ode_overlay.specs.Changing.{create}
 use Rattle.ode_overlay_laws.specs.Following.{tells_new}
@@ -15,7 +15,7 @@ returns c = λ classes first beside base x known tables class fields.
     let stands = c.overlays_have_views.ensures.stands classes first x beside known.viewed.over in
     let new = is_new classes first beside x known.viewed in
     let unused = unused_now base first known.held x y stands refl new known.viewed.began in
-    known_then classes first beside base x known tells_new (makes (numbers tables) class fields y) (create class fields x)
+    known_drawn classes first beside base x known tells_new (makes (numbers tables) class fields y) (create class fields x)
     (c.makings_show.ensures classes first beside x known.viewed tables class fields)
     (record {
       remembers = c.calls_remember_firsts.ensures.create class fields x y stands known.remembers new;
