@@ -67,6 +67,7 @@ module _ (tables : ℕ → ℕ → Table) (first : NumberWorld) (w : ListWorld) 
         text = refl;
         run = begins.run;
         keys = begins.keys;
+        footprint = begins.footprint;
       }
 
   -- no object was touched, so no point arises behind it

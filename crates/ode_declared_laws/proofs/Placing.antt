@@ -10,9 +10,9 @@ use Rattle.ode_accepted_laws.proofs.Lines.{IsLow, IsPlaced, kept_all}
 use Rattle.ode_class_laws.proofs.StoredLaws.{other_table}
 use Rattle.ode_class_laws.specs.Declaring.{tables_with}
 use Rattle.ode_compile.specs.Compiling.{AreCompiled, IsCompiled}
-use Rattle.ode_declared_laws.specs.Adding.{AreAligned, parts_with, tables_in}
+use Rattle.ode_declared_laws.specs.Adding.{parts_with, tables_in}
+use Rattle.ode_schema.specs.Parts.{AreAligned, AreFit, IsFit, Parts, places_from, table_by, table_place, trigger_count}
 use Rattle.ode_laws.specs.Alike.{AgreesOn}
-use Rattle.ode_schema.specs.Parts.{AreFit, IsFit, Parts, places_from, table_by, table_place, trigger_count}
 use Rattle.ode_states.specs.Advance.{no_table}
 use Rattle.ode_types.proofs.CheckedClasses.{checked-next}
 use Rattle.ode_types.specs.Checked.{AreChecked, IsChecked}

@@ -1,15 +1,9 @@
 -- A program with one more class.
-use Rattle.std.specs.Prelude.{◌≡◌, ℕ, List, [], ◌∷◌, ◌++◌, length}
-use Rattle.ode_schema.specs.Parts.{Parts, places_from, table_by, trigger_count}
+use Rattle.std.specs.Prelude.{ℕ, List, [], ◌∷◌, ◌++◌, length}
+use Rattle.ode_schema.specs.Parts.{Parts, table_by}
 use Rattle.ode_value.specs.Symbols.{Alphabet}
 use Rattle.ode_value.specs.Tables.{Table}
 use Rattle.ode_value.specs.declared.class.Class.{Class}
-
--- the tables of all triggers follow one another, each class has the place of its first one, and each table has an alphabet
-pub record AreAligned (p : Parts) : Type 0 where
-  pub places : p.maps ≡ places_from 0 p.classes
-  pub tables : length p.tables ≡ trigger_count p.classes
-  pub alphabets : length p.alphabets ≡ length p.tables
 
 -- a class behind the others, with its tables and their alphabets behind theirs
 abbrev pub parts_with : Class → List Table → List Alphabet → Parts → Parts

@@ -1,3 +1,4 @@
 pub mod Reading
 pub mod Languages
 pub mod Answers
+pub mod Texts

@@ -97,6 +97,12 @@ pub record IsFit (p : Parts) (class place : ℕ) (t : TriggerDecl) : Type 0 wher
 abbrev pub AreFit : Parts → Type 0
 AreFit p = (class place : ℕ) (t : TriggerDecl) → trigger_under p.classes class place ≡ Some t → IsFit p class place t
 
+-- the tables of all triggers follow one another, each class has the place of its first one, and each table has an alphabet
+pub record AreAligned (p : Parts) : Type 0 where
+  pub places : p.maps ≡ places_from 0 p.classes
+  pub tables : length p.tables ≡ trigger_count p.classes
+  pub alphabets : length p.alphabets ≡ length p.tables
+
 -- ---- bodies
 
 -- the most that a measure of statements comes to in the bodies of a class
