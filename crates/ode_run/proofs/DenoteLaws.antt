@@ -17,7 +17,7 @@ use Rattle.ode_value.specs.Changes.{class_of, object}
 use Rattle.ode_value.specs.Classes.{lists_kind}
 use Rattle.ode_value.specs.Denoting.{denoted, denotes, object_at, object_of, version_in}
 use Rattle.ode_value.specs.Evaluation.{reason_of}
-use Rattle.ode_value.specs.Expressions.{stands}
+use Rattle.ode_value.specs.Expressions.{denoting}
 use Rattle.ode_value.specs.Making.{pinned, spares}
 use Rattle.ode_value.specs.Posting.{is_listed}
 use Rattle.ode_value.specs.Versions.{Version, version_of}
@@ -85,21 +85,21 @@ same_act : (y : NumberTx) (d : Result Version Fault) → go_on (valued d y) (λ 
 same_act y (Ok v) = refl
 same_act y (Err why) = refl
 
-stands_as : (y : NumberTx) (r : Ref) (o : Outcome (Unit {0}) ℕ ℕ) → computes (λ b. number_of b r) y ≡ o → stands r y ≡ go_on o (λ _. nothing)
+stands_as : (y : NumberTx) (r : Ref) (o : Outcome (Unit {0}) ℕ ℕ) → computes (λ b. number_of b r) y ≡ o → denoting r y ≡ go_on o (λ _. nothing)
 stands_as y r o is = same_act y (denoted y.now.bones r) ∙ ap (λ q. go_on q (λ _. nothing)) is
 
-pub stands_null : (y : NumberTx) (r : Ref) → r.object ≡ 0 → stands r y ≡ Aborted (reason.NoObject 0) y
+pub stands_null : (y : NumberTx) (r : Ref) → r.object ≡ 0 → denoting r y ≡ Aborted (reason.NoObject 0) y
 stands_null y r is = stands_as y r (Aborted (reason.NoObject 0) y) (of_null y r is)
 
-pub no_object : (y : NumberTx) (r : Ref) → 0 < r.object → None ≡ option_map head_of_object (object_at y.now.bones r.object) → stands r y ≡ Aborted (reason.NoObject r.object) y
+pub no_object : (y : NumberTx) (r : Ref) → 0 < r.object → None ≡ option_map head_of_object (object_at y.now.bones r.object) → denoting r y ≡ Aborted (reason.NoObject r.object) y
 no_object y r some is = stands_as y r (Aborted (reason.NoObject r.object) y) (of_none y r some is)
 
 module _ (y : NumberTx) (r : Ref) (head : ObjectHead) (number : Option ℕ) (some : 0 < r.object) (there : Some head ≡ option_map head_of_object (object_at y.now.bones r.object))
     (named : (o : Object) → head ≡ head_of_object o → number ≡ option_map (λ (v : Version). v.number) (version_of r.version o.versions)) where
-  pub stood : (n : ℕ) → number ≡ Some n → stands r y ≡ Done tt y
+  pub stood : (n : ℕ) → number ≡ Some n → denoting r y ≡ Done tt y
   stood n is = stands_as y r (Done n y) (of_version y r head number n some there named is)
 
-  pub no_version : number ≡ None → stands r y ≡ Aborted (reason.NoVersion r) y
+  pub no_version : number ≡ None → denoting r y ≡ Aborted (reason.NoVersion r) y
   no_version is = stands_as y r (Aborted (reason.NoVersion r) y) (of_no_version y r head number some there named is)
 
 -- the transaction is the same, and this it is

@@ -15,30 +15,37 @@ use Rattle.ode_run_frame.specs.Knowing.{Behind, Keeps}
 use Rattle.ode_run_frame.specs.declared.unread.Unread.{Unread}
 use Rattle.ode_run_frame.specs.declared.unread.Unread.TheVariants as unread
 use Rattle.ode_value.specs.declared.arithmetic.Fault.{Fault}
+use Rattle.ode_value.specs.declared.statement.Expr.{Expr}
 use Rattle.ode_value.specs.declared.value.Value.{Value}
 use Rattle.ode_host.specs.Causes.{Rose, RoseIf}
 use Rattle.ode_host.specs.Host.{Looks}
 use Rattle.ode_host.specs.View.{View}
 use Rattle.ode_host.proofs.Moments.{looks_joined}
 use Rattle.ode_keep.specs.Entries.{Entries}
+use Rattle.ode_known_laws.proofs.KnownLaws.{footed_known}
 use Rattle.ode_known_laws.specs.Knowing.{IsKnown, StaysKnown}
 use Rattle.ode_laws.specs.Alike.{NumberTx, NumberWorld}
 use Rattle.ode_overlay.specs.Answers.{Answer, Answers, Leaves, UnlessFault, is_usable}
+use Rattle.ode_overlay.specs.Changing.{left_by}
 use Rattle.ode_overlay.specs.Layers.{Layer}
 use Rattle.ode_overlay.specs.declared.error.OverlayError.{OverlayError}
 use Rattle.ode_overlay.specs.declared.error.OverlayError.TheVariants as error
 use Rattle.ode_run.specs.Knowing.{Failed, Holds, Known, beside}
-use Rattle.ode_run.specs.Stopping.{ended, read, read_as}
+use Rattle.ode_run.specs.Stopping.{ended, read, read_as, valued_as}
 use Rattle.ode_run.specs.Telling.{EndsThen, calm}
-use Rattle.ode_value.specs.Acts.{Act, Outcome, Done, Aborted, found, gives, go_on, valued}
+use Rattle.ode_value.specs.Acts.{Act, Outcome, Done, Aborted, found, gives, go_on, looks, valued}
 use Rattle.ode_value.specs.Changes.{class_of, is_live}
 use Rattle.ode_value.specs.Denoting.{object_at}
+use Rattle.ode_value.specs.Evaluation.{Frame, evaluate, looks_in}
+use Rattle.ode_value.specs.Expressions.{evaluates}
+use Rattle.ode_value.specs.Footprints.{with_draw}
+use Rattle.ode_value.specs.Transactions.{looking}
 use Rattle.ode_value.specs.Worlds.{Declared, Object}
 use Rattle.ode_value.specs.declared.reason.Reason.TheVariants as reason
 use Rattle.ode_value.specs.declared.key.Key.{Key}
 use Rattle.ode_value.specs.declared.reason.Reason.{Reason}
 use Rattle.ode_states.specs.declared.fired.Fired.{Fired}
-use Rattle.ode_view_laws.specs.Showing.{Shows}
+use Rattle.ode_view_laws.specs.Showing.{Shows, ShowsDrawing}
 use Rattle.ode_view_laws.specs.Viewing.{running}
 
 -- refused with this reason
@@ -97,11 +104,61 @@ calm_then next view x x' (Err error.TooManyChanges) answer outcome leaves same s
 calm_then next view x x' (Err error.TooLong) answer outcome leaves same shows = shown_then next view x x' (Err error.TooLong) answer outcome leaves same shows
 calm_then next view x x' (Err error.NoNumber) answer outcome leaves same shows = shown_then next view x x' (Err error.NoNumber) answer outcome leaves same shows
 
+-- the same of a call that draws a number: where none was left, that is marked
+pub drawn_then : {R S : Type 0} (next : R → Act (Unit {0}) ℕ S) (view : Layer → NumberTx) (x x' : Layer) (result : Result R OverlayError) (answer : Answer (R × Layer)) (outcome : Outcome (Unit {0}) ℕ S)
+    → Leaves result x' answer → IfErr result (λ why. x' ≡ left_by why x) → ShowsDrawing view next x answer outcome → EndsThen next (ended result) (view x') outcome
+drawn_then {R} {S} next view x x' (Ok v) answer outcome leaves same shows = subst (λ a. ShowsDrawing view next x a outcome) leaves shows
+drawn_then {R} {S} next view x x' (Err error.Memory) answer outcome leaves same shows = tt
+drawn_then {R} {S} next view x x' (Err error.DiskFault) answer outcome leaves same shows = tt
+drawn_then {R} {S} next view x x' (Err (error.Damaged key)) answer outcome leaves same shows = tt
+drawn_then {R} {S} next view x x' (Err (error.NoObject id)) answer outcome leaves same shows =
+    let s = subst (λ a. ShowsDrawing view next x a outcome) leaves shows in refused view (left_by (error.NoObject id) x) x' s.0 _ outcome same s.1.0 s.1.1
+drawn_then {R} {S} next view x x' (Err (error.NoVersion r)) answer outcome leaves same shows =
+    let s = subst (λ a. ShowsDrawing view next x a outcome) leaves shows in refused view (left_by (error.NoVersion r) x) x' s.0 _ outcome same s.1.0 s.1.1
+drawn_then {R} {S} next view x x' (Err (error.LastVersion id)) answer outcome leaves same shows =
+    let s = subst (λ a. ShowsDrawing view next x a outcome) leaves shows in refused view (left_by (error.LastVersion id) x) x' s.0 _ outcome same s.1.0 s.1.1
+drawn_then {R} {S} next view x x' (Err error.TooManyChanges) answer outcome leaves same shows =
+    let s = subst (λ a. ShowsDrawing view next x a outcome) leaves shows in refused view (left_by error.TooManyChanges x) x' s.0 _ outcome same s.1.0 s.1.1
+drawn_then {R} {S} next view x x' (Err error.TooLong) answer outcome leaves same shows =
+    let s = subst (λ a. ShowsDrawing view next x a outcome) leaves shows in refused view (left_by error.TooLong x) x' s.0 _ outcome same s.1.0 s.1.1
+drawn_then {R} {S} next view x x' (Err error.NoNumber) answer outcome leaves same shows =
+    let s = subst (λ a. ShowsDrawing view next x a outcome) leaves shows in refused view (left_by error.NoNumber x) x' s.0 _ outcome same s.1.0 s.1.1
+
+-- one that asks nothing of the disk
+pub calm_drawn : {R S : Type 0} (next : R → Act (Unit {0}) ℕ S) (view : Layer → NumberTx) (x x' : Layer) (result : Result R OverlayError) (answer : Answer (R × Layer)) (outcome : Outcome (Unit {0}) ℕ S)
+    → Leaves result x' answer → IfErr result (λ why. x' ≡ left_by why x) → ShowsDrawing view next x answer outcome → EndsThen next (ended (calm result)) (view x') outcome
+calm_drawn next view x x' (Err error.DiskFault) answer outcome leaves same shows = tt
+calm_drawn next view x x' (Ok v) answer outcome leaves same shows = drawn_then next view x x' (Ok v) answer outcome leaves same shows
+calm_drawn next view x x' (Err error.Memory) answer outcome leaves same shows = drawn_then next view x x' (Err error.Memory) answer outcome leaves same shows
+calm_drawn next view x x' (Err (error.Damaged key)) answer outcome leaves same shows = drawn_then next view x x' (Err (error.Damaged key)) answer outcome leaves same shows
+calm_drawn next view x x' (Err (error.NoObject id)) answer outcome leaves same shows = drawn_then next view x x' (Err (error.NoObject id)) answer outcome leaves same shows
+calm_drawn next view x x' (Err (error.NoVersion r)) answer outcome leaves same shows = drawn_then next view x x' (Err (error.NoVersion r)) answer outcome leaves same shows
+calm_drawn next view x x' (Err (error.LastVersion id)) answer outcome leaves same shows = drawn_then next view x x' (Err (error.LastVersion id)) answer outcome leaves same shows
+calm_drawn next view x x' (Err error.TooManyChanges) answer outcome leaves same shows = drawn_then next view x x' (Err error.TooManyChanges) answer outcome leaves same shows
+calm_drawn next view x x' (Err error.TooLong) answer outcome leaves same shows = drawn_then next view x x' (Err error.TooLong) answer outcome leaves same shows
+calm_drawn next view x x' (Err error.NoNumber) answer outcome leaves same shows = drawn_then next view x x' (Err error.NoNumber) answer outcome leaves same shows
+
 -- what is known of the overlay that a call leaves
 pub known_left : {R : Type 0} (base : Entries) (first : NumberWorld) (x x' : Layer) (result : Result R OverlayError) (answer : Answer (R × Layer)) → Leaves result x' answer → OnErr result (x' ≡ x)
     → IsKnown base first x → StaysKnown base first answer → IsKnown base first x'
 known_left base first x x' (Ok v) answer leaves same known stays = subst (StaysKnown base first) leaves stays
 known_left base first x x' (Err why) answer leaves same known stays = subst (IsKnown base first) (sym same) known
+
+known_by : (why : OverlayError) (base : Entries) (first : NumberWorld) (x : Layer) → IsKnown base first x → IsKnown base first (left_by why x)
+known_by error.NoNumber base first x known = footed_known base first x (with_draw true x.footprint) known
+known_by error.Memory base first x known = known
+known_by error.DiskFault base first x known = known
+known_by (error.Damaged key) base first x known = known
+known_by (error.NoObject id) base first x known = known
+known_by (error.NoVersion r) base first x known = known
+known_by (error.LastVersion id) base first x known = known
+known_by error.TooManyChanges base first x known = known
+known_by error.TooLong base first x known = known
+
+pub known_drawn : {R : Type 0} (base : Entries) (first : NumberWorld) (x x' : Layer) (result : Result R OverlayError) (answer : Answer (R × Layer)) → Leaves result x' answer → IfErr result (λ why. x' ≡ left_by why x)
+    → IsKnown base first x → StaysKnown base first answer → IsKnown base first x'
+known_drawn base first x x' (Ok v) answer leaves same known stays = subst (StaysKnown base first) leaves stays
+known_drawn base first x x' (Err why) answer leaves same known stays = subst (IsKnown base first) (sym same) (known_by why base first x known)
 
 -- ---- what a call leaves
 
@@ -115,6 +172,13 @@ pub shown_sound : {R S : Type 0} (next : R → Act (Unit {0}) ℕ S) (view : Lay
 shown_sound {R} {S} next view x x' result answer outcome leaves shows key is =
     let names : answer ≡ Err (error.Damaged key) = subst (λ (r : Result R OverlayError). Leaves r x' answer) is leaves in
     let s = subst (λ a. Shows view next x a outcome) names shows in
+    cc s.1.0
+
+pub drawn_sound : {R S : Type 0} (next : R → Act (Unit {0}) ℕ S) (view : Layer → NumberTx) (x x' : Layer) (result : Result R OverlayError) (answer : Answer (R × Layer)) (outcome : Outcome (Unit {0}) ℕ S)
+    → Leaves result x' answer → ShowsDrawing view next x answer outcome → IsSoundCall result
+drawn_sound {R} {S} next view x x' result answer outcome leaves shows key is =
+    let names : answer ≡ Err (error.Damaged key) = subst (λ (r : Result R OverlayError). Leaves r x' answer) is leaves in
+    let s = subst (λ a. ShowsDrawing view next x a outcome) names shows in
     cc s.1.0
 
 -- and where its answer is never that one
@@ -223,12 +287,28 @@ stopped_too {R} {S} result other why z o fault is same =
 
 -- ---- what an evaluation leaves
 
-pub value_ends : (meant : Result Value Fault) (result : Result Value (EvalStop Unread)) (y : NumberTx) → expr.Answers meant result → Ends (read_as result) y (valued meant y)
-value_ends meant (Ok v) y is = ap (λ (m : Result Value Fault). valued m y) is
-value_ends meant (Err (eval.Fault fault)) y is = ap (λ (m : Result Value Fault). valued m y) is
-value_ends meant (Err eval.Memory) y is = tt
-value_ends meant (Err (eval.Frame unread.DiskFault)) y is = tt
-value_ends meant (Err (eval.Frame (unread.Damaged key))) y is = tt
+pub judged_is : (meant : Result Value Fault) (result : Result Value (EvalStop Unread)) (were ids : List ℕ) → expr.Answers meant result → expr.LookedAs result were ids
+    → IfOk (read_as result) (λ (v : Result Value Fault). (meant ≡ v) × (were ≡ ids))
+judged_is meant (Ok v) were ids is too = (is, too)
+judged_is meant (Err (eval.Fault fault)) were ids is too = (is, too)
+judged_is meant (Err eval.Memory) were ids is too = tt
+judged_is meant (Err (eval.Frame unread.DiskFault)) were ids is too = tt
+judged_is meant (Err (eval.Frame (unread.Damaged key))) were ids is too = tt
+
+value_ends : (value : Result Value Fault) (y : NumberTx) → Ends (valued_as value) y (valued value y)
+value_ends (Ok v) y = refl
+value_ends (Err fault) y = refl
+
+-- behind what an expression looks at
+pub evaluated : (e : Expr) (frame : Frame) (y w z : NumberTx) (value : Result Value Fault) (ids : List ℕ) (result : Result Value Stop) → y ≡ w → evaluate e y.now.bones frame ≡ value → ids ≡ looks_in e y.now.bones frame
+    → looks ids w ≡ Done tt z → result ≡ valued_as value → Ends result z (evaluates e frame y)
+evaluated e frame y w z value ids result same meant looked done is =
+    let seen : looking ids w ≡ z = cc done in
+    subst (λ (r : Result Value Stop). Ends r z (evaluates e frame y)) (sym is)
+    (subst (λ (v : Result Value Fault). Ends (valued_as value) z (valued v (looking (looks_in e y.now.bones frame) y))) (sym meant)
+    (subst (λ (ns : List ℕ). Ends (valued_as value) z (valued value (looking ns y))) looked
+    (subst (λ (q : NumberTx). Ends (valued_as value) z (valued value (looking ids q))) (sym same)
+    (subst (λ (q : NumberTx). Ends (valued_as value) z (valued value q)) (sym seen) (value_ends value z)))))
 
 module _ {H K : Type 0} (seen : H → View) (held : K → View → Entries → Type 0) (live : K → Bool) where
   module _ (h h' : H) (q q' : K) (x : Layer) (left bytes : ℕ) (k : Known H) (holds : Holds seen (held q (seen h)) (live q) h x left bytes k) where

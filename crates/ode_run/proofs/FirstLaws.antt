@@ -29,6 +29,7 @@ module _ (x : ListTx) where
   began_keeps = record {
     less = λ n z h. h;
     statement = λ n z h more. h;
+    foot = λ n z change h. h;
     line = λ n z line h fits. h;
     keys = λ n z keys h fits. h;
     touch = λ n z id h. h;

@@ -9,7 +9,9 @@ pub mod DenoteLaws
 pub mod EndLaws
 pub mod FirstLaws
 pub mod LineLaws
+pub mod LookLaws
 pub mod MakeLaws
+pub mod MetLaws
 pub mod ObjectLaws
 pub mod OffLaws
 pub mod PlaceLaws

@@ -10,13 +10,15 @@ use Rattle.ode_interpreter.specs.declared.firing.Firing as code
 use Rattle.ode_known_laws.specs.Knowing.{declared_in}
 use Rattle.ode_laws.specs.Alike.{NumberTx, NumberWorld}
 use Rattle.ode_overlay.specs.Layers.{Layer}
+use Rattle.ode_overlay_laws.specs.Following.{tells_new}
 use Rattle.ode_run.specs.Knowing.{beside, deferred_as}
 use Rattle.ode_schema.specs.Parts.{trigger_of}
 use Rattle.ode_states.specs.declared.fired.Fired.{Fired}
-use Rattle.ode_value.specs.Acts.{Outcome, Done, Aborted, does, gives, go_on, prints, with_line}
+use Rattle.ode_value.specs.Acts.{Outcome, Done, Aborted, does, gives, go_on, looks, prints, with_line}
 use Rattle.ode_value.specs.Limits.{cascade_limit, output_limit}
 use Rattle.ode_value.specs.Posting.{defers, with_deferred}
-use Rattle.ode_value.specs.Transactions.{Firing}
+use Rattle.ode_value.specs.Texts.{new_line}
+use Rattle.ode_value.specs.Transactions.{Firing, looking}
 use Rattle.ode_value.specs.Worlds.{Declared}
 use Rattle.ode_value.specs.declared.class.Class.{Class}
 use Rattle.ode_value.specs.declared.reason.Reason.{Reason}
@@ -88,3 +90,15 @@ module _ {R : Type 0} (n m : R) (text line : List ℕ) (y z : NumberTx) where
   not_told (stop.Abort why) result same ends e =
       let aborted : prints text y ≡ Aborted why z = subst (λ (q : Result (Unit {0}) Stop). Ends q z (prints text y)) e ends in
       ap (λ (t : List ℕ). go_on (prints t y) (λ _. gives n)) (sym same) ∙ ap (λ (q : Outcome (Unit {0}) ℕ (Unit {0})). go_on q (λ _. gives n)) aborted
+
+-- a look at a new object before its line
+pub told_new : (n m : ℕ) (text : List ℕ) (x y z : NumberTx) → text ≡ new_line n → m ≡ n → looks (n ∷ []) x ≡ Done tt y → prints text y ≡ Done tt z → tells_new n x ≡ Done m z
+told_new n m text x y z same is looked done =
+    let seen : looking (n ∷ []) x ≡ y = cc looked in
+    ap (λ (q : NumberTx). go_on (prints (new_line n) q) (λ _. gives n)) seen ∙ told n m text (new_line n) y z same is done
+
+pub not_told_new : (n : ℕ) (text : List ℕ) (x y z : NumberTx) (why : Stop) (result : Result (Unit {0}) Stop) → text ≡ new_line n → looks (n ∷ []) x ≡ Done tt y → Ends result z (prints text y) → result ≡ Err why
+    → Ends {R = ℕ} (Err why) z (tells_new n x)
+not_told_new n text x y z why result same looked ends e =
+    let seen : looking (n ∷ []) x ≡ y = cc looked in
+    subst (λ (q : NumberTx). Ends {R = ℕ} (Err why) z (go_on (prints (new_line n) q) (λ _. gives n))) (sym seen) (not_told n n text (new_line n) y z why result same ends e)

@@ -28,6 +28,7 @@ use Rattle.ode_run_frame.specs.declared.unread.Unread.TheVariants as unread
 use Rattle.ode_overlay.specs.Rewinding.{rewind}
 use Rattle.ode_states.specs.declared.fired.Fired.{Fired}
 use Rattle.ode_value.specs.Worlds.{empty_world}
+use Rattle.ode_value.specs.declared.arithmetic.Fault.{Fault}
 use Rattle.ode_value.specs.declared.key.Key.{Key}
 use Rattle.ode_value.specs.declared.value.Value.{Value}
 
@@ -116,8 +117,8 @@ module _ (began before after : View) (live live' : Bool) (serves : Serves live b
   serves_evaluated (Err (eval.Frame (unread.Damaged key))) left =
       damaged began before after live live' serves left.looks key (calm_at (Some (unread.Damaged key)) (λ is. absurd (cc is)) left)
 
-  pub evaluation_serves : (result : Result Value (EvalStop Unread)) (answer : Result Value Stop) → answer ≡ read_as result → Left (stopped_by result None) → Leaves answer (Serves live' began after) (Stops began after)
-  evaluation_serves result answer is left = subst (λ (r : Result Value Stop). Leaves r (Serves live' began after) (Stops began after)) (sym is) (serves_evaluated result left)
+  pub evaluation_serves : (result : Result Value (EvalStop Unread)) (answer : Result (Result Value Fault) Stop) → answer ≡ read_as result → Left (stopped_by result None) → Leaves answer (Serves live' began after) (Stops began after)
+  evaluation_serves result answer is left = subst (λ (r : Result (Result Value Fault) Stop). Leaves r (Serves live' began after) (Stops began after)) (sym is) (serves_evaluated result left)
 
 -- ---- where the host wasn't asked
 

@@ -10,8 +10,8 @@ use Rattle.ode_laws.specs.Alike.{NumberTx, NumberWorld}
 use Rattle.ode_overlay.specs.Layers.{Layer}
 use Rattle.ode_overlay_laws.proofs.MakingLaws.{numbered_push}
 use Rattle.ode_run.specs.Activating.{IsOfClass}
-use Rattle.ode_value.specs.Acts.{Act, Outcome, Done, Aborted, ◌>>◌, does, gives, go_on, needs, nothing, prints, turns, with_line}
-use Rattle.ode_value.specs.Changes.{changes, has_number, holding, key_count}
+use Rattle.ode_value.specs.Acts.{Act, Outcome, Done, Aborted, ◌>>◌, does, gives, go_on, looks, needs, nothing, prints, turns, with_line}
+use Rattle.ode_value.specs.Changes.{Draw, changes, draws_number, holding, key_count}
 use Rattle.ode_value.specs.Classes.{Trigger}
 use Rattle.ode_value.specs.Denoting.{if_live, object_at, object_numbered}
 use Rattle.ode_value.specs.Keys.{activation_key, object_key, version_key}
@@ -22,8 +22,8 @@ use Rattle.ode_value.specs.Pasts.{numbers}
 use Rattle.ode_value.specs.Statements.{activates_initial}
 use Rattle.ode_value.specs.Tables.{Table}
 use Rattle.ode_value.specs.Texts.{active_line, new_line}
-use Rattle.ode_value.specs.Transactions.{touching}
-use Rattle.ode_value.specs.Worlds.{Bones, Declared, Object}
+use Rattle.ode_value.specs.Transactions.{drawing, looking, touching}
+use Rattle.ode_value.specs.Worlds.{Declared, Object}
 use Rattle.ode_value.specs.declared.key.Key.{Key}
 use Rattle.ode_value.specs.declared.reason.Reason.{Reason}
 use Rattle.ode_value.specs.declared.reason.Reason.TheVariants.{Output, Size, Space}
@@ -51,14 +51,14 @@ abbrev tested : Reason → NumberTx → Bool → Outcome (Unit {0}) ℕ (Unit {0
 tested why y b = cond b (Done tt y) (Aborted why y)
 
 -- a change holds its keys, and nothing else is another
-changes_lead : (ks : List Key) (size : ℕ) (draws : Bones → Bool) (y : NumberTx) → Leads (λ _ x. x ≡ holding ks y) (changes ks size draws y)
-changes_lead ks size draws y = by_size (nat_le size value_limit && nat_le (key_count (holding ks y)) change_limit) where
-  by_space : (b : Bool) → Leads (λ _ x. x ≡ holding ks y) (go_on (tested Space y b) (λ _. does (holding ks)))
+changes_lead : (ks : List Key) (size : ℕ) (draw : Draw) (y : NumberTx) → Leads (λ _ x. x ≡ holding ks (drawing draw.number y)) (changes ks size draw y)
+changes_lead ks size draw y = by_size (nat_le size value_limit && nat_le (key_count (holding ks y)) change_limit) where
+  by_space : (b : Bool) → Leads (λ _ x. x ≡ holding ks (drawing draw.number y)) (go_on (tested Space (drawing draw.number y) b) (λ _. does (holding ks)))
   by_space true = refl
   by_space false = tt
 
-  by_size : (b : Bool) → Leads (λ _ x. x ≡ holding ks y) (go_on (tested Size y b) (λ _. needs Space (λ (x : NumberTx). draws x.now.bones) >> does (holding ks)))
-  by_size true = by_space (draws y.now.bones)
+  by_size : (b : Bool) → Leads (λ _ x. x ≡ holding ks (drawing draw.number y)) (go_on (tested Size y b) (λ _. does (drawing draw.number) >> (needs Space (λ (x : NumberTx). draw.left x.now.bones) >> does (holding ks))))
+  by_size true = by_space (draw.left y.now.bones)
   by_size false = tt
 
 -- a line leaves the world
@@ -91,23 +91,23 @@ module _ (tables : ℕ → ℕ → Table) (class : ℕ) (fields : List Value) (y
   abbrev made : NumberTx → NumberTx
   made x = touching id (record x { now = with_new (numbers tables) class fields x.now })
 
-  made_now : IsOfClass (made (holding keys y)) id class
+  made_now : IsOfClass (made (holding keys (drawing true y))) id class
   made_now = record {
     object = object_with stamp id class fields;
     there = ap (option_and_then if_live) (numbered_push id y.now.bones.objects (object_with stamp id class fields) (eq-eqb id id refl) none);
     class = refl;
   }
 
-  lined : (x : NumberTx) → x ≡ holding keys y → Leads (λ n w. IsOfClass w n class) (go_on (prints (new_line id) (made x)) (λ _. gives id))
+  lined : (x : NumberTx) → x ≡ holding keys (drawing true y) → Leads (λ n w. IsOfClass w n class) (go_on (prints (new_line id) (looking (id ∷ []) (made x))) (λ _. gives id))
   lined x same =
-      leads_on (λ _ w. w.now ≡ (made x).now) (λ n w. IsOfClass w n class) (prints (new_line id) (made x)) (λ _. gives id) (prints_lead (new_line id) (made x))
+      leads_on (λ _ w. w.now ≡ (made x).now) (λ n w. IsOfClass w n class) (prints (new_line id) (looking (id ∷ []) (made x))) (λ _. gives id) (prints_lead (new_line id) (looking (id ∷ []) (made x)))
       (λ _ w now. of_now (made x) w id class now (subst (λ (u : NumberTx). IsOfClass (made u) id class) (sym same) made_now))
 
   pub made_there : (z : NumberTx) (n : ℕ) → makes (numbers tables) class fields y ≡ Done n z → IsOfClass z n class
   made_there z n is =
       led (λ m w. IsOfClass w m class) (makes (numbers tables) class fields y) n z is
-      (leads_on (λ _ x. x ≡ holding keys y) (λ m w. IsOfClass w m class) (changes keys (version_size stamp fields) has_number y)
-      (λ _. turns (with_new (numbers tables) class fields) >> (does (touching id) >> (prints (new_line id) >> gives id))) (changes_lead keys (version_size stamp fields) has_number y)
+      (leads_on (λ _ x. x ≡ holding keys (drawing true y)) (λ m w. IsOfClass w m class) (changes keys (version_size stamp fields) draws_number y)
+      (λ _. turns (with_new (numbers tables) class fields) >> (does (touching id) >> (looks (id ∷ []) >> (prints (new_line id) >> gives id)))) (changes_lead keys (version_size stamp fields) draws_number y)
       (λ _ x same. lined x same))
 
 -- no object has the next number
@@ -137,7 +137,7 @@ module _ (tables : ℕ → ℕ → Table) (id class : ℕ) (t : Trigger) (y : Nu
   abbrev switched : NumberTx → NumberTx
   switched x = record x { now = with_active (numbers tables) id t [] x.now }
 
-  switched_now : IsOfClass (switched (holding key_of y)) id class
+  switched_now : IsOfClass (switched (holding key_of (drawing true y))) id class
   switched_now = record {
     object = on o;
     there =
@@ -146,7 +146,7 @@ module _ (tables : ℕ → ℕ → Table) (id class : ℕ) (t : Trigger) (y : Nu
     class = same;
   }
 
-  behind_line : (x : NumberTx) → x ≡ holding key_of y → Leads (λ _ w. IsOfClass w id class) (go_on (prints (active_line number) (switched x)) (λ _. gives number))
+  behind_line : (x : NumberTx) → x ≡ holding key_of (drawing true y) → Leads (λ _ w. IsOfClass w id class) (go_on (prints (active_line number) (switched x)) (λ _. gives number))
   behind_line x is =
       leads_on (λ _ w. w.now ≡ (switched x).now) (λ _ w. IsOfClass w id class) (prints (active_line number) (switched x)) (λ _. gives number) (prints_lead (active_line number) (switched x))
       (λ _ w now. of_now (switched x) w id class now (subst (λ (u : NumberTx). IsOfClass (switched u) id class) (sym is) switched_now))
@@ -156,8 +156,8 @@ module _ (tables : ℕ → ℕ → Table) (id class : ℕ) (t : Trigger) (y : Nu
   switched_there z is =
       led (λ _ w. IsOfClass w id class) (activates_initial (numbers tables) id t y) tt z is
       (leads_on (λ _ w. IsOfClass w id class) (λ _ w. IsOfClass w id class) (switches_on (numbers tables) id t [] y) (λ _. nothing)
-      (leads_on (λ _ x. x ≡ holding key_of y) (λ _ w. IsOfClass w id class) (changes key_of 0 has_number y)
-      (λ _. turns (with_active (numbers tables) id t []) >> (prints (active_line number) >> gives number)) (changes_lead key_of 0 has_number y) (λ _ x held. behind_line x held))
+      (leads_on (λ _ x. x ≡ holding key_of (drawing true y)) (λ _ w. IsOfClass w id class) (changes key_of 0 draws_number y)
+      (λ _. turns (with_active (numbers tables) id t []) >> (prints (active_line number) >> gives number)) (changes_lead key_of 0 draws_number y) (λ _ x held. behind_line x held))
       (λ _ w there. there))
 
 -- an object that is there is one of its number

@@ -6,7 +6,8 @@ use Rattle.ode_host.specs.View.{View}
 use Rattle.ode_interpreter.specs.declared.stop.Stop.{Stop}
 use Rattle.ode_interpreter.specs.declared.stop.Stop.TheVariants.{Abort, Damaged, DiskFault, Memory}
 use Rattle.ode_keep.specs.Entries.{Entries}
-use Rattle.ode_known_laws.specs.Knowing.{IsKnown, declared_in}
+use Rattle.ode_known_laws.specs.Knowing.{IsKnown}
+pub use Rattle.ode_known_laws.specs.Knowing.{declared_in}
 use Rattle.ode_laws.specs.Alike.{NumberTx, NumberWorld}
 use Rattle.ode_overlay.specs.Layers.{Layer}
 use Rattle.ode_run.specs.declared.work.Work.{Work}

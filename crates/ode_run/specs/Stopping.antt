@@ -9,6 +9,7 @@ use Rattle.ode_overlay.specs.declared.error.OverlayError.TheVariants as error
 use Rattle.ode_run_frame.specs.declared.unread.Unread.{Unread}
 use Rattle.ode_run_frame.specs.declared.unread.Unread.TheVariants as unread
 use Rattle.ode_value.specs.Evaluation.{reason_of}
+use Rattle.ode_value.specs.declared.arithmetic.Fault.{Fault}
 use Rattle.ode_value.specs.declared.reason.Reason.TheVariants as reason
 
 abbrev pub stop_as : OverlayError → Stop
@@ -42,10 +43,15 @@ abbrev pub read : {R : Type 0} → Result R OverlayError → Result R Stop
 read (Ok v) = Ok v
 read (Err why) = Err (read_stop why)
 
--- what an evaluation answered, as a call of a context
-abbrev pub read_as : {R : Type 0} → Result R (EvalStop Unread) → Result R Stop
-read_as (Ok v) = Ok v
+-- what an evaluation answered, as a call of a context: what it came to, or why nothing was read
+abbrev pub read_as : {R : Type 0} → Result R (EvalStop Unread) → Result (Result R Fault) Stop
+read_as (Ok v) = Ok (Ok v)
 read_as (Err eval.Memory) = Err stop.Memory
-read_as (Err (eval.Fault fault)) = Err (stop.Abort (reason_of fault))
+read_as (Err (eval.Fault fault)) = Ok (Err fault)
 read_as (Err (eval.Frame unread.DiskFault)) = Err stop.DiskFault
 read_as (Err (eval.Frame (unread.Damaged key))) = Err (stop.Damaged key)
+
+-- what it came to, as one
+abbrev pub valued_as : {R : Type 0} → Result R Fault → Result R Stop
+valued_as (Ok v) = Ok v
+valued_as (Err fault) = Err (stop.Abort (reason_of fault))

@@ -47,7 +47,7 @@ impl<'a, 'b, H: Host, K: Keep<H>> Acts<Program<'b>> for Work<'a, H, K> {
     }
 
     fn is_live(&mut self, schema: &Program<'b>, id: u64) -> Result<bool, Stop> {
-        self.is_live(schema.classes(), id)
+        self.ask_live(schema.classes(), id)
     }
 
     fn stand(&mut self, schema: &Program<'b>, r: Ref) -> Result<(), Stop> {
@@ -113,7 +113,7 @@ impl<'a, 'b, H: Host, K: Keep<H>> Acts<Program<'b>> for Work<'a, H, K> {
         place: u16,
         v: Value,
     ) -> Result<(), Stop> {
-        self.set_field(schema.classes(), r, place, v)
+        self.set_own(schema.classes(), r, place, v)
     }
 
     fn derive(&mut self, schema: &Program<'b>, r: Ref) -> Result<Ref, Stop> {

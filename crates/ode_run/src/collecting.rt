@@ -29,23 +29,16 @@ use ode_types::Classes;
 use ode_value::limits::GENERATION_LIMIT;
 use std::alloc::Global;
 
-// The generation of what is collected, where there is one more.
+// The generation of what is collected, if there is one more; the overlay drops what is beyond the last.
 #[tactic(auto, unfolding(ode_value::specs::Limits::generation_limit))]
-fn next_generation(overlay: &Overlay) -> Option<u8>
-    ensures next { IfSome result (λ n. n ≡ generation_of overlay.now.origin + 1) }
-    ensures last { result ≡ None → generation_limit ≤ generation_of overlay.now.origin }
+fn next_generation(overlay: &Overlay) -> u8
+    ensures { generation_of overlay.now.origin + 1 ≤ generation_limit → result ≡ generation_of overlay.now.origin + 1 }
 {
-    let generation = overlay.generation();
-    if generation < GENERATION_LIMIT {
-        Some(generation + 1)
-    } else {
-        None
-    }
+    overlay.generation().saturating_add(1)
 }
 
 impl<'a, H: Host, K: Keep<H>> Work<'a, H, K> {
     // A firing is collected, where there is room for it; whether it is.
-    #[tactic(auto, using(crate::proofs::CollectLaws::no_generation))]
     fn gather(
         &mut self,
         alloc: Global,
@@ -65,9 +58,7 @@ impl<'a, H: Host, K: Keep<H>> Work<'a, H, K> {
         ensures lent { (k : Known H) → Lent k self.old → Lent k self.new }
     {
         collections_known();
-        let Some(generation) = next_generation(self.overlay) else {
-            return Ok(false);
-        };
+        let generation = next_generation(self.overlay);
         let args = f.args.copy(alloc)?;
         let entry = Entry {
             object: f.object,

@@ -232,7 +232,7 @@ impl<'a, H: Host, K: Keep<H>> Work<'a, H, K> {
         }
     }
 
-    /// The soft constraints hold on all versions of the touched objects that are there.
+    /// The soft constraints hold on all versions of the touched objects that are there, by a look at each.
     pub fn test_soft(&mut self, alloc: Global, program: &Program) -> Result<(), Stop>
         ensures acts { (all : Items Declared) (k : Known H) → checked all ≡ program.now.classes → program.now.classes ≡ declared_in k.first → IsRunning H.view K.holds K.live self.old k
             → Ends result (tx all k self.new) (tests_all (tx all k self.old)) }
@@ -243,6 +243,7 @@ impl<'a, H: Host, K: Keep<H>> Work<'a, H, K> {
     {
         overlays_have_views();
         let ids = touched_in(alloc, self.overlay)?;
+        self.look_all(program.classes(), ids.as_slice())?;
         test_each(alloc, program, self.overlay, ids.as_slice())
     }
 }

@@ -11,7 +11,7 @@ ghost use Rattle.ode_run.specs.Testing.{IsCalm};
 ghost use Rattle.ode_states.specs.Machine.{checked};
 ghost use Rattle.ode_value.specs.Acts.{Done, sees};
 ghost use Rattle.ode_value.specs.Denoting.{denotes, object_at};
-ghost use Rattle.ode_value.specs.Expressions.{stands};
+ghost use Rattle.ode_value.specs.Expressions.{denoting};
 ghost use Rattle.ode_value.specs.Making.{spares};
 ghost use Rattle.ode_value.specs.Posting.{is_listed};
 ghost use Rattle.ode_value.specs.Versions.{Version, version_of};
@@ -39,7 +39,7 @@ fn number_in(of: Ref, head: &ObjectHead) -> Option<u32>
 #[tactic(auto, using(crate::proofs::DenoteLaws::stood, crate::proofs::DenoteLaws::no_version, crate::proofs::DenoteLaws::no_object))]
 fn stands_in(of: Ref, found: &Option<ObjectHead>) -> Result<(), Stop>
     requires { IfSome found.now (λ head. IsVersionList head.versions) }
-    ensures is { (y : NumberTx) → 0 < of.object → found.now ≡ option_map head_of_object (object_at y.now.bones of.object) → Ends result y (stands of y) }
+    ensures is { (y : NumberTx) → 0 < of.object → found.now ≡ option_map head_of_object (object_at y.now.bones of.object) → Ends result y (denoting of y) }
     ensures calm { IfErr result IsCalm }
 {
     let Some(head) = found else {
@@ -88,9 +88,9 @@ fn spared_in(of: Ref, found: &Option<ObjectHead>) -> Result<Ref, Stop>
 impl<'a, H: Host, K: Keep<H>> Work<'a, H, K> {
     /// A reference denotes a version.
     #[tactic(auto, using(crate::proofs::DenoteLaws::stands_null))]
-    pub fn stand(&mut self, classes: &Classes, of: Ref) -> Result<(), Stop>
+    pub(crate) fn denoting(&mut self, classes: &Classes, of: Ref) -> Result<(), Stop>
         ensures acts { (all : Items Declared) (k : Known H) → classes.now ≡ declared_in k.first → IsRunning H.view K.holds K.live self.old k
-            → Ends result (tx all k self.new) (stands of (tx all k self.old)) }
+            → Ends result (tx all k self.new) (denoting of (tx all k self.old)) }
         ensures kept { (k : Known H) → classes.now ≡ declared_in k.first → IsRunning H.view K.holds K.live self.old k
             → Leaves result (IsRunning H.view K.holds K.live self.new k) (Failed H.view self.new.host.now k) }
         ensures faults { (began : H) → IsServing H.view K.live began self.old → Leaves result (IsServing H.view K.live began self.new) (Stops (H.view began) (H.view self.new.host.now)) }

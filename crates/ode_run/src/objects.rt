@@ -3,12 +3,12 @@ ghost use Rattle.std.specs.Prelude.{◌≡◌, List as Items, IfErr, IfOk, slice
 ghost use Rattle.std.specs.Option.{IfSome, option_map};
 ghost use Rattle.ode_heap.specs.Answering.{head_of_object};
 ghost use Rattle.ode_interpreter.specs.Seen.{Ends, IsFault, Leaves};
-ghost use Rattle.ode_interpreter.specs.Touching.{joins_first};
+ghost use Rattle.ode_interpreter.specs.Touching.{joins_there};
 ghost use Rattle.ode_known_laws.specs.Knowing.{declared_in};
 ghost use Rattle.ode_run.specs.Knowing.{Failed, IsRunning, Known, Lent, tx};
 ghost use Rattle.ode_run.specs.Serving.{IsServing, Stops};
 ghost use Rattle.ode_value.specs.Acts.{reads};
-ghost use Rattle.ode_value.specs.Changes.{class_of, is_live, lives};
+ghost use Rattle.ode_value.specs.Changes.{class_of, is_live, there};
 ghost use Rattle.ode_value.specs.Denoting.{object_at};
 ghost use Rattle.ode_value.specs.Making.{drops};
 ghost use Rattle.ode_value.specs.Worlds.{Declared};
@@ -26,9 +26,9 @@ use ode_value::{Reason, Ref};
 
 impl<'a, H: Host, K: Keep<H>> Work<'a, H, K> {
     /// An object that is there joins the touched ones, where it isn't among them; whether it does.
-    pub fn join(&mut self, classes: &Classes, id: u64) -> Result<bool, Stop>
+    pub(crate) fn join_there(&mut self, classes: &Classes, id: u64) -> Result<bool, Stop>
         ensures acts { (all : Items Declared) (k : Known H) → classes.now ≡ declared_in k.first → IsRunning H.view K.holds K.live self.old k
-            → Ends result (tx all k self.new) (joins_first id (tx all k self.old)) }
+            → Ends result (tx all k self.new) (joins_there id (tx all k self.old)) }
         ensures kept { (k : Known H) → classes.now ≡ declared_in k.first → IsRunning H.view K.holds K.live self.old k
             → Leaves result (IsRunning H.view K.holds K.live self.new k) (Failed H.view self.new.host.now k) }
         ensures faults { (began : H) → IsServing H.view K.live began self.old → Leaves result (IsServing H.view K.live began self.new) (Stops (H.view began) (H.view self.new.host.now)) }
@@ -92,9 +92,9 @@ impl<'a, H: Host, K: Keep<H>> Work<'a, H, K> {
     }
 
     /// The object of a number is there.
-    pub fn live(&mut self, classes: &Classes, id: u64) -> Result<(), Stop>
+    pub(crate) fn there(&mut self, classes: &Classes, id: u64) -> Result<(), Stop>
         ensures acts { (all : Items Declared) (k : Known H) → classes.now ≡ declared_in k.first → IsRunning H.view K.holds K.live self.old k
-            → Ends result (tx all k self.new) (lives id (tx all k self.old)) }
+            → Ends result (tx all k self.new) (there id (tx all k self.old)) }
         ensures kept { (k : Known H) → classes.now ≡ declared_in k.first → IsRunning H.view K.holds K.live self.old k
             → Leaves result (IsRunning H.view K.holds K.live self.new k) (Failed H.view self.new.host.now k) }
         ensures faults { (began : H) → IsServing H.view K.live began self.old → Leaves result (IsServing H.view K.live began self.new) (Stops (H.view began) (H.view self.new.host.now)) }

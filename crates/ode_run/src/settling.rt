@@ -1,5 +1,5 @@
 //! The transaction of a context settles.
-ghost use Rattle.std.specs.Prelude.{◌≡◌, ◌≤◌, IfErr, IfOk, OnErr, OnOk, false, length, true};
+ghost use Rattle.std.specs.Prelude.{◌≡◌, ◌≤◌, IfErr, IfOk, OnErr, OnOk, Option, false, is_some, length, not, true};
 ghost use Rattle.ode_interpreter.specs.Seen.{IsFault};
 ghost use Rattle.ode_keep.specs.Entries.{Entries, applied, value_under};
 ghost use Rattle.ode_keep.specs.ShortValues.{HasShortValues};
@@ -9,14 +9,14 @@ ghost use Rattle.ode_overlay.specs.After.{stands_after};
 ghost use Rattle.ode_overlay.specs.Rewinding.{rewind};
 ghost use Rattle.ode_overlay.specs.Settling.{growth_told};
 ghost use Rattle.ode_run.specs.Contexts.{ContextRuns, IsContext, IsOpen, LeavesOpen, parts_of, tables_in, tables_of, tx_of, tx_over};
-ghost use Rattle.ode_run.specs.Ending.{last_points};
+ghost use Rattle.ode_run.specs.Ending.{ended_by, last_points};
 ghost use Rattle.ode_run.specs.Serving.{LeavesUsable};
 ghost use Rattle.ode_schema.specs.Parts.{AreFit};
 ghost use Rattle.ode_settled_laws.specs.Holding.{SettledOver};
 ghost use Rattle.ode_value.specs.Firings.{both_lists, whole_list};
 ghost use Rattle.ode_value.specs.Language.{Language, ListTx, ListWorld};
 ghost use Rattle.ode_value.specs.Pasts.{lists, numbers};
-ghost use Rattle.ode_value.specs.Settling.{abort, commit, posted};
+ghost use Rattle.ode_value.specs.Settling.{abort, commit, ended, posted};
 ghost use Rattle.ode_value.specs.Texts.{aborted_line, committed_line};
 ghost use Rattle.ode_value.specs.declared.event.Kind.TheVariants.{TAbort, TCommit};
 ghost use Rattle.ode_value.specs.declared.key.Key.{Key as Row};
@@ -214,6 +214,9 @@ pub fn settle<H: Host, K: Keep<H>>(
     // Over state numbers the context stands for what the machine leaves behind the last points.
     ensures acts { (entries : Entries) (first : NumberWorld) → IsContext H.view K.holds K.live entries first ctx.old host.old
         → IfOk result (λ _. tx_of first ctx.new ≡ last_points (tables_of ctx.old) kept (tx_of first ctx.old)) }
+    // Its overlay looked at and met what the machine's settling did.
+    ensures met { (l : Language) (w : ListWorld) (x : ListTx) (ending : Option Reason) → ContextRuns H.view K.holds K.live l w ctx.old host.old x → is_some ending ≡ not kept
+        → IfOk result (λ _. ctx.new.overlay.footprint ≡ (ended lists (ended_by ending x)).footprint) }
     // Over lists of points the records behind the changes hold the world that a commit leaves, where it is kept.
     ensures commit { (l : Language) (w : ListWorld) (x : ListTx) (is : ContextRuns H.view K.holds K.live l w ctx.old host.old x) → kept ≡ true
         → IfOk result (λ batch. SettledOver l (tables_of ctx.old) w (growth_told ctx.new.classes ctx.new.overlay) (applied batch is.entries) ctx.new.text (committed_line w.bones.transaction) (commit lists x)) }

@@ -51,8 +51,8 @@ impl<'a, H: Host, K: Keep<H>> Work<'a, H, K> {
         self.print(classes, line.as_slice())
     }
 
-    /// The line of a new object, and its number.
-    #[tactic(auto, using(crate::proofs::LineLaws::told, crate::proofs::LineLaws::not_told))]
+    /// A look at a new object, its line, and its number.
+    #[tactic(auto, using(crate::proofs::LineLaws::told_new, crate::proofs::LineLaws::not_told_new))]
     pub(crate) fn tell_new(
         &mut self,
         alloc: Global,
@@ -66,6 +66,7 @@ impl<'a, H: Host, K: Keep<H>> Work<'a, H, K> {
         ensures faults { (began : H) → IsServing H.view K.live began self.old → Leaves result (IsServing H.view K.live began self.new) (Stops (H.view began) (H.view self.new.host.now)) }
         ensures lent { (k : Known H) → Lent k self.old → Lent k self.new }
     {
+        self.look(classes, id)?;
         let line = new_line(alloc, id)?;
         self.print(classes, line.as_slice())?;
         Ok(id)

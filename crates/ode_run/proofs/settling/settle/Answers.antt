@@ -1,8 +1,10 @@
 use Rattle.std.proofs.Common.{true, false, rules}
 use Rattle.std.proofs.lemmas.Result.{IfOk-weaker}
+use Rattle.ode_run.proofs.MetLaws.{left_met}
 use Rattle.ode_run.proofs.ServeLaws.{usable_behind, usable_too}
 use Rattle.ode_run.proofs.SettleLaws.{leaves_behind, leaves_too, numbered_by, points_stored, runs_stored, settled_by}
 use Rattle.ode_run.proofs.settling.settle.Goals as goal
+use Rattle.ode_run.specs.Contexts.{tables_of, tx_of}
 use Rattle.ode_run.specs.Knowing.{beside}
 use Rattle.ode_value.specs.Pasts.{lists}
 use Rattle.ode_value.specs.Settling.{abort, commit}
@@ -57,3 +59,10 @@ returns-clause-faults g c = λ usable.
 pub returns-in_err-end-clause-faults : goal.returns-in_err-end-clause-faults
 returns-in_err-end-clause-faults g c = λ usable.
     usable_too (g.K.Keep.live c.end.new.ctx.heap) (g.H.Host.view c.args.host.now) (g.H.Host.view c.end.new.host) c.end.result c.from_residual.result c.in_err-end.field-0.0 (search rules) (search rules) (c.end.ensures.faults usable)
+
+pub returns-clause-met : goal.returns-clause-met
+returns-clause-met g c = λ l w x ending is kept.
+    let first = is.world.world.stored.world in
+    let before = c.args.ctx.now in
+    let left = left_met (tables_of before) (tx_of first before) x is.runs (tx_of first c.end.new.ctx) ending c.args.kept (c.in_ok-end.ensures.acts is.entries first is.context) kept in
+    IfOk-weaker c.changes.result _ _ (λ batch stands. left) c.changes.ensures.stands

@@ -6,12 +6,12 @@ use Rattle.ode_view_laws.specs.Viewing.{world_now}
 
 pub returns-clause-acts : goal.returns-clause-acts
 unfolding world_now
-returns-clause-acts g c = λ all k declares known. c.is_live.ensures.acts all k (c.classes.ensures ∙ known.classes) known.runs
+returns-clause-acts g c = λ all k declares known. c.ask_live.ensures.acts all k (c.classes.ensures ∙ known.classes) known.runs
 
 pub returns-clause-kept : goal.returns-clause-kept
 returns-clause-kept g c = λ k known.
-    known_behind g.H.Host.view g.K.Keep.holds g.K.Keep.live c.is_live.result c.args.self.now c.is_live.new.self c.args.schema.now k known (c.is_live.ensures.lent k) (c.is_live.ensures.kept k (c.classes.ensures ∙ known.classes) known.runs)
+    known_behind g.H.Host.view g.K.Keep.holds g.K.Keep.live c.ask_live.result c.args.self.now c.ask_live.new.self c.args.schema.now k known (c.ask_live.ensures.lent k) (c.ask_live.ensures.kept k (c.classes.ensures ∙ known.classes) known.runs)
 
 pub returns-clause-faults : goal.returns-clause-faults
 returns-clause-faults g c = λ k before.
-    goes_behind g.H.Host.view g.K.Keep.live c.is_live.result c.args.self.now c.is_live.new.self k before (c.is_live.ensures.lent k) (c.is_live.ensures.faults k.began)
+    goes_behind g.H.Host.view g.K.Keep.live c.ask_live.result c.args.self.now c.ask_live.new.self k before (c.ask_live.ensures.lent k) (c.ask_live.ensures.faults k.began)

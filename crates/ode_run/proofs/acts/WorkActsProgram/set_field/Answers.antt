@@ -6,12 +6,12 @@ use Rattle.ode_view_laws.specs.Viewing.{world_now}
 
 pub returns-clause-acts : goal.returns-clause-acts
 unfolding world_now
-returns-clause-acts g c = λ all k declares known. c.set_field.ensures.acts all k (c.classes.ensures ∙ known.classes) known.runs
+returns-clause-acts g c = λ all k declares known. c.set_own.ensures.acts all k (c.classes.ensures ∙ known.classes) known.runs
 
 pub returns-clause-kept : goal.returns-clause-kept
 returns-clause-kept g c = λ k known.
-    known_behind g.H.Host.view g.K.Keep.holds g.K.Keep.live c.set_field.result c.args.self.now c.set_field.new.self c.args.schema.now k known (c.set_field.ensures.lent k) (c.set_field.ensures.kept k (c.classes.ensures ∙ known.classes) known.runs)
+    known_behind g.H.Host.view g.K.Keep.holds g.K.Keep.live c.set_own.result c.args.self.now c.set_own.new.self c.args.schema.now k known (c.set_own.ensures.lent k) (c.set_own.ensures.kept k (c.classes.ensures ∙ known.classes) known.runs)
 
 pub returns-clause-faults : goal.returns-clause-faults
 returns-clause-faults g c = λ k before.
-    goes_behind g.H.Host.view g.K.Keep.live c.set_field.result c.args.self.now c.set_field.new.self k before (c.set_field.ensures.lent k) (c.set_field.ensures.faults k.began)
+    goes_behind g.H.Host.view g.K.Keep.live c.set_own.result c.args.self.now c.set_own.new.self k before (c.set_own.ensures.lent k) (c.set_own.ensures.faults k.began)

@@ -1,39 +1,27 @@
-use Rattle.std.proofs.Common.{sym, subst}
-use Rattle.std.specs.Prelude.{List, Result}
-use Rattle.ode_interpreter.specs.Seen.{Ends, scene}
-use Rattle.ode_interpreter.specs.Seen as interpreter
-use Rattle.ode_interpreter.specs.declared.stop.Stop.{Stop}
-use Rattle.ode_run.proofs.EndLaws.{evaluation_leaves, value_ends}
-use Rattle.ode_run.proofs.ServeLaws.{evaluation_serves}
+use Rattle.ode_interpreter.specs.Seen.{scene}
+use Rattle.ode_run.proofs.ConstraintLaws.{calm_left}
+use Rattle.ode_run.proofs.EndLaws.{evaluated, same_view}
 use Rattle.ode_run.proofs.work.Work.evaluate.Goals as goal
-use Rattle.ode_run.specs.Knowing.{Failed, Holds, beside}
-use Rattle.ode_run_frame.specs.Reads.{Reads}
-use Rattle.ode_value.specs.Evaluation.{evaluate}
-use Rattle.ode_value.specs.Expressions.{evaluates}
-use Rattle.ode_value.specs.declared.class.Class.{Class}
-use Rattle.ode_value.specs.declared.value.Value.{Value}
-use Rattle.ode_view_laws.specs.Viewing.{running}
+use Rattle.ode_run.specs.Knowing.{tx}
+use Rattle.std.proofs.Common.{◌∙◌}
 
 pub returns-clause-acts : goal.returns-clause-acts
 returns-clause-acts g c = λ all k same holds.
-    let b = beside k.first c.args.self.now.deferred.now c.args.self.now.text.now c.args.self.now.budget.now in
-    let x = c.args.self.now.overlay.now in
-    let y = running all k.first x b in
-    let reads = subst (λ (cs : List Class). Reads cs k.entries x y.now.bones) (sym same) (c.views_read_known.ensures.bones all k.first b k.entries x holds.known) in
-    subst (λ (r : Result Value Stop). Ends r y (evaluates c.args.e.now (scene c.args.on.now) y)) (sym c.read_as.ensures)
-    (value_ends (evaluate c.args.e.now y.now.bones (scene c.args.on.now)) c.evaluate.result y (c.evaluate.ensures.value k.entries y.now.bones holds.records reads))
+    let judged = c.in_ok-judged.judged in
+    let meant = c.in_ok-judged.ensures.value all k same holds in
+    let now = c.judge.ensures.same in
+    evaluated c.args.e.now (scene c.args.on.now) (tx all k c.args.self.now) (tx all k c.judge.new.self) (tx all k c.look_all.new.self) judged.0 c.as_slice.result.now c.valued.result
+    (same_view all k.first _ _ _ _ _ _ _ _ now.0 now.1 now.2 now.3) meant.0 (c.as_slice.ensures ∙ meant.1)
+    (c.in_ok-look_all.ensures.acts all k same (c.in_ok-judged.ensures.kept k same holds)) c.valued.ensures.is
 
 pub returns-clause-kept : goal.returns-clause-kept
-returns-clause-kept g c = λ k same holds.
-    let b = beside k.first c.args.self.now.deferred.now c.args.self.now.text.now c.args.self.now.budget.now in
-    let x = c.args.self.now.overlay.now in
-    let y = running k.first.bones.classes k.first x b in
-    let reads = subst (λ (cs : List Class). Reads cs k.entries x y.now.bones) (sym same) (c.views_read_known.ensures.bones k.first.bones.classes k.first b k.entries x holds.known) in
-    subst (λ (r : Result Value Stop). interpreter.Leaves r (Holds g.H.Host.view (g.K.Keep.holds c.evaluate.new.heap (g.H.Host.view c.evaluate.new.host)) (g.K.Keep.live c.evaluate.new.heap) c.evaluate.new.host x c.args.self.now.budget.now c.args.self.now.bytes k) (Failed g.H.Host.view c.evaluate.new.host k)) (sym c.read_as.ensures)
-    (evaluation_leaves g.H.Host.view g.K.Keep.holds g.K.Keep.live c.args.self.now.host.now c.evaluate.new.host c.args.self.now.heap.now c.evaluate.new.heap x c.args.self.now.budget.now c.args.self.now.bytes k holds
-    c.evaluate.result (c.evaluate.ensures.behind k.entries y.now.bones holds.records reads))
+returns-clause-kept g c = λ k same holds. calm_left c.valued.result _ _ c.valued.ensures.calm (c.in_ok-look_all.ensures.kept k same (c.in_ok-judged.ensures.kept k same holds))
 
 pub returns-clause-faults : goal.returns-clause-faults
-returns-clause-faults g c = λ began serves.
-    evaluation_serves (g.H.Host.view began) (g.H.Host.view c.args.self.now.host.now) (g.H.Host.view c.evaluate.new.host) (g.K.Keep.live c.args.self.now.heap.now) (g.K.Keep.live c.evaluate.new.heap) serves
-    c.evaluate.result _ c.read_as.ensures c.evaluate.ensures.since
+returns-clause-faults g c = λ began serves. calm_left c.valued.result _ _ c.valued.ensures.calm (c.in_ok-look_all.ensures.faults began (c.in_ok-judged.ensures.faults began serves))
+
+pub returns-clause-lent : goal.returns-clause-lent
+returns-clause-lent g c = λ k lent. c.look_all.ensures.lent k (c.judge.ensures.lent k lent)
+
+pub returns-in_err-look_all-clause-lent : goal.returns-in_err-look_all-clause-lent
+returns-in_err-look_all-clause-lent g c = λ k lent. c.look_all.ensures.lent k (c.judge.ensures.lent k lent)
