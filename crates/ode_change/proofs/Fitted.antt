@@ -6,11 +6,10 @@ use Rattle.std.specs.Option.{option_map}
 use Rattle.std.proofs.lemmas.List.{length-map}
 use Rattle.std.proofs.lemmas.Option.{slice_get_within}
 use Rattle.ode_change.specs.Fitting.{IsOver}
-use Rattle.ode_declared_laws.specs.Adding.{AreAligned}
+use Rattle.ode_schema.specs.Parts.{AreAligned, AreFit, IsFit, Parts, places_from, trigger_count}
 use Rattle.ode_opening.specs.Building.{triggers_of}
 use Rattle.ode_opening_tables.proofs.Placing.{are_numbered, found_class, placed}
 use Rattle.ode_opening_tables.specs.Tables.{alphabets_of}
-use Rattle.ode_schema.specs.Parts.{AreFit, IsFit, Parts, places_from, trigger_count}
 use Rattle.ode_types.proofs.Places.{none-numbered-0, numbered-at}
 use Rattle.ode_types.specs.Checked.{AreChecked}
 use Rattle.ode_types.specs.Families.{class_numbered}

@@ -8,12 +8,11 @@ use Rattle.ode_changed_laws.specs.Changed.{ChangedOver}
 use Rattle.ode_changed_laws.specs.Records.{fields_put, new_in, with_counters}
 use Rattle.ode_codec.specs.declared.record.Counters.{Counters}
 use Rattle.ode_declare.proofs.TakeLaws.{classes_are}
-use Rattle.ode_declared_laws.specs.Adding.{AreAligned}
+use Rattle.ode_schema.specs.Parts.{AreAligned, AreFit, Parts, places_from, table_by}
 use Rattle.ode_heap.specs.Answering.{class_of, counters_of}
 use Rattle.ode_host.specs.View.{View}
 use Rattle.ode_keep.specs.Entries.{Changes, Entries, applied}
 use Rattle.ode_opened.specs.declared.opened.Opened.{Opened}
-use Rattle.ode_schema.specs.Parts.{AreFit, Parts, places_from, table_by}
 use Rattle.ode_settled_laws.specs.Holding.{IsHeldBy}
 use Rattle.ode_transact.proofs.RestLaws.{rests}
 use Rattle.ode_transact.specs.Resting.{IsAtRest, resting_parts, resting_tables}

@@ -2,10 +2,9 @@
 ghost use Rattle.std.specs.Prelude.{◌≡◌, ◌<◌, ◌+◌, ◌^◌, ◌++◌, ◌↔◌, map, IfOk, IsErrOf, IsTrue, OnOk};
 ghost use Rattle.std.specs.List.{AllByRecursion, AllZip};
 ghost use Rattle.ode_change.specs.Fitting.{AreOver, HasFewSymbols, IsOver};
-ghost use Rattle.ode_declared_laws.specs.Adding.{AreAligned};
+ghost use Rattle.ode_schema.specs.Parts.{AreAligned, AreFit, places_from, trigger_count};
 ghost use Rattle.ode_opening.specs.Building.{triggers_of};
 ghost use Rattle.ode_opening_tables.specs.Tables.{alphabets_of};
-ghost use Rattle.ode_schema.specs.Parts.{AreFit, places_from, trigger_count};
 ghost use Rattle.ode_transact.specs.Errors.{OnDamaged};
 ghost use Rattle.ode_value.specs.Symbols.{alphabet};
 ghost use Rattle.ode_value.specs.declared.member.TriggerDecl.{TriggerDecl as Trigger};

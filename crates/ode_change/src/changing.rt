@@ -1,7 +1,7 @@
 //! A class gets fields.
 ghost use Rattle.std.specs.Prelude.{◌∷◌, [], ◌≡◌, ◌<◌, ℕ, List as Items, Err, IfOk, IsErrOf, IsTrue, Ok, Some};
 ghost use Rattle.ode_change.specs.Changing.{Changes, HasChange};
-ghost use Rattle.ode_declared_laws.specs.Adding.{AreAligned};
+ghost use Rattle.ode_schema.specs.Parts.{AreAligned, AreFit};
 ghost use Rattle.ode_good_laws.specs.Well.{IsWell};
 ghost use Rattle.ode_host.specs.Host.{HostCalls, LeavesOnly, Looks, Printed};
 ghost use Rattle.ode_keep.specs.Entries.{Entries};
@@ -9,7 +9,6 @@ ghost use Rattle.ode_language.specs.Languages.{ode};
 ghost use Rattle.ode_machine.specs.Moments.{LeavesSettling};
 ghost use Rattle.ode_machine.specs.Refusals.{changed_in};
 ghost use Rattle.ode_machine.specs.Works.{changes_class};
-ghost use Rattle.ode_schema.specs.Parts.{AreFit};
 ghost use Rattle.ode_transact.specs.Errors.{OnDamaged};
 ghost use Rattle.ode_transact.specs.Logging.{DiskHas, HasGrown, Logs};
 ghost use Rattle.ode_transact.specs.Output.{counting, heard};

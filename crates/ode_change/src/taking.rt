@@ -3,14 +3,13 @@ ghost use Rattle.std.specs.Prelude.{◌∷◌, [], ◌≡◌, ◌<◌, ◌≤◌
 ghost use Rattle.ode_change.specs.Changing.{IsTaken};
 ghost use Rattle.ode_change.specs.Fitting.{AreOver};
 ghost use Rattle.ode_changed_laws.specs.Records.{with_counters};
-ghost use Rattle.ode_declared_laws.specs.Adding.{AreAligned};
+ghost use Rattle.ode_schema.specs.Parts.{AreAligned, AreFit, places_from};
 ghost use Rattle.ode_good_laws.specs.Well.{IsWell};
 ghost use Rattle.ode_host.specs.Host.{HostCalls, LeavesOnly, Printed};
 ghost use Rattle.ode_keep.specs.Entries.{Entries};
 ghost use Rattle.ode_keep.specs.ShortValues.{HasShortValues};
 ghost use Rattle.ode_machine.specs.Moments.{LeavesSettling};
 ghost use Rattle.ode_machine.specs.Works.{changes_class};
-ghost use Rattle.ode_schema.specs.Parts.{AreFit, places_from};
 ghost use Rattle.ode_transact.specs.Errors.{OnDamaged};
 ghost use Rattle.ode_transact.specs.Logging.{DiskHas, HasGrown, Logs};
 ghost use Rattle.ode_transact.specs.Output.{counting, heard};

@@ -12,7 +12,7 @@ use Rattle.ode_compile.proofs.TriggerLaws.{records_fewer}
 use Rattle.ode_compile.specs.Compiling.{AreCompiled, compiled, size_of_table}
 use Rattle.ode_compile.specs.declared.compiling.Compiled.{Compiled}
 use Rattle.ode_declare.specs.Declaring.{Declares, IsMade}
-use Rattle.ode_declare.specs.Texts.{HasText}
+use Rattle.ode_language.specs.Texts.{HasText}
 use Rattle.ode_good_laws.proofs.GoodAgain.{HaveClasses}
 use Rattle.ode_good_laws.specs.Well.{IsWell}
 use Rattle.ode_good_runs.proofs.Declaring.{declared_is}

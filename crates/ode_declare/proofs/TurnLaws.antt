@@ -2,8 +2,7 @@
 use Rattle.std.proofs.Common.{◌≡◌, List, ℕ, Bool}
 use Rattle.ode_host.specs.View.{View}
 use Rattle.ode_keep.specs.Entries.{Entries}
-use Rattle.ode_run.specs.Contexts.{ContextRuns}
-use Rattle.ode_run.specs.declared.context.Ctx.{Ctx}
+use Rattle.ode_transact.specs.Contexts.{ContextRuns, Ctx}
 use Rattle.ode_value.specs.Acts.{with_line}
 use Rattle.ode_value.specs.Language.{Language, ListWorld}
 use Rattle.ode_value.specs.Transactions.{Script, begun}
@@ -41,6 +40,7 @@ module _ {H K : Type 0} (seen : H → View) (held : K → View → Entries → T
       text = same;
       run = is.runs.run;
       keys = is.runs.keys;
+      footprint = is.runs.footprint;
     };
     first = is.first;
   }

@@ -2,7 +2,8 @@
 ghost use Rattle.std.specs.Prelude.{◌∷◌, [], ◌≡◌, ◌<◌, ◌≤◌, ◌++◌, ℕ, List as Items, IfOk, IsErrOf, IsTrue, OnOk, Some, length};
 ghost use Rattle.ode_compile.specs.Compiling.{AreCompiled};
 ghost use Rattle.ode_declare.specs.Declaring.{IsTaken};
-ghost use Rattle.ode_declared_laws.specs.Adding.{AreAligned, parts_with};
+ghost use Rattle.ode_declared_laws.specs.Adding.{parts_with};
+ghost use Rattle.ode_schema.specs.Parts.{AreAligned, AreFit};
 ghost use Rattle.ode_declared_laws.specs.Declared.{DeclaredOver};
 ghost use Rattle.ode_good_laws.specs.Well.{IsWell};
 ghost use Rattle.ode_host.specs.Causes.{RoseIf};
@@ -11,7 +12,6 @@ ghost use Rattle.ode_keep.specs.Entries.{Entries, applied};
 ghost use Rattle.ode_keep.specs.ShortValues.{HasShortValues};
 ghost use Rattle.ode_machine.specs.Moments.{LeavesSettling};
 ghost use Rattle.ode_machine.specs.Works.{declares};
-ghost use Rattle.ode_schema.specs.Parts.{AreFit};
 ghost use Rattle.ode_transact.specs.Errors.{OnDamaged};
 ghost use Rattle.ode_transact.specs.Logging.{DiskHas, HasGrown, Logs};
 ghost use Rattle.ode_transact.specs.Output.{counting, heard};

@@ -16,7 +16,7 @@ use Rattle.ode_keep.specs.Entries.{Entries}
 use Rattle.ode_machine.specs.Commands.{Step}
 use Rattle.ode_machine.specs.Sessions.{Session}
 use Rattle.ode_opened.specs.declared.opened.Opened.{Opened}
-use Rattle.ode_run.specs.declared.context.Ctx.{Ctx}
+use Rattle.ode_transact.specs.Contexts.{Ctx}
 use Rattle.ode_transact.specs.Errors.{OnDamaged}
 use Rattle.ode_transact.specs.Output.{counting}
 use Rattle.ode_transact.specs.Resting.{IsAtRest}

@@ -4,7 +4,7 @@ use Rattle.ode_engine.specs.Refusing.{IsUndamaged}
 use Rattle.ode_interpreter.specs.Seen.{Leaves}
 use Rattle.ode_interpreter.specs.declared.stop.Stop.{Stop}
 use Rattle.ode_interpreter.specs.declared.stop.Stop.TheVariants as stop
-use Rattle.ode_run.specs.Knowing.{IsSound}
+use Rattle.ode_transact.specs.Contexts.{IsSound}
 use Rattle.ode_transact.specs.Errors.{OnDamaged, fault_of}
 use Rattle.ode_transact.specs.declared.error.EngineError.{EngineError}
 use Rattle.ode_transact.specs.declared.error.EngineError.TheVariants as error

@@ -21,7 +21,7 @@ use Rattle.ode_keep.specs.Entries.{Entries}
 use Rattle.ode_language.specs.Languages.{ode}
 use Rattle.ode_machine.specs.Commands.{Step, goes_on, settles}
 use Rattle.ode_opened.specs.declared.opened.Opened.{Opened}
-use Rattle.ode_run.specs.Contexts.{EndsWhere}
+use Rattle.ode_transact.specs.Contexts.{EndsWhere}
 use Rattle.ode_transact.proofs.LogLaws.{disk_looks, logs_none}
 use Rattle.ode_transact.specs.Logging.{DiskHas, HasGrown, Kept, Logs}
 use Rattle.ode_transact.specs.Output.{heard}

@@ -14,7 +14,7 @@ use Rattle.ode_host.specs.Host.{Looks}
 use Rattle.ode_host.specs.View.{View}
 use Rattle.ode_interpreter.specs.declared.stop.Stop.{Stop}
 use Rattle.ode_interpreter.specs.declared.stop.Stop.TheVariants as stop
-use Rattle.ode_known_laws.specs.Knowing.{declared_in}
+use Rattle.ode_transact.specs.Contexts.{declared_in}
 use Rattle.ode_language.specs.Languages.{ode}
 use Rattle.ode_laws.specs.Alike.{NumberTx, RunsAs}
 use Rattle.ode_machine.specs.Refusals.{checked_in, class_behind, classes_behind, classes_in}

@@ -1,7 +1,7 @@
 -- Statements, from what they are made of.
 use Rattle.std.proofs.Common.{◌≡◌, ◌∙◌, ◌<◌, List, [], Option, Result, Some, Ok, Err, Bool, ℕ, ap, refl, subst, sym}
 use Rattle.std.specs.Prelude.{IsErrOf}
-use Rattle.ode_declare.specs.Texts.{HasText}
+use Rattle.ode_language.specs.Texts.{HasText}
 use Rattle.ode_engine.proofs.FaultLaws.{fault_disk, fault_silent, fault_undamaged}
 use Rattle.ode_engine.proofs.ServeLaws.{AreQuiet, HoldsNow, behind_serves, quiet_by, quiet_serves, stopped_serves, told_by, told_none}
 use Rattle.ode_engine.proofs.SessionLaws.{begun_session, closed_session, fell_well, more_session}
@@ -24,9 +24,7 @@ use Rattle.ode_language.specs.Languages.{ode}
 use Rattle.ode_machine.specs.Commands.{Step, carried, goes_on, settles}
 use Rattle.ode_machine.specs.Refusals.{checked_in}
 use Rattle.ode_machine.specs.Sessions.{Session, closed, opened}
-use Rattle.ode_run.specs.Contexts.{ContextRuns, EndsWhere}
-use Rattle.ode_run.specs.Knowing.{IsSound}
-use Rattle.ode_run.specs.declared.context.Ctx.{Ctx}
+use Rattle.ode_transact.specs.Contexts.{ContextRuns, EndsWhere, IsSound, Ctx}
 use Rattle.ode_transact.specs.Errors.{fault_of}
 use Rattle.ode_transact.specs.Resting.{IsAtRest}
 use Rattle.ode_transact.specs.Settling.{Meaning}

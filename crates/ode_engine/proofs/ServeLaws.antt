@@ -21,8 +21,7 @@ use Rattle.ode_machine.specs.Moments.{IsAfterSome, LeavesSettling}
 use Rattle.ode_machine.specs.Runs.{Item}
 use Rattle.ode_machine.specs.Sessions.{Session}
 use Rattle.ode_opened.specs.declared.opened.Opened.{Opened}
-use Rattle.ode_run.specs.Contexts.{ContextRuns}
-use Rattle.ode_run.specs.declared.context.Ctx.{Ctx}
+use Rattle.ode_transact.specs.Contexts.{ContextRuns, Ctx}
 use Rattle.ode_sound_laws.specs.Typed.{AreFromOne}
 use Rattle.ode_transact.proofs.OutputLaws.{counting_append, counting_none}
 use Rattle.ode_transact.proofs.TransactSteps.{drain_leaves}
@@ -103,7 +102,7 @@ module _ {H K : Type 0} (seen : H → View) (held : K → View → Entries → T
       record { entries = now.entries; are = subst (λ (f : List ℕ). means f now.entries) (sym (there.1.only c o left)) there.2; world = now.world.world; ones = now.ones }
 
   -- and so does one while calls look
-  looked_leaves : (w : ListWorld) (old new : H) → Now w old → Looks (seen old) (seen new) → (items : List Item) (said : List ℕ) → (seen old).text ≡ Some said
+  pub looked_leaves : (w : ListWorld) (old new : H) → Now w old → Looks (seen old) (seen new) → (items : List Item) (said : List ℕ) → (seen old).text ≡ Some said
       → LeavesOnly (seen old) (seen new) (IsAfterSome (HoldsBy l means) items w said)
   looked_leaves w old new now looks items said is =
       one_call Nothing (seen old) (seen new) (IsAfterSome (HoldsBy l means) items w said) looks.time

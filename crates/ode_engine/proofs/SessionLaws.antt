@@ -2,7 +2,7 @@
 use Rattle.std.proofs.Common.{◌≡◌, ◌<◌, List, [], ◌∷◌, Option, Result, Ok, Err, None, Some, ap, arith, refl, subst, sym}
 use Rattle.std.specs.List.{AllByRecursion}
 use Rattle.ode_change.specs.Changing.{HasChange}
-use Rattle.ode_declare.specs.Texts.{HasText}
+use Rattle.ode_language.specs.Texts.{HasText}
 use Rattle.ode_engine.specs.Serving.{HasCome, HasComeOpen, IsSession, Line}
 use Rattle.ode_good_laws.proofs.GoodAgain.{drain_well, good_classes, statement_well}
 use Rattle.ode_good_laws.specs.Well.{IsWell}

@@ -9,7 +9,7 @@ use Rattle.ode_host.specs.Host.{Looks}
 use Rattle.ode_host.specs.View.{View}
 use Rattle.ode_opened.specs.declared.opened.Opened.{Opened}
 use Rattle.ode_opened.specs.declared.opened.TheConstants.{RUN_FORMAT}
-use Rattle.ode_run.specs.declared.context.Ctx.{Ctx}
+use Rattle.ode_transact.specs.Contexts.{Ctx}
 use Rattle.ode_transact.specs.declared.error.EngineError.{EngineError}
 use Rattle.ode_transact.specs.declared.error.EngineError.TheVariants as error
 use Rattle.ode_value.specs.Answers.{Answer}

@@ -1,8 +1,8 @@
 -- When an engine stands for a session of the machine, and what its calls come to.
 use Rattle.std.specs.Prelude.{◌≡◌, ◌<◌, ℕ, List, [], ◌∷◌, ◌++◌, length, Bool, true, Option, Some, None, Result, Ok, Err, IfErr, IfOk, OnOk}
-use Rattle.ode_declare.specs.Texts.{HasText}
-use Rattle.ode_declared_laws.specs.Adding.{AreAligned}
-use Rattle.ode_engine.specs.Refusing.{IsUndamaged}
+use Rattle.ode_language.specs.Texts.{HasText}
+use Rattle.ode_schema.specs.Parts.{AreAligned, AreFit}
+use Rattle.ode_engine.specs.Refusing.{IsUndamaged, back}
 use Rattle.ode_engine.specs.declared.commanding.State.{State}
 use Rattle.ode_engine.specs.declared.commanding.State.TheVariants as state
 use Rattle.ode_engine.specs.declared.engine.Done.{Done}
@@ -18,9 +18,7 @@ use Rattle.ode_machine.specs.Refusals.{changed_in, checked_in, placed}
 use Rattle.ode_machine.specs.Runs.{Item}
 use Rattle.ode_machine.specs.Sessions.{Session}
 use Rattle.ode_opened.specs.declared.opened.Opened.{Opened}
-use Rattle.ode_run.specs.Contexts.{ContextRuns, parts_of}
-use Rattle.ode_run.specs.declared.context.Ctx.{Ctx}
-use Rattle.ode_schema.specs.Parts.{AreFit}
+use Rattle.ode_transact.specs.Contexts.{ContextRuns, parts_of, Ctx}
 use Rattle.ode_transact.specs.Items.{items_of, texts_of}
 use Rattle.ode_transact.specs.Output.{all_heard, counting}
 use Rattle.ode_transact.specs.Resting.{HoldsBy, IsAtRest, resting_parts}
@@ -53,6 +51,12 @@ rest_in (state.Running ctx) = None
 abbrev pub running_in : {K : Type 0} → State K → Option (Ctx K)
 running_in (state.Rest o) = None
 running_in (state.Running ctx) = Some ctx
+
+-- the opened file, or that which an open transaction's context goes back to
+abbrev pub opened_in : {K : Type 0} → Option (Opened K) → Option (Ctx K) → Option (Opened K)
+opened_in (Some o) running = Some o
+opened_in None (Some ctx) = Some (back ctx)
+opened_in None None = None
 
 -- what a step answers
 abbrev pub done_in : {K : Type 0} → Result (State K × Done) EngineError → Result Done EngineError

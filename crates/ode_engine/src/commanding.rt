@@ -2,8 +2,8 @@
 ghost use Rattle.std.specs.Prelude.{◌≡◌, ◌<◌, ◌∷◌, [], ℕ, List as Items, IfOk, IsErrOf, IsTrue, Ok, OnOk, Option, Some, false, true};
 ghost use Rattle.ode_compile.specs.Compiling.{HaveNumbers};
 ghost use Rattle.ode_change.specs.Changing.{HasChange};
-ghost use Rattle.ode_declare.specs.Texts.{HasText};
-ghost use Rattle.ode_declared_laws.specs.Adding.{AreAligned};
+ghost use Rattle.ode_language.specs.Texts.{HasText};
+ghost use Rattle.ode_schema.specs.Parts.{AreAligned, AreFit};
 ghost use Rattle.ode_engine.specs.Refusing.{turned_down};
 ghost use Rattle.ode_engine.specs.Serving.{IsSession, IsUsable, Serves, StandsIn, answer_to, answer_to_change, settlings};
 ghost use Rattle.ode_good_laws.specs.Well.{IsWell};
@@ -15,8 +15,7 @@ ghost use Rattle.ode_machine.specs.Commands.{carried, changes, commits, finish, 
 ghost use Rattle.ode_machine.specs.Moments.{LeavesSettling};
 ghost use Rattle.ode_machine.specs.Refusals.{checked_in, is_lone, place_of};
 ghost use Rattle.ode_machine.specs.Sessions.{Session, closed, opened};
-ghost use Rattle.ode_run.specs.Contexts.{ContextRuns, parts_of};
-ghost use Rattle.ode_schema.specs.Parts.{AreFit};
+ghost use Rattle.ode_transact.specs.Contexts.{ContextRuns, parts_of};
 ghost use Rattle.ode_transact.specs.Errors.{OnDamaged};
 ghost use Rattle.ode_transact.specs.Logging.{DiskHas, HasGrown, Kept, Logs};
 ghost use Rattle.ode_transact.specs.Output.{counting, heard};
@@ -40,10 +39,9 @@ use ode_host::Host;
 use ode_keep::{Keep, Roomy};
 use ode_opened::Opened;
 use ode_overlay::Origin;
-use ode_run::{Ctx, Stop, exec};
 use ode_transact::{
-    EngineError, Log, Output, Work, begin, drain, end, fault_of, next_number, put_back, run,
-    run_completion,
+    Ctx, EngineError, Log, Output, Stop, Work, begin, drain, end, exec, fault_of, next_number,
+    put_back, run, run_completion,
 };
 use ode_value::limits::{DRAIN_LIMIT, NUMBER_LIMIT};
 use ode_value::{Change, ClassDecl, OdeText, Reason, Refusal, Statement, Stmt};

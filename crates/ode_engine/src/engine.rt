@@ -1,10 +1,10 @@
 //! An engine.
-ghost use Rattle.std.specs.Prelude.{[], ◌≡◌, ◌++◌, ℕ, List as Items, Err, IfOk, IsErrOf, None, OnErr, OnOk, Ok, Some, false, length, true};
+ghost use Rattle.std.specs.Prelude.{[], ◌≡◌, ◌++◌, ℕ, List as Items, Err, IfOk, IsErrOf, IsSome, None, OnErr, OnOk, Ok, Some, false, length, true};
 ghost use Rattle.std.specs.Option.{option_map, unwrap_or};
 ghost use Rattle.ode_change.specs.Changing.{HasChange};
-ghost use Rattle.ode_declare.specs.Texts.{HasText};
-ghost use Rattle.ode_declared_laws.specs.Adding.{AreAligned};
-ghost use Rattle.ode_engine.specs.Serving.{IsAnswer, IsLive, StandsFor, answer_to, done_in, output_of, rest_in, running_in, session_after, settlings, state_in};
+ghost use Rattle.ode_language.specs.Texts.{HasText};
+ghost use Rattle.ode_schema.specs.Parts.{AreAligned, AreFit};
+ghost use Rattle.ode_engine.specs.Serving.{IsAnswer, IsLive, StandsFor, answer_to, done_in, opened_in, output_of, rest_in, running_in, session_after, settlings, state_in};
 ghost use Rattle.ode_host.specs.Host.{HostCalls, LeavesOnly, Printed};
 ghost use Rattle.ode_keep.specs.Entries.{Entries};
 ghost use Rattle.ode_language.specs.Languages.{ode};
@@ -12,7 +12,6 @@ ghost use Rattle.ode_machine.specs.Commands.{after, changes, finish};
 ghost use Rattle.ode_machine.specs.Moments.{IsAfterSome};
 ghost use Rattle.ode_machine.specs.Runs.{Item};
 ghost use Rattle.ode_machine.specs.Sessions.{Session};
-ghost use Rattle.ode_schema.specs.Parts.{AreFit};
 ghost use Rattle.ode_transact.specs.Errors.{OnDamaged};
 ghost use Rattle.ode_transact.specs.Items.{items_of, texts_of};
 ghost use Rattle.ode_transact.specs.Logging.{DiskHas, HasGrown, Logs};
@@ -26,8 +25,7 @@ use crate::commanding::{State, change_in, command_in, finish_in};
 use ode_host::Host;
 use ode_keep::Roomy;
 use ode_opened::Opened;
-use ode_run::Ctx;
-use ode_transact::{EngineError, Kept, Log, Output, drain};
+use ode_transact::{Ctx, EngineError, Kept, Log, Output, drain, put_back};
 use ode_value::limits::DRAIN_LIMIT;
 use ode_value::{Change, List, Refusal, Statement};
 use std::alloc::Global;
@@ -113,6 +111,21 @@ impl<K: Drop> Engine<K> {
                 kept
             }
             None => List::new(self.alloc),
+        }
+    }
+
+    /// The opened file back, with nothing of a transaction that is open. It takes no memory.
+    pub fn into_opened(self) -> Opened<K>
+        requires there { IsSome (opened_in self.rest self.running) }
+        ensures { opened_in self.rest self.running ≡ Some result }
+    {
+        let Engine { rest, running, .. } = self;
+        match rest {
+            Some(rest) => rest,
+            None => match running {
+                Some(ctx) => put_back(ctx),
+                None => unreachable!(),
+            },
         }
     }
 

@@ -5,7 +5,7 @@ ghost use Rattle.ode_engine.specs.Refusing.{Answers, KeepsChecked, LeavesChecked
 ghost use Rattle.ode_heap.specs.Answering.{head_of_object};
 ghost use Rattle.ode_language.specs.Languages.{ode};
 ghost use Rattle.ode_machine.specs.Refusals.{checked_in, class_behind, classes_behind, is_lone, place_of};
-ghost use Rattle.ode_run.specs.Contexts.{ContextRuns, parts_of};
+ghost use Rattle.ode_transact.specs.Contexts.{ContextRuns, parts_of};
 ghost use Rattle.ode_schema.specs.Parts.{AreFit};
 ghost use Rattle.ode_types.specs.Literals.{literals};
 ghost use Rattle.ode_types.specs.Static.{check_statement};
@@ -18,15 +18,14 @@ ghost use Rattle.ode_versions.specs.Versions.{IsVersionList};
 use ode_heap::ObjectHead;
 use ode_host::Host;
 use ode_keep::Keep;
-use ode_run::Ctx;
-use ode_transact::{EngineError, fault_of, head};
+use ode_transact::{Ctx, EngineError, fault_of, head};
 use ode_types::{CheckStop, Classes, check_statement, literals};
 use ode_value::{Boxed, List, Ref, Refusal, Statement, Stmt};
 use std::alloc::{AllocError, Global};
 
 /// Why a statement isn't carried out.
 #[derive(Drop)]
-pub(crate) enum Turned {
+pub enum Turned {
     /// It is refused.
     Refused(Refusal),
     /// Its call ends by an error.
@@ -51,7 +50,7 @@ fn refuses<W: Drop>(when: bool, why: W) -> Result<(), W>
 }
 
 /// Whether a statement stands in its place, inside a transaction or outside.
-pub(crate) fn place_of(s: &Statement, inside: bool) -> Result<(), Refusal>
+pub fn place_of(s: &Statement, inside: bool) -> Result<(), Refusal>
     ensures { result ≡ place_of s.now inside }
 {
     match s {
@@ -186,7 +185,7 @@ fn behind_literals<H: Host, K: Keep<H>>(
 }
 
 /// A simple statement as it is checked: its literals in the world now, then the static rules.
-pub(crate) fn checked<H: Host, K: Keep<H>>(
+pub fn checked<H: Host, K: Keep<H>>(
     alloc: Global,
     ctx: &mut Ctx<K>,
     host: &mut H,

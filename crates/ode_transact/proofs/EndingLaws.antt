@@ -106,6 +106,16 @@ printed_behind (Err why) text printed old mid new looks is prints = prints
 printed_behind (Ok done) text printed old mid new looks is prints =
     λ said was. prints said (looks.text ∙ was) ∙ ap (λ (t : List ℕ). Some (said ++ t)) is
 
+-- printed, in other words
+pub printed_as : {R : Type 0} (result : Result R EngineError) (text printed : List ℕ) (old new : View) → text ≡ printed → OnOk result (Printed text old new) → OnOk result (Printed printed old new)
+printed_as (Err why) text printed old new is prints = prints
+printed_as (Ok done) text printed old new is prints = λ said was. prints said was ∙ ap (λ (t : List ℕ). Some (said ++ t)) is
+
+-- the parts of a context, which a call before left as they were
+pub parts_behind : {K : Type 0} (result : Result (Opened K) EngineError) (a b : Parts) → b ≡ a → IfOk result (λ rest. resting_parts rest ≡ b) → IfOk result (λ rest. resting_parts rest ≡ a)
+parts_behind (Ok rest) a b same is = is ∙ same
+parts_behind (Err why) a b same is = tt
+
 -- ---- what it leaves at the end
 
 light_enough : (bytes : ℕ) → bytes ≤ weight_limit → bytes < 2 ^ 64

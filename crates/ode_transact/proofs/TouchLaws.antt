@@ -15,7 +15,7 @@ use Rattle.ode_value.specs.Language.{ListTx}
 use Rattle.ode_value.specs.Objects.{Histories, Starts}
 use Rattle.ode_value.specs.Pasts.{lists}
 use Rattle.ode_value.specs.Posting.{is_touched, joins, posts, touches, touches_first}
-use Rattle.ode_value.specs.Transactions.{touching}
+use Rattle.ode_value.specs.Transactions.{looking, touching}
 use Rattle.ode_value.specs.Worlds.{Object}
 use Rattle.ode_value.specs.declared.event.Kind.TheVariants.{TBegin}
 use Rattle.ode_value.specs.declared.reason.Reason.TheVariants.{NoObject}
@@ -44,6 +44,7 @@ module _ (id : ℕ) where
   touched_keeps = record {
     less = λ n z h. h;
     statement = λ n z h more. h;
+    foot = λ n z change h. h;
     line = λ n z line h fits. h;
     keys = λ n z keys h fits. h;
     touch = λ n z other h. one_more id z.touched (other ∷ []) h;
@@ -90,11 +91,14 @@ module _ (id : ℕ) where
   -- behind a touch
   pub touch_reaches : (x : ListTx) → Reaches (touches lists (first_actions lists) id x)
   unfolding touches
-  touch_reaches x = by_live (is_live id x) where
-    by_touched : (b : Bool) → is_touched id x ≡ b → Reaches (when (not b) (touches_first lists (first_actions lists) id) x)
-    by_touched true is = is
-    by_touched false is = then_posted (joins id x) (joined x)
+  touch_reaches x = by_live (is_live id seen) where
+    seen : ListTx
+    seen = looking (id ∷ []) x
 
-    by_live : (b : Bool) → Reaches (go_on (Lives x b) (λ _. reads (is_touched id) >>= λ touched. when (not touched) (touches_first lists (first_actions lists) id)))
-    by_live true = by_touched (is_touched id x) refl
+    by_touched : (b : Bool) → is_touched id seen ≡ b → Reaches (when (not b) (touches_first lists (first_actions lists) id) seen)
+    by_touched true is = is
+    by_touched false is = then_posted (joins id seen) (joined seen)
+
+    by_live : (b : Bool) → Reaches (go_on (Lives seen b) (λ _. reads (is_touched id) >>= λ touched. when (not touched) (touches_first lists (first_actions lists) id)))
+    by_live true = by_touched (is_touched id seen) refl
     by_live false = tt

@@ -5,7 +5,7 @@ use Rattle.ode_machine.specs.TimeRows.{kinds_of}
 use Rattle.ode_run.specs.Contexts.{EndsWhere}
 use Rattle.ode_run.specs.Knowing.{IsSound}
 use Rattle.ode_value.specs.Acts.{Deed, Outcome, ◌>>=◌, ◌>>◌, finds, reads, when}
-use Rattle.ode_value.specs.Changes.{is_live, lives, object}
+use Rattle.ode_value.specs.Changes.{is_live, object, there}
 use Rattle.ode_value.specs.Classes.{trigger_at}
 use Rattle.ode_value.specs.Draining.{firing_in}
 use Rattle.ode_value.specs.Executing.{first_actions}
@@ -37,4 +37,4 @@ module _ {O A : Type 0} (past : Past O A) where
 
   -- that of its own class
   abbrev pub posts_place : (id place : ℕ) → Deed O A
-  posts_place id place = lives id >> (object id >>= λ o. posts_kind id place o.class)
+  posts_place id place = there id >> (object id >>= λ o. posts_kind id place o.class)

@@ -1,3 +1,4 @@
+pub mod Contexts
 pub mod Errors
 pub mod Settling
 pub mod Resting
@@ -5,6 +6,7 @@ pub mod Beginning
 pub mod Going
 pub mod Working
 pub mod Ending
+pub mod Preparing
 pub mod Items
 pub mod Logging
 pub mod Output

@@ -6,7 +6,7 @@ use Rattle.ode_opened.specs.declared.opened.Opened.{Opened}
 use Rattle.ode_heap_laws.specs.Few.{HoldsCounted}
 use Rattle.ode_host.specs.View.{View}
 use Rattle.ode_keep.specs.Entries.{Entries}
-use Rattle.ode_known_laws.specs.Knowing.{declared_in}
+use Rattle.ode_run.specs.Knowing.{declared_in}
 use Rattle.ode_schema.specs.Parts.{AreFit, Parts, table_by}
 use Rattle.ode_sound_laws.specs.Typed.{AreFromOne}
 use Rattle.ode_value.specs.Language.{Language, ListWorld}

@@ -1,9 +1,10 @@
 //! A transaction settles, and its context goes back to an opened file.
-ghost use Rattle.std.specs.Prelude.{◌≡◌, ◌<◌, ◌≤◌, ◌++◌, ◌∷◌, [], ◌^◌, ◌+ℤ◌, ℕ, List as Items, IfOk, IsErrOf, IsTrue, OnOk, Some, length, pos, true};
+ghost use Rattle.std.specs.Prelude.{◌≡◌, ◌<◌, ◌≤◌, ◌++◌, ◌∷◌, [], ◌^◌, ◌+ℤ◌, ℕ, List as Items, IfOk, IsErrOf, IsTrue, OnOk, Option, Some, length, pos, true};
 ghost use Rattle.ode_transact.specs.Ending.{line_of};
 ghost use Rattle.ode_transact.specs.Errors.{OnDamaged, fault_of};
 ghost use Rattle.ode_transact.specs.Logging.{DiskHas, HasGrown, Logs, logged};
 ghost use Rattle.ode_transact.specs.Output.{counting, heard};
+ghost use Rattle.ode_transact.specs.Preparing.{IsPrepared, ended_by};
 ghost use Rattle.ode_transact.specs.Resting.{HoldsBy, IsAtRest, resting_parts};
 ghost use Rattle.ode_transact.specs.Settling.{LeavesBatch};
 ghost use Rattle.ode_transact.specs.Working.{settled_by};
@@ -18,6 +19,8 @@ ghost use Rattle.ode_run.specs.Contexts.{ContextRuns, IsContext, parts_of, table
 ghost use Rattle.ode_schema.specs.Parts.{AreFit};
 ghost use Rattle.ode_settled_laws.specs.Holding.{SettledOver};
 ghost use Rattle.ode_value.specs.Language.{Language, ListTx, ListWorld};
+ghost use Rattle.ode_value.specs.Pasts.{lists};
+ghost use Rattle.ode_value.specs.Settling.{ended};
 
 use crate::error::EngineError;
 use crate::logging::Log;
@@ -110,7 +113,7 @@ fn number_of<H: Host, K: Keep<H>>(
     Ok(counters.next_transaction)
 }
 
-// The changes of a transaction that settles.
+// The changes of a transaction that settles. Nothing is written yet.
 fn changes_of<H: Host, K: Keep<H>>(
     alloc: Global,
     ctx: &mut Ctx<K>,
@@ -123,6 +126,9 @@ fn changes_of<H: Host, K: Keep<H>>(
         → IfOk result (λ batch. SettledOver l (tables_of ctx.old) w (growth_told ctx.new.classes ctx.new.overlay) (applied batch is.entries) ctx.new.text (line_of w.bones.transaction ending.now) (settled_by ending.now t)) }
     ensures context { (l : Language) (w : ListWorld) (t : ListTx) (is : ContextRuns H.view K.holds K.live l w ctx.old host.old t)
         → OnOk result (IsContext H.view K.holds K.live is.entries is.world.world.stored.world ctx.new host.new) }
+    // Its overlay looked at and met what the settling did.
+    ensures met { (l : Language) (w : ListWorld) (t : ListTx) → ContextRuns H.view K.holds K.live l w ctx.old host.old t
+        → OnOk result (ctx.new.overlay.footprint ≡ (ended lists (ended_by ending.now t)).footprint) }
     ensures few { IfOk result (λ batch. length batch ≤ MAX_CHANGES) }
     ensures short { IfOk result HasShortValues }
     ensures usable { OnOk result (IsTrue (K.live ctx.new.heap)) }
@@ -191,6 +197,86 @@ fn close<H: Host, K: Roomy<H> + Drop>(
     })
 }
 
+/// A transaction that is to settle: its number, its last line, and its changes.
+#[derive(Drop)]
+pub struct Prepared {
+    pub number: u64,
+    pub line: List<u8>,
+    pub batch: Batch,
+}
+
+/// The number, the last line and the changes of a transaction that is to settle, by commit, or by an abort for this reason. Nothing is
+/// written yet, so that its context may still go back.
+pub fn prepare<H: Host, K: Keep<H>>(
+    alloc: Global,
+    ctx: &mut Ctx<K>,
+    host: &mut H,
+    ending: &Option<Reason>,
+) -> Result<Prepared, EngineError>
+    requires live { IsTrue (K.live ctx.old.heap) }
+    requires fit { AreFit (parts_of ctx.old) }
+    ensures prepared { (l : Language) (w : ListWorld) (t : ListTx) → ContextRuns H.view K.holds K.live l w ctx.old host.old t
+        → IfOk result (λ p. IsPrepared H.view K.holds K.live l w t ending.now p.number p.line p.batch ctx.new host.new) }
+    ensures few { IfOk result (λ p. length p.batch ≤ MAX_CHANGES) }
+    ensures short { IfOk result (λ p. HasShortValues p.batch) }
+    ensures usable { OnOk result (IsTrue (K.live ctx.new.heap)) }
+    ensures looks { Looks (H.view host.old) (H.view host.new) }
+    ensures cause { RoseIf (IsErrOf result EngineError.DiskFault) (H.view host.old).disk_faults (H.view host.new).disk_faults }
+    ensures silent { IsErrOf result EngineError.WriteFault → ⊥ }
+    ensures undamaged { OnDamaged result ((l : Language) (w : ListWorld) (t : ListTx) → ContextRuns H.view K.holds K.live l w ctx.old host.old t → ⊥) }
+    ensures same { parts_of ctx.new ≡ parts_of ctx.old }
+{
+    let number = number_of(alloc, ctx, host)?;
+    let line = last_line(alloc, number, ending)?;
+    let batch = changes_of(alloc, ctx, host, ending)?;
+    Ok(Prepared {
+        number,
+        line,
+        batch,
+    })
+}
+
+/// A transaction that was prepared settles, and its text with its last line goes to the output.
+pub fn conclude<H: Host, K: Roomy<H> + Drop>(
+    ctx: Ctx<K>,
+    host: &mut H,
+    output: &mut Output,
+    log: &mut Log,
+    prepared: Prepared,
+) -> Result<Opened<K>, EngineError>
+    requires live { IsTrue (K.live ctx.heap) }
+    requires few { length prepared.batch ≤ MAX_CHANGES }
+    requires short { HasShortValues prepared.batch }
+    // Then the file holds the world that the machine's transaction leaves, and its text is printed where the output isn't quiet.
+    ensures done { (l : Language) (w : ListWorld) (t : ListTx) (ending : Option Reason) → IsPrepared H.view K.holds K.live l w t ending prepared.number prepared.line prepared.batch ctx host.old
+        → IsWell l (settled_by ending t).0 → IfOk result (λ rest. IsAtRest H.view K.holds K.live l (settled_by ending t).0 rest host.new) }
+    ensures printed { (l : Language) (w : ListWorld) (t : ListTx) (ending : Option Reason) → IsPrepared H.view K.holds K.live l w t ending prepared.number prepared.line prepared.batch ctx host.old
+        → OnOk result (Printed (heard output.old.quiet (settled_by ending t).1) (H.view host.old) (H.view host.new)) }
+    ensures counts { (l : Language) (w : ListWorld) (t : ListTx) (ending : Option Reason) → IsPrepared H.view K.holds K.live l w t ending prepared.number prepared.line prepared.batch ctx host.old
+        → OnOk result (output.new ≡ counting output.old (settled_by ending t).1) }
+    // What was settled is kept in the log, where there is one.
+    ensures logs { (l : Language) (w : ListWorld) (t : ListTx) (ending : Option Reason) (entries : Entries) → IsPrepared H.view K.holds K.live l w t ending prepared.number prepared.line prepared.batch ctx host.old
+        → IsWell l (settled_by ending t).0 → DiskHas K.means entries (H.view host.old) → OnOk result (Logs K.means l w entries (settled_by ending t ∷ []) log.old log.new (H.view host.new)) }
+    ensures grown { HasGrown log.old log.new }
+    // A stop leaves the world before and none of the text, or the one behind and a front of what is printed of it.
+    ensures any_moment { (l : Language) (w : ListWorld) (t : ListTx) (ending : Option Reason) (said : Items ℕ) → IsWell l w
+        → IsPrepared H.view K.holds K.live l w t ending prepared.number prepared.line prepared.batch ctx host.old → IsWell l (settled_by ending t).0 → (H.view host.old).text ≡ Some said
+        → LeavesOnly (H.view host.old) (H.view host.new) (LeavesSettling (HoldsBy l K.means) w (settled_by ending t).0 said (heard output.old.quiet (settled_by ending t).1)) }
+    ensures parts { IfOk result (λ rest. resting_parts rest ≡ parts_of ctx) }
+    ensures usable { IfOk result (λ rest. K.live rest.keeper ≡ true) }
+    ensures leaves { HostCalls (IsErrOf result EngineError.DiskFault) (IsErrOf result EngineError.WriteFault) (H.view host.old) (H.view host.new) }
+    // Over records that hold a world nothing is damaged, where the world behind it is good.
+    ensures undamaged { OnDamaged result ((l : Language) (w : ListWorld) (t : ListTx) (ending : Option Reason)
+        → IsPrepared H.view K.holds K.live l w t ending prepared.number prepared.line prepared.batch ctx host.old → IsWell l (settled_by ending t).0 → ⊥) }
+{
+    let Prepared {
+        number,
+        line,
+        batch,
+    } = prepared;
+    close(ctx, host, output, log, number, batch, line.as_slice())
+}
+
 /// A transaction settles, by commit, or by an abort for this reason; and its text with its last line goes to the output.
 pub fn end<H: Host, K: Roomy<H> + Drop>(
     alloc: Global,
@@ -224,8 +310,6 @@ pub fn end<H: Host, K: Roomy<H> + Drop>(
     ensures undamaged { OnDamaged result ((l : Language) (w : ListWorld) (t : ListTx) → ContextRuns H.view K.holds K.live l w ctx host.old t → IsWell l (settled_by ending t).0 → ⊥) }
 {
     let mut ctx = ctx;
-    let number = number_of(alloc, &mut ctx, host)?;
-    let line = last_line(alloc, number, &ending)?;
-    let batch = changes_of(alloc, &mut ctx, host, &ending)?;
-    close(ctx, host, output, log, number, batch, line.as_slice())
+    let prepared = prepare(alloc, &mut ctx, host, &ending)?;
+    conclude(ctx, host, output, log, prepared)
 }

@@ -14,10 +14,11 @@ mod work;
 mod working;
 
 pub use beginning::{begin, put_back};
-pub use ending::{end, fault_of};
+pub use ending::{Prepared, conclude, end, fault_of, prepare};
 pub use error::EngineError;
 pub use logging::{Kept, Log};
 pub use looking::head;
+pub use ode_run::{Ctx, Stop, contexts_look, exec};
 pub use output::Output;
 pub use settling::hand_over;
 pub use transacting::{drain, next_number, transact, transact_and_drain};

@@ -6,13 +6,12 @@ use Rattle.ode_change.proofs.bringing.bring_in.Goals as goal
 use Rattle.ode_changed_laws.proofs.Blocks.{all-counted}
 use Rattle.ode_declare.proofs.TakeLaws.{classes_are, parts_kept}
 use Rattle.ode_declare.proofs.WeighLaws.{counts_as, done_as, leaves_as}
-use Rattle.ode_declared_laws.specs.Adding.{AreAligned}
+use Rattle.ode_schema.specs.Parts.{AreAligned, AreFit}
 use Rattle.ode_good_laws.specs.Well.{IsWell}
 use Rattle.ode_host.proofs.Moments.{looks_none}
 use Rattle.ode_language.specs.Languages.{ode}
 use Rattle.ode_machine.specs.Moments.{LeavesSettling}
 use Rattle.ode_machine.specs.Works.{changes_class}
-use Rattle.ode_schema.specs.Parts.{AreFit}
 use Rattle.ode_transact.proofs.DamageLaws.{damaged_so}
 use Rattle.ode_transact.proofs.EndingLaws.{before_leaves, fails_apart, looks_leave}
 use Rattle.ode_transact.proofs.LogLaws.{logs_as}

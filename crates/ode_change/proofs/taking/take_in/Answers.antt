@@ -5,14 +5,13 @@ use Rattle.ode_change.proofs.taking.take_in.Goals as goal
 use Rattle.ode_changed_laws.specs.Records.{with_counters}
 use Rattle.ode_codec.specs.declared.record.Counters.{Counters}
 use Rattle.ode_declare.proofs.TakeLaws.{damaged_as, parts_alone, parts_kept}
-use Rattle.ode_declared_laws.specs.Adding.{AreAligned}
+use Rattle.ode_schema.specs.Parts.{AreAligned, AreFit, places_from}
 use Rattle.ode_host.proofs.Calls.{rose_none}
 use Rattle.ode_host.proofs.Moments.{looks_none}
 use Rattle.ode_keep.specs.Entries.{applied}
 use Rattle.ode_machine.specs.Moments.{LeavesSettling}
 use Rattle.ode_machine.specs.Works.{changes_class}
 use Rattle.ode_opened.specs.declared.opened.Opened.{Opened}
-use Rattle.ode_schema.specs.Parts.{AreFit, places_from}
 use Rattle.ode_transact.proofs.DamageLaws.{damaged_so}
 use Rattle.ode_transact.proofs.EndingLaws.{batch_leaves, before_leaves, fails_as, looks_leave, printed_behind}
 use Rattle.ode_transact.proofs.LogLaws.{held_disk, logs_settled}

@@ -2,11 +2,10 @@ use Rattle.std.proofs.Common.{rules, Err, refl, ◌≡◌, ◌∙◌, ◌<◌, �
 use Rattle.std.proofs.lemmas.Result.{err_from_is_err_and}
 use Rattle.ode_declare.proofs.TakeLaws.{agree_behind, calm_ok, classes_are, damaged_as, keeper_kept, parts_with_class, rose_behind}
 use Rattle.ode_declare.proofs.taking.prepare.Goals as goal
-use Rattle.ode_declared_laws.specs.Adding.{AreAligned}
+use Rattle.ode_schema.specs.Parts.{AreAligned, AreFit, Parts}
 use Rattle.ode_host.proofs.Moments.{looks_joined}
 use Rattle.ode_overlay.specs.After.{stands_after}
 use Rattle.ode_overlay.specs.Layers.{Layer}
-use Rattle.ode_schema.specs.Parts.{AreFit, Parts}
 use Rattle.ode_transact.proofs.DamageLaws.{memory_undamaged}
 use Rattle.ode_transact.specs.Resting.{resting_parts}
 use Rattle.ode_transact.specs.declared.error.EngineError.TheVariants as engine

@@ -4,13 +4,12 @@ use Rattle.ode_transact.proofs.DamageLaws.{damaged_so}
 use Rattle.ode_transact.proofs.RecordLaws.{records_are_light}
 use Rattle.ode_declare.proofs.TakeLaws.{damaged_as, parts_alone, parts_kept, taken_rests}
 use Rattle.ode_declare.proofs.taking.take_in.Goals as goal
-use Rattle.ode_declared_laws.specs.Adding.{AreAligned}
+use Rattle.ode_schema.specs.Parts.{AreAligned, AreFit}
 use Rattle.ode_host.proofs.Moments.{joined}
 use Rattle.ode_keep.specs.Entries.{applied}
 use Rattle.ode_machine.specs.Moments.{LeavesSettling}
 use Rattle.ode_machine.specs.Works.{declares}
 use Rattle.ode_opened.specs.declared.opened.Opened.{Opened}
-use Rattle.ode_schema.specs.Parts.{AreFit}
 use Rattle.ode_transact.proofs.EndingLaws.{batch_leaves, before_leaves, fails_as, looks_leave, looks_then, none_rose, printed_behind}
 use Rattle.ode_transact.proofs.LogLaws.{disk_looks, held_disk, logs_settled}
 use Rattle.ode_transact.proofs.OutputLaws.{counted_as}

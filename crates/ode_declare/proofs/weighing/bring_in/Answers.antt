@@ -4,12 +4,11 @@ use Rattle.ode_compile.proofs.TriggerLaws.{counts_level}
 use Rattle.ode_declare.proofs.TakeLaws.{parts_kept}
 use Rattle.ode_declare.proofs.WeighLaws.{counts_as, done_as, heavy_is, leaves_as, taken_is}
 use Rattle.ode_declare.proofs.weighing.bring_in.Goals as goal
-use Rattle.ode_declared_laws.specs.Adding.{AreAligned}
+use Rattle.ode_schema.specs.Parts.{AreAligned, AreFit}
 use Rattle.ode_good_laws.specs.Well.{IsWell}
 use Rattle.ode_host.proofs.Moments.{looks_none}
 use Rattle.ode_machine.specs.Moments.{LeavesSettling}
 use Rattle.ode_machine.specs.Works.{declares}
-use Rattle.ode_schema.specs.Parts.{AreFit}
 use Rattle.ode_transact.proofs.DamageLaws.{damaged_so, memory_undamaged}
 use Rattle.ode_transact.proofs.EndingLaws.{before_leaves, fails_apart, looks_leave}
 use Rattle.ode_transact.proofs.LogLaws.{logs_as}

@@ -1,6 +1,6 @@
 use Rattle.std.proofs.Common.{◌≡◌, Ok, [], refl, subst, sym}
 use Rattle.ode_again_laws.proofs.Numbered.{piece_numbers}
-use Rattle.ode_declare.specs.Texts.{HasText}
+use Rattle.ode_language.specs.Texts.{HasText}
 use Rattle.ode_host.proofs.Moments.{looks_none}
 use Rattle.ode_language.specs.Languages.{ode}
 use Rattle.ode_machine.specs.Commands.{carried}

@@ -1,5 +1,5 @@
 use Rattle.std.proofs.Common.{◌≡◌, ◌∙◌, [], Err, Ok, refl, subst, sym}
-use Rattle.ode_declare.specs.Texts.{HasText}
+use Rattle.ode_language.specs.Texts.{HasText}
 use Rattle.ode_host.proofs.Moments.{looks_none}
 use Rattle.ode_language.specs.Languages.{ode}
 use Rattle.ode_machine.specs.Commands.{Step}

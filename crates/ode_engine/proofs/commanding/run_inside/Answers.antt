@@ -1,9 +1,8 @@
 use Rattle.std.proofs.Common.{Ok, refl, subst, sym}
-use Rattle.ode_declared_laws.specs.Adding.{AreAligned}
+use Rattle.ode_schema.specs.Parts.{AreAligned, AreFit}
 use Rattle.ode_language.specs.Languages.{ode}
 use Rattle.ode_machine.specs.Commands.{goes_on}
 use Rattle.ode_machine.specs.Sessions.{opened}
-use Rattle.ode_schema.specs.Parts.{AreFit}
 use Rattle.ode_value.specs.Executing.{commands}
 use Rattle.ode_value.specs.Pasts.{lists}
 use Rattle.ode_engine.proofs.FaultLaws.{leaves_sound}

@@ -2,7 +2,7 @@ use Rattle.std.proofs.Common.{Ok}
 use Rattle.ode_language.specs.Languages.{ode}
 use Rattle.ode_machine.specs.Commands.{settles}
 use Rattle.ode_machine.specs.Sessions.{closed}
-use Rattle.ode_run.specs.Contexts.{ContextRuns}
+use Rattle.ode_transact.specs.Contexts.{ContextRuns}
 use Rattle.ode_transact.proofs.TransactLaws.{transaction_settles}
 use Rattle.ode_value.specs.Executing.{commands}
 use Rattle.ode_value.specs.Pasts.{lists}

@@ -7,8 +7,7 @@ use Rattle.ode_machine.specs.Refusals.{checked_in}
 use Rattle.ode_machine.specs.Sessions.{closed}
 use Rattle.ode_value.specs.Transactions.{Script, begun}
 use Rattle.ode_value.specs.declared.statement.Statement.TheVariants as statement
-use Rattle.ode_schema.specs.Parts.{AreFit}
-use Rattle.ode_declared_laws.specs.Adding.{AreAligned}
+use Rattle.ode_schema.specs.Parts.{AreFit, AreAligned}
 use Rattle.ode_transact.specs.declared.error.EngineError.TheVariants as error
 use Rattle.ode_engine.specs.Refusing.{back, turned_down}
 use Rattle.ode_engine.specs.Serving.{IsUsable, Serves, settlings}

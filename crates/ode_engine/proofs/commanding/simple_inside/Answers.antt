@@ -6,8 +6,7 @@ use Rattle.ode_machine.specs.Commands.{carried, goes_on}
 use Rattle.ode_machine.specs.Refusals.{checked_in}
 use Rattle.ode_machine.specs.Sessions.{opened}
 use Rattle.ode_value.specs.declared.statement.Statement.TheVariants as statement
-use Rattle.ode_schema.specs.Parts.{AreFit}
-use Rattle.ode_declared_laws.specs.Adding.{AreAligned}
+use Rattle.ode_schema.specs.Parts.{AreFit, AreAligned}
 use Rattle.ode_transact.specs.declared.error.EngineError.TheVariants as error
 use Rattle.ode_engine.specs.declared.commanding.State.TheVariants as state
 use Rattle.ode_engine.proofs.EngineLaws.{turned_usable}

@@ -2,7 +2,7 @@ use Rattle.std.proofs.Common.{◌≡◌, drop, true}
 use Rattle.ode_engine.proofs.RefusingLaws.{with_more}
 use Rattle.ode_engine.proofs.ServeLaws.{AreQuiet}
 use Rattle.ode_machine.specs.Refusals.{classes_behind}
-use Rattle.ode_run.specs.Contexts.{ContextRuns, parts_of}
+use Rattle.ode_transact.specs.Contexts.{ContextRuns, parts_of}
 use Rattle.ode_value.specs.Language.{Language, ListTx, ListWorld}
 use Rattle.ode_engine.proofs.refusing.classes_behind.Given as goal
 

@@ -21,6 +21,9 @@ returns-in-Ok-clause-settles g c = λ l w t is.
 pub returns-in-Ok-clause-context : goal.returns-in-Ok-clause-context
 returns-in-Ok-clause-context g c = λ l w t is. (c.in-Ok.ensures.leaves is.entries is.world.world.stored.world is.context).stays
 
+pub returns-in-Ok-clause-met : goal.returns-in-Ok-clause-met
+returns-in-Ok-clause-met g c = λ l w t is. c.in-Ok.ensures.met l w t c.args.ending.now is c.is_none.ensures
+
 pub returns-in-Ok-clause-usable : goal.returns-in-Ok-clause-usable
 returns-in-Ok-clause-usable g c = (c.in-Ok.ensures.faults c.requires.live).usable
 
