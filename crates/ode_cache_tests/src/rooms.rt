@@ -2,8 +2,7 @@
 ghost use Rattle.std.specs.Prelude.{IsTrue};
 ghost use Rattle.std.specs.Option.{IfSome};
 ghost use Rattle.ode_pagemap.specs.Holding.{is_live};
-ghost use Rattle.ode_declared_laws.specs.Adding.{AreAligned};
-ghost use Rattle.ode_schema.specs.Parts.{AreFit};
+ghost use Rattle.ode_schema.specs.Parts.{AreAligned, AreFit};
 ghost use Rattle.ode_transact.specs.Resting.{resting_parts};
 
 use ode_gate::{PAGES, SLOT_LEN, read_header};

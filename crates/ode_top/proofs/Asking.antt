@@ -12,7 +12,8 @@ use Rattle.ode_questions.specs.declared.asked.Asked.{Asked}
 use Rattle.ode_questions.specs.declared.asked.Asked.TheVariants.{Queries, Comparisons}
 use Rattle.ode_value.specs.Decimal.{digits_of}
 use Rattle.ode_top.specs.Answers.{Asks}
-use Rattle.ode_top.specs.Calls.{call_of, is_file, mode_named, number_within, script_number}
+use Rattle.ode_begin.specs.Words.{is_file}
+use Rattle.ode_top.specs.Calls.{call_of, mode_named, number_within, script_number}
 use Rattle.ode_top.specs.declared.call.Mode.{Mode}
 use Rattle.ode_top.specs.declared.call.Mode.TheVariants.{Init, Run, Check, Dump, Ask, Ship, Follow, Gen}
 

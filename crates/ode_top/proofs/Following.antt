@@ -31,14 +31,14 @@ use Rattle.ode_transact.specs.Logging.{DiskHas}
 use Rattle.ode_value.specs.Language.{ListWorld}
 use Rattle.ode_value.specs.Limits.{script_limit}
 use Rattle.ode_value.specs.declared.key.Key.{Key}
-use Rattle.ode_top.specs.Answers.{EndsFor, IsSilent}
+use Rattle.ode_begin.specs.Answers.{EndsFor, IsSilent}
 use Rattle.ode_top.specs.Following.{FollowsStream, IsFollowEnding, IsFollowStatus, IsFollowed, IsFollowedSoFar, IsSaidSoFar, Says, from_world, said_of, status_of}
-use Rattle.ode_top.specs.Holds.{Holds}
-use Rattle.ode_top.specs.Opening.{OpensTo}
-use Rattle.ode_top.specs.Stops.{IsCut, StaysIn}
-use Rattle.ode_top.proofs.Holding.{tells_one}
-use Rattle.ode_top.proofs.Refusing.{fault_to, outside_as, outside_or}
-use Rattle.ode_top.proofs.Reopening.{LeftIn, StopsIn}
+use Rattle.ode_begin.specs.Holds.{Holds}
+use Rattle.ode_begin.specs.Opening.{OpensTo}
+use Rattle.ode_begin.specs.Stops.{IsCut, StaysIn}
+use Rattle.ode_begin.proofs.Holding.{tells_one}
+use Rattle.ode_begin.proofs.Refusing.{fault_to, outside_as, outside_or}
+use Rattle.ode_begin.proofs.Reopening.{LeftIn, StopsIn}
 use Rattle.ode_top.proofs.Shipping.{cut_opened, cut_unopened}
 
 -- ---- what following came to

@@ -7,8 +7,8 @@ use Rattle.ode_paging.specs.Meaning.{PagesMeanIn}
 use Rattle.ode_value.specs.GoodWorlds.{IsGood}
 use Rattle.ode_value.specs.Tables.{Table}
 use Rattle.ode_value.specs.Worlds.{empty_world}
-use Rattle.ode_top.proofs.Holding.{pages_hold}
-use Rattle.ode_top.specs.Holds.{Holds}
+use Rattle.ode_begin.proofs.Holding.{pages_hold}
+use Rattle.ode_begin.specs.Holds.{Holds}
 
 -- it has no trigger, so any tables serve
 no_table : Table

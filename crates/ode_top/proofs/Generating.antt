@@ -22,20 +22,21 @@ use Rattle.ode_paging.specs.Meaning.{PagesMeanIn}
 use Rattle.ode_script.specs.Cutting.{End, Ending, ending_of, pieces}
 use Rattle.ode_trace.proofs.HearingLaws.{final_heard, refused_heard}
 use Rattle.ode_trace.specs.Hearing.{heard_items}
-use Rattle.ode_trace.specs.Running.{RanAs}
-use Rattle.ode_trace.specs.Statuses.{IsEnding, IsRunStatus}
+use Rattle.ode_ends.specs.Endings.{RanAs}
+use Rattle.ode_ends.specs.Statuses.{IsEnding, IsRunStatus}
 use Rattle.ode_trace.specs.declared.tally.Tally.{Tally}
 use Rattle.ode_value.specs.Language.{ListWorld}
-use Rattle.ode_top.specs.Answers.{EndsFor, IsGenStatus, IsGenerated, IsSilent, counts_line, gen_items, gen_said, gen_tally}
+use Rattle.ode_begin.specs.Answers.{EndsFor, IsSilent}
+use Rattle.ode_top.specs.Answers.{IsGenStatus, IsGenerated, counts_line, gen_items, gen_said, gen_tally}
 use Rattle.ode_top.specs.Claims.{Generates}
-use Rattle.ode_top.specs.Holds.{Holds, HoldsInPages}
-use Rattle.ode_top.specs.Opening.{OpensTo}
-use Rattle.ode_top.specs.Stops.{StaysHeld}
-use Rattle.ode_top.proofs.Calling.{after_some, exit_cut, none_cut, still_tells}
-use Rattle.ode_top.proofs.Claiming.{at_end}
-use Rattle.ode_top.proofs.Holding.{pages_hold}
-use Rattle.ode_top.proofs.Leaving.{told_by}
-use Rattle.ode_top.proofs.Refusing.{fault_to, outside_as, outside_or}
+use Rattle.ode_begin.specs.Holds.{Holds, HoldsInPages}
+use Rattle.ode_begin.specs.Opening.{OpensTo}
+use Rattle.ode_begin.specs.Stops.{StaysHeld}
+use Rattle.ode_begin.proofs.Calling.{after_some, exit_cut, none_cut, still_tells}
+use Rattle.ode_begin.proofs.Claiming.{at_end}
+use Rattle.ode_begin.proofs.Holding.{pages_hold}
+use Rattle.ode_begin.proofs.Leaving.{told_by}
+use Rattle.ode_begin.proofs.Refusing.{fault_to, outside_as, outside_or}
 
 -- ---- a line behind a run
 

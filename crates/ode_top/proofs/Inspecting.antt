@@ -18,11 +18,12 @@ use Rattle.ode_passes.specs.Tally.{tally_in}
 use Rattle.ode_passes.specs.declared.cause.Cause.{Cause}
 use Rattle.ode_passes.specs.declared.error.OpenError.{OpenError as ReadError}
 use Rattle.ode_passes.specs.declared.error.OpenError.TheVariants as read
-use Rattle.ode_top.specs.Answers.{BreaksRule, IsInspectStatus, SaidFront, SaysRecords}
+use Rattle.ode_begin.specs.Answers.{BreaksRule, SaidFront}
+use Rattle.ode_top.specs.Answers.{IsInspectStatus, SaysRecords}
 use Rattle.ode_top.specs.Claims.{Inspects}
 use Rattle.ode_top.specs.declared.call.Mode.{Mode}
-use Rattle.ode_top.proofs.Calling.{tells_same}
-use Rattle.ode_top.proofs.Leaving.{idle_on, line_idle}
+use Rattle.ode_begin.proofs.Calling.{tells_same}
+use Rattle.ode_begin.proofs.Leaving.{idle_on, line_idle}
 
 -- what holds at a broken rule may be weakened
 pub on_broken : {X : Type 0} (r : Result X ReadError) (P Q : Type 0) → (P → Q) → OnBroken r P → OnBroken r Q

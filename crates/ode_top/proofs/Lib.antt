@@ -1,14 +1,8 @@
 pub mod Asking
-pub mod Calling
-pub mod Claiming
 pub mod Following
 pub mod Fresh
 pub mod Generating
-pub mod Holding
 pub mod Inspecting
-pub mod Leaving
 pub mod Questioning
 pub mod Refusing
-pub mod Reopening
-pub mod Running
 pub mod Shipping

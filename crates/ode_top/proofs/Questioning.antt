@@ -19,15 +19,15 @@ use Rattle.ode_opened.specs.declared.opened.Opened.{Opened}
 use Rattle.ode_opening_records.specs.Reading.{AreOpened}
 use Rattle.ode_questions.specs.Answers.{IsAnswered, IsPossible}
 use Rattle.ode_questions.specs.declared.asked.Asked.{Asked}
-use Rattle.ode_trace.specs.Statuses.{IsEnding, IsRunStatus}
+use Rattle.ode_ends.specs.Statuses.{IsEnding, IsRunStatus}
 use Rattle.ode_transact.specs.Resting.{IsAtRest}
 use Rattle.ode_value.specs.Language.{ListWorld}
 use Rattle.ode_value.specs.Worlds.{Bones}
 use Rattle.ode_top.specs.Answers.{AreAnswered, AreAnsweredInPart}
 use Rattle.ode_top.specs.Claims.{Questions}
-use Rattle.ode_top.specs.Holds.{Holds}
+use Rattle.ode_begin.specs.Holds.{Holds}
 use Rattle.ode_top.specs.Opening.{OpensAsIs}
-use Rattle.ode_top.specs.Stops.{IsCut}
+use Rattle.ode_begin.specs.Stops.{IsCut}
 
 -- a script of questions ends as a run does
 pub run_status : (s : Status) → IsPossible (Ok s) → IsRunStatus s

@@ -19,21 +19,22 @@ use Rattle.ode_pagemap.specs.declared.map.PageMap.{PageMap}
 use Rattle.ode_paging.specs.Meaning.{PagesMeanIn}
 use Rattle.ode_script.specs.Cutting.{ending_of, pieces}
 use Rattle.ode_trace.specs.Shipping.{IsShippedSoFar, ShippedAs}
-use Rattle.ode_trace.specs.Statuses.{IsEnding, IsRunStatus}
+use Rattle.ode_ends.specs.Statuses.{IsEnding, IsRunStatus}
 use Rattle.ode_transact.specs.Logging.{DiskHas}
 use Rattle.ode_transact.specs.Resting.{HoldsBy}
 use Rattle.ode_value.specs.Language.{ListWorld}
-use Rattle.ode_top.specs.Answers.{EndsFor, IsSilent}
+use Rattle.ode_begin.specs.Answers.{EndsFor, IsSilent}
 use Rattle.ode_top.specs.Claims.{ShipsWorld}
-use Rattle.ode_top.specs.Holds.{Holds}
-use Rattle.ode_top.specs.Opening.{OpensTo}
-use Rattle.ode_top.specs.Stops.{IsCutAt, ShipsSoFar, StaysIn}
-use Rattle.ode_top.proofs.Calling.{at_exit, still_tells}
-use Rattle.ode_top.proofs.Claiming.{at_end}
-use Rattle.ode_top.proofs.Holding.{pages_hold}
-use Rattle.ode_top.proofs.Leaving.{told_by}
-use Rattle.ode_top.proofs.Refusing.{fault_to, outside_as, outside_or}
-use Rattle.ode_top.proofs.Reopening.{LeftIn, StopsIn}
+use Rattle.ode_begin.specs.Holds.{Holds}
+use Rattle.ode_begin.specs.Opening.{OpensTo}
+use Rattle.ode_begin.specs.Stops.{IsCutAt, StaysIn}
+use Rattle.ode_top.specs.Stops.{ShipsSoFar}
+use Rattle.ode_begin.proofs.Calling.{at_exit, still_tells}
+use Rattle.ode_begin.proofs.Claiming.{at_end}
+use Rattle.ode_begin.proofs.Holding.{pages_hold}
+use Rattle.ode_begin.proofs.Leaving.{told_by}
+use Rattle.ode_begin.proofs.Refusing.{fault_to, outside_as, outside_or}
+use Rattle.ode_begin.proofs.Reopening.{LeftIn, StopsIn}
 
 -- ---- a call of which this is known at each moment
 

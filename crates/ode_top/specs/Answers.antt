@@ -1,9 +1,8 @@
 -- What a call of the program is answered with.
-use Rattle.std.specs.Prelude.{◌≡◌, ◌⊎◌, ◌==◌, ℕ, List, [], ◌∷◌, ◌++◌, take, true, Option, Some, Ok, Err, codes}
+use Rattle.std.specs.Prelude.{◌≡◌, ◌⊎◌, ◌==◌, ℕ, List, [], ◌∷◌, ◌++◌, true, Option, Some, Ok, codes}
 use Rattle.ode_keeper.specs.Files.{FileMeans}
-use Rattle.ode_causes.specs.Lines.{cause_line, format_line}
 use Rattle.ode_dump.specs.Dumping.{check_text, dump_text}
-use Rattle.ode_host.specs.Host.{Spares, Stands, Tells}
+use Rattle.ode_host.specs.Host.{Stands, Tells}
 use Rattle.ode_host.specs.View.{View}
 use Rattle.ode_host.specs.declared.status.Status.{Status}
 use Rattle.ode_host.specs.declared.status.Status.TheVariants as status
@@ -11,18 +10,16 @@ use Rattle.ode_keep.specs.Entries.{Entries}
 use Rattle.ode_language.specs.Languages.{ode}
 use Rattle.ode_gate.specs.declared.places.TheConstants.{FIRST_FORMAT}
 use Rattle.ode_gen.specs.Generating.{gen_line, gen_script}
-use Rattle.ode_machine.specs.Runs.{Item, Refuses, run_status, run_text, run_world, trace}
+use Rattle.ode_machine.specs.Runs.{Item, Refuses, run_status, run_world, trace}
 use Rattle.ode_make.specs.Making.{IsInUse, IsInitialised, first_frame}
-use Rattle.ode_open.specs.Opening.{HasFormat, IsOpenedTo}
-use Rattle.ode_open.specs.declared.error.OpenError.{OpenError}
-use Rattle.ode_open.specs.declared.error.OpenError.TheVariants.{Memory, DiskFault, NoDatabase, NewerFormat, BadFile}
+use Rattle.ode_open.specs.Opening.{HasFormat}
 use Rattle.ode_opening_records.specs.Reading.{AreOpened}
 use Rattle.ode_opening_records.specs.declared.base.Base.{Base}
 use Rattle.ode_questions.specs.Scripts.{script_status, script_text}
 use Rattle.ode_questions.specs.declared.asked.Asked.{Asked}
-use Rattle.ode_script.specs.Cutting.{pieces}
+use Rattle.ode_script.specs.Cutting.{pieces, ending_of}
 use Rattle.ode_trace.specs.Hearing.{heard_items}
-use Rattle.ode_trace.specs.Running.{LeavesNothing}
+use Rattle.ode_ends.specs.Endings.{LeavesNothing}
 use Rattle.ode_trace.specs.Tallies.{tally_of}
 use Rattle.ode_trace.specs.declared.tally.Tally.{Tally}
 use Rattle.ode_value.specs.Language.{ListWorld}
@@ -30,9 +27,10 @@ use Rattle.ode_value.specs.Texts.{line}
 use Rattle.ode_value.specs.Worlds.{empty_world}
 use Rattle.ode_value.specs.declared.class.Class.{Class}
 use Rattle.ode_top.specs.Calls.{call_of}
-use Rattle.ode_top.specs.Holds.{Holds}
+use Rattle.ode_begin.specs.Holds.{Holds}
 use Rattle.ode_top.specs.declared.call.Mode.{Mode}
 use Rattle.ode_top.specs.declared.call.Mode.TheVariants as mode
+use Rattle.ode_begin.specs.Answers.{EndsWith, IsRunOf, SaidFront, SaysWhy}
 
 -- the words are this mode's, and a file
 abbrev pub Asks : Mode → List (List ℕ) → Type 0
@@ -45,20 +43,9 @@ ReadsScript words = Asks mode.Run words ⊎ (Asks mode.Ship words ⊎ (Asks mode
 abbrev pub usage_line : List ℕ
 usage_line = line (codes "usage: ode (init|run|check|dump|query|same|ship|follow) FILE | ode gen FILE N")
 
--- The file holds this world, and so does each that a stop from now on leaves, as long as nothing more is written; this is
--- what was printed.
-pub record EndsWith (view : View) (w : ListWorld) (text : List ℕ) : Type 0 where
-  pub image : List ℕ
-  pub stands : Stands image view
-  pub holds : Holds image w
-  pub printed : view.text ≡ Some text
-
--- The run of a whole script from a world, behind this text, is the machine's: its status, its text, and the world that
--- the file then holds. Nothing of the script is left where it was read to its end.
-pub record IsMachineRun (script : List ℕ) (w : ListWorld) (text : List ℕ) (left : Option (List ℕ)) (view : View) (status : Status) : Type 0 where
-  pub stated : status ≡ run_status ode w script
-  pub ends : EndsWith view (run_world ode w script) (text ++ run_text ode w script)
-  pub nothing : LeavesNothing status left
+-- The run of a whole script from a world, behind this text, is the machine's.
+abbrev pub IsMachineRun : List ℕ → ListWorld → List ℕ → Option (List ℕ) → View → Status → Type 0
+IsMachineRun script w text left view status = IsRunOf (trace ode w script) (ending_of (pieces script)) w text left view status
 
 -- the line of a number and what its script came to
 abbrev pub counts_line : ℕ → Tally → List ℕ
@@ -97,43 +84,10 @@ pub record IsRefused (file text : List ℕ) (view : View) : Type 0 where
   pub tells : Tells view file
   pub printed : view.text ≡ Some (text ++ line (codes "file exists"))
 
--- A rule is broken that a file must keep, from its slots to the references among its objects: the first of them.
-abbrev pub BreaksRule : List ℕ → Type 0
-BreaksRule image = (why : OpenError) × IsOpenedTo image (Err why)
-
--- the line of a broken rule; want of memory and a fault of the disk are none
-abbrev pub why_line : OpenError → List ℕ
-why_line NoDatabase = line (codes "no database")
-why_line (NewerFormat found) = format_line found
-why_line (BadFile cause) = cause_line cause
-why_line Memory = []
-why_line DiskFault = []
-
--- what is said of a file that breaks a rule is the line of the first one
-abbrev pub SaysWhy : List ℕ → List ℕ → Type 0
-SaysWhy image said = (why : OpenError) × IsOpenedTo image (Err why) × (said ≡ why_line why)
-
--- The file breaks a rule, stayed as it was, and it was said.
-pub record IsBadFile (image text : List ℕ) (view : View) : Type 0 where
-  pub tells : Tells view image
-  pub said : List ℕ
-  pub reason : SaysWhy image said
-  pub printed : view.text ≡ Some (text ++ said)
-
--- a front of this was printed behind the text, and no more
-abbrev pub SaidFront : List ℕ → List ℕ → View → Type 0
-SaidFront said text view = (n : ℕ) × (view.text ≡ Some (text ++ take n said))
-
 -- The print failed of the line that says what `init` did.
 pub record IsInitCut (file text : List ℕ) (view : View) : Type 0 where
   pub said : List ℕ
   pub reason : (IsInUse file × (said ≡ line (codes "file exists"))) ⊎ ((¬ IsInUse file) × (said ≡ line (codes "ready")))
-  pub front : SaidFront said text view
-
--- The print failed of the line that says which way a file breaks a rule.
-pub record IsBadFileCut (image text : List ℕ) (view : View) : Type 0 where
-  pub said : List ℕ
-  pub reason : SaysWhy image said
   pub front : SaidFront said text view
 
 -- what `check` and `dump` print of records, by the classes that they declare
@@ -209,19 +163,6 @@ IsGenStatus status.ReadFault = ⊥
 IsGenStatus status.LongStatement = ⊥
 IsGenStatus status.LongScript = ⊥
 
--- the statuses that a run may end with where the file breaks a rule
-abbrev pub IsNoRun : Status → Type 0
-IsNoRun status.BadFile = Unit {0}
-IsNoRun status.DiskFault = Unit {0}
-IsNoRun status.WriteFault = Unit {0}
-IsNoRun status.Memory = Unit {0}
-IsNoRun status.Ok = ⊥
-IsNoRun status.Refused = ⊥
-IsNoRun status.Usage = ⊥
-IsNoRun status.ReadFault = ⊥
-IsNoRun status.LongStatement = ⊥
-IsNoRun status.LongScript = ⊥
-
 -- the statuses that a `check` or a `dump` may end with
 abbrev pub IsInspectStatus : Status → Type 0
 IsInspectStatus status.Ok = Unit {0}
@@ -234,29 +175,3 @@ IsInspectStatus status.Usage = ⊥
 IsInspectStatus status.ReadFault = ⊥
 IsInspectStatus status.LongStatement = ⊥
 IsInspectStatus status.LongScript = ⊥
-
--- the statuses of a file that isn't opened for this reason, where its line may lack memory or fail to be printed
-abbrev pub EndsFor : OpenError → Status → Type 0
-EndsFor Memory s = s ≡ status.Memory
-EndsFor DiskFault s = s ≡ status.DiskFault
-EndsFor NoDatabase s = (s ≡ status.BadFile) ⊎ (s ≡ status.WriteFault)
-EndsFor (NewerFormat found) s = (s ≡ status.Memory) ⊎ ((s ≡ status.BadFile) ⊎ (s ≡ status.WriteFault))
-EndsFor (BadFile cause) s = (s ≡ status.Memory) ⊎ ((s ≡ status.BadFile) ⊎ (s ≡ status.WriteFault))
-
--- the statuses that have no line of their own, where nothing was run
-abbrev pub IsSilent : Status → Type 0
-IsSilent status.DiskFault = Unit {0}
-IsSilent status.Memory = Unit {0}
-IsSilent status.Ok = ⊥
-IsSilent status.Refused = ⊥
-IsSilent status.Usage = ⊥
-IsSilent status.BadFile = ⊥
-IsSilent status.ReadFault = ⊥
-IsSilent status.WriteFault = ⊥
-IsSilent status.LongStatement = ⊥
-IsSilent status.LongScript = ⊥
-
--- Nothing was written, whatever the status, and nothing was printed where the status has no line of its own.
-pub record IsIdle (status : Status) (old new : View) : Type 0 where
-  pub spares : Spares old new
-  pub silent : IsSilent status → new.text ≡ old.text

@@ -1,21 +1,14 @@
 -- What the words of a call ask for.
-use Rattle.std.specs.Prelude.{ℕ, List, [], ◌∷◌, map, Bool, false, not, cond, ◌==◌, ◌&&◌, codes, nat_le, Option, Some, None}
+use Rattle.std.specs.Prelude.{ℕ, List, [], ◌∷◌, cond, ◌&&◌, codes, nat_le, Option, Some, None}
 use Rattle.std.specs.Option.{option_map}
 use Rattle.std.specs.Str.{bytes_eq}
 use Rattle.std.specs.Str.Parse.{digits_value}
-use Rattle.std.specs.String.{string_bytes}
-use Rattle.std.specs.declared.string.String.{String}
-use Rattle.std.specs.declared.alloc.Global.{Global}
+use Rattle.ode_begin.specs.Words.{is_file}
 use Rattle.ode_gen.specs.Generating.{gen_limit}
 use Rattle.ode_questions.specs.declared.asked.Asked.TheVariants.{Queries, Comparisons}
 use Rattle.ode_value.specs.Decimal.{digits_of}
 use Rattle.ode_top.specs.declared.call.Mode.{Mode}
 use Rattle.ode_top.specs.declared.call.Mode.TheVariants.{Init, Run, Check, Dump, Ask, Ship, Follow, Gen}
-
--- a name that isn't empty, and doesn't begin with a dash
-abbrev pub is_file : List ℕ → Bool
-is_file [] = false
-is_file (b ∷ bs) = not (b == 45)
 
 abbrev pub mode_named : List ℕ → Option Mode
 mode_named word =
@@ -50,7 +43,3 @@ abbrev pub call_of : List (List ℕ) → Option (Mode × List ℕ)
 call_of (mode ∷ file ∷ []) = file_call mode file
 call_of (mode ∷ file ∷ number ∷ []) = gen_call mode file number
 call_of words = None
-
--- the words as bytes
-abbrev pub bytes_of : List (String Global) → List (List ℕ)
-bytes_of words = map (λ word. string_bytes word) words

@@ -18,35 +18,19 @@ use Rattle.ode_paging.specs.Meaning.{PagesMeanIn}
 use Rattle.ode_questions.specs.declared.asked.Asked.{Asked}
 use Rattle.ode_script.specs.Cutting.{ending_of, pieces}
 use Rattle.ode_trace.specs.Shipping.{ShippedAs}
-use Rattle.ode_trace.specs.Statuses.{IsEnding, IsRunStatus}
+use Rattle.ode_ends.specs.Statuses.{IsEnding, IsRunStatus}
 use Rattle.ode_value.specs.Language.{ListWorld}
-use Rattle.ode_top.specs.Answers.{AreAnswered, AreAnsweredInPart, BreaksRule, IsBadFile, IsBadFileCut, IsGenStatus, IsGenerated, IsIdle, IsInitCut, IsInitStatus, IsInspectStatus, IsInspected, IsInspectedCut, IsMachineRun, IsMade, IsNoRun, IsRefused, IsSilent, gen_items}
-use Rattle.ode_top.specs.Holds.{Holds}
-use Rattle.ode_top.specs.Stops.{CutShort, IsCut, IsCutAt, ShipsSoFar}
+use Rattle.ode_begin.specs.Answers.{BreaksRule, IsBadFile, IsIdle, IsSilent}
+use Rattle.ode_top.specs.Answers.{AreAnswered, AreAnsweredInPart, IsGenStatus, IsGenerated, IsInitCut, IsInitStatus, IsInspectStatus, IsInspected, IsInspectedCut, IsMade, IsRefused, gen_items}
+use Rattle.ode_begin.specs.Holds.{Holds}
+use Rattle.ode_begin.specs.Stops.{CutShort, IsCut, IsCutAt}
+use Rattle.ode_top.specs.Stops.{ShipsSoFar}
 use Rattle.ode_top.specs.declared.call.Mode.{Mode}
-
--- At the start the script is this one, the disk tells this file, which holds this world, and this was printed.
-pub record Finds (script image text : List ℕ) (w : ListWorld) (before : Option (List ℕ)) (old : View) : Type 0 where
-  pub given : before ≡ Some script
-  pub tells : Tells old image
-  pub holds : Holds image w
-  pub said : old.text ≡ Some text
+use Rattle.ode_begin.specs.Claims.{Finds, RunsBy}
 
 -- A run where the file holds a world.
-pub record RunsWorld (before after : Option (List ℕ)) (old new : View) (result : Status) : Type 0 where
-  -- It is the machine's, whatever the script and the chunks that it comes in.
-  pub run : (script image text : List ℕ) (w : ListWorld) → Finds script image text w before old → IsEnding result
-      → IsMachineRun script w text after new result
-  -- Where the disk, the output or the script fails or memory is short, the file holds the world after some of the settled
-  -- transactions, and what is printed is a front of what these print, or a refusal's line behind them.
-  pub cut : (script image text : List ℕ) (w : ListWorld) → Finds script image text w before old → IsCut result
-      → CutShort (trace ode w script) w text new
-  -- So does a stop at any moment from the first sync on, at which the file is as it was at the start. Before it, a stop
-  -- leaves what it might have left at the start. The sync lies within the run, unless the disk failed.
-  pub stops : (script image text : List ℕ) (w : ListWorld) → Finds script image text w before old
-      → SyncedRun old new image (result ≡ DiskFault) (IsAfterSome Holds (trace ode w script) w text)
-  -- It ends as the machine does, by a fault, or for want of memory.
-  pub answers : (image : List ℕ) (w : ListWorld) → Tells old image → Holds image w → IsRunStatus result
+abbrev pub RunsWorld : Option (List ℕ) → Option (List ℕ) → View → View → Status → Type 0
+RunsWorld = RunsBy (trace ode)
 
 -- A run that ships, where the file holds a world in these records. One of the first format is migrated first, and has the same records.
 pub record ShipsWorld (before after : Option (List ℕ)) (old new : View) (result : Status) : Type 0 where
@@ -77,16 +61,6 @@ pub record Generates (number : ℕ) (old new : View) (result : Status) : Type 0 
       → SyncedRun old new image (result ≡ DiskFault) (IsAfterSome Holds (gen_items number w) w text)
   -- It ends as the machine does, which never meets a limit there, by a fault, or for want of memory.
   pub answers : (image text : List ℕ) (w : ListWorld) → Tells old image → Holds image w → old.text ≡ Some text → IsGenStatus result
-
--- A run where the file breaks a rule, and so holds no world.
-pub record RunsNone (before after : Option (List ℕ)) (old new : View) (result : Status) : Type 0 where
-  pub held : (image : List ℕ) (w : ListWorld) → Tells old image → Holds image w → ¬ BreaksRule image
-  pub bad_file : result ≡ BadFile → (image text : List ℕ) → Tells old image → old.text ≡ Some text → BreaksRule image → IsBadFile image text new
-  pub no_world : (image : List ℕ) → Tells old image → BreaksRule image → IsNoRun result
-  -- Nothing is written, nothing of the script is taken, and nothing is printed but the line.
-  pub idle : (image : List ℕ) → Tells old image → BreaksRule image → IsIdle result old new × (after ≡ before)
-  pub bad_file_cut : result ≡ WriteFault → (image text : List ℕ) → Tells old image → old.text ≡ Some text → BreaksRule image
-      → IsBadFileCut image text new
 
 -- An `init`. A file in use stays as it was, whatever the status.
 pub record Initialises (old new : View) (result : Status) : Type 0 where

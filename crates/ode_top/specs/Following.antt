@@ -20,9 +20,9 @@ use Rattle.ode_standby.specs.declared.following.Followed.{Followed}
 use Rattle.ode_standby.specs.declared.following.Followed.TheVariants.{Ended, Long, ReadFault, Stopped}
 use Rattle.ode_transact.specs.Logging.{DiskHas}
 use Rattle.ode_value.specs.Language.{ListWorld}
-use Rattle.ode_top.specs.Claims.{Finds}
-use Rattle.ode_top.specs.Holds.{Holds}
-use Rattle.ode_top.specs.Stops.{IsCut, IsCutAt}
+use Rattle.ode_begin.specs.Claims.{Finds}
+use Rattle.ode_begin.specs.Holds.{Holds}
+use Rattle.ode_begin.specs.Stops.{IsCut, IsCutAt}
 
 -- ---- what following a stream came to
 

@@ -2,6 +2,5 @@ pub mod Answers
 pub mod Calls
 pub mod Claims
 pub mod Following
-pub mod Holds
 pub mod Opening
 pub mod Stops

@@ -1,8 +1,10 @@
 //! The words of a call.
 ghost use Rattle.std.specs.Prelude.{◌≡◌, length};
 ghost use Rattle.std.specs.Option.{option_copied, option_map};
-ghost use Rattle.ode_top.specs.Calls.{bytes_of, call_of, file_call, gen_call, is_file, mode_named, script_number};
+ghost use Rattle.ode_begin.specs.Words.{bytes_of, is_file};
+ghost use Rattle.ode_top.specs.Calls.{call_of, file_call, gen_call, mode_named, script_number};
 
+use ode_begin::is_file;
 use ode_gen::GEN_LIMIT;
 use ode_questions::Asked;
 use ode_value::parse_decimal;
@@ -33,15 +35,6 @@ pub enum Mode {
 pub struct Call<'a> {
     pub mode: Mode,
     pub file: &'a str,
-}
-
-fn is_file(word: &str) -> bool
-    ensures { result ≡ is_file word.now }
-{
-    match word.as_bytes() {
-        [] => false,
-        [first, ..] => *first != b'-',
-    }
 }
 
 fn mode_named(word: &str) -> Option<Mode>

@@ -1,6 +1,6 @@
 //! The modes that keep a copy of a file: one ships what it settles, the other follows.
 ghost use Rattle.std.specs.Prelude.{◌≡◌, ◌≢◌, ℕ, List as Items, IsTrue, Some};
-ghost use Rattle.ode_declared_laws.specs.Adding.{AreAligned};
+ghost use Rattle.ode_schema.specs.Parts.{AreAligned, AreFit};
 ghost use Rattle.ode_gate.specs.declared.places.TheConstants.{FORMAT};
 ghost use Rattle.ode_host.specs.Causes.{RoseIf};
 ghost use Rattle.ode_host.specs.Host.{HostCalls, LeavesOnly};
@@ -9,21 +9,19 @@ ghost use Rattle.ode_language.specs.Languages.{ode};
 ghost use Rattle.ode_machine.specs.Runs.{trace};
 ghost use Rattle.ode_pagemap.specs.Holding.{is_live};
 ghost use Rattle.ode_paging.specs.Meaning.{PagesMeanIn};
-ghost use Rattle.ode_schema.specs.Parts.{AreFit};
 ghost use Rattle.ode_script.specs.Cutting.{ending_of, pieces};
 ghost use Rattle.ode_trace.specs.Shipping.{ShippedAs};
-ghost use Rattle.ode_trace.specs.Statuses.{IsEnding, IsRunStatus};
+ghost use Rattle.ode_ends.specs.Statuses.{IsEnding, IsRunStatus};
 ghost use Rattle.ode_transact.specs.Logging.{DiskHas};
 ghost use Rattle.ode_transact.specs.Resting.{resting_parts};
 ghost use Rattle.ode_value.specs.Language.{ListWorld};
-ghost use Rattle.ode_top.specs.Claims.{RunsNone, ShipsWorld};
+ghost use Rattle.ode_begin.specs.Claims.{RunsNone};
+ghost use Rattle.ode_top.specs.Claims.{ShipsWorld};
 ghost use Rattle.ode_top.specs.Following.{FollowsStream, IsFollowEnding, IsFollowStatus, IsFollowed, IsFollowedSoFar, Says, from_world, status_of};
-ghost use Rattle.ode_top.specs.Opening.{OpensTo};
+ghost use Rattle.ode_begin.specs.Opening.{OpensTo};
 ghost use Rattle.ode_top.specs.Stops.{ShipsSoFar};
 
-use crate::opening::open_to_run;
-use crate::saying::{damaged, end_with, refuse};
-use ode_file_laws::files_of_worlds_are_opened;
+use ode_begin::{damaged, end_with, files_of_worlds_are_opened, open_to_run, refuse};
 use ode_good_runs::runs_stay_good;
 use ode_host::{Host, Source, Status};
 use ode_language_laws::language_has_sound_rules;

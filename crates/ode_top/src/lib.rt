@@ -3,8 +3,7 @@
 
 mod call;
 mod copying;
-mod opening;
-mod saying;
+mod running;
 mod top;
 
 pub use call::file_word;

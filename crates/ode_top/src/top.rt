@@ -2,7 +2,7 @@
 ghost use Rattle.std.specs.Prelude.{◌≡◌, ◌≢◌, ◌⊎◌, ◌↔◌, ◌++◌, ◌≤◌, ℕ, List as Items, Option, Some, None, IfOk, IsErrOf, IsTrue};
 ghost use Rattle.ode_keeper.specs.Holding as of_either;
 ghost use Rattle.ode_keeper.specs.Holding.{KeeperHolds};
-ghost use Rattle.ode_declared_laws.specs.Adding.{AreAligned};
+ghost use Rattle.ode_schema.specs.Parts.{AreAligned, AreFit};
 ghost use Rattle.ode_dump.specs.Dumping.{AreRecords};
 ghost use Rattle.ode_host.specs.Causes.{RoseIf};
 ghost use Rattle.ode_gen.specs.Generating.{gen_limit};
@@ -10,104 +10,48 @@ ghost use Rattle.ode_host.specs.Host.{HostCalls, LeavesCut, LeavesOnly, Looks, S
 ghost use Rattle.ode_keep.specs.Entries.{Entries};
 ghost use Rattle.ode_language.specs.Languages.{ode};
 ghost use Rattle.ode_machine.specs.Moments.{IsAfterSome};
-ghost use Rattle.ode_machine.specs.Runs.{trace};
 ghost use Rattle.ode_open.specs.Opening.{IsRefused};
 ghost use Rattle.ode_passes.specs.Answers.{OnBroken};
 ghost use Rattle.ode_pagemap.specs.Holding.{is_live};
 ghost use Rattle.ode_questions.specs.declared.asked.Asked.{Asked};
-ghost use Rattle.ode_schema.specs.Parts.{AreFit};
-ghost use Rattle.ode_trace.specs.Statuses.{IsEnding, IsRunStatus};
+ghost use Rattle.ode_ends.specs.Statuses.{IsEnding, IsRunStatus};
 ghost use Rattle.ode_transact.specs.Resting.{resting_parts};
 ghost use Rattle.ode_value.specs.Language.{ListWorld};
-ghost use Rattle.ode_top.specs.Answers.{AreAnswered, AreAnsweredInPart, Asks, BreaksRule, IsGenStatus, IsGenerated, IsIdle, IsMachineRun, ReadsScript, SaidFront, SaysRecords, counts_line, gen_items, mode_text, usage_line};
-ghost use Rattle.ode_top.specs.Calls.{bytes_of, call_of};
-ghost use Rattle.ode_top.specs.Claims.{Generates, Initialises, Inspects, Questions, RunsNone, RunsWorld, ShipsWorld};
+ghost use Rattle.ode_begin.specs.Answers.{BreaksRule, IsIdle, SaidFront};
+ghost use Rattle.ode_top.specs.Answers.{AreAnswered, AreAnsweredInPart, Asks, IsGenStatus, IsGenerated, ReadsScript, SaysRecords, counts_line, gen_items, mode_text, usage_line};
+ghost use Rattle.ode_begin.specs.Words.{bytes_of};
+ghost use Rattle.ode_top.specs.Calls.{call_of};
+ghost use Rattle.ode_begin.specs.Claims.{RunsNone};
+ghost use Rattle.ode_top.specs.Claims.{Generates, Initialises, Inspects, Questions, RunsWorld, ShipsWorld};
 ghost use Rattle.ode_top.specs.Following.{FollowsStream};
-ghost use Rattle.ode_top.specs.Holds.{Holds};
-ghost use Rattle.ode_top.specs.Opening.{OpensAsIs, OpensTo};
-ghost use Rattle.ode_top.specs.Stops.{IsCut};
+ghost use Rattle.ode_begin.specs.Holds.{Holds};
+ghost use Rattle.ode_begin.specs.Opening.{OpensTo};
+ghost use Rattle.ode_top.specs.Opening.{OpensAsIs};
+ghost use Rattle.ode_begin.specs.Stops.{IsCut};
 
 use crate::call::{Mode, call_of};
 use crate::copying::{follow_stream, ship};
-use crate::opening::open_to_run;
-use crate::saying::{damaged, end_with, refuse};
+use crate::running::{init, run};
+use ode_begin::{damaged, end_with, files_of_worlds_are_opened, open_to_run, refuse};
 use ode_dump::{check_text, dump_text, tallied_records_decode};
-use ode_file_laws::files_of_worlds_are_opened;
 use ode_gen::{TextSource, gen_line, gen_script, generated_scripts_end};
 use ode_good_runs::runs_stay_good;
 use ode_heap::Heap;
 use ode_host::{Host, Source, Status};
 use ode_keeper::Keeper;
 use ode_language_laws::language_has_sound_rules;
-use ode_make::{InitError, initialise};
 use ode_open::{OpenError, open_base};
 use ode_opened::Opened;
 use ode_pagemap::PageMap;
 use ode_passes::OpenError as ReadError;
 use ode_questions::{Asked, answer_script};
 use ode_start_laws::opened_files_are_at_rest;
-use ode_trace::{Tally, run_quietly, run_script};
+use ode_trace::{Tally, run_quietly};
 use ode_value::List;
 use std::alloc::Global;
 
 const USAGE: &[u8] =
     b"usage: ode (init|run|check|dump|query|same|ship|follow) FILE | ode gen FILE N\n";
-
-fn init<H: Host>(host: &mut H) -> Status
-    ensures claims { Initialises (H.view host.old) (H.view host.new) result }
-    ensures leaves { HostCalls (result ≡ Status.DiskFault) (result ≡ Status.WriteFault) (H.view host.old) (H.view host.new) }
-{
-    runs_stay_good();
-    language_has_sound_rules();
-    match initialise(host) {
-        Ok(()) => end_with(host, b"ready\n", Status::Ok),
-        Err(InitError::FileExists) => end_with(host, b"file exists\n", Status::BadFile),
-        Err(InitError::DiskFault) => Status::DiskFault,
-    }
-}
-
-// A run over an opened file.
-fn run_opened<H: Host, S: Source>(
-    alloc: Global,
-    script: &mut S,
-    host: &mut H,
-    opened: Opened<PageMap>,
-) -> Status
-    requires live { IsTrue (is_live opened.keeper) }
-    requires fit { AreFit (resting_parts opened) }
-    requires aligned { AreAligned (resting_parts opened) }
-    ensures ran { (w : ListWorld) (bytes text : Items ℕ) → S.left script.old ≡ Some bytes → OpensTo w opened (H.view host.old) → (H.view host.old).text ≡ Some text
-        → IsEnding result → IsMachineRun bytes w text (S.left script.new) (H.view host.new) result }
-    ensures any_moment { (w : ListWorld) (bytes text : Items ℕ) → S.left script.old ≡ Some bytes → OpensTo w opened (H.view host.old) → (H.view host.old).text ≡ Some text
-        → LeavesOnly (H.view host.old) (H.view host.new) (IsAfterSome Holds (trace ode w bytes) w text) }
-    ensures answers { (w : ListWorld) → OpensTo w opened (H.view host.old) → IsRunStatus result }
-    ensures not_usage { result ≢ Status.Usage }
-    ensures leaves { HostCalls (result ≡ Status.DiskFault) (result ≡ Status.WriteFault) (H.view host.old) (H.view host.new) }
-    ensures reads { RoseIf (result ≡ Status.ReadFault) (S.faults script.old) (S.faults script.new) }
-{
-    runs_stay_good();
-    language_has_sound_rules();
-    opened_files_are_at_rest(&opened, host);
-    match run_script(alloc, script, host, opened) {
-        Ok(status) => status,
-        Err(key) => damaged(alloc, host, key),
-    }
-}
-
-// A run begins with the opening, which begins with a sync, so that what it reads is what a stop leaves.
-fn run<H: Host, S: Source>(alloc: Global, script: &mut S, host: &mut H) -> Status
-    ensures world { RunsWorld (S.left script.old) (S.left script.new) (H.view host.old) (H.view host.new) result }
-    ensures no_world { RunsNone (S.left script.old) (S.left script.new) (H.view host.old) (H.view host.new) result }
-    ensures not_usage { result ≢ Status.Usage }
-    ensures leaves { HostCalls (result ≡ Status.DiskFault) (result ≡ Status.WriteFault) (H.view host.old) (H.view host.new) }
-    ensures reads { RoseIf (result ≡ Status.ReadFault) (S.faults script.old) (S.faults script.new) }
-{
-    files_of_worlds_are_opened();
-    match open_to_run(alloc, host) {
-        Ok(opened) => run_opened(alloc, script, host, opened),
-        Err(why) => refuse(alloc, host, why),
-    }
-}
 
 // The questions of a script over an opened file, of which nothing changes.
 fn ask_opened<H: Host, S: Source>(

@@ -1,5 +1,5 @@
 -- What an engine stands for over a host, and what its calls come to as pieces.
-use Rattle.std.proofs.Common.{◌≡◌, ◌∙◌, ℕ, List, [], ◌∷◌, ◌++◌, Bool, true, Option, Result, Some, None, Ok, Err, append-nil, length, ap, refl, subst, sym}
+use Rattle.std.proofs.Common.{◌≡◌, ◌∙◌, ℕ, List, ◌∷◌, ◌++◌, Bool, true, Option, Result, Some, None, Ok, Err, append-nil, length, ap, refl, subst, sym}
 use Rattle.std.specs.Prelude.{IsTrue, OnOk}
 use Rattle.ode_engine.specs.Serving.{IsAnswer, IsLive, IsOneOf, StandsBy, StandsFor, answer_to, settlings}
 use Rattle.ode_engine.specs.declared.engine.Done.{Done}
@@ -18,19 +18,19 @@ use Rattle.ode_language.specs.declared.reading.ReadStop.{ReadStop}
 use Rattle.ode_language.specs.declared.reading.ReadStop.TheVariants as read
 use Rattle.ode_machine.proofs.MomentLaws.{refusal_leaves}
 use Rattle.ode_machine.specs.Commands.{Step, changes, command, finish, read_piece, states}
-use Rattle.ode_machine.specs.Moments.{Holding, IsAfterSome}
+use Rattle.ode_machine.specs.Moments.{IsAfterSome}
 use Rattle.ode_machine.specs.Runs.{Item, Refuses, answered, final, stretch_of, text_of}
 use Rattle.ode_machine.specs.Sessions.{Session, closed}
 use Rattle.ode_opened.specs.declared.opened.Opened.{Opened}
-use Rattle.ode_run.specs.declared.context.Ctx.{Ctx}
-use Rattle.ode_declared_laws.specs.Adding.{AreAligned}
-use Rattle.ode_schema.specs.Parts.{AreFit}
-use Rattle.ode_trace.proofs.CallLaws.{damage_as}
+use Rattle.ode_transact.specs.Contexts.{Ctx}
+use Rattle.ode_schema.specs.Parts.{AreAligned, AreFit}
+use Rattle.ode_ends.proofs.CallLaws.{Told, damage_as, no_calls}
 use Rattle.ode_trace.proofs.MachineLaws.{finish_ends}
 use Rattle.ode_trace.proofs.TallyLaws.{piece_refused, piece_settled}
 use Rattle.ode_trace.specs.Hearing.{heard_items}
-use Rattle.ode_trace.specs.Statuses.{unread}
-use Rattle.ode_trace.specs.Running.{Carries, Commands, EndsWith}
+use Rattle.ode_trace.specs.Unread.{unread}
+use Rattle.ode_trace.specs.Running.{Carries, Commands}
+use Rattle.ode_ends.specs.Endings.{EndsWith}
 use Rattle.ode_trace.specs.Tallies.{settled_in, with_piece, with_refusal, with_settled}
 use Rattle.ode_trace.specs.declared.tally.Tally.{Tally}
 use Rattle.ode_transact.specs.Errors.{OnDamaged}
@@ -116,9 +116,10 @@ pub settled_many : (answer : Done) (step : Step) → IsAnswer answer (Ok step) �
 settled_many (done.Settled count) step is = is
 settled_many (done.Refused why) step is = absurd is
 
--- nothing more
-pub no_more : (holds : Holding) (items : List Item) (w : ListWorld) (text : List ℕ) (old new : View) → LeavesOnly old new (IsAfterSome holds (items ++ []) w text) → LeavesOnly old new (IsAfterSome holds items w text)
-no_more holds items w text old new run = subst (λ (l : List Item). LeavesOnly old new (IsAfterSome holds l w text)) (append-nil items) run
+-- it calls nothing where none is read
+pub unread_told : (stop : ReadStop) (v : View) → Told {R = Done} (unread stop) v v
+unread_told read.Memory v = no_calls _ _ v (λ is. cc (is)) (λ is. cc (is))
+unread_told (read.Refused why) v = no_calls _ _ v (λ is. cc (is)) (λ is. cc (is))
 
 module _ {H K : Type 0} (seen : H → View) (held : K → View → Entries → Type 0) (live : K → Bool) (means : Meaning)
     (stands : (keeper : K) (host : H) (entries : Entries) → held keeper (seen host) entries → (file : List ℕ) × Stands file (seen host) × means file entries)

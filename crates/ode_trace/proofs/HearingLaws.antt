@@ -7,9 +7,9 @@ use Rattle.ode_host.specs.View.{View}
 use Rattle.ode_machine.specs.Moments.{Holding, IsAfterSome}
 use Rattle.ode_machine.specs.Runs.{Item, Refuses, Settles, any_refused, final, item_of, text_of}
 use Rattle.ode_run_laws.proofs.JoinLaws.{texts_join}
-use Rattle.ode_trace.proofs.MachineLaws.{texts_are}
+use Rattle.ode_ends.proofs.ItemLaws.{texts_are}
 use Rattle.ode_trace.specs.Hearing.{heard_item, heard_items}
-use Rattle.ode_trace.specs.Running.{EndsWith}
+use Rattle.ode_ends.specs.Endings.{EndsWith}
 use Rattle.ode_transact.specs.Items.{items_of, texts_of}
 use Rattle.ode_transact.specs.Output.{all_heard, heard}
 use Rattle.ode_transact.specs.Settling.{Meaning}

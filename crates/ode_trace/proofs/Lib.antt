@@ -1,10 +1,8 @@
-pub mod CallLaws
 pub mod EngineLaws
 pub mod HearingLaws
 pub mod MachineLaws
 pub mod ShipLaws
 pub mod ShippedLaws
-pub mod StatusLaws
 pub mod RunLaws
 pub mod RunsLaws
 pub mod TallyLaws

@@ -1,19 +1,20 @@
 -- What a piece comes to: its world, its text, and whether it is refused.
-use Rattle.std.proofs.Common.{◌≡◌, ℕ, ℤ, List, [], ◌∷◌, ◌++◌, Option, Some, None, Ok, Err, refl, sym, ap}
+use Rattle.std.proofs.Common.{◌≡◌, ℕ, ℤ, List, ◌++◌, Option, Some, None, Ok, Err, refl, sym}
+use Rattle.ode_ends.proofs.ItemLaws.{world_is}
 use Rattle.ode_engine.specs.Serving.{session_after, settlings}
 use Rattle.ode_machine.specs.Commands.{Step, carried, command, does_clock, does_simple, ends_open, finish, goes_on, settles}
 use Rattle.ode_machine.specs.Refusals.{changed_in, checked_in, declared_in, placed, placed_change, ticks_in}
-use Rattle.ode_machine.specs.Runs.{answered, ending_items, final, opening, piece_stretch, pieces_items, stretch_of, text_of}
+use Rattle.ode_machine.specs.Runs.{answered, ending_items, final, opening, piece_stretch, pieces_items, stretch_of}
 use Rattle.ode_machine.specs.Sessions.{Session}
 use Rattle.ode_machine.specs.Works.{changes_class, clock_run, declares}
 use Rattle.ode_script.specs.Cutting.{Ending, Pieces, Then, Ended}
 use Rattle.ode_timer.specs.Due.{behind}
-use Rattle.ode_transact.specs.Items.{items_of, texts_of}
+use Rattle.ode_transact.specs.Items.{items_of}
 use Rattle.ode_value.specs.Acts.{Outcome, Done, Aborted}
 use Rattle.ode_value.specs.Answers.{Answer, ◌>>=◌, ◌>>◌}
-use Rattle.ode_value.specs.Draining.{drain, world_after}
+use Rattle.ode_value.specs.Draining.{drain}
 use Rattle.ode_value.specs.Executing.{commands}
-use Rattle.ode_value.specs.Language.{Language, ListTx, ListWorld, Settlings}
+use Rattle.ode_value.specs.Language.{Language, ListTx, ListWorld}
 use Rattle.ode_value.specs.Limits.{drain_limit}
 use Rattle.ode_value.specs.Objects.{Histories, Starts}
 use Rattle.ode_value.specs.Pasts.{lists}
@@ -26,16 +27,6 @@ use Rattle.ode_value.specs.declared.statement.Statement.{Statement}
 use Rattle.ode_value.specs.declared.statement.Statement.TheVariants as statement
 use Rattle.ode_value.specs.declared.statement.Stmt.{Stmt}
 use Rattle.ode_machine.specs.Commands as machine
-
--- ---- settled transactions
-
-pub texts_are : (settled : Settlings) → texts_of settled ≡ text_of (items_of settled)
-texts_are [] = refl
-texts_are (s ∷ settled) = ap (λ (l : List ℕ). s.1 ++ l) (texts_are settled)
-
-world_is : (w : ListWorld) (settled : Settlings) → final w (items_of settled) ≡ world_after w settled
-world_is w [] = refl
-world_is w (s ∷ settled) = world_is s.0 settled
 
 -- ---- the session behind a step
 

@@ -17,8 +17,9 @@ use Rattle.ode_trace.proofs.HearingLaws.{final_heard, heard_join, heard_texts, m
 use Rattle.ode_trace.proofs.MachineLaws.{opening_ends, piece_ends, pieces_ended, pieces_then}
 use Rattle.ode_trace.proofs.TallyLaws.{refused_told}
 use Rattle.ode_trace.specs.Hearing.{heard_items}
-use Rattle.ode_trace.specs.Running.{EndsWith, LeavesNothing, RanAs, SoFar}
-use Rattle.ode_trace.specs.Statuses.{IsEnding, status_of_script}
+use Rattle.ode_trace.specs.Running.{SoFar}
+use Rattle.ode_ends.specs.Endings.{EndsWith, LeavesNothing, RanAs}
+use Rattle.ode_ends.specs.Statuses.{IsEnding, status_of_script}
 use Rattle.ode_trace.specs.Tallies.{Counts, count_pieces, was_refused}
 use Rattle.ode_trace.specs.declared.tally.Tally.{Tally}
 use Rattle.ode_transact.specs.Items.{items_of}

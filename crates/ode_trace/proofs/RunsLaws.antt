@@ -18,7 +18,8 @@ use Rattle.ode_trace.proofs.MachineLaws.{pieces_then}
 use Rattle.ode_trace.proofs.RunLaws.{goes_further, opened_so_far, same_next}
 use Rattle.ode_trace.proofs.TallyLaws.{opened_counts}
 use Rattle.ode_trace.specs.Hearing.{heard_items}
-use Rattle.ode_trace.specs.Running.{Begins, Carries, Runs}
+use Rattle.ode_trace.specs.Running.{Carries, Runs}
+use Rattle.ode_ends.specs.Endings.{Begins}
 use Rattle.ode_trace.specs.Tallies.{uncounted, with_settled}
 use Rattle.ode_trace.specs.declared.tally.Tally.{Tally}
 use Rattle.ode_transact.specs.Items.{texts_of}

@@ -17,21 +17,21 @@ use Rattle.ode_machine.specs.Moments.{IsAfterSome}
 use Rattle.ode_machine.specs.Runs.{Item, answered, any_refused, ending_items, final, opening, piece_stretch, pieces_items, status_at, text_of, trace}
 use Rattle.ode_machine.specs.Sessions.{Session, closed}
 use Rattle.ode_opened.specs.declared.opened.Opened.{Opened}
-use Rattle.ode_run.specs.declared.context.Ctx.{Ctx}
+use Rattle.ode_transact.specs.Contexts.{Ctx}
 use Rattle.ode_run_laws.proofs.JoinLaws.{final_join}
 use Rattle.ode_script.specs.Cutting.{End, Ended, Ending, LongScript, LongStatement, Pieces, Then, ending_of, pieces}
 use Rattle.ode_script.specs.Left.{EndsBy}
 use Rattle.ode_script.specs.declared.reader.ScriptError.{ScriptError}
 use Rattle.ode_script.specs.declared.reader.ScriptError.TheVariants as script
 use Rattle.ode_ship.specs.Frames.{FitsFrame}
-use Rattle.ode_trace.proofs.CallLaws.{damage_as}
+use Rattle.ode_ends.proofs.CallLaws.{damage_as}
 use Rattle.ode_trace.proofs.EngineLaws.{now_holds, still_stands}
 use Rattle.ode_trace.proofs.MachineLaws.{opening_ends, piece_ends, pieces_ended, pieces_then}
 use Rattle.ode_trace.proofs.ShippedLaws.{fit_join, moment_behind, none_refused, printing_leaves, quiet_leaves, quiet_text, refused_join, settled_items, settled_join, shipped_join, world_settled}
 use Rattle.ode_trace.specs.Hearing.{heard_items}
-use Rattle.ode_trace.specs.Running.{LeavesNothing}
+use Rattle.ode_ends.specs.Endings.{LeavesNothing}
 use Rattle.ode_trace.specs.Shipping.{HasShipped, IsShippedSoFar, LeavesFrames, ShippedAs, Ships, ShipsOn, is_refused, settled_of, shipped}
-use Rattle.ode_trace.specs.Statuses.{IsEnding, status_of_script}
+use Rattle.ode_ends.specs.Statuses.{IsEnding, status_of_script}
 use Rattle.ode_transact.proofs.LogLaws.{behind_append, kept_append}
 use Rattle.ode_transact.specs.Errors.{OnDamaged}
 use Rattle.ode_transact.specs.Items.{items_of}

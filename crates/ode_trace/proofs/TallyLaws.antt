@@ -6,7 +6,7 @@ use Rattle.std.specs.Prelude.{◌==◌, not}
 use Rattle.ode_machine.specs.Runs.{Item, Refuses, Settles, any_refused, text_of}
 use Rattle.ode_run_laws.proofs.JoinLaws.{texts_join}
 use Rattle.ode_script.specs.Cutting.{Pieces}
-use Rattle.ode_trace.proofs.MachineLaws.{texts_are}
+use Rattle.ode_ends.proofs.ItemLaws.{texts_are}
 use Rattle.ode_trace.specs.Tallies.{Counts, count_pieces, count_refused, count_settled, shown, tally_of, uncounted, was_refused, with_bytes, with_piece, with_refusal, with_settled}
 use Rattle.ode_trace.specs.declared.tally.Tally.{Tally}
 use Rattle.ode_transact.specs.Items.{items_of, texts_of}

@@ -1,5 +1,5 @@
 pub mod Hearing
 pub mod Running
 pub mod Shipping
-pub mod Statuses
+pub mod Unread
 pub mod Tallies

@@ -14,7 +14,7 @@ use Rattle.ode_machine.specs.Runs.{Item, Refuses, Settles, any_refused, final, p
 use Rattle.ode_machine.specs.Sessions.{Session}
 use Rattle.ode_script.specs.Cutting.{Ending, Pieces, ending_of}
 use Rattle.ode_ship.specs.Frames.{FitsFrame, frame_bytes}
-use Rattle.ode_trace.specs.Running.{LeavesNothing}
+use Rattle.ode_ends.specs.Endings.{LeavesNothing}
 use Rattle.ode_transact.specs.Errors.{OnDamaged}
 use Rattle.ode_transact.specs.Items.{items_of}
 use Rattle.ode_transact.specs.Logging.{AreKept, DiskHas, Kept, behind}

@@ -1,6 +1,6 @@
 //! A run of a script, piece by piece.
 ghost use Rattle.std.specs.Prelude.{◌≡◌, ◌≢◌, ◌≤◌, ◌⊎◌, ◌++◌, ℕ, Bool, List as Items, IsErrOf, IsTrue, OnOk, Ok, Some, length, true};
-ghost use Rattle.ode_declared_laws.specs.Adding.{AreAligned};
+ghost use Rattle.ode_schema.specs.Parts.{AreAligned, AreFit};
 ghost use Rattle.ode_engine.specs.Serving.{IsLive, StandsFor, settlings};
 ghost use Rattle.ode_good_laws.specs.Well.{IsWell};
 ghost use Rattle.ode_host.specs.Causes.{RoseIf};
@@ -11,11 +11,12 @@ ghost use Rattle.ode_machine.specs.Commands.{command, finish};
 ghost use Rattle.ode_machine.specs.Moments.{IsAfterSome};
 ghost use Rattle.ode_machine.specs.Runs.{Item, final, piece_stretch, status_at, stretch_of, text_of, trace};
 ghost use Rattle.ode_machine.specs.Sessions.{Session};
-ghost use Rattle.ode_schema.specs.Parts.{AreFit};
 ghost use Rattle.ode_script.specs.Cutting.{End, ending_of, pieces};
 ghost use Rattle.ode_trace.specs.Hearing.{heard_items};
-ghost use Rattle.ode_trace.specs.Running.{Begins, Carries, Commands, EndsWith, RanAs, Runs, Serves};
-ghost use Rattle.ode_trace.specs.Statuses.{IsEnding, IsRunStatus, ended_by, status_in, status_of_script, unread};
+ghost use Rattle.ode_trace.specs.Running.{Carries, Commands, Runs, Serves};
+ghost use Rattle.ode_ends.specs.Endings.{Begins, EndsWith, RanAs};
+ghost use Rattle.ode_ends.specs.Statuses.{IsEnding, IsRunStatus, ended_by, status_in, status_of_script};
+ghost use Rattle.ode_trace.specs.Unread.{unread};
 ghost use Rattle.ode_trace.specs.Tallies.{Counts, count_pieces, settled_in, tally_of, was_refused, with_refusal};
 ghost use Rattle.ode_transact.specs.Errors.{OnDamaged};
 ghost use Rattle.ode_transact.specs.Logging.{DiskHas, HasGrown, Logs};
@@ -26,32 +27,15 @@ ghost use Rattle.ode_value.specs.Limits.{statement_limit};
 ghost use Rattle.ode_value.specs.Texts.{refused_line};
 
 use crate::tally::Tally;
+use ode_ends::{ended_by, say, status_of_script};
 use ode_engine::{Done, Engine, EngineError};
-use ode_host::{Failed, Host, Source, Status};
+use ode_host::{Host, Source, Status};
 use ode_keep::Roomy;
 use ode_language::{Piece as Read, ReadStop, read_piece};
 use ode_opened::Opened;
-use ode_script::{Piece, Reader, ScriptError, refusal_line};
+use ode_script::{Piece, Reader, refusal_line};
 use ode_value::{Boxed, Key, Refusal};
 use std::alloc::Global;
-
-// A text is printed, or nothing of it in a quiet run.
-pub(crate) fn say<H: Host>(host: &mut H, quiet: bool, text: &[u8]) -> Result<(), EngineError>
-    ensures printed { OnOk result (Printed (heard quiet text.now) (H.view host.old) (H.view host.new)) }
-    ensures any_moment { (file said : Items ℕ) → Stands file (H.view host.old) → (H.view host.old).text ≡ Some said
-        → LeavesOnly (H.view host.old) (H.view host.new) (LeavesCut file said (heard quiet text.now)) }
-    ensures stands { (file : Items ℕ) → Stands file (H.view host.old) → Stands file (H.view host.new) }
-    ensures sound { OnDamaged result ⊥ }
-    ensures leaves { HostCalls (IsErrOf result EngineError.DiskFault) (IsErrOf result EngineError.WriteFault) (H.view host.old) (H.view host.new) }
-{
-    if quiet {
-        return Ok(());
-    }
-    match host.print(text) {
-        Ok(()) => Ok(()),
-        Err(Failed) => Err(EngineError::WriteFault),
-    }
-}
 
 // A refusal is counted, and its line is printed, or in a quiet run nothing of it.
 fn refuse<H: Host>(
@@ -140,30 +124,6 @@ fn carry_out<H: Host, K: Roomy<H> + Drop>(
             Ok(())
         }
         Done::Refused(refusal) => refuse(alloc, host, engine.quiet, tally, line, refusal),
-    }
-}
-
-// What a run ends with where the engine doesn't answer: a status, or the key of a record that was found damaged.
-pub(crate) fn ended_by(error: EngineError) -> Result<Status, Key>
-    ensures { result ≡ ended_by error }
-{
-    match error {
-        EngineError::Memory => Ok(Status::Memory),
-        EngineError::DiskFault => Ok(Status::DiskFault),
-        EngineError::WriteFault => Ok(Status::WriteFault),
-        EngineError::Damaged { key } => Err(key),
-    }
-}
-
-// The status that a run ends with where the script gives no piece.
-pub(crate) fn status_of_script(error: ScriptError) -> Status
-    ensures { result ≡ status_of_script error }
-{
-    match error {
-        ScriptError::Memory => Status::Memory,
-        ScriptError::ReadFault => Status::ReadFault,
-        ScriptError::LongStatement => Status::LongStatement,
-        ScriptError::LongScript => Status::LongScript,
     }
 }
 

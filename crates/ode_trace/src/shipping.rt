@@ -1,7 +1,7 @@
 //! A run of a script that ships what it settles: frames in place of texts.
 ghost use Rattle.std.specs.Prelude.{◌≡◌, ◌≢◌, ◌≤◌, ◌⊎◌, ◌||◌, [], ℕ, Bool, List as Items, IfOk, IsErrOf, IsTrue, None, Ok, OnOk, Some, is_err, length, option_map, true, unwrap_or};
 ghost use Rattle.std.specs.List.{AllByRecursion};
-ghost use Rattle.ode_declared_laws.specs.Adding.{AreAligned};
+ghost use Rattle.ode_schema.specs.Parts.{AreAligned, AreFit};
 ghost use Rattle.ode_engine.specs.Serving.{IsLive, StandsFor, session_after, settlings};
 ghost use Rattle.ode_good_laws.specs.Well.{IsWell};
 ghost use Rattle.ode_host.specs.Causes.{RoseIf};
@@ -11,12 +11,11 @@ ghost use Rattle.ode_language.specs.Languages.{ode};
 ghost use Rattle.ode_machine.specs.Commands.{after, command, finish};
 ghost use Rattle.ode_machine.specs.Runs.{Item, status_at, stretch_of, trace};
 ghost use Rattle.ode_machine.specs.Sessions.{Session};
-ghost use Rattle.ode_schema.specs.Parts.{AreFit};
 ghost use Rattle.ode_script.specs.Cutting.{End, ending_of, pieces};
 ghost use Rattle.ode_ship.specs.Frames.{FitsFrame};
-ghost use Rattle.ode_trace.specs.Running.{Begins};
+ghost use Rattle.ode_ends.specs.Endings.{Begins};
 ghost use Rattle.ode_trace.specs.Shipping.{HasShipped, IsShippedSoFar, LeavesFrames, ShippedAs, Ships, ShipsOn, is_refused, shipped};
-ghost use Rattle.ode_trace.specs.Statuses.{IsEnding, IsRunStatus, status_in};
+ghost use Rattle.ode_ends.specs.Statuses.{IsEnding, IsRunStatus, status_in};
 ghost use Rattle.ode_transact.specs.Errors.{OnDamaged};
 ghost use Rattle.ode_transact.specs.Logging.{DiskHas, IsBounded};
 ghost use Rattle.ode_transact.specs.Resting.{IsAtRest, resting_parts};
@@ -25,7 +24,8 @@ ghost use Rattle.ode_value.specs.Language.{ListWorld};
 ghost use Rattle.ode_value.specs.Limits.{drain_limit, statement_limit};
 ghost use Rattle.ode_value.specs.Pasts.{lists};
 
-use crate::run::{command_piece, ended_by, say, status_of_script};
+use crate::run::command_piece;
+use ode_ends::{ended_by, say, status_of_script};
 use ode_engine::{Done, Engine, EngineError};
 use ode_host::{Host, Source, Status};
 use ode_keep::Roomy;

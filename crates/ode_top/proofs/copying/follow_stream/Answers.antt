@@ -1,8 +1,8 @@
 use Rattle.ode_host.proofs.Calls.{disk_host, host_calls_on, rose_none}
-use Rattle.ode_top.proofs.Claiming.{none_absent, none_where}
-use Rattle.ode_top.proofs.Refusing.{none_refused, refused_leaves, refused_no_read, refused_no_usage}
-use Rattle.ode_top.proofs.Reopening.{other_image}
-use Rattle.ode_top.proofs.Running.{none_broken}
+use Rattle.ode_begin.proofs.Claiming.{none_absent, none_where}
+use Rattle.ode_begin.proofs.Refusing.{none_refused, refused_leaves, refused_no_read, refused_no_usage}
+use Rattle.ode_begin.proofs.Reopening.{other_image}
+use Rattle.ode_begin.proofs.Running.{none_broken}
 use Rattle.ode_top.proofs.Following.{follows_opened, follows_refused}
 use Rattle.ode_top.proofs.copying.follow_stream.Goals as goal
 

@@ -3,9 +3,9 @@ use Rattle.ode_host.proofs.Calls.{host_calls_on, rose_as}
 use Rattle.ode_host.proofs.Moments.{weaker}
 use Rattle.ode_language.specs.Languages.{ode}
 use Rattle.ode_machine.specs.Runs.{trace}
-use Rattle.ode_trace.specs.Statuses.{IsEnding}
-use Rattle.ode_top.proofs.Calling.{never_usage}
-use Rattle.ode_top.proofs.Running.{begins, well}
+use Rattle.ode_ends.specs.Statuses.{IsEnding}
+use Rattle.ode_begin.proofs.Calling.{never_usage}
+use Rattle.ode_begin.proofs.Running.{begins, well}
 use Rattle.ode_top.proofs.Shipping.{ships_files}
 use Rattle.ode_top.proofs.copying.ship_opened.Goals as goal
 

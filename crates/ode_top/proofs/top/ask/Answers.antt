@@ -1,9 +1,10 @@
 use Rattle.ode_host.proofs.Calls.{disk_host, host_calls_on, looks_calls, rose_none}
-use Rattle.ode_top.proofs.Claiming.{none_absent}
+use Rattle.ode_begin.proofs.Claiming.{none_absent}
 use Rattle.ode_top.proofs.Questioning.{questions_opened}
-use Rattle.ode_top.proofs.Refusing.{none_refused, refused_leaves, refused_no_read, refused_no_usage, refused_questions}
-use Rattle.ode_top.proofs.Reopening.{outside_only}
-use Rattle.ode_top.proofs.Running.{breaks_none, held_unbroken, none_broken}
+use Rattle.ode_begin.proofs.Refusing.{none_refused, refused_leaves, refused_no_read, refused_no_usage}
+use Rattle.ode_top.proofs.Refusing.{refused_questions}
+use Rattle.ode_begin.proofs.Reopening.{outside_only}
+use Rattle.ode_begin.proofs.Running.{breaks_none, held_unbroken, none_broken}
 use Rattle.ode_top.proofs.top.ask.Goals as goal
 
 -- a file that was opened, so it breaks no rule

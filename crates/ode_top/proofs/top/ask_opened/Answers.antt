@@ -5,8 +5,8 @@ use Rattle.ode_host.proofs.Calls.{host_calls_as, host_calls_on, rose_as, spares_
 use Rattle.ode_keeper.specs.Holding.{KeeperHolds}
 use Rattle.ode_keeper.specs.declared.keeper.Keeper.{Keeper}
 use Rattle.ode_language.specs.Languages.{ode}
-use Rattle.ode_trace.specs.Statuses.{IsEnding, IsRunStatus}
-use Rattle.ode_top.proofs.Calling.{tells_same}
+use Rattle.ode_ends.specs.Statuses.{IsEnding, IsRunStatus}
+use Rattle.ode_begin.proofs.Calling.{tells_same}
 use Rattle.ode_top.proofs.Questioning.{all_answered, classes_shown, part_answered, run_status}
 use Rattle.ode_top.proofs.top.ask_opened.Goals as goal
 

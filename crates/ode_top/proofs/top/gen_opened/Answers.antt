@@ -5,13 +5,13 @@ use Rattle.ode_host.proofs.Moments.{started}
 use Rattle.ode_host.specs.declared.status.Status.{Status}
 use Rattle.ode_language.specs.Languages.{ode}
 use Rattle.ode_machine.specs.Moments.{IsAfterSome}
-use Rattle.ode_trace.proofs.CallLaws.{no_calls}
-use Rattle.ode_trace.specs.Statuses.{IsEnding}
+use Rattle.ode_ends.proofs.CallLaws.{no_calls}
+use Rattle.ode_ends.specs.Statuses.{IsEnding}
 use Rattle.ode_top.specs.Answers.{IsGenStatus, IsGenerated, gen_items}
-use Rattle.ode_top.specs.Holds.{Holds}
-use Rattle.ode_top.proofs.Calling.{never_usage}
+use Rattle.ode_begin.specs.Holds.{Holds}
+use Rattle.ode_begin.proofs.Calling.{never_usage}
 use Rattle.ode_top.proofs.Generating.{cut_status, ended_status, generated, line_leaves, run_leaves}
-use Rattle.ode_top.proofs.Running.{begins}
+use Rattle.ode_begin.proofs.Running.{begins}
 use Rattle.ode_top.proofs.top.gen_opened.Goals as goal
 
 -- there was no memory for the script

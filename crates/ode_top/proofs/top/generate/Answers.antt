@@ -1,9 +1,9 @@
 use Rattle.ode_host.proofs.Calls.{disk_host, host_calls_on}
-use Rattle.ode_top.proofs.Claiming.{none_absent, none_where}
+use Rattle.ode_begin.proofs.Claiming.{none_absent, none_where}
 use Rattle.ode_top.proofs.Generating.{generates_opened, generates_refused}
-use Rattle.ode_top.proofs.Refusing.{none_refused, refused_leaves, refused_no_read, refused_no_usage}
-use Rattle.ode_top.proofs.Reopening.{left_held, other_image, stops_held}
-use Rattle.ode_top.proofs.Running.{none_broken}
+use Rattle.ode_begin.proofs.Refusing.{none_refused, refused_leaves, refused_no_read, refused_no_usage}
+use Rattle.ode_begin.proofs.Reopening.{left_held, other_image, stops_held}
+use Rattle.ode_begin.proofs.Running.{none_broken}
 use Rattle.ode_top.proofs.top.generate.Goals as goal
 
 -- a file that was opened, so it breaks no rule

@@ -3,8 +3,9 @@ use Rattle.ode_host.specs.declared.status.Status.TheVariants as status
 use Rattle.ode_host.proofs.Calls.{disk_host, host_calls_on, looks_calls}
 use Rattle.ode_top.specs.Answers.{SaysRecords}
 use Rattle.ode_top.proofs.Inspecting.{records_inspects}
-use Rattle.ode_top.proofs.Leaving.{line_leaves}
-use Rattle.ode_top.proofs.Refusing.{refused_inspects, refused_leaves}
+use Rattle.ode_begin.proofs.Leaving.{line_leaves}
+use Rattle.ode_begin.proofs.Refusing.{refused_leaves}
+use Rattle.ode_top.proofs.Refusing.{refused_inspects}
 use Rattle.ode_top.proofs.top.inspect.Goals as goal
 
 -- the file was opened

@@ -4,7 +4,7 @@ use Rattle.std.specs.Prelude.{◌==◌}
 use Rattle.ode_gate.specs.declared.places.TheConstants.{FIRST_FORMAT}
 use Rattle.ode_open.specs.Opening.{base_in}
 use Rattle.ode_top.proofs.Inspecting.{opened_tally, read_refused}
-use Rattle.ode_top.proofs.Running.{breaks_none}
+use Rattle.ode_begin.proofs.Running.{breaks_none}
 use Rattle.ode_top.proofs.top.read_text.Goals as goal
 
 pub returns-in_err-opened-clause-answer : goal.returns-in_err-opened-clause-answer

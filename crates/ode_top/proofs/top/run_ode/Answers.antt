@@ -2,13 +2,14 @@ use Rattle.std.proofs.Common.{◌≡◌, ◌∙◌, ◌≤◌, ⊎_elim, inl, in
 use Rattle.ode_host.specs.declared.status.Status.TheVariants as status
 use Rattle.std.specs.declared.string.String.{String}
 use Rattle.std.specs.declared.alloc.Global.{Global}
-use Rattle.ode_top.specs.Calls.{bytes_of, call_of}
+use Rattle.ode_begin.specs.Words.{bytes_of}
+use Rattle.ode_top.specs.Calls.{call_of}
 use Rattle.ode_top.specs.declared.call.Mode.{Mode}
 use Rattle.ode_host.proofs.Calls.{rose_none}
 use Rattle.ode_gen.specs.Generating.{gen_limit}
 use Rattle.ode_questions.specs.declared.asked.Asked.{Asked}
 use Rattle.ode_top.proofs.Asking.{asked_same, asked_within, questions_same}
-use Rattle.ode_top.proofs.Leaving.{line_idle, line_leaves}
+use Rattle.ode_begin.proofs.Leaving.{line_idle, line_leaves}
 use Rattle.ode_top.specs.Claims.{Generates, Questions}
 use Rattle.ode_top.proofs.top.run_ode.Goals as goal
 

@@ -2,8 +2,8 @@ use Rattle.std.proofs.Common.{◌≡◌, ◌∙◌, ◌++◌, ⊎_elim, List, �
 use Rattle.ode_host.proofs.Moments.{print_leaves}
 use Rattle.ode_host.specs.Host.{LeavesCut, LeavesOnly}
 use Rattle.ode_trace.proofs.EngineLaws.{stands_printed}
-use Rattle.ode_trace.specs.Statuses.{IsEnding}
-use Rattle.ode_top.proofs.Leaving.{line_leaves}
+use Rattle.ode_ends.specs.Statuses.{IsEnding}
+use Rattle.ode_begin.proofs.Leaving.{line_leaves}
 use Rattle.ode_top.proofs.top.say_counts.Goals as goal
 
 pub end_with-requires : goal.end_with-requires

@@ -2,7 +2,7 @@ use Rattle.std.proofs.lemmas.Result.{err_from_is_err_and}
 use Rattle.ode_engine.specs.declared.engine.Done.{Done}
 use Rattle.ode_language.specs.Languages.{ode}
 use Rattle.ode_machine.specs.Commands.{command}
-use Rattle.ode_trace.proofs.CallLaws.{always, answer_quiet, error_told, quiet_answer, told_behind}
+use Rattle.ode_ends.proofs.CallLaws.{always, answer_quiet, error_told, quiet_answer, told_behind}
 use Rattle.ode_trace.proofs.EngineLaws.{refused_carries, settled_carries, stopped_carries}
 use Rattle.ode_trace.proofs.run.carry_out.Goals as goal
 

@@ -6,8 +6,8 @@ use Rattle.ode_engine.specs.declared.engine.Done.{Done}
 use Rattle.ode_language.specs.Languages.{ode}
 use Rattle.ode_language.specs.declared.reading.Piece.TheVariants as given
 use Rattle.ode_machine.specs.Commands.{Step, changes, command}
-use Rattle.ode_trace.proofs.CallLaws.{damage_gives, unread_told}
-use Rattle.ode_trace.proofs.EngineLaws.{called_commands, changed_commands, command_changed, command_said, has_change, has_statement, unread_logs, unread_stops}
+use Rattle.ode_ends.proofs.CallLaws.{damage_gives}
+use Rattle.ode_trace.proofs.EngineLaws.{called_commands, changed_commands, command_changed, command_said, has_change, has_statement, unread_logs, unread_stops, unread_told}
 use Rattle.ode_trace.proofs.HearingLaws.{moments_heard, printed_heard}
 use Rattle.ode_trace.specs.Running.{Commands}
 use Rattle.ode_transact.proofs.LogLaws.{grown_none}

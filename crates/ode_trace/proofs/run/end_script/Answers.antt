@@ -4,11 +4,12 @@ use Rattle.ode_language.specs.Languages.{ode}
 use Rattle.ode_machine.specs.Commands.{finish}
 use Rattle.ode_transact.specs.Resting.{HoldsBy}
 use Rattle.ode_transact.specs.declared.output.Output.{Output}
-use Rattle.ode_trace.specs.Statuses.{IsEnding, IsRunStatus}
-use Rattle.ode_trace.proofs.CallLaws.{damage_gives, error_stated}
-use Rattle.ode_trace.proofs.EngineLaws.{finished_ends, no_more, settled_many}
+use Rattle.ode_ends.specs.Statuses.{IsEnding, IsRunStatus}
+use Rattle.ode_ends.proofs.CallLaws.{damage_gives, error_stated}
+use Rattle.ode_ends.proofs.ItemLaws.{no_more}
+use Rattle.ode_trace.proofs.EngineLaws.{finished_ends, settled_many}
 use Rattle.ode_trace.proofs.HearingLaws.{moments_heard, printed_heard}
-use Rattle.ode_trace.proofs.StatusLaws.{ended_is, engine_answers, engine_no_end}
+use Rattle.ode_ends.proofs.StatusLaws.{ended_is, engine_answers, engine_no_end}
 use Rattle.ode_trace.proofs.TallyLaws.{more_settled}
 use Rattle.ode_trace.proofs.run.end_script.Goals as goal
 

@@ -7,13 +7,13 @@ use Rattle.ode_machine.specs.Sessions.{closed}
 use Rattle.ode_script.specs.Cutting.{pieces}
 use Rattle.ode_transact.specs.Resting.{HoldsBy}
 use Rattle.ode_trace.specs.Hearing.{heard_items}
-use Rattle.ode_trace.specs.Statuses.{IsEnding, IsRunStatus}
+use Rattle.ode_ends.specs.Statuses.{IsEnding, IsRunStatus}
 use Rattle.ode_trace.specs.Tallies.{with_bytes}
-use Rattle.ode_trace.proofs.CallLaws.{answer_quiet, damage_gives, error_stated, told_behind}
+use Rattle.ode_ends.proofs.CallLaws.{answer_quiet, damage_gives, error_stated, told_behind}
 use Rattle.ode_trace.proofs.EngineLaws.{started_live, started_stands}
 use Rattle.ode_trace.proofs.RunLaws.{opened_leaves}
 use Rattle.ode_trace.proofs.RunsLaws.{runs_opened}
-use Rattle.ode_trace.proofs.StatusLaws.{ended_is, engine_answers, engine_no_end}
+use Rattle.ode_ends.proofs.StatusLaws.{ended_is, engine_answers, engine_no_end}
 use Rattle.ode_trace.proofs.TallyLaws.{all_counted}
 use Rattle.ode_trace.proofs.run.run_opened.Goals as goal
 

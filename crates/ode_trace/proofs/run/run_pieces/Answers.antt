@@ -11,16 +11,16 @@ use Rattle.ode_script.specs.Left.{HasPieces}
 use Rattle.ode_script.specs.declared.reader.ScriptError.TheVariants as script
 use Rattle.ode_transact.specs.Resting.{HoldsBy}
 use Rattle.ode_trace.specs.Hearing.{heard_items}
-use Rattle.ode_trace.specs.Running.{LeavesNothing}
-use Rattle.ode_trace.specs.Statuses.{IsEnding, IsRunStatus, status_in, status_of_script}
+use Rattle.ode_ends.specs.Endings.{LeavesNothing}
+use Rattle.ode_ends.specs.Statuses.{IsEnding, IsRunStatus, status_in, status_of_script}
 use Rattle.ode_trace.specs.Tallies.{was_refused}
-use Rattle.ode_trace.proofs.CallLaws.{answer_quiet, error_stated, no_calls, told_behind}
+use Rattle.ode_ends.proofs.CallLaws.{answer_quiet, error_stated, no_calls, told_behind}
 use Rattle.ode_trace.proofs.EngineLaws.{ends_now}
 use Rattle.ode_trace.proofs.HearingLaws.{ends_as, moments_as}
 use Rattle.ode_trace.proofs.MachineLaws.{pieces_ended}
 use Rattle.ode_trace.proofs.RunLaws.{ended_counts, ended_ran, error_counts, error_ran, goes_further}
 use Rattle.ode_trace.proofs.RunsLaws.{runs_leaves, runs_next}
-use Rattle.ode_trace.proofs.StatusLaws.{ended_is, end_leaves, engine_answers, engine_no_end, engine_no_read, script_no_disk, script_no_print, script_read, script_runs}
+use Rattle.ode_ends.proofs.StatusLaws.{ended_is, end_leaves, engine_answers, engine_no_end, engine_no_read, script_no_disk, script_no_print, script_read, script_runs}
 use Rattle.ode_trace.proofs.run.run_pieces.Goals as goal
 
 pub pieces-init : goal.pieces-init

@@ -5,8 +5,8 @@ use Rattle.ode_machine.specs.Moments.{IsAfterSome}
 use Rattle.ode_machine.specs.Runs.{Item, trace}
 use Rattle.ode_script.specs.Cutting.{ending_of, pieces}
 use Rattle.ode_transact.specs.Resting.{HoldsBy}
-use Rattle.ode_trace.specs.Running.{RanAs}
-use Rattle.ode_trace.specs.Statuses.{status_in}
+use Rattle.ode_ends.specs.Endings.{RanAs}
+use Rattle.ode_ends.specs.Statuses.{status_in}
 use Rattle.ode_trace.proofs.HearingLaws.{heard_aloud}
 use Rattle.ode_trace.proofs.run.run_script.Goals as goal
 

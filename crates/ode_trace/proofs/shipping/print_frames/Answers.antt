@@ -5,7 +5,7 @@ use Rattle.std.proofs.lemmas.Result.{err_from_is_err_and}
 use Rattle.ode_host.proofs.Calls.{host_calls_as}
 use Rattle.ode_host.specs.Host.{LeavesCut, LeavesOnly, Printed}
 use Rattle.ode_transact.specs.Logging.{IsBounded, Kept}
-use Rattle.ode_trace.proofs.CallLaws.{answer_quiet, damage_as, error_told, no_calls, quiet_answer, told_behind}
+use Rattle.ode_ends.proofs.CallLaws.{answer_quiet, damage_as, error_told, no_calls, quiet_answer, told_behind}
 use Rattle.ode_trace.proofs.ShippedLaws.{ArePrinting, next_kept, printing_all, printing_cut, printing_fits, printing_more, printing_none}
 use Rattle.ode_trace.proofs.shipping.print_frames.Goals as goal
 

@@ -5,10 +5,10 @@ use Rattle.ode_machine.specs.Commands.{finish}
 use Rattle.ode_machine.specs.Runs.{Item}
 use Rattle.ode_transact.specs.Items.{items_of}
 use Rattle.ode_trace.specs.Shipping.{IsShippedSoFar}
-use Rattle.ode_trace.specs.Statuses.{IsEnding, IsRunStatus}
-use Rattle.ode_trace.proofs.CallLaws.{answer_quiet, error_stated}
+use Rattle.ode_ends.specs.Statuses.{IsEnding, IsRunStatus}
+use Rattle.ode_ends.proofs.CallLaws.{answer_quiet, error_stated}
 use Rattle.ode_trace.proofs.ShipLaws.{disk_of}
-use Rattle.ode_trace.proofs.StatusLaws.{end_no_disk, end_no_print, end_no_read, end_runs, ended_is, engine_answers, engine_no_end}
+use Rattle.ode_ends.proofs.StatusLaws.{end_no_disk, end_no_print, end_no_read, end_runs, ended_is, engine_answers, engine_no_end}
 use Rattle.ode_trace.proofs.shipping.ship_end.Goals as goal
 
 pub returns-in-Ok-clause-ends : goal.returns-in-Ok-clause-ends

@@ -6,7 +6,7 @@ use Rattle.ode_engine.specs.declared.engine.Engine.{Engine}
 use Rattle.ode_language.specs.Languages.{ode}
 use Rattle.ode_machine.specs.Commands.{command}
 use Rattle.ode_trace.specs.Hearing.{heard_items}
-use Rattle.ode_trace.proofs.CallLaws.{answer_quiet, damage_as, error_told, quiet_answer, told_behind}
+use Rattle.ode_ends.proofs.CallLaws.{answer_quiet, damage_as, error_told, quiet_answer, told_behind}
 use Rattle.ode_trace.proofs.MachineLaws.{answer_ends}
 use Rattle.ode_trace.proofs.ShipLaws.{bounded_log, emptied_log, live_logged, refused_is, ships_all, ships_none}
 use Rattle.ode_trace.proofs.shipping.ship_piece.Goals as goal

@@ -9,12 +9,12 @@ use Rattle.ode_script.specs.Cutting.{End, Then, pieces}
 use Rattle.ode_script.specs.Left.{HasPieces}
 use Rattle.ode_script.specs.declared.reader.ScriptError.TheVariants as script
 use Rattle.ode_transact.specs.Logging.{behind}
-use Rattle.ode_trace.specs.Running.{LeavesNothing}
+use Rattle.ode_ends.specs.Endings.{LeavesNothing}
 use Rattle.ode_trace.specs.Shipping.{IsShippedSoFar, ShipsOn, shipped}
-use Rattle.ode_trace.specs.Statuses.{IsEnding, IsRunStatus, status_in, status_of_script}
-use Rattle.ode_trace.proofs.CallLaws.{answer_quiet, error_stated, no_calls, told_behind}
+use Rattle.ode_ends.specs.Statuses.{IsEnding, IsRunStatus, status_in, status_of_script}
+use Rattle.ode_ends.proofs.CallLaws.{answer_quiet, error_stated, no_calls, told_behind}
 use Rattle.ode_trace.proofs.ShipLaws.{disk_of, end_ships, ended_leaves, error_ships, piece_leaves, piece_ships}
-use Rattle.ode_trace.proofs.StatusLaws.{ended_is, end_leaves, engine_answers, engine_no_end, engine_no_read, script_no_disk, script_no_print, script_read, script_runs}
+use Rattle.ode_ends.proofs.StatusLaws.{ended_is, end_leaves, engine_answers, engine_no_end, engine_no_read, script_no_disk, script_no_print, script_read, script_runs}
 use Rattle.ode_trace.proofs.shipping.ship_pieces.Goals as goal
 
 pub pieces-init : goal.pieces-init

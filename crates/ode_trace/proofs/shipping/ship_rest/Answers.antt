@@ -5,7 +5,7 @@ use Rattle.ode_language.specs.Languages.{ode}
 use Rattle.ode_machine.specs.Commands.{finish}
 use Rattle.ode_transact.specs.Resting.{HoldsBy}
 use Rattle.ode_trace.specs.Hearing.{heard_items}
-use Rattle.ode_trace.proofs.CallLaws.{answer_quiet, damage_gives, error_told, told_behind}
+use Rattle.ode_ends.proofs.CallLaws.{answer_quiet, damage_gives, error_told, told_behind}
 use Rattle.ode_trace.proofs.HearingLaws.{moments_heard, printed_heard}
 use Rattle.ode_trace.proofs.MachineLaws.{finish_ends}
 use Rattle.ode_trace.proofs.ShipLaws.{bounded_log, ships_all, ships_none}

@@ -6,11 +6,11 @@ use Rattle.ode_machine.specs.Runs.{opening, pieces_items, trace}
 use Rattle.ode_machine.specs.Sessions.{closed}
 use Rattle.ode_script.specs.Cutting.{pieces}
 use Rattle.ode_trace.specs.Shipping.{IsShippedSoFar}
-use Rattle.ode_trace.specs.Statuses.{IsEnding, IsRunStatus}
-use Rattle.ode_trace.proofs.CallLaws.{answer_quiet, error_stated, told_behind}
+use Rattle.ode_ends.specs.Statuses.{IsEnding, IsRunStatus}
+use Rattle.ode_ends.proofs.CallLaws.{answer_quiet, error_stated, told_behind}
 use Rattle.ode_trace.proofs.EngineLaws.{started_live, started_stands}
 use Rattle.ode_trace.proofs.ShipLaws.{disk_of, logging_has, opened_ships}
-use Rattle.ode_trace.proofs.StatusLaws.{ended_is, engine_answers, engine_no_end}
+use Rattle.ode_ends.proofs.StatusLaws.{ended_is, engine_answers, engine_no_end}
 use Rattle.ode_trace.proofs.shipping.ship_script.Goals as goal
 
 pub ship_drain-requires-clause-live : goal.ship_drain-requires-clause-live
