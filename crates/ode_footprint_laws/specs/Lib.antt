@@ -1,0 +1,4 @@
+pub mod Agreeing
+pub mod Fresh
+pub mod Growing
+pub mod Staying
