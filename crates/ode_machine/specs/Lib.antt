@@ -4,5 +4,7 @@ pub mod Refusals
 pub mod Works
 pub mod Commands
 pub mod Runs
+pub mod Interleaving
+pub mod Conversation
 pub mod Stability
 pub mod Moments

@@ -6,7 +6,7 @@ use Rattle.ode_value.specs.Pasts.{Past}
 use Rattle.ode_value.specs.Texts.{changed_line, class_line}
 use Rattle.ode_value.specs.Worlds.{Declared, Position, World}
 use Rattle.ode_value.specs.Acts.{Deed, ◌>>=◌, ◌>>◌, needs, finds, alters, turns, prints, nothing}
-use Rattle.ode_value.specs.Changes.{object, lives}
+use Rattle.ode_value.specs.Changes.{object, there}
 use Rattle.ode_value.specs.Changing.{changed_bones, changed_world}
 use Rattle.ode_value.specs.Draining.{with_drain, world_after}
 use Rattle.ode_machine.specs.TimeRows.{kinds_of}
@@ -34,7 +34,7 @@ module _ {O A : Type 0} (past : Past O A) where
   abbrev pub ticks : Position → Deed O A
   ticks p = do
     touches past (first_actions past) p.object
-    lives p.object
+    there p.object
     o ← object p.object
     kind ← finds (λ b. slice_get (kinds_of b.classes o.class) p.place)
     posts past (first_actions past) p.object kind []

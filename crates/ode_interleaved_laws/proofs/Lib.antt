@@ -1,0 +1,13 @@
+pub mod Again
+pub mod BusyLaws
+pub mod ComingLaws
+pub mod FinishLaws
+pub mod GoingLaws
+pub mod HolderLaws
+pub mod KeepLaws
+pub mod LastLaws
+pub mod OpenLaws
+pub mod RunLaws
+pub mod SerialLaws
+pub mod SettledLaws
+pub mod StepLaws
