@@ -1,7 +1,7 @@
 #!/usr/bin/env python3
 """Looks whether the documents still say what is there: checks/documents.py
 
-Each name in docs/GLOSSARY.md and docs/MACHINE.md stands in its file, each clause or claim in docs/PROVED.md in its crate and, where
+Each name in docs/GLOSSARY.md and docs/MACHINE.md stands in its file, each clause in docs/PROVED.md in its crate (each claim in some crate's specs/Claims) and, where
 a line there begins with a function, at one that it names; each crate of crates.txt stands in docs/ARCHITECTURE.md with the crates that
 it stands on, and the README has at most 1,000 words. Prints what doesn't; the status is then 1.
 """
@@ -99,8 +99,7 @@ def proved():
         named = re.match(r"## .*: (ode\w*)$|\*\*(ode\w*)\*\*", line)
         crate = (named[1] or named[2]) if named else crate
         text = read(*glob.glob(f"{TOP}/crates/{crate}/src/**/*.rt", recursive=True)) if crate else ""
-        claims = f"{TOP}/crates/{crate}/specs/Claims.antt"
-        fields = read(claims) if os.path.isfile(claims) else ""
+        fields = read(*glob.glob(f"{TOP}/crates/*/specs/Claims.antt"))
         functions = clauses_in(text)
         named = [name.split("::")[-1] for name in quoted(re.sub(r"\[[^\]]*`[^\]]*\]", "", line))]
         if not re.match(r"- `", line) or named[0] not in functions:
