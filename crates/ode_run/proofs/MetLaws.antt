@@ -1,5 +1,5 @@
 -- What a settling looked at and met, over state numbers and over lists of points.
-use Rattle.std.proofs.Common.{◌≡◌, ◌∙◌, ◌+◌, ◌++◌, ◌∷◌, [], ℕ, Bool, true, false, not, List, map, Option, Some, None, ap, refl, subst, sym}
+use Rattle.std.proofs.Common.{◌≡◌, ◌∙◌, ◌++◌, [], ℕ, Bool, true, false, not, List, map, Option, Some, None, ap, refl, subst, sym}
 use Rattle.std.specs.List.{filter, filter_map}
 use Rattle.std.specs.Option.{is_some}
 use Rattle.ode_commit_laws.proofs.CleanLast.{posted_same}
@@ -7,10 +7,10 @@ use Rattle.ode_commit_laws.proofs.CleanWorlds.{world_twice}
 use Rattle.ode_laws.proofs.AlikePairs.{Pair}
 use Rattle.ode_laws.proofs.AlikeRows.{Places, both_places, whole_places}
 use Rattle.ode_laws.proofs.AlikeSettling.{pair_of}
-use Rattle.ode_laws.proofs.AlikeWork.{Held, point_held}
+use Rattle.ode_laws.proofs.AlikeWork.{Held, collect_same, point_held}
 use Rattle.ode_laws.proofs.KeptRows.{kept_numbered, kept_pair, rewound_pair}
 use Rattle.ode_laws.proofs.SideSettling.{Settlings, posted_related}
-use Rattle.ode_laws.proofs.Sides.{Same, told}
+use Rattle.ode_laws.proofs.Sides.{told}
 use Rattle.ode_laws.specs.Alike.{NumberTx, NumberWorld, RunsAs}
 use Rattle.ode_laws.specs.Numbered.{AreNumbered}
 use Rattle.ode_run.specs.Ending.{ended_by, last_points}
@@ -20,10 +20,9 @@ use Rattle.ode_value.specs.Keeping.{kept_bones, kept_row, with_last}
 use Rattle.ode_value.specs.Language.{ListTx, ListWorld}
 use Rattle.ode_value.specs.Objects.{Histories, Starts}
 use Rattle.ode_value.specs.Pasts.{lists, numbers}
-use Rattle.ode_value.specs.Posting.{entry_of, with_entry}
 use Rattle.ode_value.specs.Settling.{aborted, committed, ended, is_independent, posted}
 use Rattle.ode_value.specs.Tables.{Table}
-use Rattle.ode_value.specs.Transactions.{Collected, Firing, Origin, footed, generation_of}
+use Rattle.ode_value.specs.Transactions.{footed}
 use Rattle.ode_value.specs.Worlds.{Bones, Declared}
 use Rattle.ode_value.specs.declared.event.Kind.{Kind}
 use Rattle.ode_value.specs.declared.event.Kind.TheVariants.{TAbort, TCommit}
@@ -36,14 +35,6 @@ module _ (tables : ℕ → ℕ → Table) (y : NumberTx) (x : ListTx) (r : RunsA
   -- alike, as far as the last points go
   abbrev Last : NumberTx → ListTx → Type 0
   Last p q = Held tables classes r.first.stands.mean r.first.numbered.classes y.first x.first (λ (w : ListWorld). Unit {0}) p q
-
-  -- with a firing for the queue
-  collect_same : (p : NumberTx) (q : ListTx) (f : Firing) → Same classes p q → Same classes (with_entry true f p) (with_entry true f q)
-  collect_same p q f s =
-      let collected : Origin → List Collected → List Collected = λ o cs. cs ++ record { entry = entry_of (generation_of o + 1) f; independent = true } ∷ [] in
-      told classes p q s (with_entry true f p) (with_entry true f q) refl refl refl refl s.origin s.touched s.deferred
-      (ap (collected p.origin) s.collected ∙ ap (λ (o : Origin). collected o q.collected) s.origin)
-      (ap (λ (n : ℕ). n + 1) s.gathered) s.text s.run s.keys s.footprint
 
   abbrev settling : (k : Place (Unit {0}) ℕ) (l : Place Histories Starts) → Places tables classes r.first.stands.mean k l → Settlings (Unit {0}) ℕ Histories Starts
   settling k l places = record {
@@ -68,7 +59,7 @@ module _ (tables : ℕ → ℕ → Table) (y : NumberTx) (x : ListTx) (r : RunsA
       first_x = h.first_x;
       hold = tt;
     };
-    collect = λ p q f h room. record { same = collect_same p q f h.same; pair = h.pair; first_y = h.first_y; first_x = h.first_x; hold = tt };
+    collect = λ p q f h room. record { same = collect_same tables classes r.first.stands.mean r.first.numbered.classes y.first x.first p q true f h.same; pair = h.pair; first_y = h.first_y; first_x = h.first_x; hold = tt };
     point = λ p q id kind h.
         point_held tables classes r.first.stands.mean r.first.numbered.classes y.first x.first (λ w. Unit {0}) (λ w id f g u. tt) k l places (λ w p ds o u. tt) p q id kind [] h;
   }
