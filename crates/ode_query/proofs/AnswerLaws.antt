@@ -8,6 +8,7 @@ use Rattle.ode_query.proofs.InstanceLaws.{are_lists}
 use Rattle.ode_query.specs.Answers.{IsAnswer, Says}
 use Rattle.ode_query.specs.Rows.{all_instances, combination_count, combinations, in_order, product, rows, rows_from}
 use Rattle.ode_query.specs.Texts.{Output, TooManyRows, Unanswered, answered, combination_limit, fits, short}
+use Rattle.ode_query.specs.declared.answering.TheConstants.{COMBINATION_LIMIT}
 use Rattle.ode_query.specs.declared.error.QueryError.{QueryError}
 use Rattle.ode_query.specs.declared.error.QueryError.TheVariants as error
 use Rattle.ode_query.specs.declared.row.Row.{Row}
@@ -20,6 +21,15 @@ is_above m n less = grind (arith, nat_tests)
 
 is_low : (m n : ℕ) → n ≤ m → nat_lt m n ≡ false
 is_low m n low = grind (arith, nat_tests)
+
+-- the code's limit is the one that is meant
+over_limit : (count : ℕ) → COMBINATION_LIMIT < count → combination_limit < count
+unfolding combination_limit
+over_limit count above = above
+
+in_limit : (count : ℕ) → count ≤ COMBINATION_LIMIT → count ≤ combination_limit
+unfolding combination_limit
+in_limit count few = few
 
 -- what stops a part that can't be refused says nothing
 pub stops : {X : Type 0} (x : X) (why : QueryError) (meant : Result (List Row) Unanswered) → Says {X = X} (Ok x) (Err why) → IsAnswer meant (Err why)
@@ -38,19 +48,19 @@ module _ (b : Bones) (q : Query) (lists : List (List ℕ)) (count : ℕ) (are : 
   unfolding combination_count
   counts = ap (λ (all : List (List ℕ)). product (map (λ (ns : List ℕ). length ns) all)) same ∙ sym counted
 
-  pub too_many : 1000000 < count → answered b q ≡ Err (TooManyRows count)
-  unfolding answered combination_limit
+  pub too_many : COMBINATION_LIMIT < count → answered b q ≡ Err (TooManyRows count)
+  unfolding answered
   too_many above =
-      ap (λ (n : ℕ). cond (nat_lt 1000000 n) (Err (TooManyRows n)) (short (rows b q))) counts
-      ∙ ap (λ (t : Bool). cond t (Err (TooManyRows count)) (short (rows b q))) (is_above 1000000 count above)
+      ap (λ (n : ℕ). cond (nat_lt combination_limit n) (Err (TooManyRows n)) (short (rows b q))) counts
+      ∙ ap (λ (t : Bool). cond t (Err (TooManyRows count)) (short (rows b q))) (is_above combination_limit count (over_limit count above))
 
   -- where they aren't too many
-  module _ (few : count ≤ 1000000) where
+  module _ (few : count ≤ COMBINATION_LIMIT) where
     goes_on : answered b q ≡ short (in_order (rows_from b q (combinations lists)))
-    unfolding answered combination_limit rows
+    unfolding answered rows
     goes_on =
-        ap (λ (n : ℕ). cond (nat_lt 1000000 n) (Err (TooManyRows n)) (short (rows b q))) counts
-        ∙ ap (λ (t : Bool). cond t (Err (TooManyRows count)) (short (rows b q))) (is_low 1000000 count few)
+        ap (λ (n : ℕ). cond (nat_lt combination_limit n) (Err (TooManyRows n)) (short (rows b q))) counts
+        ∙ ap (λ (t : Bool). cond t (Err (TooManyRows count)) (short (rows b q))) (is_low combination_limit count (in_limit count few))
         ∙ ap (λ (all : List (List ℕ)). short (in_order (rows_from b q (combinations all)))) same
 
     pub rows_stop : (why : QueryError) → Says (rows_from b q (combinations lists)) (Err why) → IsAnswer (answered b q) (Err why)

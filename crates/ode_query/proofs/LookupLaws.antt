@@ -5,10 +5,8 @@ use Rattle.std.proofs.lemmas.List.Concat.{flat_map-cons}
 use Rattle.std.proofs.lemmas.List.Elements.{Contains-append_cases, Contains-append_left, Contains-append_right}
 use Rattle.std.specs.List.{Contains}
 use Rattle.ode_index.specs.Numbers.{AreNumbers, IsOf}
-use Rattle.ode_index.specs.declared.index.Index.{Index}
 use Rattle.ode_links.proofs.LinkLaws.{field_is}
-use Rattle.ode_links.specs.Linking.{Agree, IsKnown, IsLink, field_of_local}
-use Rattle.ode_links.specs.declared.link.Link.{Link}
+use Rattle.ode_links.specs.Linking.{Agree, IsKnown, field_of_local}
 use Rattle.ode_query.proofs.Thinning.{Dead, cases_in, in_head, in_none, in_tail, thinned}
 use Rattle.ode_query.specs.Answers.{Says}
 use Rattle.ode_query.specs.Lookups.{AreEnough, IsLookup, field_at, row_with, unless_fault, valued}
@@ -129,18 +127,6 @@ module _ (b : Bones) (test : Option Expr) (chosen numbers : List ℕ) (lookup : 
       let other = evaluate lookup.link.other b (frame_of chosen) in
       let fault = is_fault other (told other o says ∙ none) in
       subst (λ (ns : List ℕ). AreEnough b test chosen ns numbers) (sym empty) (none_enough fault.0 fault.1)
-
--- ---- how a lookup comes to be
-
-pub lookup_is : (b : Bones) (test : Option Expr) (e : Expr) (variable : ℕ) (numbers : List ℕ) (link : Link) (index : Index) (rows : List (Value × ℕ)) → test ≡ Some e → IsLink e variable link
-    → Says (Ok (valued b link.place numbers)) (Ok rows) → IsOf rows index → IsLookup b test variable numbers (record { link = link; index = index })
-lookup_is b test e variable numbers link index rows some is says of =
-    let same : valued b link.place numbers ≡ rows = cc (says) in
-    record {
-      agree = λ ns pass. is.agree b (frame_of ns) (ap (λ (t : Option Expr). passes b t ns) (sym some) ∙ pass);
-      known = is.known;
-      index = subst (λ (rs : List (Value × ℕ)). IsOf rs index) (sym same) of;
-    }
 
 -- ---- rows read in a loop
 

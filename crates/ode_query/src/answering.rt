@@ -11,8 +11,10 @@ ghost use Rattle.ode_query.specs.Answers.{IsAnswer, Says, UnlessFault};
 ghost use Rattle.ode_query.specs.Rows.{combinations, rows_from};
 ghost use Rattle.ode_query.specs.Texts.{answered};
 ghost use Rattle.ode_query.specs.declared.row.Row.{Row as ARow};
+ghost use Rattle.ode_run_frame.specs.Reads.{Reads};
 ghost use Rattle.ode_value.specs.GoodWorlds.{RiseFrom};
 ghost use Rattle.ode_value.specs.Language.{Language, ListWorld};
+ghost use Rattle.ode_value.specs.declared.class.Class.{Class as AClass};
 ghost use Rattle.ode_value.specs.declared.value.Value.{Value as AValue};
 
 use crate::error::QueryError;
@@ -53,6 +55,16 @@ fn unchanged(alloc: Global) -> Overlay
     Overlay::begin(alloc, counters, 0, Origin::Script)
 }
 
+// Such an overlay, through which each world that records hold is read.
+fn reading(alloc: Global) -> Overlay
+    ensures { (l : Language) (entries : Entries) (w : ListWorld) → HoldsCounted l entries w → (classes : Items AClass)
+        → classes ≡ map class_of w.bones.classes → Reads classes entries result w.bones }
+{
+    transactions_begin_known();
+    views_read_known();
+    unchanged(alloc)
+}
+
 // The rows of the combinations that pass, behind what they are sorted by.
 fn gather_all<H: Host, K: Keep<H>>(
     alloc: Global,
@@ -71,9 +83,7 @@ fn gather_all<H: Host, K: Keep<H>>(
     ensures looks { Looks (H.view host.old) (H.view host.new) }
     ensures cause { RoseIf (IsErrOf result QueryError.DiskFault) (H.view host.old).disk_faults (H.view host.new).disk_faults }
 {
-    transactions_begin_known();
-    views_read_known();
-    let overlay = unchanged(alloc);
+    let overlay = reading(alloc);
     let ranges = ranges_of(alloc, &q.test, classes, &overlay, heap, host, lists)?;
     let mut rows = List::new(alloc);
     gather(

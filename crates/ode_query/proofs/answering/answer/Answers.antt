@@ -5,6 +5,7 @@ use Rattle.ode_query.proofs.answering.answer.Goals as goal
 use Rattle.ode_query.specs.Answers.{IsAnswer, Says, UnlessFault}
 use Rattle.ode_query.specs.Rows.{all_instances, combinations, product, rows_from}
 use Rattle.ode_query.specs.Texts.{answered, fits}
+use Rattle.ode_query.specs.declared.answering.TheConstants.{COMBINATION_LIMIT}
 use Rattle.ode_query.specs.declared.error.QueryError.TheVariants as error
 
 abbrev counted : List (List ℕ) → ℕ
@@ -27,7 +28,7 @@ returns-in_err-found-clause-rows g c = λ l entries w held records classes.
     let rises = lists_rise w.bones c.args.q.now c.in_ok-lists.lists c.as_slice-2.result.now held.world.good.bones.rising (c.in_ok-lists.ensures.value l entries w held records classes) c.as_slice-2.ensures in
     let why = c.in_err-found.field-0.0 in
     let is : c.from_residual-in_err-found.result ≡ Err why = search rules in
-    let few : c.in-Some.count ≤ 1000000 = omega (arith, c.if-count-gt-COMBINATION_LIMIT.false) in
+    let few : c.in-Some.count ≤ COMBINATION_LIMIT = omega (arith, c.if-count-gt-COMBINATION_LIMIT.false) in
     let says = c.in_err-found.ensures.value l entries w held (c.in_ok-lists.ensures.holds entries records) classes rises in
     subst (IsAnswer (answered w.bones c.args.q.now)) (sym is)
     (rows_stop w.bones c.args.q.now c.in_ok-lists.lists c.in-Some.count (c.in_ok-lists.ensures.value l entries w held records classes) (c.in-Some.ensures ∙ ap counted c.as_slice.ensures) few why
@@ -36,7 +37,7 @@ returns-in_err-found-clause-rows g c = λ l entries w held records classes.
 pub returns-then-branch-clause-rows : goal.returns-then-branch-clause-rows
 returns-then-branch-clause-rows g c = λ l entries w held records classes.
     let rises = lists_rise w.bones c.args.q.now c.in_ok-lists.lists c.as_slice-2.result.now held.world.good.bones.rising (c.in_ok-lists.ensures.value l entries w held records classes) c.as_slice-2.ensures in
-    let few : c.in-Some.count ≤ 1000000 = omega (arith, c.if-count-gt-COMBINATION_LIMIT.false) in
+    let few : c.in-Some.count ≤ COMBINATION_LIMIT = omega (arith, c.if-count-gt-COMBINATION_LIMIT.false) in
     let found = c.in_ok-found.ensures.value l entries w held (c.in_ok-lists.ensures.holds entries records) classes rises in
     let short : true ≡ fits c.in_ok-rows.rows = cc (c.if-branch.true, c.in_ok-fits.ensures, c.as_slice-3.ensures) in
     answers w.bones c.args.q.now c.in_ok-lists.lists c.in-Some.count (c.in_ok-lists.ensures.value l entries w held records classes) (c.in-Some.ensures ∙ ap counted c.as_slice.ensures) few
@@ -45,7 +46,7 @@ returns-then-branch-clause-rows g c = λ l entries w held records classes.
 pub returns-clause-rows : goal.returns-clause-rows
 returns-clause-rows g c = λ l entries w held records classes.
     let rises = lists_rise w.bones c.args.q.now c.in_ok-lists.lists c.as_slice-2.result.now held.world.good.bones.rising (c.in_ok-lists.ensures.value l entries w held records classes) c.as_slice-2.ensures in
-    let few : c.in-Some.count ≤ 1000000 = omega (arith, c.if-count-gt-COMBINATION_LIMIT.false) in
+    let few : c.in-Some.count ≤ COMBINATION_LIMIT = omega (arith, c.if-count-gt-COMBINATION_LIMIT.false) in
     let found = c.in_ok-found.ensures.value l entries w held (c.in_ok-lists.ensures.holds entries records) classes rises in
     let long : false ≡ fits c.in_ok-rows.rows = cc (c.if-branch.false, c.in_ok-fits.ensures, c.as_slice-3.ensures) in
     too_long w.bones c.args.q.now c.in_ok-lists.lists c.in-Some.count (c.in_ok-lists.ensures.value l entries w held records classes) (c.in-Some.ensures ∙ ap counted c.as_slice.ensures) few

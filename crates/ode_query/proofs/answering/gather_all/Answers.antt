@@ -1,6 +1,5 @@
 use Rattle.std.proofs.Common.{rules, refl, ◌≡◌, ◌∙◌, ap, Err, List, subst, sym, ℕ}
 use Rattle.ode_query.proofs.RangeLaws.{nothing_given}
-use Rattle.ode_query.proofs.Reading.{held_read}
 use Rattle.ode_query.proofs.RowLaws.{from_nothing}
 use Rattle.ode_query.proofs.answering.gather_all.Goals as goal
 use Rattle.ode_query.specs.Answers.{Says, UnlessFault}
@@ -12,7 +11,7 @@ pub returns-in_err-ranges-clause-value : goal.returns-in_err-ranges-clause-value
 returns-in_err-ranges-clause-value g c = λ l entries w held records classes rises.
     let why = c.in_err-ranges.field-0.0 in
     let is : c.from_residual.result ≡ Err why = search rules in
-    let reads = held_read c.transactions_begin_known.ensures c.views_read_known.ensures.bones l entries w held c.args.classes.now classes c.unchanged-overlay.result c.unchanged-overlay.ensures in
+    let reads = c.reading-overlay.ensures l entries w held c.args.classes.now classes in
     let meant = rows_from w.bones c.args.q.now (combinations c.args.lists.now) in
     let Made : List Range → Type 0 = λ ranges. (numbers_of ranges ≡ c.args.lists.now) × AreRanges w.bones c.args.q.now.test 0 ranges in
     subst (Says meant) (sym is) (nothing_given {X = List Range} Made meant why (c.in_err-ranges.ensures.value entries w.bones records reads rises))
@@ -21,7 +20,7 @@ pub returns-in_err-ranges-clause-holds : goal.returns-in_err-ranges-clause-holds
 returns-in_err-ranges-clause-holds g c = λ l entries w held records classes.
     let why = c.in_err-ranges.field-0.0 in
     let is : c.from_residual.result ≡ Err why = search rules in
-    let reads = held_read c.transactions_begin_known.ensures c.views_read_known.ensures.bones l entries w held c.args.classes.now classes c.unchanged-overlay.result c.unchanged-overlay.ensures in
+    let reads = c.reading-overlay.ensures l entries w held c.args.classes.now classes in
     let Holds : Type 0 = g.K.Keep.holds c.ranges_of.new.heap (g.H.Host.view c.ranges_of.new.host) entries in
     subst (λ r. UnlessFault r Holds) (sym is) (c.in_err-ranges.ensures.holds entries w.bones records reads)
 
@@ -29,7 +28,7 @@ pub returns-in_err-gather-clause-value : goal.returns-in_err-gather-clause-value
 returns-in_err-gather-clause-value g c = λ l entries w held records classes rises.
     let why = c.in_err-gather.field-0.0 in
     let is : c.from_residual-in_err-gather.result ≡ Err why = search rules in
-    let reads = held_read c.transactions_begin_known.ensures c.views_read_known.ensures.bones l entries w held c.args.classes.now classes c.unchanged-overlay.result c.unchanged-overlay.ensures in
+    let reads = c.reading-overlay.ensures l entries w held c.args.classes.now classes in
     let made = c.in_ok-ranges.ensures.value entries w.bones records reads rises in
     let here = c.in_ok-ranges.ensures.holds entries w.bones records reads in
     let ranges = c.as_slice.result.now in
@@ -43,14 +42,14 @@ pub returns-in_err-gather-clause-holds : goal.returns-in_err-gather-clause-holds
 returns-in_err-gather-clause-holds g c = λ l entries w held records classes.
     let why = c.in_err-gather.field-0.0 in
     let is : c.from_residual-in_err-gather.result ≡ Err why = search rules in
-    let reads = held_read c.transactions_begin_known.ensures c.views_read_known.ensures.bones l entries w held c.args.classes.now classes c.unchanged-overlay.result c.unchanged-overlay.ensures in
+    let reads = c.reading-overlay.ensures l entries w held c.args.classes.now classes in
     let here = c.in_ok-ranges.ensures.holds entries w.bones records reads in
     let Holds : Type 0 = g.K.Keep.holds c.gather.new.heap (g.H.Host.view c.gather.new.host) entries in
     subst (λ r. UnlessFault r Holds) (sym is) (c.in_err-gather.ensures.holds entries w.bones here reads)
 
 pub returns-clause-value : goal.returns-clause-value
 returns-clause-value g c = λ l entries w held records classes rises.
-    let reads = held_read c.transactions_begin_known.ensures c.views_read_known.ensures.bones l entries w held c.args.classes.now classes c.unchanged-overlay.result c.unchanged-overlay.ensures in
+    let reads = c.reading-overlay.ensures l entries w held c.args.classes.now classes in
     let made = c.in_ok-ranges.ensures.value entries w.bones records reads rises in
     let here = c.in_ok-ranges.ensures.holds entries w.bones records reads in
     let ranges = c.as_slice.result.now in
@@ -62,5 +61,5 @@ returns-clause-value g c = λ l entries w held records classes rises.
 
 pub returns-clause-holds : goal.returns-clause-holds
 returns-clause-holds g c = λ l entries w held records classes.
-    let reads = held_read c.transactions_begin_known.ensures c.views_read_known.ensures.bones l entries w held c.args.classes.now classes c.unchanged-overlay.result c.unchanged-overlay.ensures in
+    let reads = c.reading-overlay.ensures l entries w held c.args.classes.now classes in
     c.in_ok-gather.ensures.holds entries w.bones (c.in_ok-ranges.ensures.holds entries w.bones records reads) reads
