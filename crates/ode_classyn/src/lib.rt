@@ -3,6 +3,6 @@
 
 mod parser;
 
-pub use ode_eventsyn::SyntaxError;
+pub use ode_eventsyn::{SyntaxError, whole};
 pub use ode_print::print_class;
 pub use parser::{lexed, parse_class, parse_statement};

@@ -4,8 +4,7 @@ ghost use Rattle.ode_evolve.specs.Texts.{in_change, IsChangeOf};
 ghost use Rattle.ode_classyn.specs.Texts.{IsWhyNot};
 ghost use Rattle.ode_grammar.specs.declared.reader.Start.TheVariants as start;
 
-use ode_classyn::{SyntaxError, lexed};
-use ode_eventsyn::whole;
+use ode_classyn::{SyntaxError, lexed, whole};
 use ode_grammar::Start;
 use ode_terminals::Place;
 use ode_value::Change;

@@ -1,3 +1,4 @@
+pub mod Heap
 pub mod Values
 pub mod Objects
 pub mod Tracked

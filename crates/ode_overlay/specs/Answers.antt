@@ -1,9 +1,7 @@
 -- What a call answers, by what there is in the records and in the overlay.
 use Rattle.std.specs.Prelude.{◌≡◌, Bool, true, false, Result, Ok, Err}
-use Rattle.ode_heap.specs.Answers.{Found}
-use Rattle.ode_heap.specs.Answers.{There, Broken}
-use Rattle.ode_heap.specs.declared.error.HeapError.{HeapError}
-use Rattle.ode_heap.specs.declared.error.HeapError.TheVariants as heap
+use Rattle.ode_objects.specs.Heap as heap
+use Rattle.ode_objects.specs.Heap.{Found, HeapError, There, Broken}
 use Rattle.ode_overlay.specs.declared.error.OverlayError.{OverlayError}
 use Rattle.ode_overlay.specs.declared.error.OverlayError.TheVariants.{Memory, DiskFault, Damaged}
 use Rattle.ode_value.specs.Keys.{counters_key}

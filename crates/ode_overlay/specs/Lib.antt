@@ -1,5 +1,6 @@
 pub mod Answers
 pub mod Layers
+pub mod Objects
 pub mod Reading
 pub mod Changing
 pub mod Records

@@ -1,11 +1,10 @@
 -- What is seen of objects through the overlay.
 use Rattle.std.specs.Prelude.{◌≡◌, ℕ, zero, suc, ◌+◌, ◌^◌, List, [], ◌∷◌, ◌++◌, Bool, true, false, cond, nat_le, nat_lt, ◌==◌, ◌&&◌, Option, Some, None, Result, Ok, Err}
 use Rattle.std.specs.List.{slice_get}
-use Rattle.ode_heap.specs.Objects.{object_in}
-use Rattle.ode_heap.specs.declared.object.ObjectHead.{ObjectHead}
 use Rattle.ode_keep.specs.Entries.{Entries}
 use Rattle.ode_overlay.specs.Answers.{Answer, ◌>>=◌, from_records}
 use Rattle.ode_overlay.specs.Layers.{Layer, tracked_at}
+use Rattle.ode_objects.specs.Heap.{ObjectHead, object_in}
 use Rattle.ode_objects.specs.Loading.{actives_in, class_in, fields_in}
 use Rattle.ode_objects.specs.Objects.{head_of, values_of, version_of}
 use Rattle.ode_overlay.specs.declared.error.OverlayError.{OverlayError}

@@ -16,11 +16,10 @@ ghost use Rattle.ode_overlay.specs.Changing.{create, created, denoted_in, derive
 use crate::error::OverlayError;
 use crate::overlay::{Change, Overlay, put_new, put_now};
 use crate::reading::not_null;
-use ode_heap::Heap;
 use ode_host::Host;
 use ode_keep::Keep;
 use ode_objects::{
-    KeptFields, Object, Tracked, Version, activation_keys, load, object_key, object_keys,
+    Heap, KeptFields, Object, Tracked, Version, activation_keys, load, object_key, object_keys,
     version_key,
 };
 use ode_types::Classes;

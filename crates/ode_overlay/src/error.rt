@@ -1,6 +1,6 @@
 //! Why the overlay doesn't answer.
 
-use ode_heap::HeapError;
+use ode_objects::HeapError;
 use ode_value::{Key, Ref};
 use std::alloc::{AllocError, AllocFailed};
 

@@ -13,11 +13,11 @@ ghost use Rattle.ode_versions.specs.Versions.{IsVersionList, found};
 
 use crate::error::OverlayError;
 use crate::overlay::Overlay;
-use ode_heap::{Heap, ObjectHead};
 use ode_host::Host;
 use ode_keep::Keep;
 use ode_objects::{
-    Active, Object, Version, activation_key, class_of, load_actives, load_fields, object_key,
+    Active, Heap, Object, ObjectHead, Version, activation_key, class_of, load_actives, load_fields,
+    object_key,
 };
 use ode_types::{Classes, Running};
 use ode_value::{Copied, List, Ref, Value};

@@ -6,10 +6,9 @@ ghost use Rattle.std.specs.List.{filter};
 
 use crate::error::OverlayError;
 use crate::overlay::{Collected, Overlay, insert};
-use ode_heap::Heap;
 use ode_host::Host;
 use ode_keep::Keep;
-use ode_objects::Tracked;
+use ode_objects::{Heap, Tracked};
 use ode_types::Classes;
 use ode_value::List;
 use std::alloc::{AllocError, Global};

@@ -12,10 +12,9 @@ ghost use Rattle.ode_value.specs.Limits.{change_limit, number_limit};
 
 use crate::error::OverlayError;
 use crate::overlay::{Change, Overlay};
-use ode_heap::Heap;
 use ode_host::Host;
 use ode_keep::Keep;
-use ode_objects::{Active, KeptArgs, Object, Tracked, activation_key, activation_keys};
+use ode_objects::{Active, Heap, KeptArgs, Object, Tracked, activation_key, activation_keys};
 use ode_types::{Classes, Running};
 use ode_value::{List, Value};
 use std::alloc::{AllocError, Global};

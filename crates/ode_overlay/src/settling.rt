@@ -8,10 +8,9 @@ ghost use Rattle.ode_overlay.specs.Settling.{bytes_after, bytes_before, collect,
 use crate::error::OverlayError;
 use crate::overlay::{Collected, Overlay};
 use ode_codec::Entry;
-use ode_heap::Heap;
 use ode_host::Host;
 use ode_keep::Keep;
-use ode_objects::KeptArgs;
+use ode_objects::{Heap, KeptArgs};
 use ode_types::Classes;
 use ode_value::limits::{GENERATION_LIMIT, NUMBER_LIMIT, QUEUE_LIMIT};
 use std::alloc::AllocError;

@@ -11,10 +11,9 @@ use Rattle.std.specs.Ordering.{nat_cmp}
 use Rattle.ode_keep.proofs.Maps.{lookup_put}
 use Rattle.ode_laws.proofs.Rows.{find-with}
 use Rattle.ode_laws.specs.Alike.{NumberTx}
-use Rattle.ode_objects.specs.declared.object.Object.{Object}
-use Rattle.ode_objects.specs.declared.tracked.Tracked.{Tracked}
 use Rattle.ode_overlay.specs.Changing.{now_tracked, object_of, with_now}
 use Rattle.ode_overlay.specs.Layers.{Layer, tracked_at}
+use Rattle.ode_overlay.specs.Objects.{Object, Tracked}
 use Rattle.ode_overlay_laws.proofs.KeySets.{IsPart, all_between}
 use Rattle.ode_overlay_laws.specs.Standing.{IsAsAtFirst, IsFresh, IsIn, Stands, kept_as, object_as}
 use Rattle.ode_value.specs.Changes as machine

@@ -1,8 +1,8 @@
 -- A transaction begins, in the overlay and in the machine.
 use Rattle.std.proofs.Common.{◌≡◌, [], ◌∷◌, ◌++◌, length, refl}
-use Rattle.ode_heap.specs.Answering.{counters_of}
 use Rattle.ode_laws.specs.Alike.{NumberWorld}
 use Rattle.ode_overlay.specs.Layers as layers
+use Rattle.ode_overlay.specs.Objects.{counters_of}
 use Rattle.ode_overlay.specs.declared.origin.Origin.{Origin}
 use Rattle.ode_overlay.specs.declared.origin.Origin.TheVariants as from
 use Rattle.ode_overlay_laws.specs.Standing.{Stands, last_keys, origin_as}

@@ -3,8 +3,8 @@ use Rattle.std.proofs.Common.{◌≡◌, ◌+◌, ℕ, List, [], ◌∷◌, ◌+
 use Rattle.std.specs.Prelude.{◌&&◌, nat_le, nat_lt}
 use Rattle.ode_codec.specs.declared.record.Counters.{Counters}
 use Rattle.ode_laws.specs.Alike.{NumberTx}
-use Rattle.ode_objects.specs.Values.{are_args}
 use Rattle.ode_overlay.specs.Layers.{Layer, generation_of, key_count, queueing}
+use Rattle.ode_overlay.specs.Objects.{are_args}
 use Rattle.ode_overlay.specs.Settling.{collect, collected_by, has_room, with_entry}
 use Rattle.ode_overlay.specs.declared.origin.Origin.{Origin}
 use Rattle.ode_overlay.specs.declared.origin.Origin.TheVariants as from

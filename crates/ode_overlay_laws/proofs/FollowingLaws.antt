@@ -5,12 +5,11 @@ use Rattle.std.specs.List.{AllByRecursion, fold}
 use Rattle.std.specs.Option.{option_and_then}
 use Rattle.ode_codec.specs.declared.record.Counters.{Counters}
 use Rattle.ode_laws.specs.Alike.{NumberTx}
-use Rattle.ode_objects.specs.declared.object.Object.{Object}
-use Rattle.ode_objects.specs.declared.tracked.Tracked.{Tracked}
 use Rattle.ode_overlay.specs.Answers.{Answer, ◌>>=◌}
 use Rattle.ode_overlay.specs.Changing as calls
 use Rattle.ode_overlay.specs.Changing.{live_of}
 use Rattle.ode_overlay.specs.Layers.{Layer, few, holding, key_count}
+use Rattle.ode_overlay.specs.Objects.{Object, Tracked}
 use Rattle.ode_overlay.specs.declared.error.OverlayError.{OverlayError}
 use Rattle.ode_overlay.specs.declared.error.OverlayError.TheVariants.{NoObject, TooManyChanges}
 use Rattle.ode_overlay_laws.proofs.AlteredLaws.{Has}

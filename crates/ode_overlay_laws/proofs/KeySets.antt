@@ -4,11 +4,8 @@ use Rattle.std.specs.List.{AllByRecursion, fold}
 use Rattle.std.specs.Ordering.{match_ordering}
 use Rattle.std.specs.declared.cmp.Ordering.{Ordering}
 use Rattle.std.specs.declared.cmp.Ordering.TheVariants.{Less, Equal, Greater}
-use Rattle.ode_objects.specs.Objects.{activation_keys, object_keys, version_keys}
-use Rattle.ode_objects.specs.declared.object.Active.{Active}
-use Rattle.ode_objects.specs.declared.object.Object.{Object}
-use Rattle.ode_objects.specs.declared.object.Version.{Version}
 use Rattle.ode_overlay.specs.Layers.{first_count}
+use Rattle.ode_overlay.specs.Objects.{Active, Object, Version, activation_keys, object_keys, version_keys}
 use Rattle.ode_overlay.specs.declared.origin.Origin.{Origin}
 use Rattle.ode_overlay.specs.declared.origin.Origin.TheVariants as from
 use Rattle.ode_overlay_laws.specs.Standing.{last_keys}

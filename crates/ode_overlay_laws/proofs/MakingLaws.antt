@@ -10,16 +10,13 @@ use Rattle.std.specs.Ordering.{nat_cmp}
 use Rattle.ode_keep.proofs.Maps.{lookup_put}
 use Rattle.ode_laws.proofs.Rows.{kept-append, numbered-append}
 use Rattle.ode_laws.specs.Alike.{NumberTx}
-use Rattle.ode_objects.proofs.Kept.{fields_room}
-use Rattle.ode_objects.specs.Objects.{made}
-use Rattle.ode_objects.specs.Values.{are_fields}
-use Rattle.ode_objects.specs.declared.object.Object.{Object}
-use Rattle.ode_objects.specs.declared.tracked.Tracked.{Tracked}
+use Rattle.ode_overlay.proofs.Objects.{fields_room}
 use Rattle.ode_overlay.specs.Answers.{Answer, ◌>>=◌}
 use Rattle.ode_overlay.specs.Changing as calls
 use Rattle.ode_overlay.specs.declared.error.OverlayError.TheVariants as error
 use Rattle.ode_overlay.specs.Changing.{create, created, next_number, now_tracked}
 use Rattle.ode_overlay.specs.Layers.{Layer, few, holding, key_count, tracked_at}
+use Rattle.ode_overlay.specs.Objects.{Object, Tracked, are_fields, made}
 use Rattle.ode_overlay.specs.declared.error.OverlayError.TheVariants.{TooLong, TooManyChanges}
 use Rattle.ode_overlay_laws.proofs.AlteredLaws.{at_same, now_current}
 use Rattle.ode_overlay_laws.proofs.FollowingLaws.{as_drawing, asks_first, counts_same, stamps_same, tested}

@@ -2,14 +2,10 @@
 use Rattle.std.proofs.Common.{◌≡◌, ℕ, List, [], ◌∷◌, ◌++◌, true, false, map, Option, Some, Ok, refl, ap, ◌∙◌}
 use Rattle.std.specs.Prelude.{nat_le}
 use Rattle.ode_laws.specs.Alike.{NumberTx}
-use Rattle.ode_objects.specs.Objects.{activation_keys, dead, object_keys, version_keys}
-use Rattle.ode_objects.specs.declared.object.Active.{Active}
-use Rattle.ode_objects.specs.declared.object.Object.{Object}
-use Rattle.ode_objects.specs.declared.object.Version.{Version}
-use Rattle.ode_objects.specs.declared.tracked.Tracked.{Tracked}
 use Rattle.ode_overlay.specs.Answers.{Answer, ◌>>=◌}
 use Rattle.ode_overlay.specs.Changing.{object_of, remove_with, with_now}
 use Rattle.ode_overlay.specs.Layers.{Layer, holding}
+use Rattle.ode_overlay.specs.Objects.{Active, Object, Tracked, Version, activation_keys, dead, object_keys, version_keys}
 use Rattle.ode_overlay_laws.proofs.AlteredLaws.{altered, altered_stands, has_found}
 use Rattle.ode_overlay_laws.proofs.FollowingLaws.{as_well, finds_object, follows_changes, follows_live, live_at}
 use Rattle.ode_overlay_laws.proofs.KeySets.{object_parts}

@@ -9,12 +9,10 @@ use Rattle.std.specs.Map.{lookup}
 use Rattle.std.specs.Ordering.{nat_cmp}
 use Rattle.ode_keep.proofs.Maps.{lookup_put}
 use Rattle.ode_laws.specs.Alike.{NumberTx}
-use Rattle.ode_objects.specs.Objects.{activation_keys}
-use Rattle.ode_objects.specs.declared.object.Object.{Object}
-use Rattle.ode_objects.specs.declared.tracked.Tracked.{Tracked}
 use Rattle.ode_overlay.specs.Answers.{Answer}
 use Rattle.ode_overlay.specs.Changing.{object_of, put_new, touch_first, touch_with, touched_with}
 use Rattle.ode_overlay.specs.Layers.{Layer, is_touched, tracked_at}
+use Rattle.ode_overlay.specs.Objects.{Object, Tracked, activation_keys}
 use Rattle.ode_overlay_laws.proofs.AlteredLaws.{at_same, has_found}
 use Rattle.ode_overlay_laws.proofs.FollowingLaws.{as_well, finds_object, follows_changes, follows_live, live_at}
 use Rattle.ode_overlay_laws.proofs.KeySets.{activation_parts, all_between}

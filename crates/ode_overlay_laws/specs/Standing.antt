@@ -1,13 +1,8 @@
 -- When an overlay stands for a transaction of the machine over state numbers.
 use Rattle.std.specs.Prelude.{◌≡◌, ℕ, ◌-◌, ◌^◌, List, [], ◌∷◌, ◌++◌, map, length, Option, Some, None}
-use Rattle.ode_heap.specs.Answering.{counters_of}
 use Rattle.ode_laws.specs.Alike.{NumberTx, NumberWorld}
-use Rattle.ode_objects.specs.Objects.{stamp_of, values_of}
-use Rattle.ode_objects.specs.declared.object.Active.{Active}
-use Rattle.ode_objects.specs.declared.object.Object.{Object}
-use Rattle.ode_objects.specs.declared.object.Version.{Version}
-use Rattle.ode_objects.specs.declared.tracked.Tracked.{Tracked}
 use Rattle.ode_overlay.specs.Layers.{Layer, tracked_at}
+use Rattle.ode_overlay.specs.Objects.{Active, Object, Tracked, Version, counters_of, stamp_of, values_of}
 use Rattle.ode_overlay.specs.declared.origin.Origin.{Origin}
 use Rattle.ode_overlay.specs.declared.origin.Origin.TheVariants as from
 use Rattle.ode_overlay.specs.declared.overlay.Collected.{Collected}

@@ -1,8 +1,8 @@
 //! A transaction begins, in the overlay and in the machine.
 ghost use Rattle.std.specs.Prelude.{length};
-ghost use Rattle.ode_heap.specs.Answering.{counters_of};
 ghost use Rattle.ode_laws.specs.Alike.{NumberWorld};
 ghost use Rattle.ode_overlay.specs.Layers as layers;
+ghost use Rattle.ode_overlay.specs.Objects.{counters_of};
 ghost use Rattle.ode_overlay.specs.declared.origin.Origin.{Origin};
 ghost use Rattle.ode_overlay_laws.specs.Standing.{Stands, origin_as};
 ghost use Rattle.ode_value.specs.Posting.{waiting};

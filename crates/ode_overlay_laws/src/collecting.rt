@@ -1,8 +1,8 @@
 //! Firings are collected, in the overlay and in the machine.
 ghost use Rattle.std.specs.Prelude.{◌≡◌, ◌+◌, ℕ, List as Items, Bool, true};
 ghost use Rattle.ode_laws.specs.Alike.{NumberTx};
-ghost use Rattle.ode_objects.specs.Values.{are_args};
 ghost use Rattle.ode_overlay.specs.Layers.{Layer, generation_of};
+ghost use Rattle.ode_overlay.specs.Objects.{are_args};
 ghost use Rattle.ode_overlay.specs.Settling.{collect};
 ghost use Rattle.ode_overlay_laws.specs.Following.{Collects, entry_by};
 ghost use Rattle.ode_overlay_laws.specs.Standing.{Stands};

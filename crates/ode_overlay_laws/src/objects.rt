@@ -1,9 +1,9 @@
 //! Objects are touched, made and removed, in the overlay and in the machine.
 ghost use Rattle.std.specs.Prelude.{ℕ, List as Items, Option};
 ghost use Rattle.ode_laws.specs.Alike.{NumberTx};
-ghost use Rattle.ode_objects.specs.declared.tracked.Tracked.{Tracked};
 ghost use Rattle.ode_overlay.specs.Changing.{create, remove_with, touch_with};
 ghost use Rattle.ode_overlay.specs.Layers.{Layer};
+ghost use Rattle.ode_overlay.specs.Objects.{Tracked};
 ghost use Rattle.ode_overlay_laws.specs.Following.{Follows, FollowsDrawing, IsNewNumber, joins_first, on_live, tells_new};
 ghost use Rattle.ode_overlay_laws.specs.Standing.{IsFresh, Stands};
 ghost use Rattle.ode_value.specs.Acts.{gives};
