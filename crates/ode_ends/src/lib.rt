@@ -5,4 +5,4 @@ mod saying;
 mod statuses;
 
 pub use saying::say;
-pub use statuses::{ended_by, status_of_script};
+pub use statuses::{ended_by, status_at_end, status_of_script};

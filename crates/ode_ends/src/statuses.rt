@@ -1,6 +1,8 @@
 //! The status that a run ends with.
 ghost use Rattle.std.specs.Prelude.{◌≡◌};
 ghost use Rattle.ode_ends.specs.Statuses.{ended_by, status_of_script};
+ghost use Rattle.ode_machine.specs.Runs.{status_at};
+ghost use Rattle.ode_script.specs.Cutting.{End};
 
 use ode_host::Status;
 use ode_script::ScriptError;
@@ -17,6 +19,13 @@ pub fn ended_by(error: EngineError) -> Result<Status, Key>
         EngineError::WriteFault => Ok(Status::WriteFault),
         EngineError::Damaged { key } => Err(key),
     }
+}
+
+/// The status that a run ends with at the end of its script, where a piece was refused or none.
+pub fn status_at_end(refused: bool) -> Status
+    ensures { result ≡ status_at End refused }
+{
+    if refused { Status::Refused } else { Status::Ok }
 }
 
 /// The status that a run ends with where the script gives no piece.

@@ -27,7 +27,7 @@ ghost use Rattle.ode_value.specs.Limits.{statement_limit};
 ghost use Rattle.ode_value.specs.Texts.{refused_line};
 
 use crate::tally::Tally;
-use ode_ends::{ended_by, say, status_of_script};
+use ode_ends::{ended_by, say, status_at_end, status_of_script};
 use ode_engine::{Done, Engine, EngineError};
 use ode_host::{Host, Source, Status};
 use ode_keep::Roomy;
@@ -159,11 +159,7 @@ fn end_script<H: Host, K: Roomy<H> + Drop>(
     match engine.finish(host) {
         Ok(done) => {
             tally.settle(settled_in(&done));
-            if tally.was_refused() {
-                Ok(Status::Refused)
-            } else {
-                Ok(Status::Ok)
-            }
+            Ok(status_at_end(tally.was_refused()))
         }
         Err(error) => ended_by(error),
     }

@@ -25,7 +25,7 @@ ghost use Rattle.ode_value.specs.Limits.{drain_limit, statement_limit};
 ghost use Rattle.ode_value.specs.Pasts.{lists};
 
 use crate::run::command_piece;
-use ode_ends::{ended_by, say, status_of_script};
+use ode_ends::{ended_by, say, status_at_end, status_of_script};
 use ode_engine::{Done, Engine, EngineError};
 use ode_host::{Host, Source, Status};
 use ode_keep::Roomy;
@@ -121,13 +121,6 @@ fn ship_rest<H: Host, K: Roomy<H> + Drop>(
 {
     engine.finish(host)?;
     ship(alloc, host, engine)
-}
-
-// The status at the end of the input.
-fn status_at_end(refused: bool) -> Status
-    ensures { result ≡ status_at End refused }
-{
-    if refused { Status::Refused } else { Status::Ok }
 }
 
 // The end of the input, and the status that the run ends with.
