@@ -3,6 +3,8 @@ use Rattle.std.specs.Prelude.{◌≡◌, ℕ, List, true, nat_le, Option, Ok, Er
 use Rattle.std.specs.List.{AllByRecursion}
 use Rattle.std.specs.Option.{IsSome, option_and_then}
 use Rattle.ode_interpreter.specs.declared.firing.Firing as code
+pub use Rattle.ode_key_laws.specs.Keys.{HoldsKeys}
+pub use Rattle.ode_object_laws.specs.Objects.{TakesTrigger}
 use Rattle.ode_objects.specs.declared.object.Object.{Object}
 use Rattle.ode_objects.specs.declared.tracked.Tracked.{Tracked}
 use Rattle.ode_overlay.specs.Answers.{Answer}

@@ -5,7 +5,9 @@ use Rattle.std.proofs.lemmas.Bool.Decides.{nat_tests}
 use Rattle.std.specs.Prelude.{◌==◌}
 use Rattle.ode_codec.specs.Standing.{HoldsWorld}
 use Rattle.ode_cutting.specs.Cutting.{FitFrame}
-use Rattle.ode_file_laws.specs.Fitting.{FitsFile}
+use Rattle.ode_ends.proofs.RecordLaws.{queue_room, records_weigh}
+use Rattle.ode_ends.specs.Resting.{DiskHas}
+use Rattle.ode_file_laws.specs.Fitting.{FitsFile, FitsFirst}
 use Rattle.ode_gate.proofs.Counting.{one_counts}
 use Rattle.ode_gate.specs.Headers.{IsOfAreas, IsOfPages}
 use Rattle.ode_gate.specs.Slots.{Counts}
@@ -20,10 +22,7 @@ use Rattle.ode_keeper.specs.Files.{FileMeans, most_under}
 use Rattle.ode_language.specs.Languages.{ode}
 use Rattle.ode_migrate.specs.Migrating.{IsMigratedTo, LeavesRecords}
 use Rattle.ode_open.specs.Opening.{HasFormat}
-use Rattle.ode_opened_laws.specs.WorldBases.{FitsFirst}
 use Rattle.ode_paging.specs.Meaning.{PagesMeanIn}
-use Rattle.ode_transact.proofs.RecordLaws.{queue_room, records_weigh}
-use Rattle.ode_transact.specs.Logging.{DiskHas}
 use Rattle.ode_value.specs.Language.{ListWorld}
 use Rattle.ode_value.specs.Weights.{weight}
 use Rattle.ode_begin.specs.Holds.{Holds, HoldsInPages, IsOfFirst}

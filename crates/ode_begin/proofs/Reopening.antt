@@ -1,6 +1,7 @@
 -- A file that is opened for a run, over the keeper of its pages.
 use Rattle.std.proofs.Common.{◌≡◌, ◌∙◌, ◌⊎◌, ⊎_elim, inr, ℕ, List, Bool, Result, Ok, Err, Some, IsTrue, ap, length, refl, subst, sym}
 use Rattle.std.specs.Prelude.{◌==◌, IfErr, IsErrOf, false}
+use Rattle.ode_ends.specs.Resting.{resting_parts}
 use Rattle.ode_gate.specs.declared.places.TheConstants.{FIRST_FORMAT, FORMAT}
 use Rattle.ode_schema.specs.Parts.{AreAligned, AreFit, Parts, places_from, trigger_count}
 use Rattle.ode_host.proofs.Calls.{looks_calls, rose_as, rose_on}
@@ -31,7 +32,6 @@ use Rattle.ode_opening_records.specs.declared.base.Base.{Base}
 use Rattle.ode_pagemap.specs.Holding.{is_live}
 use Rattle.ode_pagemap.specs.declared.map.PageMap.{PageMap}
 use Rattle.ode_paging.specs.Meaning.{PagesMeanIn}
-use Rattle.ode_transact.specs.Resting.{resting_parts}
 use Rattle.ode_value.specs.Language.{Language, ListWorld}
 use Rattle.ode_begin.proofs.Holding.{tells_one}
 use Rattle.ode_begin.specs.Answers.{BreaksRule}

@@ -16,7 +16,7 @@ use Rattle.ode_pagemap.specs.declared.map.PageMap.{PageMap}
 use Rattle.ode_sound_laws.specs.Sound.{AreSound}
 use Rattle.ode_sound_laws.specs.Typed.{AreFromOne}
 use Rattle.ode_ends.specs.Endings.{Begins}
-use Rattle.ode_transact.specs.Resting.{IsAtRest}
+use Rattle.ode_ends.specs.Resting.{IsAtRest}
 use Rattle.ode_value.specs.GoodWorlds.{IsGood}
 use Rattle.ode_value.specs.Language.{ListWorld}
 use Rattle.ode_begin.specs.Answers.{BreaksRule}

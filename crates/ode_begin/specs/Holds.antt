@@ -2,6 +2,7 @@
 use Rattle.std.specs.Prelude.{◌≡◌, ◌≤◌, ℕ, List, []}
 use Rattle.std.specs.List.{AllByRecursion}
 use Rattle.ode_cutting.specs.Cutting.{HasRoom}
+use Rattle.ode_ends.specs.Resting.{HoldsBy}
 use Rattle.ode_gate.specs.Slots.{Counts}
 use Rattle.ode_gate.specs.declared.header.Header.{Header}
 use Rattle.ode_gate.specs.declared.places.TheConstants.{FIRST_FORMAT, FORMAT}
@@ -9,7 +10,6 @@ use Rattle.ode_keeper.specs.Files.{FileMeans}
 use Rattle.ode_keep.specs.Entries.{Entries}
 use Rattle.ode_language.specs.Languages.{ode}
 use Rattle.ode_paging.specs.Meaning.{PagesMeanIn}
-use Rattle.ode_transact.specs.Resting.{HoldsBy}
 use Rattle.ode_value.specs.Language.{ListWorld}
 use Rattle.ode_value.specs.Limits.{first_weight_limit}
 use Rattle.ode_value.specs.Weights.{weight}

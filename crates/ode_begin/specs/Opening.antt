@@ -1,5 +1,6 @@
 -- What a file is opened to for a run.
 use Rattle.std.specs.Prelude.{◌≡◌, ℕ, List, Ok, false}
+use Rattle.ode_ends.specs.Resting.{HoldsBy}
 use Rattle.ode_gate.specs.declared.places.TheConstants.{FORMAT}
 use Rattle.ode_host.specs.Host.{Stands}
 use Rattle.ode_host.specs.View.{View}
@@ -19,7 +20,6 @@ use Rattle.ode_pagemap.specs.Holding.{LastHold}
 use Rattle.ode_pagemap.specs.declared.map.PageMap.{PageMap}
 use Rattle.ode_paging.specs.Meaning.{PagesMeanIn}
 use Rattle.ode_passes.specs.declared.cause.Cause.TheVariants.{Journal}
-use Rattle.ode_transact.specs.Resting.{HoldsBy}
 use Rattle.ode_value.specs.Language.{ListWorld}
 use Rattle.ode_begin.specs.Holds.{HoldsInPages, IsOfFirst}
 

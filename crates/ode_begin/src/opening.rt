@@ -1,5 +1,6 @@
 //! A file is opened for a run, which goes on over pages of the last format.
 ghost use Rattle.std.specs.Prelude.{◌≡◌, List as Items, ℕ, IfErr, IfOk, IsErrOf, IsTrue, OnErr, Some};
+ghost use Rattle.ode_ends.specs.Resting.{DiskHas, resting_parts};
 ghost use Rattle.ode_schema.specs.Parts.{AreAligned, AreFit};
 ghost use Rattle.ode_gate.specs.declared.places.TheConstants.{FORMAT};
 ghost use Rattle.ode_host.specs.Causes.{RoseIf};
@@ -11,8 +12,6 @@ ghost use Rattle.ode_migrate.specs.Migrating.{LeavesRecords};
 ghost use Rattle.ode_open.specs.Opening.{IsFromOutside, IsRefused};
 ghost use Rattle.ode_pagemap.specs.Holding.{is_live};
 ghost use Rattle.ode_paging.specs.Meaning.{PagesMeanIn};
-ghost use Rattle.ode_transact.specs.Logging.{DiskHas};
-ghost use Rattle.ode_transact.specs.Resting.{resting_parts};
 ghost use Rattle.ode_value.specs.Language.{ListWorld};
 ghost use Rattle.ode_begin.specs.Answers.{BreaksRule};
 ghost use Rattle.ode_begin.specs.Holds.{Holds, HoldsInPages};

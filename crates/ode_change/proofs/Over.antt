@@ -8,11 +8,11 @@ use Rattle.std.proofs.lemmas.List.{length-map}
 use Rattle.ode_change.specs.Fitting.{AreOver, HasFewSymbols, IsOver}
 use Rattle.ode_change_laws.specs.Behind.{IsBehind}
 use Rattle.ode_change_laws.specs.Moves.{AreAnew, IsAnew, event_where, new_fields}
+use Rattle.ode_changed_laws.proofs.FewParts.{IsLimited, triggers_limited}
 use Rattle.ode_schema.specs.Parts.{AreAligned, AreFit, Parts, places_from, table_place}
 use Rattle.ode_heap.specs.Answering.{class_of}
 use Rattle.ode_laws.proofs.Each.{all-append, all-then}
 use Rattle.ode_opening.specs.Building.{triggers_of}
-use Rattle.ode_opening_laws.proofs.Limits.{IsLimited, triggers_limited}
 use Rattle.ode_opening_tables.proofs.Placing.{are_numbered, get_right}
 use Rattle.ode_opening_tables.specs.Tables.{alphabets_of}
 use Rattle.ode_types.proofs.Places.{numbered-at}

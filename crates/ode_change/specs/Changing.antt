@@ -4,6 +4,7 @@ use Rattle.std.specs.List.{AllByRecursion}
 use Rattle.ode_change_laws.specs.Behind.{IsBehind}
 use Rattle.ode_changed_laws.specs.Records.{fields_put, new_in}
 use Rattle.ode_codec.specs.declared.record.Counters.{Counters}
+pub use Rattle.ode_declare.specs.Declaring.{Declares}
 use Rattle.ode_heap.specs.Answering.{class_of, counters_of}
 use Rattle.ode_heap_laws.specs.Few.{HasFewParts}
 use Rattle.ode_keep.specs.Entries.{Changes as Batch}

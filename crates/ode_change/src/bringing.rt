@@ -32,9 +32,10 @@ use crate::judging::Anew;
 use crate::reading::Known;
 use crate::records::added_changes;
 use crate::taking::take_in;
-use ode_changed_laws::{changed_classes_have_few_parts, changes_weigh_their_records};
+use ode_changed_laws::{
+    changed_classes_have_few_parts, changes_settle, changes_weigh_their_records,
+};
 use ode_declare::{bytes_put, turn_away};
-use ode_declared_laws::changes_settle;
 use ode_host::Host;
 use ode_keep::{Batch, Roomy};
 use ode_language_laws::language_reads_well;

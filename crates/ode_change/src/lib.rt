@@ -10,3 +10,4 @@ mod records;
 mod taking;
 
 pub use changing::change;
+pub use ode_declare::declare;

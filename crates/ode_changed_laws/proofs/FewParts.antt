@@ -14,6 +14,7 @@ use Rattle.ode_changed_laws.proofs.Same.{named-checked}
 use Rattle.ode_heap.specs.Answering.{class_of}
 use Rattle.ode_heap_laws.specs.Few.{HasFewParams, HasFewParts}
 use Rattle.ode_laws.proofs.Each.{all-find}
+pub use Rattle.ode_opening_laws.proofs.Limits.{IsLimited, triggers_limited}
 use Rattle.ode_types.specs.Checked.{AreChecked}
 use Rattle.ode_types.specs.Families as checked
 use Rattle.ode_types.specs.Limits.{field_limit}

@@ -33,6 +33,7 @@ ghost use Rattle.ode_value.specs.Worlds.{Bones, Declared};
 ghost use Rattle.ode_value.specs.declared.change.Change.{Change};
 
 use ode_codec::one_spelling;
+pub use ode_declared_laws::changes_settle;
 use ode_opening_laws::held_worlds_hold_classes;
 
 /// From records that hold a world its classes are read as they were declared, and its added fields, class by class.

@@ -1,3 +1,4 @@
 pub mod CallLaws
 pub mod ItemLaws
+pub mod RecordLaws
 pub mod StatusLaws

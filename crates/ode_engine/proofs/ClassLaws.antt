@@ -2,7 +2,7 @@
 use Rattle.std.proofs.Common.{◌≡◌, List, [], Result, Some, None, Ok, Err, Bool, ℕ, refl, subst, sym}
 use Rattle.std.specs.List.{AllByRecursion}
 use Rattle.ode_again_laws.proofs.Parameters.{few_parameters}
-use Rattle.ode_declare.specs.Declaring.{Declares}
+use Rattle.ode_change.specs.Changing.{Declares}
 use Rattle.ode_language.specs.Texts.{HasText}
 use Rattle.ode_engine.proofs.ServeLaws.{HoldsNow, LeavesOne, quiet_serves, stopped_serves, unsettled_serves}
 use Rattle.ode_engine.proofs.SessionLaws.{closed_session}

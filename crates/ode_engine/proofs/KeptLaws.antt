@@ -2,9 +2,8 @@
 use Rattle.std.proofs.Common.{◌≡◌, ℕ, ℤ, List, [], ◌∷◌, Bool, Option, Result, Some, None, Ok, Err, ap, refl, subst, sym}
 use Rattle.std.specs.List.{AllByRecursion}
 use Rattle.std.specs.Prelude.{OnOk}
-use Rattle.ode_change.specs.Changing.{Changes}
+use Rattle.ode_change.specs.Changing.{Changes, Declares}
 use Rattle.ode_clock.specs.Clocking.{Clocks, clock_settled}
-use Rattle.ode_declare.specs.Declaring.{Declares}
 use Rattle.ode_engine.proofs.ChangeLaws.{change_answer, change_settled}
 use Rattle.ode_engine.proofs.ClassLaws.{class_answer, class_settled}
 use Rattle.ode_engine.proofs.ClockLaws.{clock_answer}

@@ -32,9 +32,8 @@ ghost use Rattle.ode_value.specs.declared.statement.Statement.TheVariants as sta
 
 use crate::engine::Done;
 use crate::refusing::{Turned, checked, place_of, takes_number};
-use ode_change::change;
+use ode_change::{change, declare};
 use ode_clock::set_clock;
-use ode_declare::declare;
 use ode_host::Host;
 use ode_keep::{Keep, Roomy};
 use ode_opened::Opened;

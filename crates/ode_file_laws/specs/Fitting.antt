@@ -5,7 +5,7 @@ use Rattle.ode_gate.specs.declared.header.Header.{Header}
 use Rattle.ode_gate.specs.declared.places.TheConstants.{FIRST_FORMAT}
 use Rattle.ode_keep.specs.Entries.{Entries, record_bytes}
 use Rattle.ode_keeper.specs.Files.{most_under}
-use Rattle.ode_opened_laws.specs.WorldBases.{FitsFirst}
+pub use Rattle.ode_resting_laws.specs.Showing.{FitsFirst}
 use Rattle.ode_value.specs.Worlds.{Bones}
 
 -- the records are within the limit of the header's layout, and the world has a form in its format

@@ -8,14 +8,13 @@ ghost use Rattle.ode_keep.specs.Entries.{Entries};
 ghost use Rattle.ode_language.specs.Languages.{ode};
 ghost use Rattle.ode_open.specs.Opening.{IsOpenedTo};
 ghost use Rattle.ode_open.specs.declared.error.OpenError.{OpenError};
-ghost use Rattle.ode_opened_laws.specs.WorldBases.{world_base};
+ghost use Rattle.ode_resting_laws.specs.Showing.{world_base};
 ghost use Rattle.ode_sound_laws.specs.Typed.{AreFromOne};
 ghost use Rattle.ode_file_laws.specs.Fitting.{FitsFile};
 ghost use Rattle.ode_value.specs.Language.{ListWorld};
 
-use ode_opened_laws::held_worlds_are_opened;
 use ode_opening_records::records_are_opened_to_one_thing;
-use ode_resting_laws::read_classes_have_few_parts;
+use ode_resting_laws::{held_worlds_are_opened, read_classes_have_few_parts};
 
 /// A file whose records fit its header and hold a world with versions from 1 on is opened to the world's classes, the tables of their triggers and its weight,
 /// so it breaks no rule.

@@ -25,7 +25,7 @@ use Rattle.ode_value.specs.Settling.{settle}
 
 -- ---- worlds and serial lists one behind the other
 
-after_both : (w : ListWorld) (a b : Settlings) → world_after w (a ++ b) ≡ world_after (world_after w a) b
+pub after_both : (w : ListWorld) (a b : Settlings) → world_after w (a ++ b) ≡ world_after (world_after w a) b
 after_both w [] b = refl
 after_both w (s ∷ a) b = after_both s.0 a b
 

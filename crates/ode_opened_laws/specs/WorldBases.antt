@@ -1,6 +1,6 @@
 -- What records that hold a world are opened to.
 use Rattle.std.specs.Prelude.{◌≡◌, ◌≤◌, ℕ, [], Bool, true, false, map}
-use Rattle.ode_opening_laws.specs.Holding.{class_of, stored_tables}
+pub use Rattle.ode_opening_laws.specs.Holding.{class_of, stored_tables}
 use Rattle.ode_opening_records.specs.Reading.{base_of}
 use Rattle.ode_opening_records.specs.declared.base.Base.{Base}
 use Rattle.ode_value.specs.Limits.{first_weight_limit}

@@ -6,7 +6,7 @@ use Rattle.std.specs.Option.{option_map, option_map_or}
 use Rattle.std.proofs.lemmas.Option.{get_or_from_slice_get}
 use Rattle.ode_laws.specs.Alike.{AgreesOn}
 use Rattle.ode_opened_laws.proofs.Placed.{IsPlacedIn, all_placed}
-use Rattle.ode_opening_laws.specs.Holding.{class_of, stored_tables}
+use Rattle.ode_opened_laws.specs.WorldBases.{class_of, stored_tables}
 use Rattle.ode_opening_tables.specs.Tables.{places_from}
 use Rattle.ode_schema.specs.Parts.{table_by, table_place}
 use Rattle.ode_states.specs.Advance.{no_table}

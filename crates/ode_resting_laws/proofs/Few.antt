@@ -5,7 +5,7 @@ use Rattle.std.proofs.lemmas.List.{map-append}
 use Rattle.ode_accepted_laws.proofs.Lines.{kept_all}
 use Rattle.ode_heap_laws.specs.Few.{HasFewParams, HasFewParts}
 use Rattle.ode_language.specs.Languages.{ode, statement_of}
-use Rattle.ode_opening_laws.specs.Holding.{class_of}
+use Rattle.ode_opened_laws.specs.WorldBases.{class_of}
 use Rattle.ode_types.specs.Checked.{AreCheckedBehind}
 use Rattle.ode_types.specs.Limits.{field_limit}
 use Rattle.ode_types.specs.Static.{check_grown}

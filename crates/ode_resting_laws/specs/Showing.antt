@@ -3,7 +3,8 @@ use Rattle.std.specs.Prelude.{◌≡◌, map}
 use Rattle.ode_heap_laws.specs.Few.{HoldsCounted}
 use Rattle.ode_keep.specs.Entries.{Entries}
 use Rattle.ode_language.specs.Languages.{ode}
-use Rattle.ode_opening_laws.specs.Holding.{class_of}
+use Rattle.ode_opened_laws.specs.WorldBases.{class_of}
+pub use Rattle.ode_opened_laws.specs.WorldBases.{FitsFirst, world_base}
 use Rattle.ode_opening_records.specs.declared.base.Base.{Base}
 use Rattle.ode_schema.specs.Parts.{table_by}
 use Rattle.ode_value.specs.Language.{ListWorld}

@@ -18,7 +18,7 @@ ghost use Rattle.ode_value.specs.declared.change.Added.{Added};
 ghost use Rattle.ode_resting_laws.specs.Showing.{IsShown};
 
 use ode_again_laws::parameters_of_classes_are_few;
-use ode_opened_laws::held_worlds_are_opened;
+pub use ode_opened_laws::held_worlds_are_opened;
 use ode_opening_records::{
     records_are_opened_to_one_thing, records_of_the_first_format_are_opened_alike,
 };

@@ -4,13 +4,13 @@ use Rattle.std.proofs.lemmas.List.{drop_more}
 use Rattle.std.specs.Prelude.{is_some, pos}
 use Rattle.std.specs.List.{AllByRecursion}
 use Rattle.ode_activation_laws.specs.Switching.{tells_line}
+use Rattle.ode_arising_laws.specs.Arising.{TakesTrigger}
 use Rattle.ode_interpreter.specs.Creating.{makes_active}
 use Rattle.ode_interpreter.specs.Seen.{Ends, Leaves, trigger}
 use Rattle.ode_interpreter.specs.declared.firing.Trigger as code
 use Rattle.ode_interpreter.specs.declared.stop.Stop.{Stop}
 use Rattle.ode_interpreter.specs.declared.stop.Stop.TheVariants as stop
 use Rattle.ode_laws.specs.Alike.{NumberTx, NumberWorld}
-use Rattle.ode_object_laws.specs.Objects.{TakesTrigger}
 use Rattle.ode_overlay.specs.Layers.{Layer}
 use Rattle.ode_overlay_laws.specs.Following.{on_live}
 use Rattle.ode_run.proofs.OffLaws.{on_same}

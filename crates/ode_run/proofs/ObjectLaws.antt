@@ -5,8 +5,8 @@ use Rattle.std.specs.List.{All, fold, list_any}
 use Rattle.std.specs.Option.{option_and_then, option_map}
 use Rattle.std.proofs.lemmas.Bool.Decides.{nat_tests}
 use Rattle.std.proofs.lemmas.Option.{slice_get-get_or}
+use Rattle.ode_arising_laws.specs.Arising.{HoldsKeys}
 use Rattle.ode_keep.specs.Entries.{Entries}
-use Rattle.ode_key_laws.specs.Keys.{HoldsKeys}
 use Rattle.ode_laws.specs.Alike.{NumberTx}
 use Rattle.ode_objects.specs.Loading.{whole_in}
 use Rattle.ode_objects.specs.Objects.{activation_keys, with_states}

@@ -1,9 +1,9 @@
 -- The trigger that is activated.
 use Rattle.std.specs.Prelude.{◌≡◌, ℕ, List, Some}
 use Rattle.std.specs.List.{AllByRecursion}
+use Rattle.ode_arising_laws.specs.Arising.{TakesTrigger}
 use Rattle.ode_interpreter.specs.declared.firing.Trigger as code
 use Rattle.ode_laws.specs.Alike.{NumberTx, NumberWorld}
-use Rattle.ode_object_laws.specs.Objects.{TakesTrigger}
 use Rattle.ode_value.specs.Classes.{Trigger, trigger_named}
 use Rattle.ode_value.specs.Denoting.{object_at}
 use Rattle.ode_value.specs.Worlds.{Declared, Object}

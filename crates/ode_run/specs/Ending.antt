@@ -1,6 +1,7 @@
 -- How the transaction of a context ends.
 use Rattle.std.specs.Prelude.{ℕ, Bool, true, false, Option, Some, None}
 use Rattle.ode_laws.specs.Alike.{NumberTx}
+pub use Rattle.ode_settled_laws.specs.Holding.{IsHeldBy, SettledOver}
 use Rattle.ode_value.specs.Acts.{Aborted, Done, Outcome}
 use Rattle.ode_value.specs.Firings.{both_lists, whole_list}
 use Rattle.ode_value.specs.Language.{ListTx}

@@ -33,5 +33,6 @@ pub use context::Ctx;
 pub use looked::contexts_look;
 pub use ode_interpreter::Stop;
 pub use ode_known_laws::views_read_known;
+pub use ode_settled_laws::front_entries_run;
 pub use ode_value::Reason;
 pub use settling::settle;

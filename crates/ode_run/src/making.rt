@@ -1,10 +1,10 @@
 //! Objects are made, and activations go on.
 ghost use Rattle.std.specs.Prelude.{◌≡◌, ℕ, List as Items, IfOk, [], map};
 ghost use Rattle.ode_activation_laws.specs.Switching.{tells_line};
+ghost use Rattle.ode_arising_laws.specs.Arising.{TakesTrigger};
 ghost use Rattle.ode_interpreter.specs.Creating.{makes_active};
 ghost use Rattle.ode_interpreter.specs.Seen.{Ends, Leaves, trigger};
 ghost use Rattle.ode_overlay_laws.specs.Following.{on_live, tells_new};
-ghost use Rattle.ode_object_laws.specs.Objects.{TakesTrigger};
 ghost use Rattle.ode_run.specs.Activating.{IsOfClass, Takes, TakesAll};
 ghost use Rattle.ode_run.specs.Telling.{EndsThen, calm};
 ghost use Rattle.ode_schema.specs.Parts.{trigger_of};

@@ -4,6 +4,7 @@
 
 ghost use Rattle.std.specs.Prelude.{◌≡◌, ◌∷◌, ℕ, List as Items, map};
 ghost use Rattle.std.specs.List.{AllByRecursion};
+ghost use Rattle.ode_batch_laws.specs.Formed.{IsFormed};
 ghost use Rattle.ode_heap.specs.Answering.{class_of};
 ghost use Rattle.ode_heap_laws.specs.Few.{HoldsCounted};
 ghost use Rattle.ode_keep.specs.Entries.{Changes, Entries, HasRisingKeys, applied, value_under};
@@ -12,7 +13,6 @@ ghost use Rattle.ode_overlay.specs.After.{stands_after};
 ghost use Rattle.ode_overlay.specs.Layers.{Layer};
 ghost use Rattle.ode_overlay.specs.Settling.{growth_told};
 ghost use Rattle.ode_settled_laws.specs.Holding.{IsHeldBy, SettledOver};
-ghost use Rattle.ode_settling_laws.specs.Formed.{IsFormed};
 ghost use Rattle.ode_value.specs.Firings.{both_lists, whole_list};
 ghost use Rattle.ode_value.specs.GoodWorlds.{IsGood};
 ghost use Rattle.ode_value.specs.Language.{Language, ListTx, ListWorld};

@@ -22,8 +22,7 @@ ghost use Rattle.ode_value.specs.Language.{ListWorld, Settlings};
 ghost use Rattle.ode_value.specs.declared.key.Key.{Key};
 
 use ode_heap_laws::heaps_show_held_worlds;
-use ode_opened_laws::held_worlds_are_opened;
-use ode_resting_laws::read_classes_have_few_parts;
+use ode_resting_laws::{held_worlds_are_opened, read_classes_have_few_parts};
 
 /// Records that hold a world tell the number of its next transaction.
 pub fn held_worlds_tell_their_next_number()

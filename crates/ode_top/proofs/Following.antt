@@ -27,7 +27,6 @@ use Rattle.ode_standby.specs.declared.error.ShipError.{ShipError}
 use Rattle.ode_standby.specs.declared.error.ShipError.TheVariants as error
 use Rattle.ode_standby.specs.declared.following.Followed.{Followed}
 use Rattle.ode_standby.specs.declared.following.Followed.TheVariants.{Ended, Long, ReadFault, Stopped}
-use Rattle.ode_transact.specs.Logging.{DiskHas}
 use Rattle.ode_value.specs.Language.{ListWorld}
 use Rattle.ode_value.specs.Limits.{script_limit}
 use Rattle.ode_value.specs.declared.key.Key.{Key}
@@ -39,6 +38,7 @@ use Rattle.ode_begin.specs.Stops.{IsCut, StaysIn}
 use Rattle.ode_begin.proofs.Holding.{tells_one}
 use Rattle.ode_begin.proofs.Refusing.{fault_to, outside_as, outside_or}
 use Rattle.ode_begin.proofs.Reopening.{LeftIn, StopsIn}
+use Rattle.ode_ends.specs.Resting.{DiskHas}
 use Rattle.ode_top.proofs.Shipping.{cut_opened, cut_unopened}
 
 -- ---- what following came to

@@ -19,8 +19,8 @@ use Rattle.ode_opened.specs.declared.opened.Opened.{Opened}
 use Rattle.ode_opening_records.specs.Reading.{AreOpened}
 use Rattle.ode_questions.specs.Answers.{IsAnswered, IsPossible}
 use Rattle.ode_questions.specs.declared.asked.Asked.{Asked}
+use Rattle.ode_ends.specs.Resting.{IsAtRest}
 use Rattle.ode_ends.specs.Statuses.{IsEnding, IsRunStatus}
-use Rattle.ode_transact.specs.Resting.{IsAtRest}
 use Rattle.ode_value.specs.Language.{ListWorld}
 use Rattle.ode_value.specs.Worlds.{Bones}
 use Rattle.ode_top.specs.Answers.{AreAnswered, AreAnsweredInPart}

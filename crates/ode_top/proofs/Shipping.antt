@@ -19,9 +19,8 @@ use Rattle.ode_pagemap.specs.declared.map.PageMap.{PageMap}
 use Rattle.ode_paging.specs.Meaning.{PagesMeanIn}
 use Rattle.ode_script.specs.Cutting.{ending_of, pieces}
 use Rattle.ode_trace.specs.Shipping.{IsShippedSoFar, ShippedAs}
+use Rattle.ode_ends.specs.Resting.{DiskHas, HoldsBy}
 use Rattle.ode_ends.specs.Statuses.{IsEnding, IsRunStatus}
-use Rattle.ode_transact.specs.Logging.{DiskHas}
-use Rattle.ode_transact.specs.Resting.{HoldsBy}
 use Rattle.ode_value.specs.Language.{ListWorld}
 use Rattle.ode_begin.specs.Answers.{EndsFor, IsSilent}
 use Rattle.ode_top.specs.Claims.{ShipsWorld}

@@ -18,11 +18,11 @@ use Rattle.ode_standby.specs.Texts.{followed_line, stopped_line}
 use Rattle.ode_standby.specs.declared.error.ShipError.TheVariants as error
 use Rattle.ode_standby.specs.declared.following.Followed.{Followed}
 use Rattle.ode_standby.specs.declared.following.Followed.TheVariants.{Ended, Long, ReadFault, Stopped}
-use Rattle.ode_transact.specs.Logging.{DiskHas}
 use Rattle.ode_value.specs.Language.{ListWorld}
 use Rattle.ode_begin.specs.Claims.{Finds}
 use Rattle.ode_begin.specs.Holds.{Holds}
 use Rattle.ode_begin.specs.Stops.{IsCut, IsCutAt}
+use Rattle.ode_ends.specs.Resting.{DiskHas}
 
 -- ---- what following a stream came to
 

@@ -1,5 +1,6 @@
 -- What a file is opened to for questions.
 use Rattle.std.specs.Prelude.{◌==◌, ℕ, List, Ok}
+use Rattle.ode_ends.specs.Resting.{HoldsBy}
 use Rattle.ode_gate.specs.declared.places.TheConstants.{FIRST_FORMAT}
 use Rattle.ode_host.specs.Host.{Tells}
 use Rattle.ode_host.specs.View.{View}
@@ -11,7 +12,6 @@ use Rattle.ode_language.specs.Languages.{ode}
 use Rattle.ode_open.specs.Opening.{base_in}
 use Rattle.ode_opened.specs.declared.opened.Opened.{Opened}
 use Rattle.ode_opening_records.specs.Reading.{AreOpened}
-use Rattle.ode_transact.specs.Resting.{HoldsBy}
 use Rattle.ode_value.specs.Language.{ListWorld}
 
 -- A file that holds this world was opened as it is, in either format, and its keeper holds the records that were opened.

@@ -18,9 +18,9 @@ use Rattle.ode_machine.specs.Moments.{LeavesSettling}
 use Rattle.ode_opened.specs.declared.opened.Opened.{Opened}
 use Rattle.ode_overlay.specs.Settling.{growth_told}
 use Rattle.ode_run.specs.Contexts.{ContextRuns, IsContext, parts_of, tables_in, tables_of}
+use Rattle.ode_run.specs.Ending.{IsHeldBy, SettledOver}
 use Rattle.ode_run.specs.declared.context.Ctx.{Ctx}
 use Rattle.ode_schema.specs.Parts.{AreFit, Parts}
-use Rattle.ode_settled_laws.specs.Holding.{IsHeldBy, SettledOver}
 use Rattle.ode_sound_laws.specs.Typed.{AreFromOne}
 use Rattle.ode_transact.proofs.RestLaws.{image_holds, rests}
 use Rattle.ode_transact.proofs.Settles.{same_text}

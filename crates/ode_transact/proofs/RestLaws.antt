@@ -9,9 +9,9 @@ use Rattle.ode_host.specs.View.{View}
 use Rattle.ode_keep.specs.Entries.{Entries}
 use Rattle.ode_overlay.specs.declared.origin.Origin.{Origin}
 use Rattle.ode_run.specs.Contexts.{IsBeginning, parts_of}
+use Rattle.ode_run.specs.Ending.{IsHeldBy}
 use Rattle.ode_run.specs.declared.context.Ctx.{Ctx}
 use Rattle.ode_schema.specs.Parts.{AreFit, Parts}
-use Rattle.ode_settled_laws.specs.Holding.{IsHeldBy}
 use Rattle.ode_sound_laws.specs.Typed.{AreFromOne}
 use Rattle.ode_value.specs.Language.{Language, ListWorld}
 use Rattle.ode_value.specs.Limits.{budget_limit}

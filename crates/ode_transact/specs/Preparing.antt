@@ -5,8 +5,8 @@ use Rattle.ode_host.specs.View.{View}
 use Rattle.ode_overlay.specs.Settling.{growth_told}
 use Rattle.ode_run.specs.Contexts.{ContextRuns, IsContext, parts_of, tables_of}
 pub use Rattle.ode_run.specs.Ending.{ended_by}
+use Rattle.ode_run.specs.Ending.{SettledOver}
 use Rattle.ode_run.specs.declared.context.Ctx.{Ctx}
-use Rattle.ode_settled_laws.specs.Holding.{SettledOver}
 use Rattle.ode_transact.specs.Ending.{line_of}
 use Rattle.ode_transact.specs.Working.{settled_by}
 use Rattle.ode_value.specs.Language.{Language, ListTx, ListWorld}

@@ -3,7 +3,7 @@ use Rattle.std.specs.Prelude.{◌==◌}
 use Rattle.ode_gate.specs.declared.places.TheConstants.{FIRST_FORMAT}
 use Rattle.ode_keeper.proofs.Held.{meant_map}
 use Rattle.ode_open.proofs.One.{one_opening}
-use Rattle.ode_opened_laws.specs.WorldBases.{world_base}
+use Rattle.ode_resting_laws.specs.Showing.{world_base}
 use Rattle.ode_file_laws.proofs.files_of_worlds_are_opened.Goals as goal
 
 pub returns-clause-opened : goal.returns-clause-opened

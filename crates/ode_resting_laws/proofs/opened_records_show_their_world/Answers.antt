@@ -3,8 +3,7 @@ use Rattle.std.specs.List.{AllByRecursion}
 use Rattle.ode_heap_laws.specs.Few.{HoldsCounted}
 use Rattle.ode_laws.specs.Alike.{AgreesOn}
 use Rattle.ode_language.specs.Languages.{ode}
-use Rattle.ode_opened_laws.specs.WorldBases.{world_base}
-use Rattle.ode_opening_laws.specs.Holding.{class_of}
+use Rattle.ode_opened_laws.specs.WorldBases.{class_of, world_base}
 use Rattle.ode_opening_records.specs.declared.base.Base.{Base}
 use Rattle.ode_schema.specs.Parts.{table_by}
 use Rattle.ode_value.specs.Weights.{weight}

@@ -1,5 +1,5 @@
 use Rattle.std.proofs.Common.{false}
-use Rattle.ode_opened_laws.specs.WorldBases.{world_base}
+use Rattle.ode_resting_laws.specs.Showing.{world_base}
 use Rattle.ode_ship_laws.proofs.Decoding.{opened_decodes}
 use Rattle.ode_ship_laws.proofs.held_records_decode.Goals as goal
 

@@ -1,6 +1,7 @@
 use Rattle.std.proofs.Common.{◌∙◌, subst}
 use Rattle.std.proofs.lemmas.Result.{IfErr-weaker, err_from_is_err_and}
 use Rattle.std.specs.Prelude.{IsErrOf}
+use Rattle.ode_ends.specs.Resting.{DiskHas}
 use Rattle.ode_gate.specs.declared.places.TheConstants.{FORMAT}
 use Rattle.ode_host.proofs.Moments.{tells_looks, weaker}
 use Rattle.ode_host.specs.FirstSync.{SyncedRun}
@@ -13,7 +14,6 @@ use Rattle.ode_open.proofs.Synced.{synced_on}
 use Rattle.ode_open.specs.Opening.{Stays}
 use Rattle.ode_open.specs.declared.error.OpenError.TheVariants.{DiskFault}
 use Rattle.ode_paging.specs.Meaning.{PagesMeanIn}
-use Rattle.ode_transact.specs.Logging.{DiskHas}
 use Rattle.ode_begin.proofs.Calling.{at_exit}
 use Rattle.ode_begin.proofs.Claiming.{at_end}
 use Rattle.ode_begin.proofs.Holding.{as_format, first_stays, in_first, last_holds, last_means}

@@ -1,8 +1,8 @@
 use Rattle.std.proofs.Common.{rules, ◌+◌, ◌∙◌, ℕ, List, drop, get_or, map, sym, ap, subst}
 use Rattle.std.proofs.lemmas.List.{drop_all, drop_more}
+use Rattle.ode_arising_laws.specs.Arising.{TakesTrigger}
 use Rattle.ode_interpreter.specs.Seen.{Ends, trigger}
 use Rattle.ode_interpreter.specs.declared.firing.Trigger as code
-use Rattle.ode_object_laws.specs.Objects.{TakesTrigger}
 use Rattle.ode_run.proofs.MakeLaws.{each_next, left_there, more_left, stops_on}
 use Rattle.ode_run.proofs.work.Work.activate_all.Goals as goal
 use Rattle.ode_run.specs.Knowing.{Failed, IsRunning, tx}

@@ -1,4 +1,4 @@
-use Rattle.std.proofs.Common.{◌≡◌, rules, sym, subst, ap, ◌∙◌}
+use Rattle.std.proofs.Common.{◌≡◌, rules, subst, ◌∙◌}
 use Rattle.std.specs.Prelude.{List, cond}
 use Rattle.ode_interpreter.specs.Seen.{firing}
 use Rattle.ode_run.proofs.ArisingLaws.{by_either}

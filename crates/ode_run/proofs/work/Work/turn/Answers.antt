@@ -1,5 +1,5 @@
 use Rattle.std.proofs.Common.{◌≡◌, sym, subst, ap, refl, ◌∙◌}
-use Rattle.std.specs.Prelude.{cond, map, Bool, List, Ok, Some}
+use Rattle.std.specs.Prelude.{cond, map, Bool, List, Ok}
 use Rattle.std.specs.List.{filter}
 use Rattle.ode_arising_laws.specs.Arising.{live_in}
 use Rattle.ode_interpreter.specs.Seen.{firing}
