@@ -1,0 +1,15 @@
+pub mod AloneLaws
+pub mod AnswerLaws
+pub mod BackLaws
+pub mod CallLaws
+pub mod EndLaws
+pub mod FinalLaws
+pub mod LookLaws
+pub mod NumberLaws
+pub mod OpenedLaws
+pub mod PlacedLaws
+pub mod ReplyLaws
+pub mod ServeLaws
+pub mod TriedLaws
+pub mod TryLaws
+pub mod TurnLaws
