@@ -1,11 +1,12 @@
 PROGRAM := crates/ode/out/ode
+SESSIONS := crates/ode_multi/out/ode_multi
 FILE := out/example.db
 
 .PHONY: all example bench test documents clean
 
-# Proves and builds the program.
+# Proves and builds the programs.
 all:
-	@checks/build.sh $(PROGRAM)
+	@checks/build.sh $(PROGRAM) $(SESSIONS)
 
 # Makes a new file, and runs the first example on it: with the program, or where that isn't built by a try without proofs.
 example:

@@ -1,0 +1,6 @@
+pub mod CarryLaws
+pub mod PlacesLaws
+pub mod RunLaws
+pub mod RunsLaws
+pub mod SessionLaws
+pub mod SpokenLaws
