@@ -1,10 +1,10 @@
 #!/usr/bin/env bash
-# Runs the real program on real files, in a fresh folder: checks/program.sh PROGRAM
+# Runs the real programs on real files, in a fresh folder: checks/program.sh ODE ODE_MULTI
 # Each check prints `ok NAME` or `FAILED NAME`. The last line is `N passed, M failed`; the status is 1 where M isn't 0.
 set -u
 
-if [ $# -ne 1 ] || [ ! -x "$1" ]; then
-    echo 'usage: checks/program.sh PROGRAM' >&2
+if [ $# -ne 2 ] || [ ! -x "$1" ] || [ ! -x "$2" ]; then
+    echo 'usage: checks/program.sh ODE ODE_MULTI' >&2
     exit 2
 fi
 
@@ -14,7 +14,8 @@ folder=$(mktemp -d)
 trap 'rm -rf "$folder"' EXIT
 chmod 755 "$folder"
 cp "$1" "$folder/ode"
-chmod 755 "$folder/ode"
+cp "$2" "$folder/ode_multi"
+chmod 755 "$folder/ode" "$folder/ode_multi"
 cd "$folder" || exit 2
 
 passed=0
@@ -51,6 +52,41 @@ is() {
 run() {
     "${as[@]}" timeout -k 5 60 ./ode "$@" > text 2> errors
     status=$?
+}
+
+# sessions WORD..: the same for the program of sessions.
+sessions() {
+    timeout -k 5 60 ./ode_multi "$@" > text 2> errors
+    status=$?
+}
+
+# killed MOST INPUT COMMAND..: the command, killed within so many thousandths of a second. What it printed is a front of the file `whole`,
+# and `shown` says how many transactions that has.
+killed() {
+    local most=$1 input=$2 pid
+    shift 2
+    : > front
+    "$@" < "$input" > front 2> errors &
+    pid=$!
+    sleep "0.$(printf '%03d' $((RANDOM % most)))"
+    kill -KILL "$pid" 2> kill.errors
+    wait "$pid" 2> kill.errors
+    if ! cmp -s -n "$(stat -c %s front)" front whole; then
+        echo '  what was printed is no front'
+        return 1
+    fi
+    shown=$(sed -n '/^tx [0-9]* committed$/p' front | wc -l)
+}
+
+# settled_since TRANSACTION SCRIPT FILE: the next run, whose first `tx` tells how many transactions settled from that one on: `settled` is at
+# least what was shown, and at most one more.
+settled_since() {
+    run run "$3" <<< "$2"
+    settled=$(($(sed -n 's/^tx \([0-9]*\) committed$/\1/p' text | head -n 1) - $1))
+    if [ "$status" -ne 0 ] || [ "$settled" -lt "$shown" ] || [ "$settled" -gt $((shown + 1)) ]; then
+        echo "  $shown transactions were printed, and $settled are there; status $status"
+        return 1
+    fi
 }
 
 # complain STATUS: what the last run did in place of ending with this status.
@@ -239,6 +275,75 @@ done
 asked stock query
 asked alarms same
 
+# --- sessions
+
+# The example's sessions go on over what its script left.
+cp stock.db clerks.db
+sessions clerks.db < "$examples/stock.multi"
+printed 'example stock, a run of sessions' 1 "$examples/stock.multi.out"
+
+for words in '' '-f' 'f f' 'run f' 'f -f'; do
+    # shellcheck disable=SC2086 # the words are cut at blanks
+    sessions $words < /dev/null
+    said "wrong words: ode_multi $words" 2 $'usage: ode_multi FILE\n'
+done
+sessions '' < /dev/null
+said "wrong words: ode_multi ''" 2 $'usage: ode_multi FILE\n'
+is 'wrong words of sessions make no file' [ ! -e f ]
+sessions missing.db < /dev/null
+said 'sessions on a missing file' 3 $'no database\n'
+is 'they make no file' [ ! -e missing.db ]
+sessions "$folder" < /dev/null
+said 'sessions on a directory' 4 ''
+sessions clerks.db < "$folder"
+said 'a script of sessions that is a directory' 5 ''
+
+cp new.db two.db
+sessions two.db < /dev/null
+said 'an empty script of sessions prints nothing' 0 ''
+is 'and leaves the file as it was' cmp two.db new.db
+
+# Two sessions over one file of two objects, and what a run finds behind them.
+printf '%s\n' 'class P { int n; void a() { n = n + 1; } };' 'pnew P();' 'pnew P();' > two.ode
+run run two.db < two.ode
+cp two.db drawn.db
+printf '%s\n' '1: begin;' '2: begin;' '1: #1.a();' '2: #2.a();' '2: #1.a();' '2: commit;' '1: commit;' '2: #1.a();' '1: show #1.n;' > two.multi
+sessions two.db < two.multi
+said 'an object that another session holds' 1 \
+    $'busy 5 session 1 on #1\ntx 4 committed\ntx 5 committed\ntx 6 committed\nvalue 2\ntx 7 committed\n'
+run run two.db <<< 'show #1.n; show #2.n;'
+said 'a run behind sessions' 0 $'value 2\ntx 8 committed\nvalue 1\ntx 9 committed\n'
+printf '%s\n' '1: begin;' '1: pnew P();' '2: pnew P();' '1: commit;' '2: pnew P();' > drawn.multi
+sessions drawn.db < drawn.multi
+said 'numbers that another session drew' 1 \
+    $'busy 3 session 1 on numbers\nnew #3\ntx 4 committed\nnew #4\ntx 5 committed\n'
+
+# Two sessions raise an object each, three times in a transaction, and are killed; twenty rounds over one file. What was printed is a front of
+# the whole text; the next run finds at least the printed transactions, and at most one more, and each of them whole.
+session_rounds() {
+    local transaction=4 first=0 second=0 round shown settled
+    yes $'1: begin;\n2: begin;\n1: #1.a();\n2: #2.a();\n1: #1.a();\n2: #2.a();\n1: #1.a();\n2: #2.a();\n2: commit;\n1: commit;' | head -n 40000 > long.multi
+    for round in $(seq 20); do
+        awk -v k="$transaction" 'BEGIN { for (i = 0; i < 8000; i++) printf "tx %d committed\n", k + i }' > whole
+        killed 400 long.multi ./ode_multi killed_sessions.db || return 1
+        settled_since "$transaction" 'show #1.n; show #2.n;' killed_sessions.db || return 1
+        # session 2 commits before session 1
+        second=$((second + 3 * ((settled + 1) / 2)))
+        first=$((first + 3 * (settled / 2)))
+        if [ "$(sed -n 's/^value //p' text | tr '\n' ' ')" != "$first $second " ]; then
+            echo "  round $round: $(tr '\n' ' ' < text), expected $first and $second"
+            return 1
+        fi
+        transaction=$((transaction + settled + 2))
+    done
+    echo "  $((transaction - 1)) transactions behind 20 kills of two sessions"
+}
+
+fresh killed_sessions.db
+run run killed_sessions.db < two.ode
+is 'sessions that are killed leave what they printed, twenty times' session_rounds 2> kill.shell
+rm -f long.multi
+
 # --- questions
 
 fresh asked.db
@@ -395,6 +500,10 @@ said 'a file of the first format is opened' 0 ''
 is 'a run puts the second format into its other slot' [ "$(number older.db 2057 4)" -eq 2 ]
 is 'what stands before that is as it was' cmp -n 2048 older.db older.before
 example first older.db
+cp older.before older_sessions.db
+sessions older_sessions.db < /dev/null
+said 'sessions on a file of the first format' 0 ''
+is 'they put the second format into its other slot' [ "$(number older_sessions.db 2057 4)" -eq 2 ]
 is 'a new file is one of pages' [ "$(number first.db 13 4)" -eq 2 ]
 
 # --- files that hold no database
@@ -825,26 +934,12 @@ expected() {
 # Twenty rounds over one file. What was printed is a front of the whole text; the next run finds at least the printed
 # transactions, and at most one more, and goes on with the next numbers.
 kill_rounds() {
-    local transaction=2 object=1 round shown settled pid
+    local transaction=2 object=1 round shown settled
     yes 'pnew P(n = 5);' | head -n 20000 > long.ode
     for round in $(seq 20); do
         expected "$transaction" "$object" > whole
-        ./ode run killed.db < long.ode > shown 2> errors &
-        pid=$!
-        sleep "0.$(printf '%03d' $((RANDOM % 700)))"
-        kill -KILL "$pid" 2> kill.errors
-        wait "$pid" 2> kill.errors
-        if ! cmp -s -n "$(stat -c %s shown)" shown whole; then
-            echo "  round $round: what was printed is no front"
-            return 1
-        fi
-        shown=$(grep -c '^tx [0-9]* committed$' shown)
-        run run killed.db <<< 'pnew P(n = 7);'
-        settled=$(($(sed -n 's/^tx \([0-9]*\) committed$/\1/p' text) - transaction))
-        if [ "$status" -ne 0 ] || [ "$settled" -lt "$shown" ] || [ "$settled" -gt $((shown + 1)) ]; then
-            echo "  round $round: $shown transactions were printed, and $settled are there; status $status"
-            return 1
-        fi
+        killed 700 long.ode ./ode run killed.db || return 1
+        settled_since "$transaction" 'pnew P(n = 7);' killed.db || return 1
         if [ "$(head -n 1 text)" != "new #$((object + settled))" ]; then
             echo "  round $round: $(head -n 1 text), expected object $((object + settled))"
             return 1

@@ -1,5 +1,6 @@
-//! A call of `ode` in memory.
+//! A call of `ode` or of `ode_multi` in memory.
 use ode_host::{MemHost, MemSource, Plan, Status};
+use ode_sessions::run_multi;
 use ode_top::run_ode;
 use std::alloc::{AllocError, Global};
 
@@ -27,7 +28,6 @@ pub fn call(
     most: u32,
     file: &[u8],
 ) -> Result<Answer, AllocError> {
-    let words = words_of(alloc, line)?;
     let script = script.as_bytes().to_vec(alloc)?;
     let mut script = MemSource::new(script, Vec::new(alloc), most.max(1));
     let plan = Plan {
@@ -36,6 +36,9 @@ pub fn call(
         stop: None,
     };
     let mut host = MemHost::new(alloc, file.to_vec(alloc)?, plan)?;
-    let status = run_ode(alloc, &words, &mut script, &mut host);
+    let status = match line.strip_prefix(" multi") {
+        Some(words) => run_multi(alloc, &words_of(alloc, words)?, &mut script, &mut host),
+        None => run_ode(alloc, &words_of(alloc, line)?, &mut script, &mut host),
+    };
     Ok(Answer { status, host })
 }
