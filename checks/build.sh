@@ -33,7 +33,7 @@ cut -d: -f1 "$copy/crates.txt" | while read -r crate; do
     find "crates/$crate" -mindepth 1 -maxdepth 1 ! -name out ! -name must-fail -exec cp -r {} "$copy/crates/$crate/" \;
 done
 
-echo "Proving $(wc -l < "$copy/crates.txt") crates. That is some 90 minutes of one processor, shared by all; out/build.log has the whole text."
+echo "Proving $(wc -l < "$copy/crates.txt") crates. That is some 170 minutes of one processor, shared by all; out/build.log has the whole text."
 (cd "$copy" && rt ci 2>&1) | tee out/build.log | grep --line-buffered -E '^rt: .* (proved|NOT PROVED|is kept)|passed,'
 for program in "$@"; do
     mkdir -p "$(dirname "$program")"
