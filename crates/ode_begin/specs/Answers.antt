@@ -17,7 +17,7 @@ use Rattle.ode_script.specs.Cutting.{Ending}
 
 -- The file holds this world, and so does each that a stop from now on leaves, as long as nothing more is written; this is
 -- what was printed.
-pub record EndsWith (view : View) (w : ListWorld) (text : List ℕ) : Type 0 where
+pub record FileEndsWith (view : View) (w : ListWorld) (text : List ℕ) : Type 0 where
   pub image : List ℕ
   pub stands : Stands image view
   pub holds : Holds image w
@@ -27,7 +27,7 @@ pub record EndsWith (view : View) (w : ListWorld) (text : List ℕ) : Type 0 whe
 -- world that the file then holds. Nothing of the script is left where it was read to its end.
 pub record IsRunOf (items : List Item) (ending : Ending) (w : ListWorld) (text : List ℕ) (left : Option (List ℕ)) (view : View) (status : Status) : Type 0 where
   pub stated : status ≡ status_at ending (any_refused items)
-  pub ends : EndsWith view (final w items) (text ++ text_of items)
+  pub ends : FileEndsWith view (final w items) (text ++ text_of items)
   pub nothing : LeavesNothing status left
 
 -- A rule is broken that a file must keep, from its slots to the references among its objects: the first of them.

@@ -31,6 +31,11 @@ pub fn end_with<H: Host>(host: &mut H, line: &[u8], status: Status) -> Status
 /// Says which record was found damaged, where there is memory for it.
 pub fn damaged<H: Host>(alloc: Global, host: &mut H, key: Key) -> Status
     ensures status { (result ≡ Status.Memory) ⊎ ((result ≡ Status.BadFile) ⊎ (result ≡ Status.WriteFault)) }
+    ensures still { result ≡ Status.Memory → host.new ≡ host.old }
+    ensures printed { result ≡ Status.BadFile → (text : Items ℕ) → (H.view host.old).text ≡ Some text
+        → (H.view host.new).text ≡ Some (text ++ why_line (OpenError.BadFile (Cause.Record key))) }
+    ensures cut { result ≡ Status.WriteFault → (text : Items ℕ) → (H.view host.old).text ≡ Some text
+        → SaidFront (why_line (OpenError.BadFile (Cause.Record key))) text (H.view host.new) }
     ensures spares { Spares (H.view host.old) (H.view host.new) }
     ensures leaves { HostCalls (result ≡ Status.DiskFault) (result ≡ Status.WriteFault) (H.view host.old) (H.view host.new) }
 {

@@ -30,7 +30,7 @@ use Rattle.ode_top.specs.Calls.{call_of}
 use Rattle.ode_begin.specs.Holds.{Holds}
 use Rattle.ode_top.specs.declared.call.Mode.{Mode}
 use Rattle.ode_top.specs.declared.call.Mode.TheVariants as mode
-use Rattle.ode_begin.specs.Answers.{EndsWith, IsRunOf, SaidFront, SaysWhy}
+use Rattle.ode_begin.specs.Answers.{FileEndsWith, IsRunOf, SaidFront, SaysWhy}
 
 -- the words are this mode's, and a file
 abbrev pub Asks : Mode → List (List ℕ) → Type 0
@@ -67,7 +67,7 @@ gen_items number w = heard_items true (trace ode w (gen_script number)) ++ (Refu
 -- what is said of it.
 pub record IsGenerated (number : ℕ) (w : ListWorld) (text : List ℕ) (view : View) (status : Status) : Type 0 where
   pub stated : status ≡ run_status ode w (gen_script number)
-  pub ends : EndsWith view (run_world ode w (gen_script number)) (text ++ gen_said number w)
+  pub ends : FileEndsWith view (run_world ode w (gen_script number)) (text ++ gen_said number w)
 
 -- A new file was made of this one, which every stop leaves: the parts of an empty database stand at their places, every
 -- other byte of the file stayed, and it was said.
