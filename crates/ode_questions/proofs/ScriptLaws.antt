@@ -3,6 +3,7 @@ use Rattle.std.proofs.Common.{◌≡◌, ◌∙◌, ◌||◌, Bool, true, false,
 use Rattle.std.proofs.lemmas.List.{take-append-drop}
 use Rattle.std.proofs.Math.Seq.{take-append_seam}
 use Rattle.std.specs.Prelude.{IsErrOf, IsOk}
+use Rattle.ode_ends.specs.Statuses.{status_of_script}
 use Rattle.ode_host.proofs.Calls.{host_calls_as, host_calls_on, rose_as, rose_none, rose_on}
 use Rattle.ode_host.proofs.Moments.{looks_none}
 use Rattle.ode_host.specs.Causes.{RoseIf}
@@ -20,7 +21,7 @@ use Rattle.ode_value.specs.declared.key.Key.{Key}
 use Rattle.ode_questions.specs.Answers.{IsAnswered, IsEnded, IsFront, IsPossible}
 use Rattle.ode_questions.specs.Saying.{said}
 use Rattle.ode_questions.specs.Scripts.{any_refused, pieces_text, script_text}
-use Rattle.ode_questions.specs.Steps.{Prints, SoFar, ended_by, status_of_script}
+use Rattle.ode_questions.specs.Steps.{Prints, SoFar, ended_by}
 use Rattle.ode_questions.specs.declared.asked.Asked.{Asked}
 use Rattle.ode_questions.specs.declared.saying.Said.{Said}
 use Rattle.ode_questions.specs.declared.stop.Stop.{Stop}

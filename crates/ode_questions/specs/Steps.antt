@@ -15,8 +15,6 @@ use Rattle.ode_run_frame.specs.Knowing.{IsSound, Until}
 use Rattle.ode_run_frame.specs.declared.unread.Unread.{Unread}
 use Rattle.ode_run_frame.specs.declared.unread.Unread.TheVariants as unread
 use Rattle.ode_script.specs.Cutting.{Pieces, ending_of}
-use Rattle.ode_script.specs.declared.reader.ScriptError.{ScriptError}
-use Rattle.ode_script.specs.declared.reader.ScriptError.TheVariants as script
 use Rattle.ode_types.specs.declared.stop.CheckStop.{CheckStop}
 use Rattle.ode_types.specs.declared.stop.CheckStop.TheVariants as check
 use Rattle.ode_value.specs.Keys.{counters_key}
@@ -132,10 +130,3 @@ ended_by stop.Memory = Ok status.Memory
 ended_by stop.DiskFault = Ok status.DiskFault
 ended_by stop.WriteFault = Ok status.WriteFault
 ended_by (stop.Damaged key) = Err key
-
--- what it ends with where the script gives no piece
-abbrev pub status_of_script : ScriptError → Status
-status_of_script script.Memory = status.Memory
-status_of_script script.ReadFault = status.ReadFault
-status_of_script script.LongStatement = status.LongStatement
-status_of_script script.LongScript = status.LongScript

@@ -5,41 +5,21 @@ ghost use Rattle.ode_heap_laws.specs.Few.{HoldsCounted};
 ghost use Rattle.ode_host.specs.Causes.{RoseIf};
 ghost use Rattle.ode_host.specs.Host.{HostCalls, Spares};
 ghost use Rattle.ode_keep.specs.Entries.{Entries};
-ghost use Rattle.ode_machine.specs.Runs.{status_at};
-ghost use Rattle.ode_script.specs.Cutting.{End};
 ghost use Rattle.ode_value.specs.Language.{Language, ListWorld};
 ghost use Rattle.ode_questions.specs.Answers.{IsAnswered, IsPossible};
-ghost use Rattle.ode_questions.specs.Steps.{ended_by, status_of_script};
+ghost use Rattle.ode_questions.specs.Steps.{ended_by};
 
 use crate::asked::Asked;
 use crate::saying::say_piece;
 use crate::stop::Stop;
+use ode_ends::{status_at_end, status_of_script};
 use ode_heap::Heap;
 use ode_host::{Host, Source, Status};
 use ode_keep::Keep;
-use ode_script::{Piece, Reader, ScriptError};
+use ode_script::{Piece, Reader};
 use ode_types::Classes;
 use ode_value::Key;
 use std::alloc::Global;
-
-// The status at the end of the script.
-fn status_at_end(refused: bool) -> Status
-    ensures { result ≡ status_at End refused }
-{
-    if refused { Status::Refused } else { Status::Ok }
-}
-
-// That where the script gives no piece.
-fn status_of_script(error: ScriptError) -> Status
-    ensures { result ≡ status_of_script error }
-{
-    match error {
-        ScriptError::Memory => Status::Memory,
-        ScriptError::ReadFault => Status::ReadFault,
-        ScriptError::LongStatement => Status::LongStatement,
-        ScriptError::LongScript => Status::LongScript,
-    }
-}
 
 // What a run ends with where a piece isn't answered: a status, or the key of a record that was found damaged.
 fn ended_by(stop: Stop) -> Result<Status, Key>
