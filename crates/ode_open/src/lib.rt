@@ -5,6 +5,5 @@ mod error;
 mod opening;
 
 pub use error::OpenError;
-pub use ode_migrate::{MigrateError, migrate};
 pub use ode_opened::Opened;
 pub use opening::open_base;

@@ -9,5 +9,4 @@ mod speaking;
 mod usage;
 
 pub use multi::run_multi;
-pub use ode_steps::{Answer, Sessions};
 pub use usage::multi_word;

@@ -99,7 +99,7 @@ pub(crate) fn finish_in<H: Host, K: Roomy<H> + Drop>(
     'ending: for _ended in 0..sessions.len() {
         let (after, count) = end_one(alloc, rest, host, sessions)?;
         rest = after;
-        // So many never settle: the numbers of sessions are few.
+        // There is room, unless some 2^32 sessions are open.
         let Some(sum) = sum_of(settled, count) else {
             return Err(EngineError::Memory);
         };
