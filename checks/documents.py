@@ -6,6 +6,7 @@ a line there begins with a function, at one that it names; each crate of crates.
 it stands on, and the README has at most 1,000 words. Prints what doesn't; the status is then 1.
 """
 
+import functools
 import glob
 import os
 import re
@@ -16,6 +17,7 @@ WORDS = 1000
 faults = []
 
 
+@functools.cache
 def read(*names):
     return "\n".join(open(name, encoding="utf-8").read() for name in names)
 
