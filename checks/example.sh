@@ -32,8 +32,6 @@ cp examples/first.ode "$runs/2 run first.ode"
 printf '%s\n' run "$file" > "$runs/2 run first.ode.args"
 echo 'There is no proved program yet, so rt builds one without proofs. This takes a minute or two.'
 checks/joined.py "$work/joined"
-# clang is told to leave out its checks of addresses, which are a third of its time: they would look for what the proofs exclude.
-export CCC_OVERRIDE_OPTIONS='# x-fsanitize=address'
 if ! (cd "$work/joined/crates/ode" && rt try --steps 1000 --cases "$runs" 2> "$work/errors"); then
     cat "$work/errors" >&2
     exit 1
