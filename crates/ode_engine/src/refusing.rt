@@ -15,11 +15,12 @@ ghost use Rattle.ode_value.specs.Language.{Language, ListTx, ListWorld};
 ghost use Rattle.ode_value.specs.Worlds.{Object};
 ghost use Rattle.ode_versions.specs.Versions.{IsVersionList};
 
+use ode_checker::{check_statement, literals};
 use ode_heap::ObjectHead;
 use ode_host::Host;
 use ode_keep::Keep;
 use ode_transact::{Ctx, EngineError, fault_of, head};
-use ode_types::{CheckStop, Classes, check_statement, literals};
+use ode_types::{CheckStop, Classes};
 use ode_value::{Boxed, List, Ref, Refusal, Statement, Stmt};
 use std::alloc::{AllocError, Global};
 

@@ -3,12 +3,13 @@ ghost use Rattle.std.specs.Prelude.{◌<◌, ◌^◌, length};
 
 use crate::making::keeps_numbers;
 use crate::pairs::is_least;
+use ode_checker::check_class;
 use ode_classyn::parse_class;
 use ode_eventsyn::SyntaxError;
 use ode_minimal::shrink;
 use ode_symbols::{Alphabet, AlphabetError};
 use ode_table::{BuildError, Table, build};
-use ode_types::{CheckStop, Classes, check_class};
+use ode_types::{CheckStop, Classes};
 use ode_value::{Class, ClassDecl, EventExpr, List, TriggerDecl};
 use std::alloc::{AllocError, Global};
 use std::io;

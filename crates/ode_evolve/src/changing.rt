@@ -9,7 +9,8 @@ ghost use Rattle.ode_value.specs.Classes.{null};
 ghost use Rattle.ode_value.specs.Same.{same_value};
 ghost use Rattle.ode_evolve.specs.Evolving.{born, change_class, declares_next, is_literal, is_named, knows_class, knows_field, place_named};
 
-use ode_types::{CheckStop, Classes, check_grown};
+use ode_checker::check_grown;
+use ode_types::{CheckStop, Classes};
 use ode_value::{Added, Change, CheckError, ClassDecl, List, Name, Ref, Sort, Value};
 use std::alloc::{AllocError, Global};
 

@@ -6,9 +6,8 @@ ghost use Rattle.ode_types.specs.Checks.{each};
 ghost use Rattle.ode_types.specs.Variables.{shown_checked, test_checked};
 
 use ode_asksyn::Query;
-use ode_types::{
-    CheckStop, Classes, check_shown, check_test, check_variables, query_literals as literals_of,
-};
+use ode_checker::{check_shown, check_test, check_variables, query_literals as literals_of};
+use ode_types::{CheckStop, Classes};
 use ode_value::{Expr, List, Param, Ref};
 use std::alloc::{AllocError, Global};
 

@@ -11,8 +11,9 @@ ghost use Rattle.ode_questions.specs.Steps.{Answers, stopped_by};
 use crate::turned::{Turned, Why};
 use ode_asked_laws::numbers_of_comparisons_are_in_range;
 use ode_asksyn::{Comparison, read_comparison};
+use ode_checker::check_compared;
 use ode_same::comparison_text;
-use ode_types::{Classes, check_compared};
+use ode_types::Classes;
 use ode_value::{EventExpr, List};
 use std::alloc::Global;
 

@@ -10,9 +10,10 @@ mod ruling;
 mod valuing;
 
 use literal::literal_of;
+use ode_checker::{check_class, check_statement};
 use ode_classyn::{parse_class, parse_statement};
 use ode_evolve::{change_class, parse_change, with_change};
-use ode_types::{CheckStop, Classes, check_class, check_statement};
+use ode_types::{CheckStop, Classes};
 use ode_value::{Added, Change, ClassDecl, List, Ref, Statement, Stmt};
 use ruling::{Ruling, print_ruling};
 use std::alloc::{AllocError, Global};

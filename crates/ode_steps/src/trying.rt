@@ -21,6 +21,7 @@ ghost use Rattle.ode_value.specs.Pasts.{lists};
 ghost use Rattle.ode_value.specs.Transactions.{looking as looking_on};
 ghost use Rattle.ode_value.specs.declared.value.Ref.{Ref as Reference};
 
+use ode_checker::literals;
 use ode_engine::{Turned, checked};
 use ode_holders::Taken;
 use ode_host::Host;
@@ -30,7 +31,6 @@ use ode_overlay::Origin;
 use ode_transact::{
     Ctx, EngineError, Stop, Work, begin, contexts_look, exec, fault_of, run, run_completion,
 };
-use ode_types::literals;
 use ode_value::{List, Reason, Ref, Refusal, Stmt};
 use std::alloc::{AllocError, Global};
 

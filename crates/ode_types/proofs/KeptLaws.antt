@@ -26,7 +26,7 @@ use Rattle.ode_types.specs.Limits.{slot_limit}
 use Rattle.ode_types.specs.Scopes.{Scope, local_named, meaning, own_meaning, wrong}
 use Rattle.ode_types.specs.Sorts.{binary_sort, class_of, is_reference, unary_sort}
 use Rattle.ode_types.specs.Typing.{Typing, binary_typed, field_of, field_typed, gives, literal, name_typed, slot, this_typed, typed, typing_of, unary_typed, value_sort, version_typed, where_so}
-use Rattle.ode_types.specs.declared.typing.Typed.{Typed}
+use Rattle.ode_types.specs.declared.checked.Typed.{Typed}
 use Rattle.ode_types.proofs.CheckedClasses.{bind-ok, needs-ok}
 use Rattle.ode_types.proofs.FamilyLaws.{field_named-place}
 

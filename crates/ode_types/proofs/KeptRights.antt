@@ -24,8 +24,8 @@ use Rattle.ode_types.specs.Rights.{activated, argument, arguments, call_from, ca
 use Rattle.ode_types.specs.Scopes.{Scope, wrong}
 use Rattle.ode_types.specs.Sorts.{class_of, fits, is_reference}
 use Rattle.ode_types.specs.Typing.{fitting, reference, typed, where_so}
-use Rattle.ode_types.specs.declared.rights.Right.{Right}
-use Rattle.ode_types.specs.declared.typing.Typed.{Typed}
+use Rattle.ode_types.specs.declared.checked.Right.{Right}
+use Rattle.ode_types.specs.declared.checked.Typed.{Typed}
 use Rattle.ode_types.proofs.CheckedClasses.{bind-ok, needs-ok}
 use Rattle.ode_types.proofs.KeptLaws.{Sees, found-ok, setting_of, typed_kept}
 

@@ -27,7 +27,7 @@ use Rattle.ode_types.specs.Scopes.{Scope, behind, is_seen, meaning, with_local, 
 use Rattle.ode_types.specs.Sorts.{fits, is_void, starting}
 use Rattle.ode_types.specs.Static.{check_statement, script_scope}
 use Rattle.ode_types.specs.Typing.{fitting, reference, where_so}
-use Rattle.ode_types.specs.declared.rights.Right.{Right}
+use Rattle.ode_types.specs.declared.checked.Right.{Right}
 use Rattle.ode_types.proofs.CheckedClasses.{bind-ok, needs-ok}
 use Rattle.ode_types.proofs.KeptLaws.{Holds, Shows, found-ok, meaning_by, setting_of}
 use Rattle.ode_types.proofs.KeptRights.{fitting_kept, reference_is, right_kept}

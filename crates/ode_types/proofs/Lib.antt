@@ -1,8 +1,6 @@
 pub mod CheckedClasses
 pub mod CheckedLists
 pub mod ClassLists
-pub mod DeclaringLaws
-pub mod EventLaws
 pub mod FamilyLaws
 pub mod KeptBodies
 pub mod KeptClasses
@@ -13,11 +11,6 @@ pub mod KeptRights
 pub mod KeptStatements
 pub mod LineLaws
 pub mod LiteralLaws
-pub mod MemberLaws
 pub mod Places
-pub mod SlotLaws
-pub mod StatementLaws
-pub mod StaticLaws
 pub mod TurnLaws
 pub mod TypingLaws
-pub mod VariableLaws

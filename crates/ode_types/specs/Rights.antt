@@ -13,8 +13,8 @@ use Rattle.ode_value.specs.declared.statement.Rhs.{Rhs}
 use Rattle.ode_value.specs.declared.statement.Rhs.TheVariants as rhs
 use Rattle.ode_value.specs.declared.statement.Sort.{Sort}
 use Rattle.ode_value.specs.declared.statement.Sort.TheVariants as sort
-use Rattle.ode_types.specs.declared.rights.Right.{Right}
-use Rattle.ode_types.specs.declared.typing.Typed.{Typed}
+use Rattle.ode_types.specs.declared.checked.Right.{Right}
+use Rattle.ode_types.specs.declared.checked.Typed.{Typed}
 use Rattle.ode_types.specs.Checks.{Check, ◌>>=◌, ◌>>◌, needs, found, in_turn}
 use Rattle.ode_types.specs.Families.{class_named, line_of, field_named, method_named, trigger_named}
 use Rattle.ode_types.specs.Scopes.{Scope, wrong}

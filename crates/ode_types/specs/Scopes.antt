@@ -1,7 +1,7 @@
 -- Where an expression or a statement stands, and what a name means there.
 use Rattle.std.specs.Prelude.{ℕ, ◌+◌, List, [], ◌∷◌, ◌++◌, length, Bool, true, false, is_some, Option, Some}
 use Rattle.std.specs.List.{find}
-use Rattle.std.specs.Option.{option_copied, option_map, option_map_or, option_or}
+use Rattle.std.specs.Option.{option_map, option_map_or, option_or}
 use Rattle.std.specs.Str.{bytes_eq}
 use Rattle.ode_value.specs.declared.binding.Param.{Param}
 use Rattle.ode_value.specs.declared.binding.Var.{Var}
@@ -14,8 +14,6 @@ use Rattle.ode_value.specs.declared.statement.Sort.{Sort}
 use Rattle.ode_value.specs.declared.value.Ref.{Ref}
 use Rattle.ode_types.specs.Families.{field_named}
 use Rattle.ode_types.specs.Limits.{in_slots}
-use Rattle.ode_types.specs.declared.place.Locals.{Locals}
-use Rattle.ode_types.specs.declared.place.Place.{Place}
 
 -- the classes that are known; the class that `this` is of; the member's name; the parameters and locals that are seen, each with
 -- its slot; the next local's slot; what `return` gives; an expression is plain; the classes of the literals
@@ -83,20 +81,3 @@ own_meaning class name = option_map (λ (f : ℕ × Field). (var.Own f.0, f.1.so
 -- what a name means: a parameter or a local, else a field; and its sort
 abbrev pub meaning : Scope → List ℕ → Option (Var × Sort)
 meaning scope name = option_or (option_map (λ (p : ℕ × Param). (var.Local p.0, p.1.sort)) (local_named scope.seen name)) (own_meaning scope.class name)
-
--- the scope of what stands at a place, with these locals
-abbrev pub scope_of : Place → Locals → Scope
-scope_of place locals = record {
-  classes = place.known;
-  class = option_copied place.class;
-  member = place.member.now;
-  seen = locals.seen;
-  next = locals.next;
-  result = place.result.now;
-  is_plain = place.is_plain;
-  literals = place.literals.now;
-}
-
--- the same where no local is looked at
-abbrev pub scope_at : Place → Scope
-scope_at place = scope_of place (record { seen = []; next = 0 })

@@ -24,7 +24,7 @@ use Rattle.ode_value.specs.Text.{is_bad_byte}
 use Rattle.ode_types.specs.Checks.{Check, ◌>>=◌, ◌>>◌, needs, found}
 use Rattle.ode_types.specs.Families.{class_numbered, field_named}
 use Rattle.ode_types.specs.Scopes.{Scope, wrong, meaning}
-use Rattle.ode_types.specs.declared.typing.Typed.{Typed}
+use Rattle.ode_types.specs.declared.checked.Typed.{Typed}
 use Rattle.ode_types.specs.Sorts.{fits, class_of, is_reference, unary_sort, binary_sort}
 
 -- what a check of an expression gives

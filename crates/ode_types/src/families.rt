@@ -14,7 +14,7 @@ use ode_value::{Class, Constraint, Field, Method, Name, TriggerDecl};
 
 /// The field of this name, with its slot.
 #[tactic(auto, using(crate::proofs::FamilyLaws::fields_by_place))]
-pub(crate) fn field_named<'a>(fields: &'a [Field], name: &Name) -> Option<(u16, &'a Field)>
+pub fn field_named<'a>(fields: &'a [Field], name: &Name) -> Option<(u16, &'a Field)>
     ensures { seen_field result ≡ field_named fields.now name.now }
 {
     let fields = in_slots(fields, 0);
@@ -50,7 +50,7 @@ fn field_place(fields: &[Field], name: &Name) -> Option<usize>
 }
 
 /// The method of this name that a class itself has.
-pub(crate) fn own_method<'a>(class: &'a Class, name: &Name) -> Option<&'a Method>
+pub fn own_method<'a>(class: &'a Class, name: &Name) -> Option<&'a Method>
     ensures { option_copied result ≡ method_named (class.now ∷ []) name.now }
 {
     class
@@ -62,7 +62,7 @@ pub(crate) fn own_method<'a>(class: &'a Class, name: &Name) -> Option<&'a Method
 
 /// The nearest method of this name in a line.
 #[tactic(auto, using(crate::proofs::FamilyLaws::named_along))]
-pub(crate) fn method_above<'a>(line: &mut Line<'a>, name: &Name) -> Option<&'a Method>
+pub fn method_above<'a>(line: &mut Line<'a>, name: &Name) -> Option<&'a Method>
     ensures { option_copied result ≡ method_named line.old name.now }
 {
     while let Some(class) = line.next() {
@@ -75,11 +75,7 @@ pub(crate) fn method_above<'a>(line: &mut Line<'a>, name: &Name) -> Option<&'a M
 
 /// The nearest method of this name of a class and its ancestors.
 #[tactic(auto, using(crate::proofs::FamilyLaws::named_along))]
-pub(crate) fn method_named<'a>(
-    known: &Known<'a>,
-    class: &'a Class,
-    name: &Name,
-) -> Option<&'a Method>
+pub fn method_named<'a>(known: &Known<'a>, class: &'a Class, name: &Name) -> Option<&'a Method>
     ensures { option_copied result ≡ method_named (line_of known.now class.now) name.now }
 {
     match own_method(class, name) {
@@ -113,7 +109,7 @@ fn trigger_above<'a>(line: &mut Line<'a>, name: &Name) -> Option<&'a TriggerDecl
 
 /// The trigger of this name of a class and its ancestors.
 #[tactic(auto, using(crate::proofs::FamilyLaws::named_along))]
-pub(crate) fn trigger_named<'a>(
+pub fn trigger_named<'a>(
     known: &Known<'a>,
     class: &'a Class,
     name: &Name,
@@ -138,7 +134,7 @@ fn is_above(line: &mut Line, name: &Name) -> bool
 }
 
 /// Whether a class or an ancestor has this name.
-pub(crate) fn is_a(known: &Known, class: &Class, name: &Name) -> bool
+pub fn is_a(known: &Known, class: &Class, name: &Name) -> bool
     ensures { result ≡ is_a known.now class.now name.now }
 {
     class.name.same(name) || is_above(&mut known.ancestors(class), name)
@@ -169,7 +165,7 @@ fn constraint_above<'a>(line: &mut Line<'a>, name: &Name) -> Option<&'a Constrai
 
 /// The constraint of this name of a class and its ancestors.
 #[tactic(auto, using(crate::proofs::FamilyLaws::named_along))]
-pub(crate) fn constraint_named<'a>(
+pub fn constraint_named<'a>(
     known: &Known<'a>,
     class: &'a Class,
     name: &Name,

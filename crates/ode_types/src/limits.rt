@@ -25,7 +25,7 @@ pub fn limits_agree()
 
 /// The first of these for which there are slots from the next one on.
 #[tactic(auto, unfolding(crate::specs::Limits::slot_limit))]
-pub(crate) fn in_slots<T>(items: &[T], next: usize) -> &[T]
+pub fn in_slots<T>(items: &[T], next: usize) -> &[T]
     ensures { result.now ≡ take (slot_limit - next) items.now }
 {
     let slots = SLOT_LIMIT.saturating_sub(next);

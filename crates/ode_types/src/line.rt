@@ -10,7 +10,7 @@ use std::marker::Model;
 
 /// The classes that are declared, and the one that is being checked, if one is. Contracts see the list of all.
 #[derive(Drop)]
-pub(crate) struct Known<'a> {
+pub struct Known<'a> {
     classes: &'a Classes,
     draft: Option<&'a Class>,
 }
@@ -32,7 +32,7 @@ impl<'a> Model for Known<'a> {
 
 /// The ancestors that are still to come, the nearest first. Contracts see their list.
 #[derive(Drop)]
-pub(crate) struct Line<'a> {
+pub struct Line<'a> {
     classes: &'a Classes,
     // how many of the classes are left to look among
     before: usize,
@@ -89,14 +89,14 @@ fn where_numbered<'a>(class: Option<&'a Class>, number: u32) -> Option<&'a Class
 
 impl<'a> Known<'a> {
     /// These classes, and this one behind them.
-    pub(crate) fn new(classes: &'a Classes, draft: Option<&'a Class>) -> Known<'a>
+    pub fn new(classes: &'a Classes, draft: Option<&'a Class>) -> Known<'a>
         ensures { result ≡ classes.now ++ alone (option_copied draft.entry) }
     {
         Known { classes, draft }
     }
 
     /// The same classes again.
-    pub(crate) fn again(&self) -> Known<'a>
+    pub fn again(&self) -> Known<'a>
         ensures { result ≡ self.now }
     {
         Known {
@@ -107,7 +107,7 @@ impl<'a> Known<'a> {
 
     /// The class of this name.
     #[tactic(auto, using(crate::proofs::LineLaws::found_behind))]
-    pub(crate) fn named(&self, name: &Name) -> Option<&'a Class>
+    pub fn named(&self, name: &Name) -> Option<&'a Class>
         ensures { option_copied result ≡ class_named self.now name.now }
     {
         match self.classes.named(name) {
@@ -118,7 +118,7 @@ impl<'a> Known<'a> {
 
     /// The class of this number.
     #[tactic(auto, using(crate::proofs::LineLaws::found_behind))]
-    pub(crate) fn numbered(&self, number: u32) -> Option<&'a Class>
+    pub fn numbered(&self, number: u32) -> Option<&'a Class>
         ensures { option_copied result ≡ class_numbered self.now number }
     {
         match self.classes.class(number) {
@@ -128,7 +128,7 @@ impl<'a> Known<'a> {
     }
 
     /// The ancestors of a class, the nearest first.
-    pub(crate) fn ancestors(&self, class: &Class) -> Line<'a>
+    pub fn ancestors(&self, class: &Class) -> Line<'a>
         ensures { result ≡ ancestors_of self.now class.now }
     {
         Line {
@@ -142,7 +142,7 @@ impl<'a> Known<'a> {
 
 impl<'a> Line<'a> {
     /// The next ancestor.
-    pub(crate) fn next(&mut self) -> Option<&'a Class>
+    pub fn next(&mut self) -> Option<&'a Class>
         ensures { self.old ≡ headed (option_copied result) self.new }
     {
         let draft = where_numbered(self.draft, self.number);
@@ -158,7 +158,7 @@ impl<'a> Line<'a> {
     }
 
     /// Whether at most so many are still to come.
-    pub(crate) fn is_within(mut self, limit: usize) -> bool
+    pub fn is_within(mut self, limit: usize) -> bool
         ensures { result ≡ nat_le (length self.entry) limit }
     {
         for _passed in 0..limit {

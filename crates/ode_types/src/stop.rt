@@ -27,35 +27,35 @@ impl From<AllocError> for CheckStop {
 }
 
 /// A name that nothing has.
-pub(crate) fn unknown<T>(alloc: Global, name: &Name) -> Result<T, CheckStop>
+pub fn unknown<T>(alloc: Global, name: &Name) -> Result<T, CheckStop>
     ensures { Answers (Err (UnknownName name.now)) result }
 {
     Err(CheckStop::Broken(CheckError::UnknownName(name.copy(alloc)?)))
 }
 
 /// A name that is there already.
-pub(crate) fn duplicate<T>(alloc: Global, name: &Name) -> Result<T, CheckStop>
+pub fn duplicate<T>(alloc: Global, name: &Name) -> Result<T, CheckStop>
     ensures { Answers (Err (Duplicate name.now)) result }
 {
     Err(CheckStop::Broken(CheckError::Duplicate(name.copy(alloc)?)))
 }
 
 /// More of something than a class may have, or more classes than there are numbers.
-pub(crate) fn too_many<T>(alloc: Global, name: &Name) -> Result<T, CheckStop>
+pub fn too_many<T>(alloc: Global, name: &Name) -> Result<T, CheckStop>
     ensures { Answers (Err (TooMany name.now)) result }
 {
     Err(CheckStop::Broken(CheckError::TooMany(name.copy(alloc)?)))
 }
 
 /// Any other mismatch in the member of this name.
-pub(crate) fn wrong<T>(alloc: Global, member: &Name) -> Result<T, CheckStop>
+pub fn wrong<T>(alloc: Global, member: &Name) -> Result<T, CheckStop>
     ensures { Answers (Err (WrongSort member.now)) result }
 {
     Err(CheckStop::Broken(CheckError::WrongSort(member.copy(alloc)?)))
 }
 
 /// What was checked, where a rule holds; else a mismatch in the member of this name.
-pub(crate) fn where_holds<T: Drop>(
+pub fn where_holds<T: Drop>(
     alloc: Global,
     holds: bool,
     checked: T,
@@ -71,14 +71,14 @@ pub(crate) fn where_holds<T: Drop>(
 }
 
 /// What was checked, in a box.
-pub(crate) fn boxed<T: Drop>(alloc: Global, checked: T) -> Result<Boxed<T>, CheckStop>
+pub fn boxed<T: Drop>(alloc: Global, checked: T) -> Result<Boxed<T>, CheckStop>
     ensures { Answers (Ok checked) result }
 {
     Ok(Boxed::new(alloc, checked)?)
 }
 
 /// The same out of its box.
-pub(crate) fn opened<T>(checked: Result<Boxed<T>, CheckStop>) -> Result<T, CheckStop>
+pub fn opened<T>(checked: Result<Boxed<T>, CheckStop>) -> Result<T, CheckStop>
     ensures { result ≡ checked }
 {
     match checked {
@@ -88,7 +88,7 @@ pub(crate) fn opened<T>(checked: Result<Boxed<T>, CheckStop>) -> Result<T, Check
 }
 
 /// What is there, out of its box.
-pub(crate) fn unboxed<T>(part: Option<Boxed<T>>) -> Option<T>
+pub fn unboxed<T>(part: Option<Boxed<T>>) -> Option<T>
     ensures { result ≡ part }
 {
     match part {

@@ -1,0 +1,5 @@
+pub mod DeclaringLaws
+pub mod EventLaws
+pub mod MemberLaws
+pub mod StaticLaws
+pub mod VariableLaws

@@ -1,5 +1,0 @@
-use Rattle.std.proofs.Common.{◌≡◌, ◌++◌, take}
-use Rattle.ode_types.proofs.members.add_kinds.Given as goal
-
-abbrev pub invariant-loop-kind : goal.invariant-loop-kind
-invariant-loop-kind l = l.class ≡ record l.initial.class { kinds = l.initial.class.kinds ++ take l.kind-index l.kinds }
