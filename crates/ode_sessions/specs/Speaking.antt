@@ -12,13 +12,14 @@ use Rattle.ode_machine.specs.Conversation.{NoSession, Says, Spoken, Unread}
 use Rattle.ode_sessions.specs.declared.speaking.Spoken as code
 use Rattle.ode_sessions.specs.declared.speaking.Spoken.TheVariants as said
 use Rattle.ode_value.specs.Answers.{Answer}
+use Rattle.ode_value.specs.Limits.{session_limit}
 use Rattle.ode_value.specs.declared.reason.Refusal.{Refusal}
 use Rattle.ode_value.specs.declared.reason.Refusal.TheVariants as refusal
 use Rattle.ode_value.specs.declared.statement.Statement.{Statement}
 
 -- the number of a session
 abbrev pub session_in : TokenKind → Option ℕ
-session_in (kinds.Number (pos n)) = cond (nat_le 1 n && nat_le n 64) (Some n) None
+session_in (kinds.Number (pos n)) = cond (nat_le 1 n && nat_le n session_limit) (Some n) None
 session_in kind = None
 
 abbrev pub is_colon : TokenKind → Bool

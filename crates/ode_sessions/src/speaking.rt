@@ -5,11 +5,9 @@ ghost use Rattle.ode_sessions.specs.Speaking.{HasSaid, IsMovable, IsSpoken, is_c
 
 use ode_language::{ReadStop, read_statement};
 use ode_lex::{LexError, Mark, Token, TokenKind, tokens};
+use ode_value::limits::SESSION_LIMIT;
 use ode_value::{Refusal, Statement};
 use std::alloc::{AllocError, Global};
-
-/// The most sessions.
-const MAX_SESSIONS: i64 = 64;
 
 /// What a piece says: a statement of the session of a number; or it names no session; or the first refusal of its bytes.
 #[derive(Drop)]
@@ -25,7 +23,7 @@ fn session_in(kind: TokenKind) -> Option<u32>
 {
     match kind {
         TokenKind::Number(n) => {
-            if 1 <= n && n <= MAX_SESSIONS {
+            if 1 <= n && n <= SESSION_LIMIT as i64 {
                 Some(n as u32)
             } else {
                 None

@@ -100,3 +100,7 @@ statement_limit = 65536
 -- the bytes of a script
 unfoldable pub script_limit : ℕ
 script_limit = 67108864
+
+-- the sessions of a script of sessions
+abbrev pub session_limit : ℕ
+session_limit = 64

@@ -1,3 +1,4 @@
+//! Classes and their fields.
 ghost use Rattle.std.specs.Prelude.{◌≡◌, IfOk};
 
 use crate::event::Kind;

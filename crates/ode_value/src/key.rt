@@ -1,3 +1,4 @@
+//! The keys of records.
 ghost use Rattle.std.specs.Prelude.{◌≡◌};
 ghost use Rattle.ode_value.specs.Keys as keys;
 

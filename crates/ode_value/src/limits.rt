@@ -52,6 +52,8 @@ pub const DUE_LIMIT: usize = 10_000;
 pub const STATEMENT_LIMIT: usize = 65_536;
 /// Bytes of a script.
 pub const SCRIPT_LIMIT: usize = 67_108_864;
+/// Sessions of a script of sessions.
+pub const SESSION_LIMIT: u32 = 64;
 
 /// The limits of the code are those of the definitions.
 #[tactic(auto, unfolding(crate::specs::Limits::depth_limit, crate::specs::Limits::budget_limit, crate::specs::Limits::cascade_limit, crate::specs::Limits::output_limit, crate::specs::Limits::change_limit, crate::specs::Limits::value_limit, crate::specs::Limits::args_limit, crate::specs::Limits::version_limit, crate::specs::Limits::generation_limit, crate::specs::Limits::queue_limit, crate::specs::Limits::drain_limit, crate::specs::Limits::class_limit, crate::specs::Limits::due_limit, crate::specs::Limits::statement_limit, crate::specs::Limits::script_limit))]
@@ -81,4 +83,5 @@ pub fn limits_agree()
     ensures due { DUE_LIMIT ≡ machine.due_limit }
     ensures statement { STATEMENT_LIMIT ≡ machine.statement_limit }
     ensures script { SCRIPT_LIMIT ≡ machine.script_limit }
+    ensures sessions { SESSION_LIMIT ≡ machine.session_limit }
 {}

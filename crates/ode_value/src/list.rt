@@ -1,3 +1,4 @@
+//! Lists, which contracts see as the sequences of their elements.
 ghost use Rattle.std.specs.Prelude.{◌≡◌, [], ◌∷◌, ◌++◌, ◌<◌, ◌≤◌, insert, length, slice_get, slice_set, remove, ◌↔◌, IsTrue, IfOk, OnOk, OnErr};
 
 use std::alloc::{AllocError, Global};

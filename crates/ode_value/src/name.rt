@@ -1,3 +1,4 @@
+//! Names.
 ghost use Rattle.std.specs.Prelude.{◌≡◌, ◌↔◌, IfOk, IfSome, IsTrue, None, not, position};
 ghost use Rattle.std.specs.Str.{bytes_eq};
 ghost use Rattle.ode_value.specs.Text.{IsName, is_name, is_name_byte};

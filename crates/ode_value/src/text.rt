@@ -1,3 +1,4 @@
+//! Texts.
 ghost use Rattle.std.specs.Prelude.{◌≡◌, ◌≤◌, ◌<◌, ℕ, length, position, ◌↔◌, IsTrue, IfErr, IfOk, Some, OnOk, MatchResult, ⊤};
 ghost use Rattle.ode_value.specs.Text.{IsText, is_bad_byte, is_text};
 

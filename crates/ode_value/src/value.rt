@@ -1,3 +1,4 @@
+//! Values, and references to objects and versions.
 ghost use Rattle.std.specs.Prelude.{◌≡◌, ◌↔◌, IfOk, IsTrue};
 ghost use Rattle.ode_value.specs.Same.{same_value, same_version};
 
