@@ -21,7 +21,8 @@ ghost use Rattle.ode_value.specs.declared.value.Ref.{Ref};
 ghost use Rattle.ode_value.specs.declared.value.Value.{Value};
 ghost use Rattle.ode_value.specs.declared.value.Value.TheVariants as value;
 
-/// An activation of a trigger goes on in the overlay as in the machine, up to its line: that of a trigger, that of a name which the object's class has, and one without arguments of a new object.
+/// An activation of a trigger goes on in the overlay as in the machine, up to its line: that of a trigger,
+/// that of a name which the object's class has, and one without arguments of a new object.
 pub fn activations_follow()
     ensures trigger { (tables : ℕ → ℕ → Table) (t : Trigger) (args : Items Value) (x : Layer) (y : NumberTx) (id : ℕ) (new : Option Tracked) → Stands x y → IsFresh x y id new
         → FollowsDrawing y tells_active (activate_with new id t.class t.place args x) (on_live id (switches_on (numbers tables) id t args) y) }

@@ -1,8 +1,8 @@
 //! Runs the cases on standard input: calls of `ode` over a file in memory, and what each prints.
 //!
 //! A case begins with a line `== NAME` and has an empty file. A line `$ WORD..` in it is a call of `ode` with these words,
-//! `$ multi WORD..` one of `ode_multi`, and the lines behind it are its script. For each call its text is printed, and then a line with its status. That line
-//! says too where the file is as it was before the call, and where a call of the host found no memory.
+//! `$ multi WORD..` one of `ode_multi`, and the lines behind it are its script. For each call its text is printed, and then a line
+//! with its status. That line says too where the file is as it was before the call, and where a call of the host found no memory.
 //!
 //! Lines between a case's name and its first call are notes, but for `chunks N`: the scripts of the case are read in chunks
 //! of N bytes. Empty lines at the end of a script are no part of it. Its last line ends with LF, unless the line

@@ -63,9 +63,9 @@ pub fn changed_classes_have_few_parts()
 /// With the fields of a change a good world weighs as many bytes more as their records, and their number in the counters, take.
 pub fn changes_weigh_their_records()
     ensures { (l : Language) (w : ListWorld) (c : Change) (classes : Items Declared) → IsGood l w → IsBehind l w.bones c classes
-        → let cs = map class_of classes in
+        → let plain = map class_of classes in
         weight (changed_bones w.bones c classes)
-        ≡ weight w.bones + put_bytes (fields_put cs (new_in cs (length w.bones.added) c)) + count_more (length w.bones.added) (length c.fields) }
+        ≡ weight w.bones + put_bytes (fields_put plain (new_in plain (length w.bones.added) c)) + count_more (length w.bones.added) (length c.fields) }
 {}
 
 /// Over records that hold a world, the changes that put the records of a change's fields, and the counters behind its transaction, make
@@ -73,7 +73,7 @@ pub fn changes_weigh_their_records()
 pub fn known_changes_settle()
     ensures { (l : Language) (base : Entries) (w : ListWorld) (held : HoldsCounted l base w) (c : Change) (classes : Items Declared)
         → IsBehind l w.bones c classes → AllByRecursion HasFewParts classes → length c.class ≤ name_limit → weight (changed_bones w.bones c classes) ≤ weight_limit
-        → let b = w.bones in let cs = map class_of classes in
-        ChangedOver l held.world.stored.tables (applied (with_counters (counters_of b) (length b.added + length c.fields) (fields_put cs (new_in cs (length b.added) c))) base)
+        → let b = w.bones in let plain = map class_of classes in
+        ChangedOver l held.world.stored.tables (applied (with_counters (counters_of b) (length b.added + length c.fields) (fields_put plain (new_in plain (length b.added) c))) base)
         w c classes (transaction lists Script (changes_class lists classes c) w) }
 {}

@@ -129,7 +129,7 @@ fn added_as(
 fn next_number(count: usize) -> Result<u32, AllocError>
     ensures { IfOk result (λ number. number ≡ count + 1) }
 {
-    if count < 4_294_967_295 {
+    if count < u32::MAX as usize {
         Ok(count as u32 + 1)
     } else {
         Err(AllocError)

@@ -23,10 +23,10 @@ use ode_number_laws::runs_count_up;
 use ode_ship_laws::{kept_transactions_are_shipped, shipped_records_hold_their_worlds};
 use ode_standby::{standbys_follow_their_primaries, stops_leave_records_of_the_primary};
 
-/// What a run over records of a world shipped is what a standby asks of frames, and so is what a stopped one had shipped. A standby that is where the run was behind some of its
-/// transactions, and is fed a front of these frames from there on, earlier ones among them, is never stopped by the stream; it comes to where the
-/// run was behind the last frame that is whole, and so holds the world there; and a stop leaves the world behind some transaction, none
-/// before those that it had.
+/// What a run over records of a world shipped is what a standby asks of frames, and so is what a stopped one had shipped. A standby that is
+/// where the run was behind some of its transactions, and is fed a front of these frames from there on, earlier ones among them, is never
+/// stopped by the stream; it comes to where the run was behind the last frame that is whole, and so holds the world there; and a stop leaves
+/// the world behind some transaction, none before those that it had.
 pub fn standbys_hold_what_was_settled<H: Host, K: Keep<H>, G: Host, L: Keep<G>>(
     primary: &K,
     host: &H,

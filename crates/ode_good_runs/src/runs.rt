@@ -20,9 +20,9 @@ ghost use Rattle.ode_sound_laws.specs.Sound.{AreSound};
 ghost use Rattle.ode_sound_laws.specs.Typed.{AreFromOne};
 ghost use Rattle.ode_good_runs.specs.Reading.{ReadsWell};
 
-/// By a language with sound rules a fresh database is a good world, and the classes of a good world are sound. If it also reads well, then from a good world whose versions'
-/// numbers begin at 1 the declaration of a class leaves such a world again, which was read and is accepted; and where its changes of
-/// classes are sound, each world of a run of any script is one.
+/// By a language with sound rules a fresh database is a good world, and the classes of a good world are sound. If it also reads well, then
+/// from a good world whose versions' numbers begin at 1 the declaration of a class leaves such a world again, which was read and is
+/// accepted; and where its changes of classes are sound, each world of a run of any script is one.
 pub fn runs_stay_good()
     ensures fresh { (l : Language) → HasSoundRules l → IsWell l empty_world }
     ensures sound { (l : Language) → HasSoundRules l → (w : ListWorld) → IsGood l w → AreSound w.bones.classes }

@@ -29,7 +29,8 @@ use ode_object_laws::{calls_keep_numbers, calls_keep_triggers};
 use ode_version_laws::{calls_keep_versions, calls_remember_firsts};
 use ode_view_laws::overlays_have_views;
 
-/// A new activation, up to its line: of a trigger's name which the object's class has, and of an initial trigger that it has of an object that is there.
+/// A new activation, up to its line: of a trigger's name which the object's class has, and of an initial trigger that it has
+/// of an object that is there.
 pub fn activations_known()
     ensures named { (classes : Items Declared) (first : NumberWorld) (beside : Beside) (base : Entries) (x : Layer) → IsKnown base first x → (r : Ref)
         → (tables : ℕ → ℕ → Table) (o : Object) (name : Items ℕ) (t : Trigger) (args : Items Value)

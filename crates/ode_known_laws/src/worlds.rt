@@ -17,8 +17,8 @@ use ode_version_laws::{
 };
 use ode_view_laws::overlays_have_views;
 
-/// By the first world's classes the numbers of the view tell parts apart; and by what the first world weighs and the growth that the overlay tells, what a commit keeps is light exactly
-/// where it is.
+/// By the first world's classes the numbers of the view tell parts apart; and by what the first world weighs and the growth
+/// that the overlay tells, what a commit keeps is light exactly where it is.
 pub fn worlds_known()
     ensures numbered { (first : NumberWorld) (beside : Beside) (base : Entries) (x : Layer) → IsKnown base first x
         → AreNumbered (running first.bones.classes first x beside).now.bones }

@@ -48,32 +48,37 @@ fn mark(t: &Table, marks: &mut Marks, p: u16, q: u16) -> Result<(), AllocError>
 }
 
 // Marks the pairs of a state with each of these.
-fn mark_with(t: &Table, marks: &mut Marks, p: u16, qs: &[u16]) -> Result<(), AllocError>
+fn mark_with(t: &Table, marks: &mut Marks, p: u16, others: &[u16]) -> Result<(), AllocError>
     requires first { p < t.now.states }
-    requires apart { (j : ℕ) → j < length qs.now → (slice_index qs.now j < t.now.states) × IsApart t.now p (slice_index qs.now j) }
+    requires apart { (j : ℕ) → j < length others.now → (slice_index others.now j < t.now.states) × IsApart t.now p (slice_index others.now j) }
     requires marking { IsMarking t.now marks.old }
     ensures marking { OnOk result (IsMarking t.now marks.new) }
     ensures grows { OnOk result (Grows marks.old marks.new) }
-    ensures marked { OnOk result (MarksAll t.now marks.new p qs.now) }
+    ensures marked { OnOk result (MarksAll t.now marks.new p others.now) }
 {
-    for q in qs {
+    for q in others {
         mark(t, marks, p, *q)?;
     }
     Ok(())
 }
 
 // Marks the pairs of one of these with one of those.
-fn mark_each(t: &Table, marks: &mut Marks, ps: &[u16], qs: &[u16]) -> Result<(), AllocError>
-    requires first { (i : ℕ) → i < length ps.now → slice_index ps.now i < t.now.states }
-    requires apart { (i j : ℕ) → i < length ps.now → j < length qs.now
-        → (slice_index qs.now j < t.now.states) × IsApart t.now (slice_index ps.now i) (slice_index qs.now j) }
+fn mark_each(
+    t: &Table,
+    marks: &mut Marks,
+    firsts: &[u16],
+    seconds: &[u16],
+) -> Result<(), AllocError>
+    requires first { (i : ℕ) → i < length firsts.now → slice_index firsts.now i < t.now.states }
+    requires apart { (i j : ℕ) → i < length firsts.now → j < length seconds.now
+        → (slice_index seconds.now j < t.now.states) × IsApart t.now (slice_index firsts.now i) (slice_index seconds.now j) }
     requires marking { IsMarking t.now marks.old }
     ensures marking { OnOk result (IsMarking t.now marks.new) }
     ensures grows { OnOk result (Grows marks.old marks.new) }
-    ensures marked { OnOk result ((i : ℕ) → i < length ps.now → MarksAll t.now marks.new (slice_index ps.now i) qs.now) }
+    ensures marked { OnOk result ((i : ℕ) → i < length firsts.now → MarksAll t.now marks.new (slice_index firsts.now i) seconds.now) }
 {
-    for p in ps {
-        mark_with(t, marks, *p, qs)?;
+    for p in firsts {
+        mark_with(t, marks, *p, seconds)?;
     }
     Ok(())
 }

@@ -23,8 +23,8 @@ ghost use Rattle.ode_value.specs.declared.value.Ref.{Ref};
 ghost use Rattle.ode_value.specs.declared.value.Value.{Value};
 ghost use Rattle.ode_version_laws.specs.Denoting.{IsRead};
 
-/// Where the numbers of each object and of its activations were drawn, and the latter rise, so it is behind each call, in every transaction that goes on and
-/// for which the overlay then stands: one that reads, where what it reads is what the world now has. No number is given back.
+/// Where the numbers of each object and of its activations were drawn, and the latter rise, so it is behind each call, in every transaction
+/// that goes on and for which the overlay then stands: one that reads, where what it reads is what the world now has. No number is given back.
 pub fn calls_keep_numbers()
     ensures write { (classes : Items Class) (base : Entries) (x : Layer) (y : NumberTx) (r : Ref) (slot : ℕ) (value : Value) → Stands x y → HaveNumbers y.now.bones → IsRead classes base x y r.object → StillHaveNumbers y (write classes base r slot value x) }
     ensures derive { (classes : Items Class) (base : Entries) (x : Layer) (y : NumberTx) (r : Ref) → Stands x y → HaveNumbers y.now.bones → IsRead classes base x y r.object → StillHaveNumbers y (derive classes base r x) }
@@ -37,7 +37,8 @@ pub fn calls_keep_numbers()
     ensures put { (classes : Items Class) (base : Entries) (x : Layer) (y : NumberTx) (id : ℕ) (rs : Items Running) → Stands x y → HaveNumbers y.now.bones → IsRead classes base x y id → StillHaveNumbers y (put_acts classes base id rs x) }
 {}
 
-/// Where the class of each object has the triggers of its activations, by any classes, so it is behind each call likewise; a new activation is of a trigger that the object's class has.
+/// Where the class of each object has the triggers of its activations, by any classes, so it is behind each call likewise;
+/// a new activation is of a trigger that the object's class has.
 pub fn calls_keep_triggers()
     ensures write { (known : Items Declared) (classes : Items Class) (base : Entries) (x : Layer) (y : NumberTx) (r : Ref) (slot : ℕ) (value : Value) → Stands x y → HaveTriggers known y.now.bones → IsRead classes base x y r.object → StillHaveTriggers known y (write classes base r slot value x) }
     ensures derive { (known : Items Declared) (classes : Items Class) (base : Entries) (x : Layer) (y : NumberTx) (r : Ref) → Stands x y → HaveTriggers known y.now.bones → IsRead classes base x y r.object → StillHaveTriggers known y (derive classes base r x) }

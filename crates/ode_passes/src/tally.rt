@@ -149,7 +149,7 @@ pub fn read_tally<H: Host, K: Keep<H>>(
         total: 0,
         counters: None,
     };
-    walk(alloc, keeper, host, 0, 255, &mut tally)?;
+    walk(alloc, keeper, host, u8::MIN, u8::MAX, &mut tally)?;
     let counters = counters_of(tally)?;
     Ok((counters, tally.total))
 }

@@ -1,5 +1,6 @@
 //! Answers what the static rules say of each text on standard input: `ok`, or the first rule that it breaks. A line is a class or a change of
-//! one, which the ones below it know where it is accepted, or a statement; `== WORDS` is a heading, and `object REFERENCE CLASS` says what a reference's object is.
+//! one, which the ones below it know where it is accepted, or a statement; `== WORDS` is a heading, and `object REFERENCE CLASS` says what
+//! a reference's object is.
 //! A line `value EXPRESSION` is answered with what the expression comes to where no object is there.
 #![tactic(auto)]
 

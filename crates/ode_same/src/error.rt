@@ -5,9 +5,9 @@ use std::alloc::AllocError;
 #[derive(Clone, Copy, Debug, PartialEq, Eq)]
 pub enum SameError {
     Memory,
-    /// Both together have more than 64 symbols: so many, or 65,536 if that is less.
+    /// Both together have more symbols than `SYMBOL_LIMIT`: so many, or `COUNTED_SYMBOLS` if that is less.
     TooManySymbols { count: u32 },
-    /// The first expression has more than 512 states over these symbols, or the second one alone.
+    /// The first expression has more states over these symbols than `STATE_LIMIT`, or the second one alone.
     TooManyStates { second: bool },
 }
 

@@ -68,7 +68,8 @@ fn table_of(
     Ok(Table::of_parts(states, symbols, next, yes))
 }
 
-/// The table of an expression over an alphabet that has its leaves and its masks on composite events. Each number of a `choose` or an `every` is within the limit.
+/// The table of an expression over an alphabet that has its leaves and its masks on composite events.
+/// Each number of a `choose` or an `every` is within the limit.
 pub fn build(alloc: Global, e: &EventExpr, a: &Alphabet) -> Result<Table, BuildError>
     requires numbers { has_numbers e.now ≡ true }
     ensures built { IfOk result (λ t. (of : EventExpr) → IsOver e.now of a.now → IsBuilt e.now of t) }

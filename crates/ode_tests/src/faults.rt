@@ -1,4 +1,4 @@
-//! Lines that can't be printed. Runs that the disk, the source or the output cuts are in `pickups`.
+//! Lines that can't be printed. Runs that the disk, the source or the output cuts are in `cut_runs`.
 use crate::trial::{FIRST, Trial, equal, failing, new_file, run_by};
 use ode_host::Status;
 use std::alloc::Global;

@@ -1,5 +1,5 @@
 //! A `gen` that is cut leaves what some first statements of its script make.
-use crate::pickups::{Course, Cut, Part, Step, TEARS, course_of, goes_on};
+use crate::cut_runs::{Course, Cut, Part, Step, TEARS, course_of, goes_on};
 use crate::trial::{MEMORY, call, equal, holds, source};
 use ode_host::{Status, Torn};
 use std::alloc::Global;

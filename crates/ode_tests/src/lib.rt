@@ -5,6 +5,8 @@
 #[cfg(test)]
 mod acts;
 #[cfg(test)]
+mod cut_runs;
+#[cfg(test)]
 mod faults;
 #[cfg(test)]
 mod fields;
@@ -30,8 +32,6 @@ mod long;
 mod migrated;
 #[cfg(test)]
 mod new_files;
-#[cfg(test)]
-mod pickups;
 #[cfg(test)]
 mod queues;
 #[cfg(test)]

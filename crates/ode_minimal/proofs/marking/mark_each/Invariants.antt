@@ -7,5 +7,5 @@ abbrev pub invariant-loop-p : goal.invariant-loop-p
 invariant-loop-p l = record {
   marking : IsMarking l.t l.marks;
   grows : Grows l.initial.marks l.marks;
-  marked : (i : ℕ) → i < l.p-index → MarksAll l.t l.marks (slice_index l.ps i) l.qs;
+  marked : (i : ℕ) → i < l.p-index → MarksAll l.t l.marks (slice_index l.firsts i) l.seconds;
 }

@@ -7,5 +7,5 @@ abbrev pub invariant-loop-q : goal.invariant-loop-q
 invariant-loop-q l = record {
   marking : IsMarking l.t l.marks;
   grows : Grows l.initial.marks l.marks;
-  marked : (j : ℕ) → j < l.q-index → IsMarked l.t l.marks l.p (slice_index l.qs j);
+  marked : (j : ℕ) → j < l.q-index → IsMarked l.t l.marks l.p (slice_index l.others j);
 }
