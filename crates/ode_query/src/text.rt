@@ -3,14 +3,14 @@ ghost use Rattle.std.specs.Prelude.{◌≡◌, ◌++◌, codes, IfOk, OnOk, leng
 ghost use Rattle.std.specs.List.{flat_map};
 ghost use Rattle.std.specs.Option.{option_map};
 ghost use Rattle.ode_value.specs.Decimal.{digits_of};
-ghost use Rattle.ode_value.specs.Evaluation.{reason_of};
 ghost use Rattle.ode_query.specs.Texts.{blank_value, count_line, fits, row_line, rows_text, unanswered_by, unanswered_text};
 
 use crate::error::QueryError;
 use crate::row::Row;
 use ode_print::put_value;
+use ode_run_frame::reason_of;
 use ode_script::reason_text;
-use ode_value::{Fault, List, Reason, Value};
+use ode_value::{List, Value};
 use std::alloc::{AllocError, Global};
 
 /// The bytes of a query's text.
@@ -88,17 +88,6 @@ pub(crate) fn fits(alloc: Global, rows: &[Row]) -> Result<bool, AllocError>
     }
     let last = count_length(alloc, rows.len())?;
     Ok(last <= left)
-}
-
-fn reason_of(fault: Fault) -> Reason
-    ensures { result ≡ reason_of fault }
-{
-    match fault {
-        Fault::Overflow => Reason::Overflow,
-        Fault::DivideByZero => Reason::DivideByZero,
-        Fault::NoObject(id) => Reason::NoObject(id),
-        Fault::NoVersion(of) => Reason::NoVersion(of),
-    }
 }
 
 // More combinations than are gone through.

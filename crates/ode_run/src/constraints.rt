@@ -25,7 +25,6 @@ ghost use Rattle.ode_value.specs.Worlds as worlds;
 ghost use Rattle.ode_value.specs.Worlds.{Declared};
 
 use crate::places::touched_in;
-use crate::reading::reason_of;
 use crate::stopping::read;
 use crate::work::Work;
 use ode_heap::Heap;
@@ -35,6 +34,7 @@ use ode_interpreter::Stop;
 use ode_keep::Keep;
 use ode_objects::{Object, Version, load};
 use ode_overlay::{Overlay, OverlayError};
+use ode_run_frame::reason_of;
 use ode_schema::{Constraints, Program};
 use ode_symbols::test;
 use ode_types::Classes;

@@ -36,3 +36,4 @@ pub use ode_known_laws::views_read_known;
 pub use ode_settled_laws::front_entries_run;
 pub use ode_value::Reason;
 pub use settling::settle;
+pub use stopping::read;

@@ -6,7 +6,7 @@ ghost use Rattle.ode_run.specs.Knowing.{Failed, IsRunning, Known, Lent, tx};
 ghost use Rattle.ode_run.specs.Serving.{IsServing, Stops};
 ghost use Rattle.ode_run.specs.Stopping.{read_as, valued_as};
 ghost use Rattle.ode_run.specs.Testing.{IsCalm};
-ghost use Rattle.ode_value.specs.Evaluation.{evaluate, looks_in, reason_of};
+ghost use Rattle.ode_value.specs.Evaluation.{evaluate, looks_in};
 ghost use Rattle.ode_value.specs.Expressions.{evaluates};
 ghost use Rattle.ode_value.specs.Worlds.{Declared};
 
@@ -16,21 +16,10 @@ use ode_host::Host;
 use ode_interpreter::{Scene, Stop};
 use ode_keep::Keep;
 use ode_known_laws::views_read_known;
-use ode_run_frame::{Unread, evaluate};
+use ode_run_frame::{Unread, evaluate, reason_of};
 use ode_types::Classes;
-use ode_value::{Expr, Fault, List, Reason, Value};
+use ode_value::{Expr, Fault, List, Value};
 use std::alloc::Global;
-
-pub(crate) fn reason_of(fault: Fault) -> Reason
-    ensures { result ≡ reason_of fault }
-{
-    match fault {
-        Fault::Overflow => Reason::Overflow,
-        Fault::DivideByZero => Reason::DivideByZero,
-        Fault::NoObject(id) => Reason::NoObject(id),
-        Fault::NoVersion(of) => Reason::NoVersion(of),
-    }
-}
 
 // What an evaluation answered, as a call of the context: what it came to, or why nothing was read.
 fn read_as(answer: Result<Value, EvalStop<Unread>>) -> Result<Result<Value, Fault>, Stop>

@@ -44,8 +44,8 @@ fn read_stop(error: OverlayError) -> Stop
     }
 }
 
-/// One ended that only reads, and so does a call of the context. It is never refused.
-pub(crate) fn read<R: Drop>(answer: Result<R, OverlayError>) -> Result<R, Stop>
+/// A call of the overlay that only reads ended, and so does a call of the context. It is never refused.
+pub fn read<R: Drop>(answer: Result<R, OverlayError>) -> Result<R, Stop>
     ensures is { result ≡ read answer }
     ensures fault { IfErr result IsFault }
 {

@@ -2,8 +2,10 @@
 #![tactic(auto)]
 
 mod evaluation;
+mod fault;
 mod reading;
 mod unread;
 
 pub use evaluation::{Evaluated, evaluate};
+pub use fault::reason_of;
 pub use unread::Unread;

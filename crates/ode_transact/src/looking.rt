@@ -6,7 +6,6 @@ ghost use Rattle.ode_interpreter.specs.Seen.{IsFault};
 ghost use Rattle.ode_run.specs.Contexts.{ContextRuns, parts_of};
 ghost use Rattle.ode_run.specs.Knowing.{IsSound};
 ghost use Rattle.ode_run.specs.Serving.{LeavesUsable};
-ghost use Rattle.ode_run.specs.Stopping.{read, read_stop};
 ghost use Rattle.ode_schema.specs.Parts.{AreFit, trigger_under};
 ghost use Rattle.ode_types.specs.Families.{class_numbered};
 ghost use Rattle.ode_value.specs.Denoting.{object_at};
@@ -17,33 +16,10 @@ ghost use Rattle.ode_versions.specs.Versions.{IsVersionList};
 use ode_heap::ObjectHead;
 use ode_host::Host;
 use ode_keep::Keep;
-use ode_overlay::OverlayError;
-use ode_run::{Ctx, Stop, views_read_known};
+use ode_run::{Ctx, Stop, read, views_read_known};
 use ode_types::Classes;
 use ode_value::Kind;
 use std::alloc::{AllocError, Global};
-
-// What a read of the overlay comes to where it fails: it is never refused.
-fn read_stop(error: OverlayError) -> Stop
-    ensures is { result ≡ read_stop error }
-    ensures fault { IsFault result }
-{
-    match error {
-        OverlayError::DiskFault => Stop::DiskFault,
-        OverlayError::Damaged { key } => Stop::Damaged { key },
-        _ => Stop::Memory,
-    }
-}
-
-fn read(answer: Result<Option<ObjectHead>, OverlayError>) -> Result<Option<ObjectHead>, Stop>
-    ensures is { result ≡ read answer }
-    ensures fault { IfErr result IsFault }
-{
-    match answer {
-        Ok(found) => Ok(found),
-        Err(error) => Err(read_stop(error)),
-    }
-}
 
 /// The class and the versions of an object, where it is there.
 pub fn head<H: Host, K: Keep<H>>(
