@@ -3,7 +3,7 @@ use Rattle.std.proofs.Common.{◌≡◌, ℕ, zero, suc, map, take, List, [], �
 use Rattle.ode_machine.specs.Runs.{Item, Refuses, Settles, world_at, worlds}
 use Rattle.ode_number_laws.specs.Counting.{CountUp}
 use Rattle.ode_ship_laws.specs.Worlds.{world_of}
-use Rattle.ode_trace.specs.Shipping.{settled_of}
+use Rattle.ode_run_laws.specs.Settled.{settled_of}
 use Rattle.ode_value.specs.Draining.{world_after}
 use Rattle.ode_value.specs.Language.{ListWorld, Settlings}
 

@@ -4,7 +4,7 @@ use Rattle.std.specs.Prelude.{nat_eq}
 use Rattle.ode_footprint_laws.proofs.Among.{Within, among_looked, either_left, itself}
 use Rattle.ode_footprint_laws.proofs.Grows.{ListAct, ListDeed, Grows, grown_self, grown_then, grows_on, grows_then, found_grow, looks_grow, needs_grow, tested, valued_grow}
 use Rattle.ode_footprint_laws.proofs.Meets.{Meets}
-use Rattle.ode_footprint_laws.specs.Agreeing.{Agree, IsAmong, footprint_of}
+use Rattle.ode_footprint_laws.specs.Agreeing.{Agree, IsAmong, reached_footprint}
 use Rattle.ode_footprint_laws.specs.Growing.{Grown}
 use Rattle.ode_value.specs.declared.arithmetic.Fault.{Fault}
 use Rattle.ode_value.specs.declared.reason.Reason.{Reason}
@@ -30,7 +30,7 @@ module _ {f : Footprint} (m : Meets f) where
 
   -- the footprint holds what was reached
   abbrev pub Reached : {X : Type 0} → Outcome Histories Starts X → Type 0
-  Reached p = Grown (footprint_of p) f
+  Reached p = Grown (reached_footprint p) f
 
   -- An act that, where this is known before it, comes to the same in related transactions, and this is known behind it.
   pub record Depends {X : Type 0} (Pre : Type 0) (P : X → Type 0) (a : ListAct X) : Type 0 where
@@ -50,7 +50,7 @@ module _ {f : Footprint} (m : Meets f) where
   then_in {P = P} {Q = Q} a h first pre rest = record {
     grows = grows_then a h first.grows (λ r. (rest r).grows);
     alike = λ k y x r reached.
-        go_on_in P Q (a y) (a x) h (first.alike (pre k) y x r (grown_then (footprint_of (a x)) (footprint_of (go_on (a x) h)) f (grows_on (a x) h (λ t. (rest t).grows)) reached))
+        go_on_in P Q (a y) (a x) h (first.alike (pre k) y x r (grown_then (reached_footprint (a x)) (reached_footprint (go_on (a x) h)) f (grows_on (a x) h (λ t. (rest t).grows)) reached))
         (λ t known. (rest t).alike (k, known)) reached;
   }
 

@@ -7,7 +7,7 @@ use Rattle.ode_footprint_laws.proofs.Depends.{Anything, Depends, Ends, Reached, 
 use Rattle.ode_footprint_laws.proofs.DependsReading.{agreed_live, agreed_version, object_in, prints_in, version_in}
 use Rattle.ode_footprint_laws.proofs.Grows.{ListAct, ListDeed, Grows, changes_grow, fits, found_grow, grown_self, grown_then, grows_then, needs_grow, spaced, tested, valued_grow}
 use Rattle.ode_footprint_laws.proofs.Meets.{AreKeysOf, Meets, Steady, active_keys, new_keys}
-use Rattle.ode_footprint_laws.specs.Agreeing.{Agree, IsAmong, footprint_of}
+use Rattle.ode_footprint_laws.specs.Agreeing.{Agree, IsAmong, reached_footprint}
 use Rattle.ode_footprint_laws.specs.Fresh.{IsDrawnKey}
 use Rattle.ode_laws.proofs.AlikeWork.{derived_gentle, dropped_gentle, off_gentle, removed_gentle, set_gentle}
 use Rattle.ode_laws.proofs.Each.{all-append, all-find, all-map, all-of}
@@ -113,7 +113,7 @@ module _ {f : Footprint} (s : Steady f) where
 
       by_number : Reached m (behind x.now.bones.next x) → Ends m Q (behind y.now.bones.next y) (behind x.now.bones.next x)
       by_number reached' =
-          let known = grown_then (with_draw true x.footprint) (footprint_of (behind x.now.bones.next x)) f (spaces_grow x.now.bones.next (drawing true x)) reached' in
+          let known = grown_then (with_draw true x.footprint) (reached_footprint (behind x.now.bones.next x)) f (spaces_grow x.now.bones.next (drawing true x)) reached' in
           let drew : f.drew ≡ true = known.drew refl in
           let next : y.now.bones.next ≡ x.now.bones.next = (m.agree y x r).now.next drew in
           let drawn : Related (drawing true y) (drawing true x) = m.foot y x (with_draw true) r in
@@ -306,7 +306,7 @@ module _ {f : Footprint} (s : Steady f) where
         (number_ends (λ id. IsAmong id f.looked) new_keys (version_size (stamp_in x) fields) put y x h put_grows (s.new_count y x h) reached (λ drew drawn reached.
         let id = x.now.bones.next in
         let w = touching id (turned (with_new lists class fields) (holding (new_keys id) (drawing true x))) in
-        let known = grown_then (with_looks (id ∷ []) w.footprint) (footprint_of (told id (looking (id ∷ []) w))) f ((told_in (new_line id) id).grows (looking (id ∷ []) w)) reached in
+        let known = grown_then (with_looks (id ∷ []) w.footprint) (reached_footprint (told id (looking (id ∷ []) w))) f ((told_in (new_line id) id).grows (looking (id ∷ []) w)) reached in
         let among : IsAmong id f.looked = known.looked id (among_looked (id ∷ []) id w.footprint.looked (either_left (nat_eq id id) false (itself id))) in
         (behind_in id).alike tt (touching id (turned (with_new lists class fields) (holding (new_keys id) (drawing true y)))) w
         (s.touch (turned (with_new lists class fields) (holding (new_keys id) (drawing true y))) (turned (with_new lists class fields) (holding (new_keys id) (drawing true x))) id

@@ -6,7 +6,7 @@ use Rattle.ode_footprint_laws.proofs.Depends.{Anything, Depends, Ends, aborts_in
 use Rattle.ode_footprint_laws.proofs.Grows.{grown_self, grown_then, looks_grow, valued_grow}
 use Rattle.ode_footprint_laws.proofs.Looking.{SameObjects, denoted_same, evaluate_same, live_same}
 use Rattle.ode_footprint_laws.proofs.Meets.{Meets}
-use Rattle.ode_footprint_laws.specs.Agreeing.{Agree, IsAmong, footprint_of}
+use Rattle.ode_footprint_laws.specs.Agreeing.{Agree, IsAmong, reached_footprint}
 use Rattle.ode_value.specs.declared.member.Constraint.{Constraint}
 use Rattle.ode_value.specs.declared.reason.Reason.TheVariants as reason
 use Rattle.ode_value.specs.declared.statement.Expr.{Expr}
@@ -79,12 +79,12 @@ module _ {f : Footprint} (m : Meets f) where
 
   pub evaluates_in : {Pre : Type 0} (e : Expr) (frame : Frame) → Depends m Pre Anything (evaluates e frame)
   evaluates_in e frame = record {
-    grows = λ x. grown_then x.footprint (with_looks (looks_in e x.now.bones frame) x.footprint) (footprint_of (ends_at x (evaluate e x.now.bones frame))) (looks_grow (looks_in e x.now.bones frame) x.footprint)
+    grows = λ x. grown_then x.footprint (with_looks (looks_in e x.now.bones frame) x.footprint) (reached_footprint (ends_at x (evaluate e x.now.bones frame))) (looks_grow (looks_in e x.now.bones frame) x.footprint)
         (valued_grow (evaluate e x.now.bones frame) (looking (looks_in e x.now.bones frame) x));
     alike = λ k y x h reached.
         let a = m.agree y x h in
         let ids = looks_in e x.now.bones frame in
-        let known = grown_then (with_looks ids x.footprint) (footprint_of (ends_at x (evaluate e x.now.bones frame))) f (valued_grow (evaluate e x.now.bones frame) (looking ids x)) reached in
+        let known = grown_then (with_looks ids x.footprint) (reached_footprint (ends_at x (evaluate e x.now.bones frame))) f (valued_grow (evaluate e x.now.bones frame) (looking ids x)) reached in
         let it = evaluate_same f.looked x.now.bones y.now.bones (λ id among. sym (agreed_objects f y x a id among)) e frame (λ id is. known.looked id (among_looked ids id x.footprint.looked is)) in
         subst (λ v. Ends m Anything (valued v (looking (looks_in e y.now.bones frame) y)) (ends_at x (evaluate e x.now.bones frame))) it.0
         (subst (λ is. Ends m Anything (valued (evaluate e x.now.bones frame) (looking is y)) (ends_at x (evaluate e x.now.bones frame))) it.1

@@ -2,7 +2,7 @@
 use Rattle.std.proofs.Common.{ℕ, Bool, true, false, cond, List, Option, Some, None, Result, Ok, Err, refl}
 use Rattle.std.specs.Prelude.{◌&&◌, nat_le}
 use Rattle.ode_footprint_laws.proofs.Among.{among_before, either_right}
-use Rattle.ode_footprint_laws.specs.Agreeing.{footprint_of}
+use Rattle.ode_footprint_laws.specs.Agreeing.{reached_footprint}
 use Rattle.ode_footprint_laws.specs.Growing.{Grown}
 use Rattle.ode_value.specs.declared.arithmetic.Fault.{Fault}
 use Rattle.ode_value.specs.declared.key.Key.{Key}
@@ -44,14 +44,14 @@ queue_grows f = record { looked = λ id is. is; drew = λ is. is; queued = λ is
 
 -- an act that takes nothing off the footprint
 abbrev pub Grows : {X : Type 0} → ListAct X → Type 0
-Grows a = (x : ListTx) → Grown x.footprint (footprint_of (a x))
+Grows a = (x : ListTx) → Grown x.footprint (reached_footprint (a x))
 
-pub grows_on : {X Y : Type 0} (p : Outcome Histories Starts X) (h : X → ListAct Y) → ((r : X) → Grows (h r)) → Grown (footprint_of p) (footprint_of (go_on p h))
+pub grows_on : {X Y : Type 0} (p : Outcome Histories Starts X) (h : X → ListAct Y) → ((r : X) → Grows (h r)) → Grown (reached_footprint p) (reached_footprint (go_on p h))
 grows_on (Done r x) h rest = rest r x
 grows_on (Aborted r x) h rest = grown_self x.footprint
 
 pub grows_then : {X Y : Type 0} (a : ListAct X) (h : X → ListAct Y) → Grows a → ((r : X) → Grows (h r)) → Grows (a >>= h)
-grows_then a h first rest x = grown_then x.footprint (footprint_of (a x)) (footprint_of (go_on (a x) h)) (first x) (grows_on (a x) h rest)
+grows_then a h first rest x = grown_then x.footprint (reached_footprint (a x)) (reached_footprint (go_on (a x) h)) (first x) (grows_on (a x) h rest)
 
 -- a test of which the outcome is known
 abbrev pub tested : Bool → Reason → ListTx → Outcome Histories Starts (Unit {0})
@@ -59,7 +59,7 @@ tested b reason x = cond b (Done tt x) (Aborted reason x)
 
 pub needs_grow : (reason : Reason) (p : ListTx → Bool) → Grows (needs reason p)
 needs_grow reason p x = by_test (p x) where
-  by_test : (b : Bool) → Grown x.footprint (footprint_of (tested b reason x))
+  by_test : (b : Bool) → Grown x.footprint (reached_footprint (tested b reason x))
   by_test true = grown_self x.footprint
   by_test false = grown_self x.footprint
 

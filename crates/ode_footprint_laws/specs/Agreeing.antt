@@ -54,5 +54,5 @@ EndAgreeing f (Done r y) (Aborted s x) = ⊥
 EndAgreeing f (Aborted r y) (Done s x) = ⊥
 
 -- the footprint that an outcome reached
-abbrev pub footprint_of : {R : Type 0} → Outcome Histories Starts R → Footprint
-footprint_of o = (reached o).footprint
+abbrev pub reached_footprint : {R : Type 0} → Outcome Histories Starts R → Footprint
+reached_footprint o = (reached o).footprint

@@ -7,7 +7,7 @@ use Rattle.ode_footprint_laws.proofs.DependsStatements.{commands_in}
 use Rattle.ode_footprint_laws.proofs.DrawnLaws.{Both, drawn}
 use Rattle.ode_footprint_laws.proofs.FootprintLaws.{statements_grow}
 use Rattle.ode_footprint_laws.proofs.Grows.{grown_self, grown_then, looks_grow}
-use Rattle.ode_footprint_laws.specs.Agreeing.{Agree, AgreeAtFirst, IsAmong, footprint_of}
+use Rattle.ode_footprint_laws.specs.Agreeing.{Agree, AgreeAtFirst, IsAmong, reached_footprint}
 use Rattle.ode_footprint_laws.specs.Fresh.{AreDrawn}
 use Rattle.ode_footprint_laws.specs.Growing.{Grown}
 use Rattle.ode_interleaved_laws.specs.Meeting.{AreDone, IsOpenOver, IsTaken}
@@ -70,7 +70,7 @@ module _ (l : Language) where
 
   step_grows : (x z : ListTx) (t : Taken) → IsStep x t z → Grown (with_looks t.literals x.footprint) z.footprint
   step_grows x z t is =
-      subst (λ (o : Outcome Histories Starts (Unit {0})). Grown (with_looks t.literals x.footprint) (footprint_of o)) is (statements_grow t.checked (looking t.literals x))
+      subst (λ (o : Outcome Histories Starts (Unit {0})). Grown (with_looks t.literals x.footprint) (reached_footprint o)) is (statements_grow t.checked (looking t.literals x))
 
   done_grows : (taken : List Taken) (x z : ListTx) → AreDone l x taken z → Grown x.footprint z.footprint
   done_grows [] x z done = subst (λ (w : ListTx). Grown x.footprint w.footprint) (sym done) (grown_self x.footprint)
@@ -107,7 +107,7 @@ module _ (l : Language) where
       by_end w (commands lists t.checked (looking t.literals y)) refl (taken_again f y x w t both.0 known done.2 done.1)
       (subst (Ends (drawn f).meets Anything (commands lists t.checked (looking t.literals y))) done.2
       ((commands_in (drawn f) t.checked).alike tt (looking t.literals y) (looking t.literals x) ((drawn f).meets.foot y x (with_looks t.literals) both)
-      (subst (λ (o : Outcome Histories Starts (Unit {0})). Grown (footprint_of o) f) (sym done.2) known)))
+      (subst (λ (o : Outcome Histories Starts (Unit {0})). Grown (reached_footprint o) f) (sym done.2) known)))
       (λ v again. done_again f more v w z within again done.3)
     where
       by_end : (w : ListTx) (p : Outcome Histories Starts (Unit {0})) → commands lists t.checked (looking t.literals y) ≡ p → IsTaken l y t → Ends (drawn f).meets Anything p (Done tt w)

@@ -6,7 +6,7 @@ use Rattle.ode_footprint_laws.proofs.Among.{Within}
 use Rattle.ode_footprint_laws.proofs.FootprintLaws.{command_collects, command_stays, command_touches, completion_collects, completion_drawn, completion_grows, completion_stays, completion_touches, posted_stays, statement_drawn, statements_grow}
 use Rattle.ode_footprint_laws.proofs.Grows.{looks_grow}
 use Rattle.ode_footprint_laws.proofs.StayLaws.{resting_self}
-use Rattle.ode_footprint_laws.specs.Agreeing.{footprint_of}
+use Rattle.ode_footprint_laws.specs.Agreeing.{reached_footprint}
 use Rattle.ode_footprint_laws.specs.Fresh.{AreDrawn}
 use Rattle.ode_footprint_laws.specs.Growing.{Grown}
 use Rattle.ode_footprint_laws.specs.Staying.{StaysBut}
@@ -102,8 +102,8 @@ module _ (w : ListWorld) (well : IsWell ode w) where
   }
 
   -- what an act comes to that keeps all this
-  comes_by : (x : ListTx) → IsComing x → (p : Outcome Histories Starts (Unit {0})) → Goes w (well_first ode w well) p → AreDrawn (reached p) → Grown x.footprint (footprint_of p) → StaysBut (footprint_of p) x.now (reached p).now
-      → ((footprint_of p).queued ≡ false → (reached p).collected ≡ x.collected) → Within (reached p).touched (footprint_of p).looked → Comes p
+  comes_by : (x : ListTx) → IsComing x → (p : Outcome Histories Starts (Unit {0})) → Goes w (well_first ode w well) p → AreDrawn (reached p) → Grown x.footprint (reached_footprint p) → StaysBut (reached_footprint p) x.now (reached p).now
+      → ((reached_footprint p).queued ≡ false → (reached p).collected ≡ x.collected) → Within (reached p).touched (reached_footprint p).looked → Comes p
   comes_by x c (Done r z) goes drawn grown stays collected touched = record {
     going = goes;
     drawn = drawn;

@@ -5,7 +5,6 @@ use Rattle.ode_machine.specs.Commands.{Step, carried}
 use Rattle.ode_machine.specs.Conversation.{Says, Spoken, opening, spoken_stretch}
 use Rattle.ode_machine.specs.Interleaving.{Goes, Interleaved, Open, Reply, Taken, literal_objects, may_end, others_of, run_on, session_of, settles_last, step, view, without}
 use Rattle.ode_machine.specs.Refusals.{checked_in}
-use Rattle.ode_machine.specs.Runs.{Item, Refuses, Settles}
 use Rattle.ode_machine.specs.Sessions.{closed}
 use Rattle.ode_script.specs.Cutting as cutting
 use Rattle.ode_script.specs.Cutting.{Ended, Pieces, Then, pieces}
@@ -98,12 +97,6 @@ abbrev pub serial_finish : Interleaved → List Whole
 serial_finish m = serial_ends m.sessions m
 
 -- ---- what a run settles, as whole transactions
-
--- of the items of a run the settled transactions
-abbrev pub settled_in : List Item → Settlings
-settled_in [] = []
-settled_in (Refuses line ∷ items) = settled_in items
-settled_in (Settles world text ∷ items) = (world, text) ∷ settled_in items
 
 module _ (l : Language) (speaks : List ℕ → Spoken) where
   -- of a step that settles some

@@ -4,11 +4,12 @@ ghost use Rattle.std.specs.List.{find};
 ghost use Rattle.ode_language.specs.Texts.{HasText};
 ghost use Rattle.ode_good_laws.specs.Well.{IsWell};
 ghost use Rattle.ode_interleaved_laws.specs.Meeting.{Clashes, IsInterleaved};
-ghost use Rattle.ode_interleaved_laws.specs.Serial.{runs_serially, serial_finish, serial_of, serial_run, settled_in};
+ghost use Rattle.ode_interleaved_laws.specs.Serial.{runs_serially, serial_finish, serial_of, serial_run};
 ghost use Rattle.ode_language.specs.Languages.{ode};
 ghost use Rattle.ode_machine.specs.Conversation.{Says, Spoken, trace};
 ghost use Rattle.ode_machine.specs.Interleaving.{Busy, Goes, Interleaved, Open, finish, footprint_of, is_alone, may_end, session_of, step, tries};
 ghost use Rattle.ode_machine.specs.declared.owned.Owned.{Owned};
+ghost use Rattle.ode_run_laws.specs.Settled.{settled_of};
 ghost use Rattle.ode_value.specs.Draining.{world_after};
 ghost use Rattle.ode_value.specs.Language.{ListWorld, Settlings};
 ghost use Rattle.ode_value.specs.Limits.{number_limit};
@@ -51,5 +52,5 @@ pub fn endings_are_never_held_by_all()
 /// no session is open, however its pieces are read, as long as what is read has a text.
 pub fn runs_of_sessions_are_serial()
     ensures { (speaks : Items ℕ → Spoken) → ((text : Items ℕ) (n : ℕ) (s : Statement) → speaks text ≡ Says n s → HasText ode s)
-        → (w : ListWorld) → IsWell ode w → (script : Items ℕ) → settled_in (trace ode speaks w script) ≡ runs_serially ode w (serial_run ode speaks w script) }
+        → (w : ListWorld) → IsWell ode w → (script : Items ℕ) → settled_of (trace ode speaks w script) ≡ runs_serially ode w (serial_run ode speaks w script) }
 {}

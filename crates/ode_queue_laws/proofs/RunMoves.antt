@@ -37,7 +37,8 @@ use Rattle.ode_laws.proofs.SideStatements.{commands_alike}
 use Rattle.ode_laws.proofs.Sides.{EndsBy}
 use Rattle.ode_run_laws.proofs.Ticks.{ticks_alike}
 use Rattle.ode_queue_laws.specs.Entries.{HasNumberedQueue, IsUsedOnce, MoveQueue}
-use Rattle.ode_queue_laws.specs.Stops.{settled_in, StoppedRun, settled_by}
+use Rattle.ode_queue_laws.specs.Stops.{StoppedRun, settled_by}
+use Rattle.ode_run_laws.specs.Settled.{settled_of}
 use Rattle.ode_queue_laws.proofs.ChangeMoves.{change_moves}
 use Rattle.ode_queue_laws.proofs.Collecting.{Leaves, Collecting, begun_collecting, collected_by, Stays, abort_leaves, settle_leaves, transaction_leaves}
 use Rattle.ode_queue_laws.proofs.Moves.{Moves, IsNumbered, after_numbered, all_numbered, append_moves, take_moves, drain_moves, with_drain_moves}
@@ -189,36 +190,36 @@ command_well l s fine piece = by_piece (l.change_of piece) where
 
 -- ---- runs
 
-settled_join : (items more : List Item) → settled_in (items ++ more) ≡ settled_in items ++ settled_in more
+settled_join : (items more : List Item) → settled_of (items ++ more) ≡ settled_of items ++ settled_of more
 settled_join [] more = refl
 settled_join (Refuses line ∷ items) more = settled_join items more
 settled_join (Settles world text ∷ items) more = ap (λ ss. (world, text) ∷ ss) (settled_join items more)
 
-settled_of : (settled : Settlings) → settled_in (map item_of settled) ≡ settled
-settled_of [] = refl
-settled_of (s ∷ settled) = ap (λ ss. s ∷ ss) (settled_of settled)
+settled_items : (settled : Settlings) → settled_of (map item_of settled) ≡ settled
+settled_items [] = refl
+settled_items (s ∷ settled) = ap (λ ss. s ∷ ss) (settled_items settled)
 
-items_moves : (w : ListWorld) (settled : Settlings) (items : List Item) → MoveQueue w settled → MoveQueue (world_after w settled) (settled_in items) → MoveQueue w (settled_in (map item_of settled ++ items))
+items_moves : (w : ListWorld) (settled : Settlings) (items : List Item) → MoveQueue w settled → MoveQueue (world_after w settled) (settled_of items) → MoveQueue w (settled_of (map item_of settled ++ items))
 items_moves w settled items moves rest =
-    subst (MoveQueue w) (sym (settled_join (map item_of settled) items ∙ ap (λ ss. ss ++ settled_in items) (settled_of settled))) (append_moves w settled (settled_in items) moves rest)
+    subst (MoveQueue w) (sym (settled_join (map item_of settled) items ∙ ap (λ ss. ss ++ settled_of items) (settled_items settled))) (append_moves w settled (settled_of items) moves rest)
 
-ending_moves : (l : Language) (s : Session) → IsFine s → (ending : Ending) → MoveQueue s.world (settled_in (ending_items l s ending))
+ending_moves : (l : Language) (s : Session) → IsFine s → (ending : Ending) → MoveQueue s.world (settled_of (ending_items l s ending))
 ending_moves l s fine cutting.End =
-    subst (MoveQueue s.world) (sym (settled_of (finish s).1))
+    subst (MoveQueue s.world) (sym (settled_items (finish s).1))
     (ends_well s fine (abort lists End) (λ x held. settles_well s (abort lists End x) fine (inl (abort_leaves Script s.world.bones lists End x held)))).moves
 ending_moves l s fine cutting.LongStatement = tt
 ending_moves l s fine cutting.LongScript = tt
 
-pieces_moves : (l : Language) (ps : Pieces) (s : Session) → IsFine s → MoveQueue s.world (settled_in (pieces_items l ps s))
+pieces_moves : (l : Language) (ps : Pieces) (s : Session) → IsFine s → MoveQueue s.world (settled_of (pieces_items l ps s))
 unfolding pieces_items
 pieces_moves l (Ended ending) s fine = ending_moves l s fine ending
 pieces_moves l (Then line text rest) s fine = by_answer (command l s text) (command_well l s fine text) (pieces_moves l rest) where
-  by_answer : (a : Answer Step) → AnswersWell s a → ((t : Session) → IsFine t → MoveQueue t.world (settled_in (pieces_items l rest t))) → MoveQueue s.world (settled_in (followed_by l (answered s line a) (pieces_items l rest)))
+  by_answer : (a : Answer Step) → AnswersWell s a → ((t : Session) → IsFine t → MoveQueue t.world (settled_of (pieces_items l rest t))) → MoveQueue s.world (settled_of (followed_by l (answered s line a) (pieces_items l rest)))
   by_answer (Err refusal) well later = later s fine
   by_answer (Ok step) well later =
-      items_moves s.world step.1 (pieces_items l rest step.0) well.moves (subst (λ w. MoveQueue w (settled_in (pieces_items l rest step.0))) well.world (later step.0 well.fine))
+      items_moves s.world step.1 (pieces_items l rest step.0) well.moves (subst (λ w. MoveQueue w (settled_of (pieces_items l rest step.0))) well.world (later step.0 well.fine))
 
-trace_moves : (l : Language) (w : ListWorld) (script : List ℕ) → IsNumbered w → MoveQueue w (settled_in (trace l w script))
+trace_moves : (l : Language) (w : ListWorld) (script : List ℕ) → IsNumbered w → MoveQueue w (settled_of (trace l w script))
 trace_moves l w script numbered =
     let moves : MoveQueue w (drain lists drain_limit w) = drain_moves drain_limit w numbered in
     items_moves w (drain lists drain_limit w) (pieces_items l (pieces script) (closed (world_after w (drain lists drain_limit w)))) moves
@@ -227,7 +228,7 @@ trace_moves l w script numbered =
 -- ---- runs and stops
 
 -- the world that a stop leaves is the one behind the transactions that were settled before it
-world_stopped : (k : ℕ) (w : ListWorld) (items : List Item) → world_at k w items ≡ world_after w (take k (settled_in items))
+world_stopped : (k : ℕ) (w : ListWorld) (items : List Item) → world_at k w items ≡ world_after w (take k (settled_of items))
 world_stopped zero w [] = refl
 world_stopped (suc k) w [] = refl
 world_stopped k w (Refuses line ∷ items) = world_stopped k w items
@@ -237,7 +238,7 @@ world_stopped (suc k) w (Settles world text ∷ items) = world_stopped k world i
 pub runs_move : (l : Language) (w : ListWorld) (runs : List StoppedRun) → IsNumbered w → MoveQueue w (settled_by l w runs)
 runs_move l w [] numbered = tt
 runs_move l w (r ∷ runs) numbered =
-    let settled : Settlings = settled_in (trace l w r.script) in
+    let settled : Settlings = settled_of (trace l w r.script) in
     let moves : MoveQueue w (take r.settles settled) = take_moves r.settles w settled (trace_moves l w r.script numbered) in
     let is : world_at r.settles w (trace l w r.script) ≡ world_after w (take r.settles settled) = world_stopped r.settles w (trace l w r.script) in
     let next : IsNumbered (world_at r.settles w (trace l w r.script)) = subst IsNumbered (sym is) (after_numbered w (take r.settles settled) numbered moves) in

@@ -13,7 +13,7 @@ use Rattle.ode_machine.specs.Runs.{Refuses as refused}
 use Rattle.ode_sessions.proofs.RunLaws.{none_refused}
 use Rattle.ode_sessions.proofs.SessionLaws.{line_carries}
 use Rattle.ode_sessions.specs.Lines.{answer_line}
-use Rattle.ode_sessions.specs.Running.{Carries}
+use Rattle.ode_sessions.specs.Running.{SpeaksPiece}
 use Rattle.ode_sessions.specs.Speaking.{IsSpoken}
 use Rattle.ode_sessions.specs.declared.speaking.Spoken.TheVariants as said
 use Rattle.ode_steps.specs.Serving.{IsReply, StandsFor, after_reply, counted, settlings}
@@ -64,7 +64,7 @@ module _ {H K : Type 0} (seen : H → View) (held : K → View → Entries → T
         → LeavesOnly (seen old) (seen new) (IsAfterSome (HoldsBy ode means) (items_of (settlings r) ++ more) m.world said)
 
   -- it settled, or was accepted
-  pub went_carries : (at : ℕ) (r : Reply) (a : Answer) → IsReply a r → None ≡ answer_line at a → Stepped r → Carries seen held live means m (reply_stretch m at r) (Ok false) s old new
+  pub went_carries : (at : ℕ) (r : Reply) (a : Answer) → IsReply a r → None ≡ answer_line at a → Stepped r → SpeaksPiece seen held live means m (reply_stretch m at r) (Ok false) s old new
   went_carries at (Refuses why) a is none step =
       let no : None ≡ Some (refused_line at why) = line_as at a _ None none is in
       absurd (cc (no))
@@ -90,7 +90,7 @@ module _ {H K : Type 0} (seen : H → View) (held : K → View → Entries → T
 
   pub stopped_carries : (at : ℕ) (r : Reply) (e : EngineError)
       → ((said : List ℕ) (more : List Item) → (seen old).text ≡ Some said → LeavesOnly (seen old) (seen new) (IsAfterSome (HoldsBy ode means) (items_of (settlings r) ++ more) m.world said))
-      → OnDamaged {R = Bool} (Err e) ⊥ → Carries seen held live means m (reply_stretch m at r) (Err e) s old new
+      → OnDamaged {R = Bool} (Err e) ⊥ → SpeaksPiece seen held live means m (reply_stretch m at r) (Err e) s old new
   stopped_carries at r e left sound = record { answers = tt; stands = tt; printed = tt; any_moment = stopped_moments at r left; sound = sound }
 
 -- It is refused or put off: its line is printed, or it isn't.
@@ -102,14 +102,14 @@ module _ {H K : Type 0} (seen : H → View) (held : K → View → Entries → T
     (answers : IfOk result (λ was. was ≡ true)) (printed : OnOk result (Printed line (seen mid) (seen new))) (stays_there : (file : List ℕ) → Stands file (seen mid) → Stands file (seen new)) (sound : OnDamaged result ⊥) where
   one_line : (is : StandsFor seen held live ode m s mid) → Printed [] (seen old) (seen mid)
       → ((said : List ℕ) (more : List Item) → (seen old).text ≡ Some said → LeavesOnly (seen old) (seen mid) (IsAfterSome (HoldsBy ode means) more m.world said))
-      → (other : List ℕ) → Some line ≡ Some other → Carries seen held live means m (m, refused other ∷ []) result s old new
+      → (other : List ℕ) → Some line ≡ Some other → SpeaksPiece seen held live means m (m, refused other ∷ []) result s old new
   one_line is none before other same =
       let same_line : line ≡ other = cc (same) in
-      subst (λ (l : List ℕ). Carries seen held live means m (m, refused l ∷ []) result s old new) same_line
+      subst (λ (l : List ℕ). SpeaksPiece seen held live means m (m, refused l ∷ []) result s old new) same_line
       (line_carries seen held live means stands stays m line s old mid new is (λ text told. none text told ∙ ap Some (append-nil text)) before cut result answers printed stays_there sound)
 
   pub put_off_carries : (r : Reply) (a : Answer) → IsReply a r → Some line ≡ answer_line at a → Stepped seen held live means m s old mid r
-      → Carries seen held live means m (reply_stretch m at r) result s old new
+      → SpeaksPiece seen held live means m (reply_stretch m at r) result s old new
   put_off_carries (Refuses why) a is told step = one_line step.stands step.printed step.any_moment (refused_line at why) (line_as at a _ (Some line) told is)
   put_off_carries (Busy session what) a is told step = one_line step.stands step.printed step.any_moment (busy_line at session what) (line_as at a _ (Some line) told is)
   put_off_carries (Goes now settled) a is told step =

@@ -16,7 +16,7 @@ use Rattle.ode_script.specs.Cutting.{Ended, Ending, LongScript, LongStatement, P
 use Rattle.ode_script.specs.Left.{EndsBy}
 use Rattle.ode_script.specs.declared.reader.ScriptError.{ScriptError}
 use Rattle.ode_script.specs.declared.reader.ScriptError.TheVariants as script
-use Rattle.ode_sessions.specs.Running.{SoFar, items_from}
+use Rattle.ode_sessions.specs.Running.{SpokenSoFar, items_from}
 use Rattle.ode_sessions.specs.Speaking.{spoken}
 use Rattle.ode_ends.proofs.ItemLaws.{world_is}
 use Rattle.ode_ends.specs.Endings.{EndsWith, LeavesNothing, RanAs}
@@ -65,10 +65,10 @@ unfolding pieces_items
 pieces_ended how m = refl
 
 -- A run that has come this far.
-module _ (whole : Pieces) (all : List Item) (w : ListWorld) (text0 : List ℕ) (ps : Pieces) (m : Interleaved) (text : List ℕ) (refused : Bool) (so_far : SoFar whole all w text0 ps m text refused) where
+module _ (whole : Pieces) (all : List Item) (w : ListWorld) (text0 : List ℕ) (ps : Pieces) (m : Interleaved) (text : List ℕ) (refused : Bool) (so_far : SpokenSoFar whole all w text0 ps m text refused) where
   -- one piece further
   pub same_next : IsInterleaved ode m → (at : ℕ) (piece : List ℕ) (rest : Pieces) (was : Bool) → ps ≡ Then at piece rest → was ≡ any_refused (spoken_stretch ode spoken m at (spoken piece)).1
-      → SoFar whole all w text0 rest (spoken_stretch ode spoken m at (spoken piece)).0 (text ++ text_of (spoken_stretch ode spoken m at (spoken piece)).1) (refused || was)
+      → SpokenSoFar whole all w text0 rest (spoken_stretch ode spoken m at (spoken piece)).0 (text ++ text_of (spoken_stretch ode spoken m at (spoken piece)).1) (refused || was)
   same_next good at piece rest was is told =
       let items : List Item = (spoken_stretch ode spoken m at (spoken piece)).1 in
       let next : Interleaved = (spoken_stretch ode spoken m at (spoken piece)).0 in
@@ -134,7 +134,7 @@ module _ (whole : Pieces) (all : List Item) (w : ListWorld) (text0 : List ℕ) (
 -- ---- the opening, and what comes behind it
 
 pub opened_so_far : (w : ListWorld) (text script : List ℕ)
-    → SoFar (pieces script) (items_from w script) w text (pieces script) (opening w).0 (text ++ text_of (opening w).1) false
+    → SpokenSoFar (pieces script) (items_from w script) w text (pieces script) (opening w).0 (text ++ text_of (opening w).1) false
 opened_so_far w text script = record {
   before = (opening w).1;
   split = refl;

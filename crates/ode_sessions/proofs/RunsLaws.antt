@@ -14,9 +14,9 @@ use Rattle.ode_opened.specs.declared.opened.Opened.{Opened}
 use Rattle.ode_script.specs.Cutting.{Pieces, Then, pieces}
 use Rattle.ode_sessions.proofs.RunLaws.{goes_further, opened_so_far, pieces_then, same_next}
 use Rattle.ode_sessions.proofs.SessionLaws.{started_stands}
-use Rattle.ode_sessions.specs.Running.{Carries, Runs, items_from}
+use Rattle.ode_sessions.specs.Running.{SpeaksPiece, SpeaksSoFar, items_from}
 use Rattle.ode_sessions.specs.Speaking.{spoken}
-use Rattle.ode_steps.specs.Serving.{StandsFor, resting as closed_behind}
+use Rattle.ode_steps.specs.Serving.{StandsFor, closed_behind}
 use Rattle.ode_steps.specs.declared.sessions.Sessions.{Sessions}
 use Rattle.ode_ends.proofs.ItemLaws.{texts_are}
 use Rattle.ode_ends.specs.Endings.{Begins}
@@ -30,13 +30,13 @@ use Rattle.ode_value.specs.Limits.{drain_limit}
 use Rattle.ode_value.specs.Pasts.{lists}
 
 module _ {H K : Type 0} (seen : H → View) (held : K → View → Entries → Type 0) (live : K → Bool) (means : Meaning) (whole : Pieces) (all : List Item) (w : ListWorld) (text0 : List ℕ) (ps : Pieces)
-    (s : Sessions K) (host : H) (refused : Bool) (runs : Runs seen held live whole all w text0 ps s host refused) (at : ℕ) (piece : List ℕ) (rest : Pieces) (is : ps ≡ Then at piece rest) where
+    (s : Sessions K) (host : H) (refused : Bool) (runs : SpeaksSoFar seen held live whole all w text0 ps s host refused) (at : ℕ) (piece : List ℕ) (rest : Pieces) (is : ps ≡ Then at piece rest) where
   abbrev stretch : Stretch
   stretch = spoken_stretch ode spoken runs.now at (spoken piece)
 
   -- a piece is carried out
-  pub runs_next : IsInterleaved ode runs.now → (was : Bool) (s' : Sessions K) (host' : H) → Carries seen held live means runs.now (spoken_stretch ode spoken runs.now at (spoken piece)) (Ok was) s' host host'
-      → Runs seen held live whole all w text0 rest s' host' (refused || was)
+  pub runs_next : IsInterleaved ode runs.now → (was : Bool) (s' : Sessions K) (host' : H) → SpeaksPiece seen held live means runs.now (spoken_stretch ode spoken runs.now at (spoken piece)) (Ok was) s' host host'
+      → SpeaksSoFar seen held live whole all w text0 rest s' host' (refused || was)
   runs_next good was s' host' carries = record {
     now = stretch.0;
     text = runs.text ++ text_of stretch.1;
@@ -45,7 +45,7 @@ module _ {H K : Type 0} (seen : H → View) (held : K → View → Entries → T
   }
 
   -- and a stop in it is one of the whole, whatever it answers
-  pub runs_leaves : (result : Result Bool EngineError) (s' : Sessions K) (host' : H) (start : View) → Carries seen held live means runs.now (spoken_stretch ode spoken runs.now at (spoken piece)) result s' host host'
+  pub runs_leaves : (result : Result Bool EngineError) (s' : Sessions K) (host' : H) (start : View) → SpeaksPiece seen held live means runs.now (spoken_stretch ode spoken runs.now at (spoken piece)) result s' host host'
       → LeavesOnly start (seen host) (IsAfterSome (HoldsBy ode means) all w text0) → LeavesOnly start (seen host') (IsAfterSome (HoldsBy ode means) all w text0)
   runs_leaves result s' host' start carries first =
       let more : List Item = pieces_items ode spoken rest stretch.0 in
@@ -66,7 +66,7 @@ module _ {H K : Type 0} (seen : H → View) (held : K → View → Entries → T
   pub runs_opened : (w : ListWorld) (script text : List ℕ) (o : Opened K) (start s : Sessions K) (old new : H) → Begins seen held live w o old text → StandsFor seen held live ode (resting w) start old
       → ((m : Interleaved) → StandsFor seen held live ode m start old → StandsFor seen held live ode (closed_behind m (drained m.world)) s new)
       → ((m : Interleaved) → StandsFor seen held live ode m start old → Printed (texts_of (drained m.world)) (seen old) (seen new))
-      → Runs seen held live (pieces script) (items_from w script) w text (pieces script) s new false
+      → SpeaksSoFar seen held live (pieces script) (items_from w script) w text (pieces script) s new false
   runs_opened w script text o start s old new begins here goes_on printed = record {
     now = (opening w).0;
     text = text ++ text_of (opening w).1;

@@ -16,8 +16,8 @@ use Rattle.ode_machine.specs.Runs.{Item, Refuses, final, text_of}
 use Rattle.ode_opened.specs.declared.opened.Opened.{Opened}
 use Rattle.ode_schema.specs.Parts.{AreAligned, AreFit}
 use Rattle.ode_ends.proofs.ItemLaws.{world_is}
-use Rattle.ode_sessions.specs.Running.{Carries}
-use Rattle.ode_steps.specs.Serving.{IsLive, IsThere, StandsBy, StandsFor, StandsIn, resting as closed_behind}
+use Rattle.ode_sessions.specs.Running.{SpeaksPiece}
+use Rattle.ode_steps.specs.Serving.{IsLive, IsThere, StandsBy, StandsFor, StandsIn, closed_behind}
 use Rattle.ode_steps.specs.declared.sessions.Sessions.{Sessions}
 use Rattle.ode_ends.specs.Endings.{EndsWith}
 use Rattle.ode_transact.specs.Errors.{OnDamaged}
@@ -97,7 +97,7 @@ module _ {H K : Type 0} (seen : H → View) (held : K → View → Entries → T
   -- ---- a piece that isn't carried out
 
   -- for want of memory
-  pub uncalled_carries : (m : Interleaved) (stretch : Stretch) (s : Sessions K) (host : H) → Carries seen held live means m stretch (Err error.Memory) s host host
+  pub uncalled_carries : (m : Interleaved) (stretch : Stretch) (s : Sessions K) (host : H) → SpeaksPiece seen held live means m stretch (Err error.Memory) s host host
   uncalled_carries m stretch s host = record {
     answers = tt;
     stands = tt;
@@ -119,7 +119,7 @@ module _ {H K : Type 0} (seen : H → View) (held : K → View → Entries → T
         (refusal_leaves (HoldsBy ode means) line more m.world there.0 said (seen mid) (seen new) there.2 (cut there.0 said there.1 (same said told)))
 
     pub line_carries : (result : Result Bool EngineError) → IfOk result (λ was. was ≡ true) → OnOk result (Printed line (seen mid) (seen new)) → ((file : List ℕ) → Stands file (seen mid) → Stands file (seen new))
-        → OnDamaged result ⊥ → Carries seen held live means m (m, Refuses line ∷ []) result s old new
+        → OnDamaged result ⊥ → SpeaksPiece seen held live means m (m, Refuses line ∷ []) result s old new
     line_carries (Ok was) answers printed stays_there sound = record {
       answers = answers;
       stands = still_stands m s mid new stays_there is;
@@ -133,7 +133,7 @@ module _ {H K : Type 0} (seen : H → View) (held : K → View → Entries → T
   pub first_line_carries : (m : Interleaved) (line : List ℕ) (s : Sessions K) (old new : H) → For m s old
       → ((file text : List ℕ) → Stands file (seen old) → (seen old).text ≡ Some text → LeavesOnly (seen old) (seen new) (LeavesCut file text line))
       → (result : Result Bool EngineError) → IfOk result (λ was. was ≡ true) → OnOk result (Printed line (seen old) (seen new)) → ((file : List ℕ) → Stands file (seen old) → Stands file (seen new))
-      → OnDamaged result ⊥ → Carries seen held live means m (m, Refuses line ∷ []) result s old new
+      → OnDamaged result ⊥ → SpeaksPiece seen held live means m (m, Refuses line ∷ []) result s old new
   first_line_carries m line s old new is cut result answers printed stays_there sound =
       line_carries m line s old old new is (λ said told. told) (λ said more told. started (seen old) (IsAfterSome (HoldsBy ode means) more m.world said)) cut result answers printed stays_there sound
 

@@ -28,7 +28,7 @@ items_from w script = trace ode spoken w script
 
 -- So far a run of these pieces, which come to these items, did those before, which left these sessions, and of which this text is printed;
 -- what is left to do are the items of the pieces that are left.
-pub record SoFar (whole : Pieces) (all : List Item) (w : ListWorld) (text0 : List ℕ) (ps : Pieces) (m : Interleaved) (text : List ℕ) (refused : Bool) : Type 0 where
+pub record SpokenSoFar (whole : Pieces) (all : List Item) (w : ListWorld) (text0 : List ℕ) (ps : Pieces) (m : Interleaved) (text : List ℕ) (refused : Bool) : Type 0 where
   pub before : List Item
   pub split : all ≡ before ++ pieces_items ode spoken ps m
   pub ends : ending_of whole ≡ ending_of ps
@@ -43,15 +43,15 @@ module _ {H K : Type 0} (seen : H → View) (held : K → View → Entries → T
     pub printed : (seen host).text ≡ Some text
 
   -- Sessions are so far in the run of these pieces that these are left.
-  pub record Runs (whole : Pieces) (all : List Item) (w : ListWorld) (text0 : List ℕ) (ps : Pieces) (s : Sessions K) (host : H) (refused : Bool) : Type 0 where
+  pub record SpeaksSoFar (whole : Pieces) (all : List Item) (w : ListWorld) (text0 : List ℕ) (ps : Pieces) (s : Sessions K) (host : H) (refused : Bool) : Type 0 where
     pub now : Interleaved
     pub text : List ℕ
     pub speaks : Speaks now s host text
-    pub so_far : SoFar whole all w text0 ps now text refused
+    pub so_far : SpokenSoFar whole all w text0 ps now text refused
 
   -- One piece, which comes to this stretch, is carried out: its texts are printed, and whether it was refused or put off is said. No record
   -- is damaged then.
-  pub record Carries (means : Meaning) (m : Interleaved) (stretch : Stretch) (result : Result Bool EngineError) (s : Sessions K) (old new : H) : Type 0 where
+  pub record SpeaksPiece (means : Meaning) (m : Interleaved) (stretch : Stretch) (result : Result Bool EngineError) (s : Sessions K) (old new : H) : Type 0 where
     pub answers : IfOk result (λ was. was ≡ any_refused stretch.1)
     pub stands : OnOk result (StandsFor seen held live ode stretch.0 s new)
     pub printed : OnOk result (Printed (text_of stretch.1) (seen old) (seen new))

@@ -8,10 +8,11 @@ ghost use Rattle.ode_begin.specs.Words.{bytes_of};
 ghost use Rattle.ode_schema.specs.Parts.{AreAligned, AreFit};
 ghost use Rattle.ode_host.specs.Causes.{RoseIf};
 ghost use Rattle.ode_host.specs.Host.{HostCalls, LeavesOnly};
-ghost use Rattle.ode_interleaved_laws.specs.Serial.{runs_serially, serial_run, settled_in};
+ghost use Rattle.ode_interleaved_laws.specs.Serial.{runs_serially, serial_run};
 ghost use Rattle.ode_language.specs.Languages.{ode};
 ghost use Rattle.ode_machine.specs.Moments.{IsAfterSome};
 ghost use Rattle.ode_pagemap.specs.Holding.{is_live};
+ghost use Rattle.ode_run_laws.specs.Settled.{settled_of};
 ghost use Rattle.ode_script.specs.Cutting.{ending_of, pieces};
 ghost use Rattle.ode_sessions.specs.Running.{MultiWorld, items_from};
 ghost use Rattle.ode_sessions.specs.Speaking.{spoken};
@@ -89,7 +90,7 @@ pub fn run_multi<H: Host, S: Source>(
         → MultiWorld (S.left script.old) (S.left script.new) (H.view host.old) (H.view host.new) result }
     // What these items settle is what whole transactions do one after another, each with all statements of its session, with drains where
     // no session is open.
-    ensures serial { (image script : Items ℕ) (w : ListWorld) → Holds image w → settled_in (items_from w script) ≡ runs_serially ode w (serial_run ode spoken w script) }
+    ensures serial { (image script : Items ℕ) (w : ListWorld) → Holds image w → settled_of (items_from w script) ≡ runs_serially ode w (serial_run ode spoken w script) }
     // On a file that breaks a rule it says which, and changes nothing.
     ensures no_world { (file : Items ℕ) → multi_word (bytes_of words.now.items) ≡ Some file
         → RunsNone (S.left script.old) (S.left script.new) (H.view host.old) (H.view host.new) result }

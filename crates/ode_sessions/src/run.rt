@@ -11,7 +11,7 @@ ghost use Rattle.ode_machine.specs.Interleaving.{Interleaved, finish, step};
 ghost use Rattle.ode_machine.specs.Moments.{IsAfterSome};
 ghost use Rattle.ode_machine.specs.Runs.{Item, final, status_at, text_of};
 ghost use Rattle.ode_script.specs.Cutting.{End, ending_of, pieces};
-ghost use Rattle.ode_sessions.specs.Running.{Carries, Runs, Speaks, items_from};
+ghost use Rattle.ode_sessions.specs.Running.{Speaks, SpeaksPiece, SpeaksSoFar, items_from};
 ghost use Rattle.ode_steps.specs.Serving.{IsLive, StandsFor};
 ghost use Rattle.ode_sessions.specs.Speaking.{spoken};
 ghost use Rattle.ode_ends.specs.Endings.{Begins, EndsWith, RanAs};
@@ -60,7 +60,7 @@ fn carry_step<H: Host, K: Roomy<H> + Drop>(
     requires live { IsLive K.live sessions.old }
     requires text { HasText ode statement }
     ensures carries { (m : Interleaved) → StandsFor H.view K.holds K.live ode m sessions.old host.old
-        → Carries H.view K.holds K.live K.means m (reply_stretch m line (step ode m session statement)) result sessions.new host.old host.new }
+        → SpeaksPiece H.view K.holds K.live K.means m (reply_stretch m line (step ode m session statement)) result sessions.new host.old host.new }
     ensures leaves { HostCalls (IsErrOf result EngineError.DiskFault) (IsErrOf result EngineError.WriteFault) (H.view host.old) (H.view host.new) }
     ensures live { OnOk result (IsLive K.live sessions.new) }
 {
@@ -85,7 +85,7 @@ fn carry_out<H: Host, K: Roomy<H> + Drop>(
     requires live { IsLive K.live sessions.old }
     requires short { length text.now ≤ statement_limit }
     ensures carries { (m : Interleaved) → StandsFor H.view K.holds K.live ode m sessions.old host.old
-        → Carries H.view K.holds K.live K.means m (spoken_stretch ode spoken m line (spoken text.now)) result sessions.new host.old host.new }
+        → SpeaksPiece H.view K.holds K.live K.means m (spoken_stretch ode spoken m line (spoken text.now)) result sessions.new host.old host.new }
     ensures leaves { HostCalls (IsErrOf result EngineError.DiskFault) (IsErrOf result EngineError.WriteFault) (H.view host.old) (H.view host.new) }
     ensures live { OnOk result (IsLive K.live sessions.new) }
 {
@@ -137,10 +137,10 @@ fn run_pieces<H: Host, K: Roomy<H> + Drop, S: Source>(
 ) -> Result<Status, Key>
     requires live { IsLive K.live sessions.old }
     ensures ran { (w : ListWorld) (all : Items Item) (script text : Items ℕ) → S.left source.old ≡ Some script
-        → Runs H.view K.holds K.live (pieces script) all w text (pieces script) sessions.old host.old false
+        → SpeaksSoFar H.view K.holds K.live (pieces script) all w text (pieces script) sessions.old host.old false
         → IsEnding (status_in result) → RanAs K.means all (ending_of (pieces script)) w text (S.left source.new) (H.view host.new) (status_in result) }
     ensures any_moment { (w : ListWorld) (all : Items Item) (script text : Items ℕ) → S.left source.old ≡ Some script
-        → Runs H.view K.holds K.live (pieces script) all w text (pieces script) sessions.old host.old false
+        → SpeaksSoFar H.view K.holds K.live (pieces script) all w text (pieces script) sessions.old host.old false
         → LeavesOnly (H.view host.old) (H.view host.new) (IsAfterSome (HoldsBy ode K.means) all w text) }
     ensures statuses { IsRunStatus (status_in result) ⊎ (status_in result ≡ Status.BadFile) }
     ensures answers { (m : Interleaved) → StandsFor H.view K.holds K.live ode m sessions.old host.old → IsRunStatus (status_in result) }

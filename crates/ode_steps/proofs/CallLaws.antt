@@ -12,7 +12,7 @@ use Rattle.ode_interleaved_laws.specs.Meeting.{IsInterleaved}
 use Rattle.ode_keep.specs.Entries.{Entries}
 use Rattle.ode_machine.specs.Interleaving.{Interleaved}
 use Rattle.ode_opened.specs.declared.opened.Opened.{Opened}
-use Rattle.ode_steps.specs.Serving.{IsLive, IsResting, IsThere, StandsBy, StandsFor, StandsIn, resting, said_in}
+use Rattle.ode_steps.specs.Serving.{IsLive, IsResting, IsThere, StandsBy, StandsFor, StandsIn, closed_behind, said_in}
 use Rattle.ode_steps.specs.declared.sessions.Sessions.{Sessions}
 use Rattle.ode_transact.proofs.OutputLaws.{all_heard_loud}
 use Rattle.ode_transact.specs.Errors.{OnDamaged}
@@ -109,9 +109,9 @@ module _ {H K : Type 0} (seen : H → View) (held : K → View → Entries → T
     drained_printed (Err e) counts m settled old new done = tt
 
     pub drained_stands : (step : Result (Opened K × T) EngineError) (counts : T → Type 0) (m : Interleaved) (settled : Settlings) (s : Sessions K) (was : Bool) (sessions : List Open) (old new : H)
-        → IsInterleaved l (resting m settled) → Has s was step → s.sessions ≡ sessions → sessions ≡ [] → Drained m settled step counts old new → OnOk (said_in step) (StandsFor seen held live l (resting m settled) s new)
+        → IsInterleaved l (closed_behind m settled) → Has s was step → s.sessions ≡ sessions → sessions ≡ [] → Drained m settled step counts old new → OnOk (said_in step) (StandsFor seen held live l (closed_behind m settled) s new)
     drained_stands (Ok r) counts m settled s was sessions old new good has same none done =
-        stands_on (Ok r) (resting m settled) s was sessions new has same (record { goes_on = good; rests = done.0.0; same = ap opens_as none })
+        stands_on (Ok r) (closed_behind m settled) s was sessions new has same (record { goes_on = good; rests = done.0.0; same = ap opens_as none })
     drained_stands (Err e) counts m settled s was sessions old new good has same none done = tt
 
     -- the opened file may still be used

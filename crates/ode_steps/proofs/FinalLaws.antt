@@ -18,7 +18,7 @@ use Rattle.ode_machine.specs.Interleaving.{Interleaved, Open, ends_found, finish
 use Rattle.ode_machine.specs.Moments.{IsAfterSome}
 use Rattle.ode_machine.specs.Runs.{Item, final, item_of, text_of}
 use Rattle.ode_opened.specs.declared.opened.Opened.{Opened}
-use Rattle.ode_steps.specs.Serving.{EndsOne, Settles, StandsIn, resting}
+use Rattle.ode_steps.specs.Serving.{EndsOne, Settles, StandsIn, closed_behind}
 use Rattle.ode_transact.proofs.JoinLaws.{final_is, text_is}
 use Rattle.ode_transact.specs.Items.{items_of, texts_of}
 use Rattle.ode_transact.specs.Resting.{HoldsBy}
@@ -197,7 +197,7 @@ module _ {H K : Type 0} (seen : H → View) (held : K → View → Entries → T
         let left : so.left ≡ [] = none_left so.left (omega (arith, place, all)) in
         let sessions' : now.sessions ≡ [] = none_left now.sessions (omega (arith, place, all, few)) in
         let whole : finish m ≡ so.done = so.whole ∙ ap (λ (os : List Open). so.done ++ finishes os now) left ∙ append-nil so.done in
-        let same : now ≡ resting m so.done = ap (λ (w : ListWorld). record { world = w; sessions = now.sessions }) so.world ∙ ap (λ (os : List Open). record { world = world_after m.world so.done; sessions = os }) sessions' in
+        let same : now ≡ closed_behind m so.done = ap (λ (w : ListWorld). record { world = w; sessions = now.sessions }) so.world ∙ ap (λ (os : List Open). record { world = world_after m.world so.done; sessions = os }) sessions' in
         subst (λ (settled : Settlings). Settles seen held live means ode m settled (Ok (rest, count)) sessions old mid) (sym whole)
         (record {
           counts = counts;

@@ -81,8 +81,8 @@ IsReply a (Busy session what) = a ≡ answer.Busy session what
 IsReply a (Goes now settled) = counted (length settled) a
 
 -- no session is open behind these
-abbrev pub resting : Interleaved → Settlings → Interleaved
-resting m settled = record { world = world_after m.world settled; sessions = [] }
+abbrev pub closed_behind : Interleaved → Settlings → Interleaved
+closed_behind m settled = record { world = world_after m.world settled; sessions = [] }
 
 -- ---- what sessions stand for
 
@@ -114,7 +114,7 @@ module _ {H K : Type 0} (seen : H → View) (held : K → View → Entries → T
   -- The same of a call that settles these transactions, behind which no session is open.
   pub record Settles (means : Meaning) (l : Language) (m : Interleaved) (settled : Settlings) (result : Result (Opened K × ℕ) EngineError) (sessions : List Open) (old new : H) : Type 0 where
     pub counts : IfOk result (λ r. r.1 ≡ length settled)
-    pub stands : IfOk result (λ r. StandsIn l (resting m settled) r.0 sessions new)
+    pub stands : IfOk result (λ r. StandsIn l (closed_behind m settled) r.0 sessions new)
     pub printed : OnOk result (Printed (texts_of settled) (seen old) (seen new))
     pub any_moment : (said : List ℕ) (more : List Item) → (seen old).text ≡ Some said
         → LeavesOnly (seen old) (seen new) (IsAfterSome (HoldsBy l means) (items_of settled ++ more) m.world said)

@@ -7,7 +7,7 @@ ghost use Rattle.ode_language.specs.Languages.{ode};
 ghost use Rattle.ode_machine.specs.Interleaving.{Interleaved, finish, step};
 ghost use Rattle.ode_machine.specs.Moments.{IsAfterSome};
 ghost use Rattle.ode_machine.specs.Runs.{Item};
-ghost use Rattle.ode_steps.specs.Serving.{IsLive, IsReply, StandsFor, after_reply, resting, said_in, settlings};
+ghost use Rattle.ode_steps.specs.Serving.{IsLive, IsReply, StandsFor, after_reply, closed_behind, said_in, settlings};
 ghost use Rattle.ode_transact.specs.Errors.{OnDamaged};
 ghost use Rattle.ode_transact.specs.Items.{items_of, texts_of};
 ghost use Rattle.ode_transact.specs.Resting.{HoldsBy, resting_parts};
@@ -135,7 +135,7 @@ impl<K: Drop> Sessions<K> {
         requires closed { self.old.sessions ≡ [] }
         ensures answer { (m : Interleaved) → StandsFor H.view K.holds K.live ode m self.old host.old → IfOk result (λ ran. ran ≡ length (drained lists drain_limit m.world)) }
         ensures stands { (m : Interleaved) → StandsFor H.view K.holds K.live ode m self.old host.old
-            → OnOk result (StandsFor H.view K.holds K.live ode (resting m (drained lists drain_limit m.world)) self.new host.new) }
+            → OnOk result (StandsFor H.view K.holds K.live ode (closed_behind m (drained lists drain_limit m.world)) self.new host.new) }
         ensures printed { (m : Interleaved) → StandsFor H.view K.holds K.live ode m self.old host.old
             → OnOk result (Printed (texts_of (drained lists drain_limit m.world)) (H.view host.old) (H.view host.new)) }
         ensures any_moment { (m : Interleaved) (said : Items ℕ) (more : Items Item) → StandsFor H.view K.holds K.live ode m self.old host.old → (H.view host.old).text ≡ Some said
@@ -166,7 +166,7 @@ impl<K: Drop> Sessions<K> {
         requires live { IsLive K.live self.old }
         ensures answer { (m : Interleaved) → StandsFor H.view K.holds K.live ode m self.old host.old → IfOk result (λ count. count ≡ length (finish m)) }
         ensures stands { (m : Interleaved) → StandsFor H.view K.holds K.live ode m self.old host.old
-            → OnOk result (StandsFor H.view K.holds K.live ode (resting m (finish m)) self.new host.new) }
+            → OnOk result (StandsFor H.view K.holds K.live ode (closed_behind m (finish m)) self.new host.new) }
         ensures printed { (m : Interleaved) → StandsFor H.view K.holds K.live ode m self.old host.old
             → OnOk result (Printed (texts_of (finish m)) (H.view host.old) (H.view host.new)) }
         ensures any_moment { (m : Interleaved) (said : Items ℕ) (more : Items Item) → StandsFor H.view K.holds K.live ode m self.old host.old → (H.view host.old).text ≡ Some said

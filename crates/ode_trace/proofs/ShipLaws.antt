@@ -19,6 +19,7 @@ use Rattle.ode_machine.specs.Sessions.{Session, closed}
 use Rattle.ode_opened.specs.declared.opened.Opened.{Opened}
 use Rattle.ode_transact.specs.Contexts.{Ctx}
 use Rattle.ode_run_laws.proofs.JoinLaws.{final_join}
+use Rattle.ode_run_laws.specs.Settled.{settled_of}
 use Rattle.ode_script.specs.Cutting.{End, Ended, Ending, LongScript, LongStatement, Pieces, Then, ending_of, pieces}
 use Rattle.ode_script.specs.Left.{EndsBy}
 use Rattle.ode_script.specs.declared.reader.ScriptError.{ScriptError}
@@ -30,7 +31,7 @@ use Rattle.ode_trace.proofs.MachineLaws.{opening_ends, piece_ends, pieces_ended,
 use Rattle.ode_trace.proofs.ShippedLaws.{fit_join, moment_behind, none_refused, printing_leaves, quiet_leaves, quiet_text, refused_join, settled_items, settled_join, shipped_join, world_settled}
 use Rattle.ode_trace.specs.Hearing.{heard_items}
 use Rattle.ode_ends.specs.Endings.{LeavesNothing}
-use Rattle.ode_trace.specs.Shipping.{HasShipped, IsShippedSoFar, LeavesFrames, ShippedAs, Ships, ShipsOn, is_refused, settled_of, shipped}
+use Rattle.ode_trace.specs.Shipping.{HasShipped, IsShippedSoFar, LeavesFrames, ShippedAs, Ships, ShipsOn, is_refused, shipped}
 use Rattle.ode_ends.specs.Statuses.{IsEnding, status_of_script}
 use Rattle.ode_transact.proofs.LogLaws.{behind_append, kept_append}
 use Rattle.ode_transact.specs.Errors.{OnDamaged}

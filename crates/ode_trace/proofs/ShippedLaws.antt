@@ -10,10 +10,11 @@ use Rattle.ode_keep.specs.Entries.{Entries, applied}
 use Rattle.ode_language.specs.Languages.{ode}
 use Rattle.ode_machine.specs.Moments.{IsAfterSome}
 use Rattle.ode_machine.specs.Runs.{Item, Refuses, Settles, any_refused, final, text_of, text_until, world_at}
+use Rattle.ode_run_laws.specs.Settled.{settled_of}
 use Rattle.ode_ship.specs.Frames.{FitsFrame, frame_bytes}
 use Rattle.ode_trace.proofs.HearingLaws.{heard_join, nothing_heard}
 use Rattle.ode_trace.specs.Hearing.{heard_items}
-use Rattle.ode_trace.specs.Shipping.{IsShippedSoFar, LeavesFrames, settled_of, shipped}
+use Rattle.ode_trace.specs.Shipping.{IsShippedSoFar, LeavesFrames, shipped}
 use Rattle.ode_transact.proofs.LogLaws.{kept_append}
 use Rattle.ode_transact.specs.Items.{items_of}
 use Rattle.ode_transact.specs.Logging.{AreKept, IsBounded, Kept, behind}

@@ -1,5 +1,5 @@
 -- What a run ships: the frames of what it settles.
-use Rattle.std.specs.Prelude.{◌≡◌, ◌≤◌, ℕ, List, [], ◌∷◌, ◌++◌, Bool, false, true, Option, Some, Result, OnOk, length, take}
+use Rattle.std.specs.Prelude.{◌≡◌, ◌≤◌, ℕ, List, ◌++◌, Bool, false, true, Option, Some, Result, OnOk, length, take}
 use Rattle.std.specs.List.{AllByRecursion, flat_map}
 use Rattle.ode_engine.specs.Serving.{StandsFor}
 use Rattle.ode_engine.specs.declared.engine.Done.{Done}
@@ -10,8 +10,9 @@ use Rattle.ode_host.specs.View.{View}
 use Rattle.ode_host.specs.declared.status.Status.{Status}
 use Rattle.ode_keep.specs.Entries.{Entries}
 use Rattle.ode_language.specs.Languages.{ode}
-use Rattle.ode_machine.specs.Runs.{Item, Refuses, Settles, any_refused, final, pieces_items, status_at, world_at}
+use Rattle.ode_machine.specs.Runs.{Item, any_refused, final, pieces_items, status_at, world_at}
 use Rattle.ode_machine.specs.Sessions.{Session}
+use Rattle.ode_run_laws.specs.Settled.{settled_of}
 use Rattle.ode_script.specs.Cutting.{Ending, Pieces, ending_of}
 use Rattle.ode_ship.specs.Frames.{FitsFrame, frame_bytes}
 use Rattle.ode_ends.specs.Endings.{LeavesNothing}
@@ -28,12 +29,6 @@ use Rattle.ode_value.specs.Language.{ListWorld, Settlings}
 -- the frames of what was kept, one behind the other
 abbrev pub shipped : List Kept → List ℕ
 shipped kept = flat_map frame_bytes kept
-
--- what a run of these items settles
-abbrev pub settled_of : List Item → Settlings
-settled_of [] = []
-settled_of (Refuses line ∷ items) = settled_of items
-settled_of (Settles w text ∷ items) = (w, text) ∷ settled_of items
 
 -- What settled from this world on, over records that the disk stood for, was shipped: one frame was printed for each transaction, with its
 -- number, which fits; the changes of the frames leave the machine's worlds one behind the other, and the disk stands for the records behind

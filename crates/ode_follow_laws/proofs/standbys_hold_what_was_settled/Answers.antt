@@ -7,7 +7,7 @@ use Rattle.ode_language.specs.Languages.{ode}
 use Rattle.ode_machine.specs.Runs.{trace}
 use Rattle.ode_number_laws.specs.Counting.{CountUp}
 use Rattle.ode_standby.specs.Primary.{after_first, reach}
-use Rattle.ode_trace.specs.Shipping.{settled_of}
+use Rattle.ode_run_laws.specs.Settled.{settled_of}
 use Rattle.ode_transact.specs.Logging.{AreOf}
 use Rattle.ode_value.specs.Draining.{world_after}
 use Rattle.ode_value.specs.Language.{ListWorld}

@@ -7,7 +7,7 @@ use Rattle.ode_machine.specs.Interleaving.{step}
 use Rattle.ode_sessions.proofs.CarryLaws.{put_off_carries, stopped_carries, went_carries}
 use Rattle.ode_sessions.proofs.SessionLaws.{uncalled_carries}
 use Rattle.ode_sessions.specs.Lines.{answer_line}
-use Rattle.ode_sessions.specs.Running.{Carries}
+use Rattle.ode_sessions.specs.Running.{SpeaksPiece}
 use Rattle.ode_steps.specs.declared.answer.Answer.{Answer}
 use Rattle.ode_ends.proofs.CallLaws.{always, answer_quiet, damage_as, damage_gives, error_told, no_calls, quiet_answer, told_behind}
 use Rattle.ode_transact.specs.declared.error.EngineError.TheVariants as error
@@ -22,7 +22,7 @@ pub returns-in-Some-clause-carries : goal.returns-in-Some-clause-carries
 returns-in-Some-clause-carries g c m stands =
     let reply = step ode m c.args.session c.get.result.now in
     let told : Some c.as_slice.result.now ≡ answer_line c.args.line c.in_ok-answer.answer = ap Some c.as_slice.ensures ∙ sym c.in-Some.is ∙ c.in_ok-put_off.ensures in
-    subst (λ (s : Statement). Carries g.H.Host.view g.K.Keep.holds g.K.Keep.live g.K.Keep.means m (reply_stretch m c.args.line (step ode m c.args.session s)) c.refuse.result c.step.new.self c.args.host.now c.refuse.new.host)
+    subst (λ (s : Statement). SpeaksPiece g.H.Host.view g.K.Keep.holds g.K.Keep.live g.K.Keep.means m (reply_stretch m c.args.line (step ode m c.args.session s)) c.refuse.result c.step.new.self c.args.host.now c.refuse.new.host)
     (c.get.ensures ∙ c.in_ok-statement.ensures)
     (put_off_carries g.H.Host.view g.K.Keep.holds g.K.Keep.live g.K.Keep.means g.met.K.Keep.stands g.met.K.Keep.stays m c.args.line c.as_slice.result.now c.step.new.self c.args.host.now c.step.new.host c.refuse.new.host c.refuse.result
     c.refuse.ensures.any_moment c.refuse.ensures.was c.refuse.ensures.printed c.refuse.ensures.stands c.refuse.ensures.sound
@@ -43,7 +43,7 @@ returns-in-Some-clause-live g c = always c.refuse.result _ c.in_ok-answer.ensure
 -- it settled, or was accepted
 pub returns-clause-carries : goal.returns-clause-carries
 returns-clause-carries g c m stands =
-    subst (λ (s : Statement). Carries g.H.Host.view g.K.Keep.holds g.K.Keep.live g.K.Keep.means m (reply_stretch m c.args.line (step ode m c.args.session s)) (Ok false) c.step.new.self c.args.host.now c.step.new.host)
+    subst (λ (s : Statement). SpeaksPiece g.H.Host.view g.K.Keep.holds g.K.Keep.live g.K.Keep.means m (reply_stretch m c.args.line (step ode m c.args.session s)) (Ok false) c.step.new.self c.args.host.now c.step.new.host)
     (c.get.ensures ∙ c.in_ok-statement.ensures)
     (went_carries g.H.Host.view g.K.Keep.holds g.K.Keep.live g.K.Keep.means m c.step.new.self c.args.host.now c.step.new.host c.args.line (step ode m c.args.session c.get.result.now)
     c.in_ok-answer.answer (c.in_ok-answer.ensures.answer m stands)
@@ -73,7 +73,7 @@ pub returns-in_err-answer-clause-carries : goal.returns-in_err-answer-clause-car
 returns-in_err-answer-clause-carries g c m stands =
     let p = err_from_is_err_and c.from_residual-in_err-answer.result c.from_residual-in_err-answer.ensures.1 in
     rw (p.1, p.2)
-    (subst (λ (s : Statement). Carries g.H.Host.view g.K.Keep.holds g.K.Keep.live g.K.Keep.means m (reply_stretch m c.args.line (step ode m c.args.session s)) (Err c.in_err-answer.field-0.0) c.step.new.self c.args.host.now c.step.new.host)
+    (subst (λ (s : Statement). SpeaksPiece g.H.Host.view g.K.Keep.holds g.K.Keep.live g.K.Keep.means m (reply_stretch m c.args.line (step ode m c.args.session s)) (Err c.in_err-answer.field-0.0) c.step.new.self c.args.host.now c.step.new.host)
     (c.get.ensures ∙ c.in_ok-statement.ensures)
     (stopped_carries g.H.Host.view g.K.Keep.holds g.K.Keep.live g.K.Keep.means m c.step.new.self c.args.host.now c.step.new.host c.args.line (step ode m c.args.session c.get.result.now) c.in_err-answer.field-0.0
     (λ said more told. c.in_err-answer.ensures.any_moment m said more stands told)
@@ -89,7 +89,7 @@ pub returns-in_err-put_off-clause-carries : goal.returns-in_err-put_off-clause-c
 returns-in_err-put_off-clause-carries g c m stands =
     let p = err_from_is_err_and c.from_residual-in_err-put_off.result c.from_residual-in_err-put_off.ensures.1 in
     rw (p.1, p.2)
-    (subst (λ (s : Statement). Carries g.H.Host.view g.K.Keep.holds g.K.Keep.live g.K.Keep.means m (reply_stretch m c.args.line (step ode m c.args.session s)) (Err error.Memory) c.step.new.self c.args.host.now c.step.new.host)
+    (subst (λ (s : Statement). SpeaksPiece g.H.Host.view g.K.Keep.holds g.K.Keep.live g.K.Keep.means m (reply_stretch m c.args.line (step ode m c.args.session s)) (Err error.Memory) c.step.new.self c.args.host.now c.step.new.host)
     (c.get.ensures ∙ c.in_ok-statement.ensures)
     (stopped_carries g.H.Host.view g.K.Keep.holds g.K.Keep.live g.K.Keep.means m c.step.new.self c.args.host.now c.step.new.host c.args.line (step ode m c.args.session c.get.result.now) error.Memory
     (λ said more told. c.in_ok-answer.ensures.any_moment m said more stands told) tt))

@@ -14,7 +14,7 @@ use Rattle.ode_script.specs.declared.reader.ScriptError.TheVariants as script
 use Rattle.ode_sessions.proofs.RunLaws.{ended_ran, error_ran, goes_further, none_refused, pieces_ended}
 use Rattle.ode_sessions.proofs.RunsLaws.{runs_leaves, runs_next}
 use Rattle.ode_sessions.proofs.SessionLaws.{ends_now, goes_on}
-use Rattle.ode_sessions.specs.Running.{Runs}
+use Rattle.ode_sessions.specs.Running.{SpeaksSoFar}
 use Rattle.ode_sessions.specs.Speaking.{spoken}
 use Rattle.ode_ends.proofs.CallLaws.{answer_quiet, error_stated, no_calls, told_behind}
 use Rattle.ode_ends.proofs.StatusLaws.{ended_is, end_leaves, engine_answers, engine_no_end, engine_no_read, script_no_disk, script_no_print, script_read, script_runs}
@@ -49,7 +49,7 @@ pieces-preserved g c = record {
       ] in (
         taken.0,
         taken.2,
-        subst (λ (b : Bool). Runs g.H.Host.view g.K.Keep.holds g.K.Keep.live (pieces script) all w text taken.0 c.carry_out.new.sessions c.carry_out.new.host b) (sym both)
+        subst (λ (b : Bool). SpeaksSoFar g.H.Host.view g.K.Keep.holds g.K.Keep.live (pieces script) all w text taken.0 c.carry_out.new.sessions c.carry_out.new.host b) (sym both)
             (runs_next g.H.Host.view g.K.Keep.holds g.K.Keep.live g.K.Keep.means (pieces script) all w text so_far.0 c.pieces.sessions c.pieces.host c.pieces.refused so_far.2 c.in-Ok-Statement.line c.as_slice.result.now taken.0 is
             (goes_on g.H.Host.view g.K.Keep.holds g.K.Keep.live g.K.Keep.means g.met.K.Keep.stands g.met.K.Keep.stays so_far.2.now c.pieces.sessions c.pieces.host so_far.2.speaks.stands)
             c.in-Ok.was c.carry_out.new.sessions c.carry_out.new.host (c.in-Ok.ensures.carries so_far.2.now so_far.2.speaks.stands)),

@@ -7,7 +7,7 @@ use Rattle.ode_language.specs.Languages.{ode}
 use Rattle.ode_machine.specs.Interleaving.{Interleaved}
 use Rattle.ode_machine.specs.Moments.{IsAfterSome}
 use Rattle.ode_steps.proofs.CallLaws.{damaged_on, drained_counts, drained_printed, drained_rests, drained_stands, err_on, leaves_on, live_on, taken_rests, taken_stands}
-use Rattle.ode_steps.specs.Serving.{IsLive, StandsFor, resting}
+use Rattle.ode_steps.specs.Serving.{IsLive, StandsFor, closed_behind}
 use Rattle.ode_transact.proofs.OutputLaws.{all_heard_loud}
 use Rattle.ode_transact.specs.Errors.{OnDamaged}
 use Rattle.ode_transact.specs.Items.{items_of, texts_of}
@@ -38,7 +38,7 @@ unfolding drain_limit
 returns-in-Some-clause-stands g c m is =
     let stands = taken_stands g.H.Host.view g.K.Keep.holds g.K.Keep.live ode m c.args.self.now.rest c.in-Some.rest c.args.self.now.sessions c.args.host.now (sym c.take.ensures.value ∙ c.in-Some.is) is in
     let settled = drained lists drain_limit m.world in
-    subst (λ r. OnOk r (StandsFor g.H.Host.view g.K.Keep.holds g.K.Keep.live ode (resting m settled) c.answer.new.self c.drain-step.new.host)) (sym c.answer.ensures.says)
+    subst (λ r. OnOk r (StandsFor g.H.Host.view g.K.Keep.holds g.K.Keep.live ode (closed_behind m settled) c.answer.new.self c.drain-step.new.host)) (sym c.answer.ensures.says)
     (drained_stands g.H.Host.view g.K.Keep.holds g.K.Keep.live ode c.drain-step.result (λ (ran : ℕ). ran ≡ length settled) m settled c.answer.new.self _ c.args.self.now.sessions c.args.host.now c.drain-step.new.host
     (none_open (world_after m.world settled) (drained_well m.world stands.goes_on.well)) c.answer.ensures.has c.answer.ensures.same c.requires.closed (c.drain-step.ensures.done ode m.world stands.goes_on.well stands.rests))
 

@@ -4,7 +4,7 @@ use Rattle.ode_host.specs.Host.{HostCalls, Printed}
 use Rattle.ode_language.specs.Languages.{ode}
 use Rattle.ode_machine.specs.Interleaving.{Interleaved, finish}
 use Rattle.ode_steps.proofs.CallLaws.{err_on, leaves_on, live_on, ok_on, says_on, stands_on, taken_rests, taken_stands, undamaged_on}
-use Rattle.ode_steps.specs.Serving.{IsLive, StandsFor, resting}
+use Rattle.ode_steps.specs.Serving.{IsLive, StandsFor, closed_behind}
 use Rattle.ode_transact.specs.Errors.{OnDamaged}
 use Rattle.ode_transact.specs.Items.{texts_of}
 use Rattle.ode_transact.specs.declared.error.EngineError.TheVariants as error
@@ -27,8 +27,8 @@ returns-in-Some-clause-answer g c m is =
 pub returns-in-Some-clause-stands : goal.returns-in-Some-clause-stands
 returns-in-Some-clause-stands g c m is =
     let serves = c.finish_in-step.ensures.settles m (taken_stands g.H.Host.view g.K.Keep.holds g.K.Keep.live ode m c.args.self.now.rest c.in-Some.rest c.args.self.now.sessions c.args.host.now (sym c.take.ensures.value ∙ c.in-Some.is) is) in
-    subst (λ r. OnOk r (StandsFor g.H.Host.view g.K.Keep.holds g.K.Keep.live ode (resting m (finish m)) c.answer.new.self c.finish_in-step.new.host)) (sym c.answer.ensures.says)
-    (stands_on g.H.Host.view g.K.Keep.holds g.K.Keep.live ode c.finish_in-step.result (resting m (finish m)) c.answer.new.self _ _ c.finish_in-step.new.host c.answer.ensures.has c.answer.ensures.same serves.stands)
+    subst (λ r. OnOk r (StandsFor g.H.Host.view g.K.Keep.holds g.K.Keep.live ode (closed_behind m (finish m)) c.answer.new.self c.finish_in-step.new.host)) (sym c.answer.ensures.says)
+    (stands_on g.H.Host.view g.K.Keep.holds g.K.Keep.live ode c.finish_in-step.result (closed_behind m (finish m)) c.answer.new.self _ _ c.finish_in-step.new.host c.answer.ensures.has c.answer.ensures.same serves.stands)
 
 pub returns-in-Some-clause-printed : goal.returns-in-Some-clause-printed
 returns-in-Some-clause-printed g c m is =
