@@ -3,12 +3,10 @@ ghost use Rattle.std.specs.Prelude.{◌≡◌, ◌<◌, ◌^◌, length};
 ghost use Rattle.ode_class_records.specs.Weighing.{spare_beside};
 ghost use Rattle.ode_value.specs.Lengths.{trigger_length};
 
+use ode_codec::TABLE_HEAD_LEN;
 use ode_compile::{piece_count, table_length};
 use ode_keep::KEY_LEN;
 use ode_table::Table;
-
-// The bytes of the value of a table's head.
-const HEAD_LEN: usize = 3;
 
 // The bytes of the records of a table of so many states and symbols.
 fn weight_of(states: u16, symbols: u8) -> u64
@@ -17,7 +15,7 @@ fn weight_of(states: u16, symbols: u8) -> u64
 {
     let bytes = table_length(states, symbols);
     let key = KEY_LEN as u64;
-    key + HEAD_LEN as u64 + (key * u64::from(piece_count(bytes)) + u64::from(bytes))
+    key + TABLE_HEAD_LEN as u64 + (key * u64::from(piece_count(bytes)) + u64::from(bytes))
 }
 
 /// The bytes that the records of stored tables would take more with as many states as these, each with those beside it.

@@ -8,7 +8,10 @@ ghost use Rattle.ode_codec.specs.Reading.{record_under};
 ghost use Rattle.ode_codec.specs.Rules.{IsCounted, IsRecord};
 ghost use Rattle.ode_codec.specs.Spelling.{activation_value, clock_value, counters_value, entry_value, nexts_value, key_of, spelled, truth, u16, u32, u64, value_of, values};
 
-use crate::record::{Activation, Counters, Entry, Record, STAMPED, TABLE_PLACES};
+use crate::record::{
+    Activation, BOOL_TAG, Counters, Entry, INT_TAG, REFERENCE_TAG, Record, STAMPED, TABLE_PLACES,
+    TEXT_TAG,
+};
 use ode_host::{put_i64, put_u8, put_u16, put_u32, put_u64};
 use ode_value::{Key, List, Name, Ref, Value};
 use std::alloc::{AllocError, Global};
@@ -39,19 +42,19 @@ fn put_value(out: &mut Vec<u8>, value: &Value) -> Result<(), AllocError>
 {
     match value {
         Value::Int(number) => {
-            put_u8(out, 0)?;
+            put_u8(out, INT_TAG)?;
             put_i64(out, *number)
         }
         Value::Bool(truth) => {
-            put_u8(out, 1)?;
+            put_u8(out, BOOL_TAG)?;
             put_bool(out, *truth)
         }
         Value::Text(text) => {
-            put_u8(out, 2)?;
+            put_u8(out, TEXT_TAG)?;
             put_text(out, text.as_bytes())
         }
         Value::Reference(reference) => {
-            put_u8(out, 3)?;
+            put_u8(out, REFERENCE_TAG)?;
             put_reference(out, *reference)
         }
     }
@@ -76,7 +79,7 @@ fn put_args(out: &mut Vec<u8>, args: &[Value]) -> Result<(), AllocError>
     put_values(out, args)
 }
 
-fn put_nexts(out: &mut Vec<u8>, counters: &Counters) -> Result<(), AllocError>
+fn put_numbers_and_clock(out: &mut Vec<u8>, counters: &Counters) -> Result<(), AllocError>
     ensures { OnOk result (out.new.items ≡ out.old.items ++ nexts_value counters.now) }
 {
     put_u64(out, counters.next_number)?;
@@ -88,7 +91,7 @@ fn put_nexts(out: &mut Vec<u8>, counters: &Counters) -> Result<(), AllocError>
 fn put_counters(out: &mut Vec<u8>, counters: &Counters) -> Result<(), AllocError>
     ensures { OnOk result (out.new.items ≡ out.old.items ++ counters_value counters.now) }
 {
-    put_nexts(out, counters)?;
+    put_numbers_and_clock(out, counters)?;
     put_stamp(out, counters.added)
 }
 

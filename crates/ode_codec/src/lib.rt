@@ -4,6 +4,7 @@
 mod decoding;
 mod encoding;
 mod laws;
+mod lengths;
 mod outside;
 mod passing;
 mod reading;
@@ -15,6 +16,7 @@ mod values;
 pub use decoding::{decode, is_record};
 pub use encoding::encode;
 pub use laws::one_spelling;
+pub use lengths::{TABLE_HEAD_LEN, value_length, values_fit};
 pub use passing::is_of_first;
 pub use record::{
     Activation, BOOL_SORT, Counters, Entry, INT_SORT, REFERENCE_SORT, Record, TABLE_PLACES,

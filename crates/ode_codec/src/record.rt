@@ -8,13 +8,28 @@ pub const TABLE_PLACES: u32 = 65_536;
 /// From this number on the count of a version's fields says that a stamp follows.
 pub const STAMPED: u16 = 32_768;
 
-/// The sorts of added fields as they are stored.
+/// The tag of an integer.
+pub const INT_TAG: u8 = 0;
+
+/// The tag of a truth value.
+pub const BOOL_TAG: u8 = 1;
+
+/// The tag of a text.
+pub const TEXT_TAG: u8 = 2;
+
+/// The tag of a reference.
+pub const REFERENCE_TAG: u8 = 3;
+
+/// The sort `int` of an added field as it is stored.
 pub const INT_SORT: u8 = 0;
 
+/// The sort `bool` of an added field as it is stored.
 pub const BOOL_SORT: u8 = 1;
 
+/// The sort `text` of an added field as it is stored.
 pub const TEXT_SORT: u8 = 2;
 
+/// The sort of an added field that holds references, as it is stored.
 pub const REFERENCE_SORT: u8 = 3;
 
 /// The next numbers of an object or activation, of a transaction and of an entry; how far the clock has come: an instant, an object and a

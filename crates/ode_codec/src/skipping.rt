@@ -5,7 +5,7 @@ ghost use Rattle.ode_codec.specs.Values.{args_in, content_in, fields_in, text_in
 
 use crate::outside::OutsideGrammar;
 use crate::reading::{read_part, read_u8, read_u16};
-use crate::record::STAMPED;
+use crate::record::{STAMPED, TEXT_TAG};
 use crate::values::{read_plain, read_stamp};
 use ode_value::is_text;
 
@@ -27,7 +27,7 @@ fn skip_text(bytes: &[u8]) -> Result<&[u8], OutsideGrammar>
 fn skip_content(tag: u8, bytes: &[u8]) -> Result<&[u8], OutsideGrammar>
     ensures { Finds (λ x. x.now) result (behind (content_in tag bytes.now)) }
 {
-    if tag == 2 {
+    if tag == TEXT_TAG {
         return skip_text(bytes);
     }
     let (_, rest) = read_plain(tag, bytes)?;

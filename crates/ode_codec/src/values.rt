@@ -7,7 +7,7 @@ use crate::outside::{OutsideGrammar, Unread};
 use crate::reading::{
     read_bool, read_i64, read_part, read_some, read_u8, read_u16, read_u32, read_u64,
 };
-use crate::record::STAMPED;
+use crate::record::{BOOL_TAG, INT_TAG, REFERENCE_TAG, STAMPED, TEXT_TAG};
 use ode_value::{List, OdeText, Ref, TextError, Value};
 use std::alloc::Global;
 
@@ -59,15 +59,15 @@ pub(crate) fn read_plain(tag: u8, bytes: &[u8]) -> Result<(Value, &[u8]), Outsid
     ensures { tag ≢ 2 → Finds (λ x. (x.0, x.1.now)) result (content_in tag bytes.now) }
 {
     match tag {
-        0 => {
+        INT_TAG => {
             let (number, rest) = read_i64(bytes)?;
             Ok((Value::Int(number), rest))
         }
-        1 => {
+        BOOL_TAG => {
             let (truth, rest) = read_bool(bytes)?;
             Ok((Value::Bool(truth), rest))
         }
-        3 => {
+        REFERENCE_TAG => {
             let (reference, rest) = read_reference(bytes)?;
             Ok((Value::Reference(reference), rest))
         }
@@ -79,7 +79,7 @@ pub(crate) fn read_plain(tag: u8, bytes: &[u8]) -> Result<(Value, &[u8]), Outsid
 fn read_content(alloc: Global, tag: u8, bytes: &[u8]) -> Result<(Value, &[u8]), Unread>
     ensures { Gives (λ x. (x.0, x.1.now)) result (content_in tag bytes.now) }
 {
-    if tag == 2 {
+    if tag == TEXT_TAG {
         let (text, rest) = read_text(alloc, bytes)?;
         return Ok((Value::Text(text), rest));
     }

@@ -3,10 +3,12 @@
 
 mod compiling;
 mod counting;
+mod putting;
 mod shrinking;
 mod stop;
 mod triggers;
 
 pub use compiling::{Compiled, build_class, compile};
 pub use counting::{piece_count, table_length};
+pub use putting::put_behind;
 pub use stop::CompileStop;

@@ -2,9 +2,8 @@
 ghost use Rattle.std.specs.Prelude.{◌≡◌, ◌<◌, ◌+◌, ◌++◌, ◌∷◌, [], ◌^◌, IfOk, OnOk, length};
 ghost use Rattle.ode_types.specs.Checked.{IsChecked};
 
-use ode_compile::Compiled;
+use ode_compile::{Compiled, put_behind};
 use ode_opened::Opened;
-use ode_symbols::Alphabet;
 use ode_table::Table;
 use ode_value::List;
 use std::alloc::AllocError;
@@ -24,26 +23,6 @@ fn first_place(tables: &List<Table>, own: &List<Table>) -> Result<u32, AllocErro
         Some(_) => Ok(first),
         None => Err(AllocError),
     }
-}
-
-// Tables behind others.
-fn put_tables(tables: &mut List<Table>, own: List<Table>) -> Result<(), AllocError>
-    ensures { OnOk result (tables.new ≡ tables.old ++ own) }
-{
-    'tables: for table in own.into_vec() {
-        tables.push(table)?;
-    }
-    Ok(())
-}
-
-// Their alphabets behind the others'.
-fn put_alphabets(alphabets: &mut List<Alphabet>, own: List<Alphabet>) -> Result<(), AllocError>
-    ensures { OnOk result (alphabets.new ≡ alphabets.old ++ own) }
-{
-    'alphabets: for alphabet in own.into_vec() {
-        alphabets.push(alphabet)?;
-    }
-    Ok(())
 }
 
 /// The file with a class behind the others, and these bytes.
@@ -71,8 +50,8 @@ pub(crate) fn with_class<K: Drop>(
     } = made;
     let first = first_place(&rest.tables, &tables)?;
     rest.maps.push(first)?;
-    put_tables(&mut rest.tables, tables)?;
-    put_alphabets(&mut rest.alphabets, alphabets)?;
+    put_behind(&mut rest.tables, tables)?;
+    put_behind(&mut rest.alphabets, alphabets)?;
     rest.classes.add(class)?;
     rest.bytes = bytes;
     Ok(rest)

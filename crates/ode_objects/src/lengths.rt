@@ -1,9 +1,8 @@
-//! How many bytes values and records take.
-ghost use Rattle.std.specs.Prelude.{◌≡◌, ◌<◌, ◌≤◌, [], nat_le};
-ghost use Rattle.ode_value.specs.Lengths.{value_length, values_length, version_size};
+//! How many bytes records take.
+ghost use Rattle.std.specs.Prelude.{◌≡◌, ◌≤◌, []};
+ghost use Rattle.ode_value.specs.Lengths.{version_size};
 
 use ode_keep::KEY_LEN;
-use ode_value::Value;
 
 /// Bytes of a key.
 pub const KEY: u64 = KEY_LEN as u64;
@@ -25,31 +24,5 @@ pub fn version_head(stamp: u32) -> usize
         VERSION_HEAD
     } else {
         VERSION_HEAD + STAMP
-    }
-}
-
-/// The bytes of a value.
-pub fn value_length(value: &Value) -> usize
-    ensures length { result ≡ value_length value.now }
-    ensures short { result < 4096 }
-{
-    match value {
-        Value::Int(_) => 9,
-        Value::Bool(_) => 2,
-        Value::Text(text) => 3 + text.as_bytes().len(),
-        Value::Reference(_) => 13,
-    }
-}
-
-/// Whether values take at most so many bytes.
-pub fn fit(values: &[Value], limit: usize) -> bool
-    ensures { result ≡ nat_le (values_length values.now) limit }
-{
-    match values {
-        [] => true,
-        [value, values @ ..] => match limit.checked_sub(value_length(value)) {
-            Some(rest) => fit(values, rest),
-            None => false,
-        },
     }
 }

@@ -2,7 +2,8 @@
 ghost use Rattle.std.specs.Prelude.{◌≡◌, cond, true, Some, None, IfOk};
 ghost use Rattle.ode_objects.specs.Values.{are_args, are_fields};
 
-use crate::lengths::{fit, version_head};
+use crate::lengths::version_head;
+use ode_codec::values_fit;
 use ode_value::limits::{ARGS_LIMIT, VALUE_LIMIT};
 use ode_value::{List, Value};
 use std::alloc::{AllocError, Global};
@@ -12,14 +13,14 @@ use std::marker::Model;
 fn are_fields(stamp: u32, values: &[Value]) -> bool
     ensures { result ≡ are_fields stamp values.now }
 {
-    fit(values, VALUE_LIMIT - version_head(stamp))
+    values_fit(values, VALUE_LIMIT - version_head(stamp))
 }
 
 #[tactic(auto, unfolding(crate::specs::Values::are_args, ode_value::specs::Limits::args_limit))]
 fn are_args(values: &[Value]) -> bool
     ensures { result ≡ are_args values.now }
 {
-    fit(values, ARGS_LIMIT)
+    values_fit(values, ARGS_LIMIT)
 }
 
 /// All fields of a version, with its stamp, that a record has room for. Contracts see both.

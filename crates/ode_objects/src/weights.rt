@@ -5,9 +5,10 @@ ghost use Rattle.ode_objects.specs.Weights.{active_weight, capped, class_fields,
 ghost use Rattle.ode_value.specs.Fields.{born_values};
 ghost use Rattle.ode_value.specs.Lengths.{values_length};
 
-use crate::lengths::{ACTIVATION_HEAD, KEY, OBJECT, value_length, version_head};
+use crate::lengths::{ACTIVATION_HEAD, KEY, OBJECT, version_head};
 use crate::object::{Active, Object, Version};
 use crate::tracked::{First, Tracked};
+use ode_codec::value_length;
 use ode_types::Classes;
 use ode_value::{Field, Value};
 

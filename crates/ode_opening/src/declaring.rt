@@ -18,11 +18,9 @@ use crate::accepted::Accepted;
 use crate::births::count_of;
 use ode_again_laws::numbers_of_classes_are_in_range;
 use ode_codec::Record;
-use ode_compile::{CompileStop, Compiled, build_class};
+use ode_compile::{CompileStop, Compiled, build_class, put_behind};
 use ode_language::{ReadStop, read_statement};
 use ode_passes::{Cause, OpenError, class_count, of_head};
-use ode_symbols::Alphabet;
-use ode_table::Table;
 use ode_types::Classes;
 use ode_value::limits::{CLASS_LIMIT, VALUE_LIMIT};
 use ode_value::{Added, Class, ClassDecl, Key, List, Statement};
@@ -209,36 +207,6 @@ fn declare_as(
     Ok(made)
 }
 
-// Tables behind others.
-fn put_tables(tables: &mut List<Table>, own: List<Table>) -> Result<(), AllocError>
-    ensures { OnOk result (tables.new ≡ tables.old ++ own) }
-{
-    'tables: for table in own.into_vec() {
-        tables.push(table)?;
-    }
-    Ok(())
-}
-
-// Their alphabets behind the others'.
-fn put_alphabets(alphabets: &mut List<Alphabet>, own: List<Alphabet>) -> Result<(), AllocError>
-    ensures { OnOk result (alphabets.new ≡ alphabets.old ++ own) }
-{
-    'alphabets: for alphabet in own.into_vec() {
-        alphabets.push(alphabet)?;
-    }
-    Ok(())
-}
-
-// How many trees their events have, behind the others'.
-fn put_counts(counts: &mut List<u16>, own: List<u16>) -> Result<(), AllocError>
-    ensures { OnOk result (counts.new ≡ counts.old ++ own) }
-{
-    'counts: for count in own.into_vec() {
-        counts.push(count)?;
-    }
-    Ok(())
-}
-
 // A class behind the others, with what was built of it.
 fn put_class(accepted: &mut Accepted, made: Compiled) -> Result<(), OpenError>
     requires checked { IsChecked accepted.old.classes made.class }
@@ -255,9 +223,9 @@ fn put_class(accepted: &mut Accepted, made: Compiled) -> Result<(), OpenError>
         ..
     } = made;
     accepted.classes.add(class)?;
-    put_tables(&mut accepted.tables, tables)?;
-    put_alphabets(&mut accepted.alphabets, alphabets)?;
-    put_counts(&mut accepted.counts, counts)?;
+    put_behind(&mut accepted.tables, tables)?;
+    put_behind(&mut accepted.alphabets, alphabets)?;
+    put_behind(&mut accepted.counts, counts)?;
     Ok(())
 }
 

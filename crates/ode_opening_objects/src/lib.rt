@@ -5,7 +5,6 @@
 mod climbing;
 mod fitting;
 mod head;
-mod lengths;
 mod numbers;
 mod objects;
 mod rules;

@@ -11,9 +11,8 @@ ghost use Rattle.ode_opening_objects.specs.declared.head.Head.{Head as Known};
 
 use crate::climbing::climbs;
 use crate::fitting::match_sorts;
-use crate::lengths::fit;
 use crate::scene::Scene;
-use ode_codec::{Activation, Counters, Entry, Record};
+use ode_codec::{Activation, Counters, Entry, Record, values_fit};
 use ode_passes::Cause;
 use ode_types::Classes;
 use ode_value::limits::{ARGS_LIMIT, GENERATION_LIMIT};
@@ -37,7 +36,7 @@ pub(crate) fn trigger_under(classes: &Classes, class: u32, place: u16) -> Option
 fn fit_trigger(args: &[Value], trigger: &TriggerDecl) -> bool
     ensures { result ≡ fit_trigger args.now trigger.now }
 {
-    match_sorts(0, trigger.params.as_slice(), args) && fit(args, ARGS_LIMIT)
+    match_sorts(0, trigger.params.as_slice(), args) && values_fit(args, ARGS_LIMIT)
 }
 
 // Whether there is a trigger whose parameters the arguments fit.

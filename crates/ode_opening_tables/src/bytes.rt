@@ -6,6 +6,7 @@ ghost use Rattle.ode_codec.specs.StoredRows.{u16 as u16_bytes};
 ghost use Rattle.ode_opening_tables.specs.Answers.{AreAnswers, IsSize, TableOf};
 ghost use Rattle.ode_value.specs.Lengths.{table_length};
 
+use ode_codec::TABLE_HEAD_LEN;
 use ode_host::{take_u8, take_u16};
 use ode_table::Table;
 use ode_value::List;
@@ -14,15 +15,12 @@ use std::alloc::{AllocError, Global};
 // The bytes of a state's number.
 const STATE_LEN: usize = 2;
 
-// The bytes of the value of a table's head.
-const HEAD_LEN: usize = 3;
-
 /// The states and symbols of a table by the value of its head.
 pub(crate) fn size_in(value: &[u8]) -> Option<(u16, u8)>
     ensures size { IsSize value.now result }
     ensures small { IfSome result (λ size. (size.0 < 2 ^ 16) × (size.1 < 2 ^ 8)) }
 {
-    if value.len() != HEAD_LEN {
+    if value.len() != TABLE_HEAD_LEN {
         return None;
     }
     let states = take_u16(value, 0)?;

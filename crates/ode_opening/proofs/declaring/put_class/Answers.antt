@@ -13,10 +13,10 @@ returns-clause-built c = λ are.
     let tables = a.tables ++ made.tables in
     let alphabets = a.alphabets ++ made.alphabets in
     let counts = a.counts ++ made.counts in
-    subst (λ (ns : List ℕ). AreBuilt (record { classes = c.add.new.self; tables = c.put_tables.new.tables; alphabets = c.put_alphabets.new.alphabets; counts = ns }))
-    (sym c.in_ok-put_counts.ensures)
-    (subst (λ (rows : List Alphabet). AreBuilt (record { classes = c.add.new.self; tables = c.put_tables.new.tables; alphabets = rows; counts = counts }))
-    (sym c.in_ok-put_alphabets.ensures)
-    (subst (λ (ts : List Table). AreBuilt (record { classes = c.add.new.self; tables = ts; alphabets = alphabets; counts = counts })) (sym c.in_ok-put_tables.ensures)
+    subst (λ (ns : List ℕ). AreBuilt (record { classes = c.add.new.self; tables = c.put_behind.new.list; alphabets = c.put_behind-2.new.list; counts = ns }))
+    (sym c.in_ok-put_behind-3.ensures)
+    (subst (λ (rows : List Alphabet). AreBuilt (record { classes = c.add.new.self; tables = c.put_behind.new.list; alphabets = rows; counts = counts }))
+    (sym c.in_ok-put_behind-2.ensures)
+    (subst (λ (ts : List Table). AreBuilt (record { classes = c.add.new.self; tables = ts; alphabets = alphabets; counts = counts })) (sym c.in_ok-put_behind.ensures)
     (subst (λ (cs : List Class). AreBuilt (record { classes = cs; tables = tables; alphabets = alphabets; counts = counts })) (sym c.in_ok-add.ensures.ok)
     (built_more a made are c.requires.built))))

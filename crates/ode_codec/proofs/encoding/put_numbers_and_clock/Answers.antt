@@ -1,7 +1,7 @@
 use Rattle.std.proofs.Common.{◌++◌}
 use Rattle.ode_codec.specs.Spelling.{clock_value, u64}
 use Rattle.ode_codec.proofs.Joins.{joins}
-use Rattle.ode_codec.proofs.encoding.put_nexts.Goals as goal
+use Rattle.ode_codec.proofs.encoding.put_numbers_and_clock.Goals as goal
 
 pub returns : goal.returns
 returns c =
