@@ -3,21 +3,8 @@
 #![tactic(auto)]
 
 use ode_host::{FileHost, Status, StdSource};
-use ode_top::{file_word, run_ode};
-use std::io::{Error, ErrorKind};
+use ode_top::{file_word, run_ode, words_of};
 use std::process::ExitCode;
-use std::{env, io};
-
-// The words after the program's name.
-fn words_of(rt: &HostRuntime) -> io::Result<Vec<String>> {
-    let mut words = Vec::new(rt.alloc());
-    for word in env::args(rt)?.skip(1) {
-        words
-            .push(word)
-            .map_err(|_| Error::from(ErrorKind::OutOfMemory))?;
-    }
-    Ok(words)
-}
 
 // Does what the words ask for, on the file that they name.
 fn answer(rt: &HostRuntime, words: &Vec<String>) -> Status {
@@ -30,9 +17,7 @@ fn answer(rt: &HostRuntime, words: &Vec<String>) -> Status {
 fn main(rt: HostRuntime) -> ExitCode {
     let status = match words_of(&rt) {
         Ok(words) => answer(&rt, &words),
-        Err(error) if error.kind() == ErrorKind::OutOfMemory => Status::Memory,
-        // A word that is no text is no right word.
-        Err(_) => answer(&rt, &Vec::new(rt.alloc())),
+        Err(_) => Status::Memory,
     };
     ExitCode::from(status.code())
 }

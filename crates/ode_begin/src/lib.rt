@@ -8,4 +8,4 @@ mod words;
 pub use ode_file_laws::files_of_worlds_are_opened;
 pub use opening::open_to_run;
 pub use saying::{damaged, end_with, refuse};
-pub use words::is_file;
+pub use words::{is_file, words_of};

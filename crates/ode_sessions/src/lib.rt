@@ -9,4 +9,5 @@ mod speaking;
 mod usage;
 
 pub use multi::run_multi;
+pub use ode_begin::words_of;
 pub use usage::multi_word;

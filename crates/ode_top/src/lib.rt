@@ -7,4 +7,5 @@ mod running;
 mod top;
 
 pub use call::file_word;
+pub use ode_begin::words_of;
 pub use top::run_ode;
