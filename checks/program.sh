@@ -841,22 +841,12 @@ in_order() {
     fi
 }
 
-# syncs COUNT: the run made so many syncs.
-syncs() {
+# made CALL LEAST MOST: the run made this call so often.
+made() {
     local count
-    count=$(grep -c '^fdatasync(' trace)
-    if [ "$count" -ne "$1" ]; then
-        echo "  $count syncs"
-        return 1
-    fi
-}
-
-# reads_most COUNT: the run read at most so many times.
-reads_most() {
-    local count
-    count=$(grep -c '^pread64(' trace)
-    if [ "$count" -gt "$1" ]; then
-        echo "  $count reads"
+    count=$(grep -c "^$1(" trace)
+    if [ "$count" -lt "$2" ] || [ "$count" -gt "$3" ]; then
+        echo "  $count calls of $1"
         return 1
     fi
 }
@@ -871,12 +861,12 @@ if command -v strace > strace.path && strace -o trace true 2> errors; then
     traced traced.db -e "$watched" < ten.ode
     ended 'a run under strace' 0
     is 'two syncs a transaction, one at the opening, and the writes in their order' in_order 10
-    is 'and no checkpoint' syncs 21
+    is 'and no checkpoint' made fdatasync 21 21
     if [ -e "$large/classes.db" ]; then
         # The journal's region has 256 blocks. Each page in place is read by the start and by five passes of the opening, at most once by each.
         traced "$large/classes.db" -e "$watched" < /dev/null
         pages=$((($(stat -c %s "$large/classes.db") - 33558528) / 4096))
-        is 'a journal of 5,000 transactions is read in blocks, beside the pages' reads_most $((256 + 6 * pages + 24))
+        is 'a journal of 5,000 transactions is read in blocks, beside the pages' made pread64 0 $((256 + 6 * pages + 24))
     fi
 
     cp traced.db traced.before
@@ -890,7 +880,7 @@ if command -v strace > strace.path && strace -o trace true 2> errors; then
     timeout -k 5 60 strace -o trace -e "$watched" ./ode follow traced_standby.db < "$frames" > text 2> errors
     status=$?
     said 'a standby under strace' 0 $'followed 23 skipped 0 rest 0\n'
-    is 'two syncs a frame, and one at the opening' syncs 47
+    is 'two syncs a frame, and one at the opening' made fdatasync 47 47
 
     # 4,096 queued actions, of which 2,048 wait at a time, run in as many transactions, each with its two syncs, and in no more.
     fresh queue.db
