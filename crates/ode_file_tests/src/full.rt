@@ -1,7 +1,8 @@
 //! A database of the first format that is full.
-use crate::acts::{Act, Made, play};
-use crate::trial::Case;
 use ode_host::Status;
+use ode_trials::acts::{Act, Made, play};
+use ode_trials::amiss::AMISS;
+use ode_trials::trial::Case;
 
 // So many objects of 4,010 bytes have room beside the counters, which count 62, and the class, which counts 73: 3,563 bytes are left then
 // of the 8,388,608.
@@ -30,5 +31,5 @@ const FULL_AND_OVER: &[Act] = &[
 
 #[test]
 fn a_file_with_an_object_too_much_is_bad(rt: HostRuntime) {
-    play(&rt, rt.alloc(), FULL_AND_OVER);
+    play(rt.alloc(), FULL_AND_OVER).expect(&rt, AMISS);
 }

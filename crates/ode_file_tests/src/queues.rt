@@ -1,7 +1,9 @@
 //! A stop on the way through the queue.
-use crate::images::in_areas;
-use crate::trial::{Case, MEMORY, Trial, calls_of, holds, new_file, run, run_case, run_stopped};
+use crate::equal::holds;
 use ode_host::{Status, Torn};
+use ode_trials::amiss::AMISS;
+use ode_trials::images::in_areas;
+use ode_trials::trial::{Case, MEMORY, Trial, calls_of, new_file, run, run_case, run_stopped};
 use std::alloc::Global;
 use std::process::Abort;
 
@@ -57,8 +59,8 @@ fn is_value(shown: &Trial, queue: &Queue, was_idle: bool) -> bool {
 // Behind the opening that drains the queue nothing is left to do, and each entry ran once. An opening that printed nothing may
 // have found no entry.
 fn ran_once(rt: &impl Abort, alloc: Global, opened: &Trial, queue: &Queue, name: &str) {
-    let idle = run_case(rt, alloc, opened.host.image(), &IDLE);
-    let shown = run(rt, alloc, idle.host.image(), "show #1.n;");
+    let idle = run_case(alloc, opened.host.image(), &IDLE).expect(rt, AMISS);
+    let shown = run(alloc, idle.host.image(), "show #1.n;").expect(rt, MEMORY);
     let is_value = is_value(&shown, queue, opened.text().is_empty());
     holds(rt, is_value, name);
 }
@@ -80,10 +82,10 @@ fn ends(rt: &impl Abort, queue: &Queue, opened: &Trial, before: usize, name: &st
 // whole text, and each entry ran once.
 fn is_drained(rt: &impl Abort, alloc: Global, file: &[u8], queue: &Queue, at: u64, torn: Torn) {
     let name = format!(in alloc; "a stop at {at}, {torn:?}").expect(rt, MEMORY);
-    let stopped = run_stopped(rt, alloc, file, queue.script, at, torn);
+    let stopped = run_stopped(alloc, file, queue.script, at, torn).expect(rt, MEMORY);
     let before = begins(rt, queue, &stopped, name.as_str());
-    let image = stopped.after_stop(rt, alloc);
-    let opened = run(rt, alloc, &image, "");
+    let image = stopped.after_stop(alloc).expect(rt, MEMORY);
+    let opened = run(alloc, &image, "").expect(rt, MEMORY);
     ends(rt, queue, &opened, before, name.as_str());
     ran_once(rt, alloc, &opened, queue, name.as_str());
 }
@@ -96,8 +98,8 @@ fn calls(rt: &impl Abort, alloc: Global, file: &[u8], queue: &Queue, least: u64)
         text: queue.text,
         status: Status::Ok,
     };
-    run_case(rt, alloc, file, &whole);
-    let calls = calls_of(rt, alloc, file, queue.script);
+    run_case(alloc, file, &whole).expect(rt, AMISS);
+    let calls = calls_of(alloc, file, queue.script).expect(rt, MEMORY);
     holds(rt, calls >= least, "the calls of a whole run");
     calls
 }
@@ -123,7 +125,7 @@ fn is_always_drained(
 
 #[test]
 fn each_entry_runs_once_wherever_the_run_is_stopped(rt: HostRuntime) {
-    let file = new_file(&rt, rt.alloc());
+    let file = new_file(rt.alloc()).expect(&rt, MEMORY);
     is_always_drained(&rt, rt.alloc(), &file, &THREE, 0, 30);
 }
 
@@ -132,10 +134,13 @@ const PRINT_AND_BEHIND: u64 = 16;
 
 // A file where the three firings wait.
 fn waiting_file(rt: &impl Abort, alloc: Global) -> Vec<u8> {
-    let file = new_file(rt, alloc);
-    let calls = calls_of(rt, alloc, &file, THREE.script);
+    let file = new_file(alloc).expect(rt, MEMORY);
+    let calls = calls_of(alloc, &file, THREE.script).expect(rt, MEMORY);
     let at = calls.saturating_sub(PRINT_AND_BEHIND);
-    run_stopped(rt, alloc, &file, THREE.script, at, Torn::Whole).after_stop(rt, alloc)
+    run_stopped(alloc, &file, THREE.script, at, Torn::Whole)
+        .expect(rt, MEMORY)
+        .after_stop(alloc)
+        .expect(rt, MEMORY)
 }
 
 #[test]
@@ -150,7 +155,7 @@ const BEFORE: u64 = 16;
 #[test]
 fn each_entry_of_two_areas_runs_once_wherever_the_opening_is_stopped(rt: HostRuntime) {
     let file = waiting_file(&rt, rt.alloc());
-    let areas = in_areas(&rt, rt.alloc(), &file);
+    let areas = in_areas(rt.alloc(), &file).expect(&rt, MEMORY);
     for at in 0..BEFORE {
         is_drained(&rt, rt.alloc(), &areas, &WAITING, at, Torn::Whole);
     }
@@ -159,6 +164,6 @@ fn each_entry_of_two_areas_runs_once_wherever_the_opening_is_stopped(rt: HostRun
 // Stops in the last four of 19 transactions, each of which makes five calls behind the sync of the opening.
 #[test]
 fn generations_go_on_behind_a_stop(rt: HostRuntime) {
-    let file = new_file(&rt, rt.alloc());
+    let file = new_file(rt.alloc()).expect(&rt, MEMORY);
     is_always_drained(&rt, rt.alloc(), &file, &CHAIN, 76, 96);
 }

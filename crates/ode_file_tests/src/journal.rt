@@ -1,9 +1,11 @@
 //! What a run adds to a journal, and in which calls.
-use crate::images::three_pages;
-use crate::trial::{
-    Case, FIRST, FIRST_TEXT, calls_of, equal, new_file, run_case, run_stopped, stopped_image,
-};
+use crate::equal::equal;
 use ode_host::{Status, Torn};
+use ode_trials::amiss::AMISS;
+use ode_trials::images::three_pages;
+use ode_trials::trial::{
+    Case, FIRST, FIRST_TEXT, MEMORY, calls_of, new_file, run_case, run_stopped, stopped_image,
+};
 use std::alloc::Global;
 use std::process::Abort;
 
@@ -17,9 +19,11 @@ static FIRST_RUN: Case = Case {
 // A file of pages stays one.
 #[test]
 fn each_transaction_adds_a_frame_and_nothing_else_changes(rt: HostRuntime) {
-    let file = new_file(&rt, rt.alloc());
-    let ran = run_case(&rt, rt.alloc(), &file, &FIRST_RUN);
-    ran.leaves(&rt, &three_pages(&rt, rt.alloc()), FIRST_RUN.name);
+    let file = new_file(rt.alloc()).expect(&rt, MEMORY);
+    let ran = run_case(rt.alloc(), &file, &FIRST_RUN).expect(&rt, AMISS);
+    let pages = three_pages(rt.alloc()).expect(&rt, MEMORY);
+    ran.leaves(rt.alloc(), &pages, FIRST_RUN.name)
+        .expect(&rt, AMISS);
 }
 
 // Where the gate of the first script's second transaction stands, and how long the file is behind that transaction.
@@ -53,7 +57,10 @@ fn length(has_frame: bool) -> usize {
 fn is_left(rt: &impl Abort, alloc: Global, file: &[u8], calls: u64, row: &Stop) {
     let (back, torn, has_frame, gate) = *row;
     let at = calls.saturating_sub(back);
-    let image = run_stopped(rt, alloc, file, FIRST, at, torn).after_stop(rt, alloc);
+    let image = run_stopped(alloc, file, FIRST, at, torn)
+        .expect(rt, MEMORY)
+        .after_stop(alloc)
+        .expect(rt, MEMORY);
     let found = image.get(GATE).copied().unwrap_or(1);
     equal(
         rt,
@@ -65,8 +72,8 @@ fn is_left(rt: &impl Abort, alloc: Global, file: &[u8], calls: u64, row: &Stop) 
 
 #[test]
 fn a_transaction_makes_two_writes_two_syncs_and_a_print(rt: HostRuntime) {
-    let file = new_file(&rt, rt.alloc());
-    let calls = calls_of(&rt, rt.alloc(), &file, FIRST);
+    let file = new_file(rt.alloc()).expect(&rt, MEMORY);
+    let calls = calls_of(rt.alloc(), &file, FIRST).expect(&rt, MEMORY);
     for row in &STOPS {
         is_left(&rt, rt.alloc(), &file, calls, row);
     }
@@ -109,16 +116,16 @@ fn is_there(rt: &impl Abort, alloc: Global, image: &[u8], row: &TornGate) {
         text,
         status: Status::Ok,
     };
-    run_case(rt, alloc, image, &more);
+    run_case(alloc, image, &more).expect(rt, AMISS);
 }
 
 #[test]
 fn a_transaction_is_there_where_its_gate_is_open(rt: HostRuntime) {
-    let file = new_file(&rt, rt.alloc());
-    let calls = calls_of(&rt, rt.alloc(), &file, FIRST);
+    let file = new_file(rt.alloc()).expect(&rt, MEMORY);
+    let calls = calls_of(rt.alloc(), &file, FIRST).expect(&rt, MEMORY);
     let at = calls.saturating_sub(GATE_AND_BEHIND);
     for row in &GATES {
-        let image = stopped_image(&rt, rt.alloc(), &file, &STOP, at, row.0);
+        let image = stopped_image(rt.alloc(), &file, &STOP, at, row.0).expect(&rt, AMISS);
         is_there(&rt, rt.alloc(), &image, row);
     }
 }

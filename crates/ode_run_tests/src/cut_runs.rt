@@ -1,9 +1,10 @@
 //! A run that is cut is picked up by the next one.
-use crate::trial::{
-    Case, MEMORY, Trial, call, calls_of, equal, failing, holds, init, new_file, run, run_case,
-    source, stopping,
-};
+use crate::equal::{equal, holds};
 use ode_host::{Plan, Status, Torn};
+use ode_trials::amiss::AMISS;
+use ode_trials::trial::{
+    Case, MEMORY, Trial, call, calls_of, failing, init, new_file, run, run_case, source, stopping,
+};
 use std::alloc::Global;
 use std::process::Abort;
 
@@ -108,14 +109,17 @@ pub struct Course {
 /// Steps that print what they say in a whole run on a new file.
 pub fn course_of(rt: &impl Abort, alloc: Global, steps: &'static [Step]) -> Course {
     let Joined { script, text } = join(rt, alloc, steps);
-    let file = new_file(rt, alloc);
+    let file = new_file(alloc).expect(rt, MEMORY);
     let case = Case {
         name: "a whole run",
         script: script.as_str(),
         text: text.as_str(),
         status: Status::Ok,
     };
-    let whole = run_case(rt, alloc, &file, &case).image(rt, alloc);
+    let whole = run_case(alloc, &file, &case)
+        .expect(rt, AMISS)
+        .image(alloc)
+        .expect(rt, MEMORY);
     Course {
         steps,
         script,
@@ -138,7 +142,7 @@ pub fn goes_on(
     count: usize,
 ) -> bool {
     let rest = join(rt, alloc, course.steps.get(count..).unwrap_or(&[]));
-    let ran = run(rt, alloc, image, rest.script.as_str());
+    let ran = run(alloc, image, rest.script.as_str()).expect(rt, MEMORY);
     is_whole(&ran, rest.text.as_str(), &course.whole)
 }
 
@@ -146,7 +150,7 @@ pub fn goes_on(
 fn is_picked_up(rt: &impl Abort, alloc: Global, ran: Trial, course: &Course, name: &str) {
     equal(rt, ran.host.refused(), 0, name);
     let count = printed(course.steps, ran.text()).expect(rt, name);
-    let image = ran.after_stop(rt, alloc);
+    let image = ran.after_stop(alloc).expect(rt, MEMORY);
     let is_kept = goes_on(rt, alloc, course, &image, count)
         || goes_on(rt, alloc, course, &image, count.saturating_add(1));
     holds(rt, is_kept, name);
@@ -182,22 +186,15 @@ impl Cut {
     pub fn plan(&self, rt: &impl Abort, alloc: Global) -> Plan {
         let disk = self.number_of(Part::Disk);
         let output = self.number_of(Part::Output);
-        let mut plan = failing(rt, alloc, &[disk], &[output]);
+        let mut plan = failing(alloc, &[disk], &[output]).expect(rt, MEMORY);
         plan.stop = Some((self.number_of(Part::Host), self.torn));
         plan
     }
 
     // A script on an image, in chunks of 16 bytes, and cut so.
     fn run(&self, rt: &impl Abort, alloc: Global, image: &[u8], script: &str) -> Trial {
-        let script = source(rt, alloc, script, &[self.number_of(Part::Script)], 16);
-        call(
-            rt,
-            alloc,
-            &["run", "f"],
-            script,
-            image,
-            self.plan(rt, alloc),
-        )
+        let script = source(alloc, script, &[self.number_of(Part::Script)], 16).expect(rt, MEMORY);
+        call(alloc, &["run", "f"], script, image, self.plan(rt, alloc)).expect(rt, MEMORY)
     }
 
     /// The run may end so.
@@ -245,7 +242,7 @@ pub const TEARS: [Torn; 4] = [Torn::Nothing, Torn::Whole, Torn::Front(9), Torn::
 
 // How many calls a run of these steps makes: at least a sync at the opening, and five a step.
 fn calls(rt: &impl Abort, alloc: Global, course: &Course) -> u64 {
-    let calls = calls_of(rt, alloc, &course.file, course.script.as_str());
+    let calls = calls_of(alloc, &course.file, course.script.as_str()).expect(rt, MEMORY);
     holds(
         rt,
         calls / 5 >= course.steps.len() as u64,
@@ -330,11 +327,12 @@ static NO_OBJECT: Case = Case {
 
 // `init` on an image, and a stop behind it: the new file is there, and holds nothing.
 fn is_made(rt: &impl Abort, alloc: Global, old: &[u8], torn: Torn) {
-    let made = init(rt, alloc, old, stopping(alloc, LATE, torn));
-    made.is(rt, "ready\n", Status::Ok, "init");
-    let image = made.after_stop(rt, alloc);
-    run_case(rt, alloc, &image, &EMPTY);
-    run_case(rt, alloc, &image, &NO_OBJECT);
+    let made = init(alloc, old, stopping(alloc, LATE, torn)).expect(rt, MEMORY);
+    made.is(alloc, "ready\n", Status::Ok, "init")
+        .expect(rt, AMISS);
+    let image = made.after_stop(alloc).expect(rt, MEMORY);
+    run_case(alloc, &image, &EMPTY).expect(rt, AMISS);
+    run_case(alloc, &image, &NO_OBJECT).expect(rt, AMISS);
 }
 
 #[test]

@@ -1,7 +1,9 @@
 //! The words of a call.
-use crate::trial::{call, equal, failing, new_file, smooth, source, words_of};
+use crate::equal::equal;
 use ode_host::Status;
-use ode_top::file_word;
+use ode_trials::amiss::AMISS;
+use ode_trials::file_word;
+use ode_trials::trial::{MEMORY, call, failing, new_file, smooth, source, words_of};
 use std::alloc::Global;
 use std::process::Abort;
 
@@ -12,15 +14,17 @@ const USAGE: &str =
 const WRONG: [&[&str]; 3] = [&["init", ""], &["run", ""], &["run ", "f"]];
 
 fn are_wrong(rt: &impl Abort, alloc: Global, words: &[&str], file: &[u8]) {
-    let script = source(rt, alloc, "class P { int n; };", &[], 4096);
-    let ran = call(rt, alloc, words, script, file, smooth(alloc));
-    ran.is(rt, USAGE, Status::Usage, "a call with wrong words");
-    ran.leaves(rt, file, "a call with wrong words");
+    let script = source(alloc, "class P { int n; };", &[], 4096).expect(rt, MEMORY);
+    let ran = call(alloc, words, script, file, smooth(alloc)).expect(rt, MEMORY);
+    ran.is(alloc, USAGE, Status::Usage, "a call with wrong words")
+        .expect(rt, AMISS);
+    ran.leaves(alloc, file, "a call with wrong words")
+        .expect(rt, AMISS);
 }
 
 #[test]
 fn a_word_that_is_empty_or_has_a_blank_is_wrong(rt: HostRuntime) {
-    let file = new_file(&rt, rt.alloc());
+    let file = new_file(rt.alloc()).expect(&rt, MEMORY);
     for words in &WRONG {
         are_wrong(&rt, rt.alloc(), words, &file);
     }
@@ -30,7 +34,7 @@ fn a_word_that_is_empty_or_has_a_blank_is_wrong(rt: HostRuntime) {
 fn names(rt: &impl Abort, alloc: Global, words: &[&str], file: Option<&str>) {
     equal(
         rt,
-        file_word(&words_of(rt, alloc, words)),
+        file_word(&words_of(alloc, words).expect(rt, MEMORY)),
         file,
         "the file of a call",
     );
@@ -82,15 +86,16 @@ fn right_words_name_their_file(rt: HostRuntime) {
 
 #[test]
 fn a_usage_line_that_is_not_printed_is_a_write_fault(rt: HostRuntime) {
-    let plan = failing(&rt, rt.alloc(), &[], &[0]);
-    let script = source(&rt, rt.alloc(), "", &[], 1);
-    let ran = call(&rt, rt.alloc(), &["fly", "f"], script, &[], plan);
+    let plan = failing(rt.alloc(), &[], &[0]).expect(&rt, MEMORY);
+    let script = source(rt.alloc(), "", &[], 1).expect(&rt, MEMORY);
+    let ran = call(rt.alloc(), &["fly", "f"], script, &[], plan).expect(&rt, MEMORY);
     ran.is(
-        &rt,
+        rt.alloc(),
         "",
         Status::WriteFault,
         "a usage line that is not printed",
-    );
+    )
+    .expect(&rt, AMISS);
 }
 
 const STATUSES: [(Status, u8); 10] = [

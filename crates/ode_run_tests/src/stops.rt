@@ -1,6 +1,7 @@
 //! What a stop leaves of a disk and an output.
-use crate::trial::{MEMORY, bytes_of, equal, holds, smooth, stopping};
+use crate::equal::{equal, holds};
 use ode_host::{Failed, Host, MemHost, Torn};
+use ode_trials::trial::{MEMORY, smooth, stopping};
 use std::alloc::Global;
 use std::process::Abort;
 
@@ -119,7 +120,7 @@ fn a_stop_tears_the_writes_behind_the_last_sync(rt: HostRuntime) {
 
 // A host whose disk has six bytes, and no call of which fails.
 fn six_bytes(rt: &impl Abort, alloc: Global) -> MemHost {
-    let image = bytes_of(rt, alloc, b"abcdef");
+    let image = b"abcdef".to_vec(alloc).expect(rt, MEMORY);
     MemHost::new(alloc, image, smooth(alloc)).expect(rt, MEMORY)
 }
 

@@ -1,7 +1,9 @@
 //! The file that `init` makes.
-use crate::images::put_at;
-use crate::trial::{MEMORY, Trial, equal, failing, holds, init, smooth};
+use crate::equal::{equal, holds};
 use ode_host::Status;
+use ode_trials::amiss::AMISS;
+use ode_trials::images::put_at;
+use ode_trials::trial::{MEMORY, Trial, failing, init, smooth};
 use std::alloc::Global;
 use std::process::Abort;
 
@@ -47,10 +49,12 @@ fn expected(rt: &impl Abort, alloc: Global, rest: u8, length: usize) -> Vec<u8> 
 
 // `init` on a file of these bytes makes a new one of the same length.
 fn is_made(rt: &impl Abort, alloc: Global, old: &[u8], length: usize, name: &str) {
-    let made = init(rt, alloc, old, smooth(alloc));
-    made.is(rt, "ready\n", Status::Ok, name);
+    let made = init(alloc, old, smooth(alloc)).expect(rt, MEMORY);
+    made.is(alloc, "ready\n", Status::Ok, name)
+        .expect(rt, AMISS);
     let rest = old.first().copied().unwrap_or(0);
-    made.leaves(rt, &expected(rt, alloc, rest, length), name);
+    made.leaves(alloc, &expected(rt, alloc, rest, length), name)
+        .expect(rt, AMISS);
 }
 
 #[test]
@@ -68,9 +72,10 @@ fn other_bytes_of_a_short_file_stay(rt: HostRuntime) {
 
 // `init` leaves this file as it is.
 fn stays(rt: &impl Abort, alloc: Global, old: &[u8], name: &str) {
-    let made = init(rt, alloc, old, smooth(alloc));
-    made.is(rt, "file exists\n", Status::BadFile, name);
-    made.leaves(rt, old, name);
+    let made = init(alloc, old, smooth(alloc)).expect(rt, MEMORY);
+    made.is(alloc, "file exists\n", Status::BadFile, name)
+        .expect(rt, AMISS);
+    made.leaves(alloc, old, name).expect(rt, AMISS);
 }
 
 #[test]
@@ -93,12 +98,14 @@ fn a_file_with_an_open_slot_is_not_made_anew(rt: HostRuntime) {
 }
 
 // Whether the disk call that was to fail is one of `init`'s, whose failing is told then.
-fn is_cut(rt: &impl Abort, made: &Trial) -> bool {
+fn is_cut(rt: &impl Abort, alloc: Global, made: &Trial) -> bool {
     let is_cut = made.status != Status::Ok;
     if is_cut {
-        made.is(rt, "", Status::DiskFault, "a cut init");
+        made.is(alloc, "", Status::DiskFault, "a cut init")
+            .expect(rt, AMISS);
     } else {
-        made.is(rt, "ready\n", Status::Ok, "init");
+        made.is(alloc, "ready\n", Status::Ok, "init")
+            .expect(rt, AMISS);
     }
     is_cut
 }
@@ -107,8 +114,9 @@ fn is_cut(rt: &impl Abort, made: &Trial) -> bool {
 fn a_fault_in_init_is_told(rt: HostRuntime) {
     let mut cut = 0u32;
     for number in 0..32 {
-        let plan = failing(&rt, rt.alloc(), &[number], &[]);
-        if is_cut(&rt, &init(&rt, rt.alloc(), &[], plan)) {
+        let plan = failing(rt.alloc(), &[number], &[]).expect(&rt, MEMORY);
+        let made = init(rt.alloc(), &[], plan).expect(&rt, MEMORY);
+        if is_cut(&rt, rt.alloc(), &made) {
             cut = cut.saturating_add(1);
         }
     }
@@ -116,10 +124,11 @@ fn a_fault_in_init_is_told(rt: HostRuntime) {
 }
 
 // Whether the print that was to fail is one of `init`'s, whose failing is told then.
-fn is_unprinted(rt: &impl Abort, made: &Trial) -> bool {
+fn is_unprinted(rt: &impl Abort, alloc: Global, made: &Trial) -> bool {
     let is_cut = made.status != Status::Ok;
     if is_cut {
-        made.is(rt, "", Status::WriteFault, "an init that prints nothing");
+        made.is(alloc, "", Status::WriteFault, "an init that prints nothing")
+            .expect(rt, AMISS);
     }
     is_cut
 }
@@ -128,9 +137,11 @@ fn is_unprinted(rt: &impl Abort, made: &Trial) -> bool {
 fn unprinted(rt: &impl Abort, alloc: Global, file: &[u8]) -> u32 {
     let mut cut = 0u32;
     for number in 0..32 {
-        let made = init(rt, alloc, &[], failing(rt, alloc, &[], &[number]));
-        made.leaves(rt, file, "an init whose print may fail");
-        if is_unprinted(rt, &made) {
+        let plan = failing(alloc, &[], &[number]).expect(rt, MEMORY);
+        let made = init(alloc, &[], plan).expect(rt, MEMORY);
+        made.leaves(alloc, file, "an init whose print may fail")
+            .expect(rt, AMISS);
+        if is_unprinted(rt, alloc, &made) {
             cut = cut.saturating_add(1);
         }
     }

@@ -1,7 +1,9 @@
 //! A stop on the way through the clock's ticks.
-use crate::acts::{Act, Made, file_behind, play};
-use crate::trial::{Case, MEMORY, calls_of, holds, run, run_case, run_stopped};
+use crate::equal::holds;
 use ode_host::{Status, Torn};
+use ode_trials::acts::{Act, Made, file_behind, play};
+use ode_trials::amiss::AMISS;
+use ode_trials::trial::{Case, MEMORY, calls_of, run, run_case, run_stopped};
 use std::alloc::Global;
 use std::process::Abort;
 
@@ -28,11 +30,11 @@ static TICKS: Case = Case {
 // Behind a stop at this call the same command gives the ticks that are left, so that each came once.
 fn goes_on(rt: &impl Abort, alloc: Global, file: &[u8], at: u64, torn: Torn) {
     let name = format!(in alloc; "a stop at {at}, {torn:?}").expect(rt, MEMORY);
-    let stopped = run_stopped(rt, alloc, file, TICKS.script, at, torn);
+    let stopped = run_stopped(alloc, file, TICKS.script, at, torn).expect(rt, MEMORY);
     holds(rt, TICKS.text.starts_with(stopped.text()), name.as_str());
-    let image = stopped.after_stop(rt, alloc);
-    let again = run(rt, alloc, &image, TICKS.script);
-    let shown = run(rt, alloc, again.host.image(), "show #1.n;");
+    let image = stopped.after_stop(alloc).expect(rt, MEMORY);
+    let again = run(alloc, &image, TICKS.script).expect(rt, MEMORY);
+    let shown = run(alloc, again.host.image(), "show #1.n;").expect(rt, MEMORY);
     holds(rt, shown.text().starts_with("value 3\n"), name.as_str());
 }
 
@@ -40,9 +42,9 @@ const TEARS: [Torn; 4] = [Torn::Nothing, Torn::Whole, Torn::Front(9), Torn::Fill
 
 #[test]
 fn each_tick_comes_once_wherever_the_clock_is_stopped(rt: HostRuntime) {
-    let file = file_behind(&rt, rt.alloc(), SET);
-    run_case(&rt, rt.alloc(), &file, &TICKS);
-    let calls = calls_of(&rt, rt.alloc(), &file, TICKS.script);
+    let file = file_behind(rt.alloc(), SET).expect(&rt, AMISS);
+    run_case(rt.alloc(), &file, &TICKS).expect(&rt, AMISS);
+    let calls = calls_of(rt.alloc(), &file, TICKS.script).expect(&rt, MEMORY);
     holds(&rt, calls >= 35, "the calls of seven transactions");
     for torn in &TEARS {
         for at in 0..calls {
@@ -78,5 +80,5 @@ const LAST: &[Act] = &[
 
 #[test]
 fn ticks_go_on_behind_the_last_number(rt: HostRuntime) {
-    play(&rt, rt.alloc(), LAST);
+    play(rt.alloc(), LAST).expect(&rt, AMISS);
 }

@@ -1,6 +1,8 @@
 //! A stop within the write of a gate: what the gate reads then says whether the transaction is there.
-use crate::trial::{Case, calls_of, equal, new_file, run_case, run_stopped, stopped_image};
+use crate::equal::equal;
 use ode_host::{Status, Torn};
+use ode_trials::amiss::AMISS;
+use ode_trials::trial::{Case, MEMORY, calls_of, new_file, run_case, run_stopped, stopped_image};
 use std::alloc::Global;
 use std::process::Abort;
 
@@ -33,7 +35,10 @@ struct Stopped {
 // Where the gate stands: it is the last byte of what there is before the transaction.
 fn gate_of(rt: &impl Abort, alloc: Global, file: &[u8], script: &str, calls: u64) -> usize {
     let at = calls.saturating_sub(CALLS);
-    let before = run_stopped(rt, alloc, file, script, at, Torn::Nothing).after_stop(rt, alloc);
+    let before = run_stopped(alloc, file, script, at, Torn::Nothing)
+        .expect(rt, MEMORY)
+        .after_stop(alloc)
+        .expect(rt, MEMORY);
     before.len().saturating_sub(1)
 }
 
@@ -51,16 +56,16 @@ fn goes_on(rt: &impl Abort, alloc: Global, image: &[u8], stopped: &Stopped, gate
     } else {
         &stopped.shut
     };
-    let opened = run_case(rt, alloc, image, later);
-    run_case(rt, alloc, opened.host.image(), &IDLE);
+    let opened = run_case(alloc, image, later).expect(rt, AMISS);
+    run_case(alloc, opened.host.image(), &IDLE).expect(rt, AMISS);
 }
 
 fn is_there_where_its_gate_is_open(rt: &impl Abort, alloc: Global, file: &[u8], stopped: &Stopped) {
-    let calls = calls_of(rt, alloc, file, stopped.stop.script);
+    let calls = calls_of(alloc, file, stopped.stop.script).expect(rt, MEMORY);
     let place = gate_of(rt, alloc, file, stopped.stop.script, calls);
     let at = calls.saturating_sub(GATE_AND_BEHIND);
     for (torn, gate) in &WAYS {
-        let image = stopped_image(rt, alloc, file, &stopped.stop, at, *torn);
+        let image = stopped_image(alloc, file, &stopped.stop, at, *torn).expect(rt, AMISS);
         let found = image.get(place).copied();
         equal(rt, (*torn, found), (*torn, Some(*gate)), "the gate");
         goes_on(rt, alloc, &image, stopped, *gate);
@@ -103,8 +108,8 @@ static WITHDRAWAL: Stopped = Stopped {
 
 #[test]
 fn a_withdrawal_is_there_where_its_gate_is_open(rt: HostRuntime) {
-    let file = new_file(&rt, rt.alloc());
-    let ran = run_case(&rt, rt.alloc(), &file, &ACCOUNT_RUN);
+    let file = new_file(rt.alloc()).expect(&rt, MEMORY);
+    let ran = run_case(rt.alloc(), &file, &ACCOUNT_RUN).expect(&rt, AMISS);
     is_there_where_its_gate_is_open(&rt, rt.alloc(), ran.host.image(), &WITHDRAWAL);
 }
 
@@ -134,6 +139,6 @@ begin; pnew P(); activate #1.d(); commit; #1.a();
 
 #[test]
 fn a_queued_action_runs_again_where_its_gate_is_shut(rt: HostRuntime) {
-    let file = new_file(&rt, rt.alloc());
+    let file = new_file(rt.alloc()).expect(&rt, MEMORY);
     is_there_where_its_gate_is_open(&rt, rt.alloc(), &file, &ENTRY);
 }

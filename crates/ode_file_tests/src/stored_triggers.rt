@@ -1,8 +1,10 @@
 //! Stored tables, states and activations that are changed in a file.
-use crate::acts::{Act, Made, file_behind};
-use crate::images::{patched, turned};
-use crate::trial::{Case, Trial, equal, holds, run, run_case, stays};
+use crate::equal::{equal, holds};
 use ode_host::Status;
+use ode_trials::acts::{Act, Made, file_behind};
+use ode_trials::amiss::AMISS;
+use ode_trials::images::{patched, turned};
+use ode_trials::trial::{Case, MEMORY, Trial, run, run_case, stays};
 use ode_value::Key;
 use std::alloc::Global;
 use std::process::Abort;
@@ -75,7 +77,8 @@ fn is_refused(rt: &impl Abort, alloc: Global, file: &[u8], at: usize, bytes: &[u
         text: line,
         status: Status::BadFile,
     };
-    stays(rt, alloc, &patched(rt, alloc, file, at, bytes), &case);
+    let image = patched(alloc, file, at, bytes).expect(rt, MEMORY);
+    stays(alloc, &image, &case).expect(rt, AMISS);
 }
 
 static GOES_ON: Case = Case {
@@ -88,29 +91,31 @@ static GOES_ON: Case = Case {
 #[test]
 fn the_file_as_it_was_goes_on(rt: HostRuntime) {
     for acts in &ACCOUNT_FILES {
-        let file = file_behind(&rt, rt.alloc(), acts);
-        run_case(&rt, rt.alloc(), &file, &GOES_ON);
+        let file = file_behind(rt.alloc(), acts).expect(&rt, AMISS);
+        run_case(rt.alloc(), &file, &GOES_ON).expect(&rt, AMISS);
     }
 }
 
 // A run on another table is refused with its line and leaves the image, or goes on as before. Whether it is refused.
-fn is_other(rt: &impl Abort, ran: &Trial, image: &[u8]) -> bool {
+fn is_other(rt: &impl Abort, alloc: Global, ran: &Trial, image: &[u8]) -> bool {
     let is_refused = ran.status == Status::BadFile;
     if is_refused {
         ran.is(
-            rt,
+            alloc,
             "bad file table 1 0\n",
             Status::BadFile,
             "a changed file",
-        );
-        ran.leaves(rt, image, "a changed file");
+        )
+        .expect(rt, AMISS);
+        ran.leaves(alloc, image, "a changed file").expect(rt, AMISS);
     } else {
         ran.is(
-            rt,
+            alloc,
             LATER_TEXT,
             Status::Ok,
             "another table of the same answers",
-        );
+        )
+        .expect(rt, AMISS);
     }
     is_refused
 }
@@ -119,9 +124,9 @@ fn is_other(rt: &impl Abort, ran: &Trial, image: &[u8]) -> bool {
 fn others(rt: &impl Abort, alloc: Global, file: &[u8], value: Value) -> usize {
     let mut refused = 0usize;
     for at in 0..value.length {
-        let image = turned(rt, alloc, file, value.at.saturating_add(at), 1);
-        let ran = run(rt, alloc, &image, LATER);
-        if is_other(rt, &ran, &image) {
+        let image = turned(alloc, file, value.at.saturating_add(at), 1).expect(rt, MEMORY);
+        let ran = run(alloc, &image, LATER).expect(rt, MEMORY);
+        if is_other(rt, alloc, &ran, &image) {
             refused = refused.saturating_add(1);
         }
     }
@@ -142,7 +147,7 @@ fn other_tables_are_refused(rt: &impl Abort, alloc: Global, file: &[u8]) {
 #[test]
 fn a_table_with_another_answer_is_refused(rt: HostRuntime) {
     for acts in &ACCOUNT_FILES {
-        let file = file_behind(&rt, rt.alloc(), acts);
+        let file = file_behind(rt.alloc(), acts).expect(&rt, AMISS);
         other_tables_are_refused(&rt, rt.alloc(), &file);
     }
 }
@@ -171,7 +176,7 @@ fn wrong_parts_are_refused(rt: &impl Abort, alloc: Global, file: &[u8]) {
 #[test]
 fn an_activation_with_a_wrong_part_is_refused(rt: HostRuntime) {
     for acts in &ACCOUNT_FILES {
-        let file = file_behind(&rt, rt.alloc(), acts);
+        let file = file_behind(rt.alloc(), acts).expect(&rt, AMISS);
         wrong_parts_are_refused(&rt, rt.alloc(), &file);
     }
 }

@@ -1,7 +1,8 @@
 //! Files that break a rule, and what is said of them.
-use crate::acts::{Act, Made, Turned, play};
-use crate::trial::{Case, FIRST, FIRST_TEXT};
 use ode_host::Status;
+use ode_trials::acts::{Act, Made, Turned, play};
+use ode_trials::amiss::AMISS;
+use ode_trials::trial::{Case, FIRST, FIRST_TEXT};
 
 // Changes of an empty database in two areas, and what is then said of it.
 const BROKEN: &[Act] = &[
@@ -30,7 +31,7 @@ const BROKEN: &[Act] = &[
 
 #[test]
 fn a_refused_file_says_which_rule_it_breaks(rt: HostRuntime) {
-    play(&rt, rt.alloc(), BROKEN);
+    play(rt.alloc(), BROKEN).expect(&rt, AMISS);
 }
 
 // Changes of a new file, and what a check then says of it.
@@ -70,7 +71,7 @@ const BROKEN_PAGES: &[Act] = &[
 
 #[test]
 fn a_check_says_which_rule_a_file_of_pages_breaks(rt: HostRuntime) {
-    play(&rt, rt.alloc(), BROKEN_PAGES);
+    play(rt.alloc(), BROKEN_PAGES).expect(&rt, AMISS);
 }
 
 const SHUT: &[Act] = &[
@@ -84,7 +85,7 @@ const SHUT: &[Act] = &[
 
 #[test]
 fn a_file_without_an_open_slot_holds_no_database(rt: HostRuntime) {
-    play(&rt, rt.alloc(), SHUT);
+    play(rt.alloc(), SHUT).expect(&rt, AMISS);
 }
 
 const HEADER: &[Turned] = &[
@@ -121,8 +122,8 @@ const NEW_HEADER: &[Act] = &[Act::Make(Made::New), Act::BadTurned(PAGES_HEADER)]
 
 #[test]
 fn a_header_with_a_wrong_byte_is_bad(rt: HostRuntime) {
-    play(&rt, rt.alloc(), AREAS_HEADER);
-    play(&rt, rt.alloc(), NEW_HEADER);
+    play(rt.alloc(), AREAS_HEADER).expect(&rt, AMISS);
+    play(rt.alloc(), NEW_HEADER).expect(&rt, AMISS);
 }
 
 // Of the counters' record all but the lower bytes of the three numbers. Behind the first two rows are numbers above their
@@ -157,8 +158,8 @@ const NEW_COUNTERS: &[Act] = &[Act::Make(Made::New), Act::BadTurned(PAGES_COUNTE
 
 #[test]
 fn counters_with_a_wrong_byte_are_bad(rt: HostRuntime) {
-    play(&rt, rt.alloc(), AREAS_COUNTERS);
-    play(&rt, rt.alloc(), NEW_COUNTERS);
+    play(rt.alloc(), AREAS_COUNTERS).expect(&rt, AMISS);
+    play(rt.alloc(), NEW_COUNTERS).expect(&rt, AMISS);
 }
 
 // The head, the text, the object and the version, up to the number that the version holds. An object's last version number
@@ -180,7 +181,7 @@ const FIRST_FILE: &[Act] = &[
 
 #[test]
 fn records_with_a_wrong_byte_are_bad(rt: HostRuntime) {
-    play(&rt, rt.alloc(), FIRST_FILE);
+    play(rt.alloc(), FIRST_FILE).expect(&rt, AMISS);
 }
 
 // A run on a file whose class `P` has a right text.
@@ -221,7 +222,7 @@ const CLASSES: &[Act] = &[
 
 #[test]
 fn a_class_whose_text_is_wrong_is_bad(rt: HostRuntime) {
-    play(&rt, rt.alloc(), CLASSES);
+    play(rt.alloc(), CLASSES).expect(&rt, AMISS);
 }
 
 // The length, the number of changes, and the first change up to the counters that it puts, which the next frame puts anew.
@@ -237,8 +238,8 @@ const FIRST_PAGE: &[Act] = &[Act::Make(Made::Pages), Act::BadTurned(PAGE_FRAME)]
 
 #[test]
 fn a_frame_with_a_wrong_byte_is_bad(rt: HostRuntime) {
-    play(&rt, rt.alloc(), FIRST_FRAME);
-    play(&rt, rt.alloc(), FIRST_PAGE);
+    play(rt.alloc(), FIRST_FRAME).expect(&rt, AMISS);
+    play(rt.alloc(), FIRST_PAGE).expect(&rt, AMISS);
 }
 
 const FRAMES: &[Act] = &[
@@ -255,8 +256,8 @@ const PAGES: &[Act] = &[
 
 #[test]
 fn a_journal_that_is_cut_short_is_bad(rt: HostRuntime) {
-    play(&rt, rt.alloc(), FRAMES);
-    play(&rt, rt.alloc(), PAGES);
+    play(rt.alloc(), FRAMES).expect(&rt, AMISS);
+    play(rt.alloc(), PAGES).expect(&rt, AMISS);
 }
 
 const LENGTHS: &[(usize, usize)] = &[(1, 1), (9, 9), (56, 57), (4095, 4097), (4159, 4160)];
@@ -273,8 +274,8 @@ const NEW_LENGTHS: &[Act] = &[Act::Make(Made::New), Act::BadCut(PAGES_LENGTHS)];
 
 #[test]
 fn a_file_that_is_cut_short_is_bad(rt: HostRuntime) {
-    play(&rt, rt.alloc(), AREAS_LENGTHS);
-    play(&rt, rt.alloc(), NEW_LENGTHS);
+    play(rt.alloc(), AREAS_LENGTHS).expect(&rt, AMISS);
+    play(rt.alloc(), NEW_LENGTHS).expect(&rt, AMISS);
 }
 
 // The first script, on a file that holds an empty database.
@@ -323,8 +324,8 @@ const NEW_GATES: &[Act] = &[
 
 #[test]
 fn an_open_gate_at_the_end_is_bad_and_any_other_is_shut(rt: HostRuntime) {
-    play(&rt, rt.alloc(), GATES);
-    play(&rt, rt.alloc(), NEW_GATES);
+    play(rt.alloc(), GATES).expect(&rt, AMISS);
+    play(rt.alloc(), NEW_GATES).expect(&rt, AMISS);
 }
 
 const SLOTS: &[Act] = &[
@@ -350,7 +351,7 @@ const SLOTS: &[Act] = &[
 
 #[test]
 fn of_two_open_slots_one_comes_after_the_other(rt: HostRuntime) {
-    play(&rt, rt.alloc(), SLOTS);
+    play(rt.alloc(), SLOTS).expect(&rt, AMISS);
 }
 
 const BROKEN_SLOTS: &[Act] = &[
@@ -365,5 +366,5 @@ const BROKEN_SLOTS: &[Act] = &[
 
 #[test]
 fn a_broken_slot_is_bad_beside_a_good_one(rt: HostRuntime) {
-    play(&rt, rt.alloc(), BROKEN_SLOTS);
+    play(rt.alloc(), BROKEN_SLOTS).expect(&rt, AMISS);
 }

@@ -1,6 +1,8 @@
 //! Lines that can't be printed. Runs that the disk, the source or the output cuts are in `cut_runs`.
-use crate::trial::{FIRST, Trial, equal, failing, new_file, run_by};
+use crate::equal::equal;
 use ode_host::Status;
+use ode_trials::amiss::AMISS;
+use ode_trials::trial::{FIRST, MEMORY, Trial, failing, new_file, run_by};
 use std::alloc::Global;
 use std::process::Abort;
 
@@ -20,8 +22,8 @@ fn run_unprinted(
     row: &Unprinted,
     number: u64,
 ) -> Trial {
-    let plan = failing(rt, alloc, &[], &[number]);
-    run_by(rt, alloc, file, row.script, plan)
+    let plan = failing(alloc, &[], &[number]).expect(rt, MEMORY);
+    run_by(alloc, file, row.script, plan).expect(rt, MEMORY)
 }
 
 // Each print that fails cuts the run.
@@ -31,7 +33,8 @@ fn each_print_cuts(rt: &impl Abort, alloc: Global, file: &[u8], row: &Unprinted)
         let ran = run_unprinted(rt, alloc, file, row, number);
         if ran.status != row.whole {
             let text = row.texts.get(cut).copied().unwrap_or("a print more");
-            ran.is(rt, text, Status::WriteFault, row.name);
+            ran.is(alloc, text, Status::WriteFault, row.name)
+                .expect(rt, AMISS);
             cut = cut.saturating_add(1);
         }
     }
@@ -47,7 +50,7 @@ static REFUSALS: Unprinted = Unprinted {
 
 #[test]
 fn a_refusal_that_cannot_be_printed_is_a_write_fault(rt: HostRuntime) {
-    let file = new_file(&rt, rt.alloc());
+    let file = new_file(rt.alloc()).expect(&rt, MEMORY);
     each_print_cuts(&rt, rt.alloc(), &file, &REFUSALS);
 }
 

@@ -1,14 +1,12 @@
 //! What a test does with a file, act by act.
+use crate::amiss::{Amiss, agree, is_so};
 use crate::images::{
     Numbers, areas_file, class_file, file_with, filled, first_file, front, in_areas, next_numbers,
     put_at, put_queue, three_frames, three_pages, turned, two_slots,
 };
-use crate::trial::{
-    Case, FIRST, MEMORY, call, equal, holds, new_file, run, run_case, smooth, source, stays,
-};
+use crate::trial::{Case, FIRST, call, new_file, run, run_case, smooth, source, stays};
 use ode_host::Status;
-use std::alloc::Global;
-use std::process::Abort;
+use std::alloc::{AllocError, Global};
 
 /// A file that is made.
 pub enum Made {
@@ -32,17 +30,17 @@ pub enum Made {
     Slots(u8, u8),
 }
 
-fn file_of(rt: &impl Abort, alloc: Global, made: &Made) -> Vec<u8> {
+fn file_of(alloc: Global, made: &Made) -> Result<Vec<u8>, AllocError> {
     match made {
-        Made::New => new_file(rt, alloc),
-        Made::Areas => areas_file(rt, alloc),
-        Made::First => first_file(rt, alloc),
-        Made::Frames => three_frames(rt, alloc),
-        Made::Pages => three_pages(rt, alloc),
-        Made::Class(text) => class_file(rt, alloc, text),
-        Made::Filled(objects) => filled(rt, alloc, *objects),
-        Made::Counters(object, next) => file_with(rt, alloc, next_numbers(*object, *next)),
-        Made::Slots(first, second) => two_slots(rt, alloc, *first, *second),
+        Made::New => new_file(alloc),
+        Made::Areas => areas_file(alloc),
+        Made::First => first_file(alloc),
+        Made::Frames => three_frames(alloc),
+        Made::Pages => three_pages(alloc),
+        Made::Class(text) => class_file(alloc, text),
+        Made::Filled(objects) => filled(alloc, *objects),
+        Made::Counters(object, next) => file_with(alloc, next_numbers(*object, *next)),
+        Made::Slots(first, second) => two_slots(alloc, *first, *second),
     }
 }
 
@@ -83,122 +81,137 @@ pub enum Act {
 }
 
 // A run of the first script prints this line, ends as on a bad file, and writes nothing.
-fn is_refused(rt: &impl Abort, alloc: Global, image: &[u8], name: &str, line: &str) {
+fn is_refused(alloc: Global, image: &[u8], name: &str, line: &str) -> Result<(), Amiss> {
     let case = Case {
         name,
         script: FIRST,
         text: line,
         status: Status::BadFile,
     };
-    stays(rt, alloc, image, &case);
+    stays(alloc, image, &case)
 }
 
 // A check prints this line, ends as on a bad file, and writes nothing.
-fn is_checked(rt: &impl Abort, alloc: Global, image: &[u8], name: &str, line: &str) {
-    let script = source(rt, alloc, "", &[], 1);
-    let checked = call(rt, alloc, &["check", "f"], script, image, smooth(alloc));
-    checked.is(rt, line, Status::BadFile, name);
-    checked.leaves(rt, image, name);
+fn is_checked(alloc: Global, image: &[u8], name: &str, line: &str) -> Result<(), Amiss> {
+    let script = source(alloc, "", &[], 1)?;
+    let checked = call(alloc, &["check", "f"], script, image, smooth(alloc))?;
+    checked.is(alloc, line, Status::BadFile, name)?;
+    checked.leaves(alloc, image, name)
 }
 
 // A run of the first script says which rule the file breaks, ends as on a bad file, and writes nothing.
-fn is_bad(rt: &impl Abort, alloc: Global, image: &[u8], name: &str) {
-    let ran = run(rt, alloc, image, FIRST);
+fn is_bad(alloc: Global, image: &[u8], name: &str) -> Result<(), Amiss> {
+    let ran = run(alloc, image, FIRST)?;
     let line = ran.text();
     let is_bad = line.starts_with("bad file ") || line.starts_with("newer format ");
-    holds(rt, is_bad, name);
-    equal(rt, ran.status, Status::BadFile, name);
-    ran.leaves(rt, image, name);
+    is_so(alloc, is_bad, name)?;
+    agree(alloc, ran.status, Status::BadFile, name)?;
+    ran.leaves(alloc, image, name)
 }
 
-fn turned_is_bad(rt: &impl Abort, alloc: Global, file: &[u8], place: usize, bits: u8) {
-    let image = turned(rt, alloc, file, place, bits);
-    let name = format!(in alloc; "a file with the bits {bits} turned at {place}");
-    is_bad(rt, alloc, &image, name.expect(rt, MEMORY).as_str());
+fn turned_is_bad(alloc: Global, file: &[u8], place: usize, bits: u8) -> Result<(), Amiss> {
+    let image = turned(alloc, file, place, bits)?;
+    let name = format!(in alloc; "a file with the bits {bits} turned at {place}")?;
+    is_bad(alloc, &image, name.as_str())
 }
 
-fn turned_are_bad(rt: &impl Abort, alloc: Global, file: &[u8], rows: &[Turned]) {
+fn turned_are_bad(alloc: Global, file: &[u8], rows: &[Turned]) -> Result<(), Amiss> {
     for (first, last, bits) in rows {
         for place in *first..=*last {
-            turned_is_bad(rt, alloc, file, place, *bits);
+            turned_is_bad(alloc, file, place, *bits)?;
         }
     }
+    Ok(())
 }
 
-fn cut_are_bad(rt: &impl Abort, alloc: Global, file: &[u8], lengths: &[(usize, usize)]) {
+fn cut_are_bad(alloc: Global, file: &[u8], lengths: &[(usize, usize)]) -> Result<(), Amiss> {
     for (first, last) in lengths {
         for length in *first..=*last {
-            is_bad(rt, alloc, front(file, length), "a file that is cut short");
+            is_bad(alloc, front(file, length), "a file that is cut short")?;
         }
     }
+    Ok(())
 }
 
 // A run of a script, which ends with `Ok`: what it leaves.
-fn left(rt: &impl Abort, alloc: Global, image: &[u8], script: &str) -> Vec<u8> {
-    let ran = run(rt, alloc, image, script);
-    equal(rt, ran.status, Status::Ok, script);
-    ran.image(rt, alloc)
+fn left(alloc: Global, image: &[u8], script: &str) -> Result<Vec<u8>, Amiss> {
+    let ran = run(alloc, image, script)?;
+    agree(alloc, ran.status, Status::Ok, script)?;
+    Ok(ran.image(alloc)?)
 }
 
-fn queue(rt: &impl Abort, alloc: Global, file: &mut Vec<u8>, entries: u64, transaction: u64) {
+fn queue(
+    alloc: Global,
+    file: &mut Vec<u8>,
+    entries: u64,
+    transaction: u64,
+) -> Result<(), AllocError> {
     let next = Numbers {
         object: 3,
         transaction,
         entry: entries.saturating_add(1),
     };
-    put_queue(rt, alloc, file, entries, next);
+    put_queue(alloc, file, entries, next)
+}
+
+// A run is as the case says: what it leaves.
+fn behind(alloc: Global, image: &[u8], case: &Case) -> Result<Vec<u8>, Amiss> {
+    let ran = run_case(alloc, image, case)?;
+    Ok(ran.image(alloc)?)
 }
 
 // One of the acts that change a file.
-fn change(rt: &impl Abort, alloc: Global, file: &mut Vec<u8>, act: &Act) {
+fn change(alloc: Global, file: &mut Vec<u8>, act: &Act) -> Result<(), Amiss> {
     match act {
-        Act::Make(made) => *file = file_of(rt, alloc, made),
-        Act::Length(length) => file.resize(*length, 0).expect(rt, MEMORY),
+        Act::Make(made) => *file = file_of(alloc, made)?,
+        Act::Length(length) => file.resize(*length, 0)?,
         Act::Put(at, bytes) => put_at(file, *at, bytes),
-        Act::Run(script) => *file = left(rt, alloc, file, script),
-        Act::IntoAreas => *file = in_areas(rt, alloc, file),
-        Act::Queue(entries, next) => queue(rt, alloc, file, *entries, *next),
-        Act::Case(case) => *file = run_case(rt, alloc, file, case).image(rt, alloc),
+        Act::Run(script) => *file = left(alloc, file, script)?,
+        Act::IntoAreas => *file = in_areas(alloc, file)?,
+        Act::Queue(entries, next) => queue(alloc, file, *entries, *next)?,
+        Act::Case(case) => *file = behind(alloc, file, case)?,
         Act::Stays(_)
         | Act::Refused(_, _)
         | Act::Checked(_, _)
         | Act::Bad(_)
         | Act::BadTurned(_)
         | Act::BadCut(_)
-        | Act::HasLength(_) => check(rt, alloc, file, act),
+        | Act::HasLength(_) => check(alloc, file, act)?,
     }
+    Ok(())
 }
 
 // One of the acts that leave a file as it is.
-fn check(rt: &impl Abort, alloc: Global, file: &[u8], act: &Act) {
+fn check(alloc: Global, file: &[u8], act: &Act) -> Result<(), Amiss> {
     match act {
-        Act::Stays(case) => stays(rt, alloc, file, case),
-        Act::Refused(name, line) => is_refused(rt, alloc, file, name, line),
-        Act::Checked(name, line) => is_checked(rt, alloc, file, name, line),
-        Act::Bad(name) => is_bad(rt, alloc, file, name),
-        Act::BadTurned(rows) => turned_are_bad(rt, alloc, file, rows),
-        Act::BadCut(lengths) => cut_are_bad(rt, alloc, file, lengths),
-        Act::HasLength(length) => equal(rt, file.len(), *length, "the length of a file"),
+        Act::Stays(case) => stays(alloc, file, case),
+        Act::Refused(name, line) => is_refused(alloc, file, name, line),
+        Act::Checked(name, line) => is_checked(alloc, file, name, line),
+        Act::Bad(name) => is_bad(alloc, file, name),
+        Act::BadTurned(rows) => turned_are_bad(alloc, file, rows),
+        Act::BadCut(lengths) => cut_are_bad(alloc, file, lengths),
+        Act::HasLength(length) => agree(alloc, file.len(), *length, "the length of a file"),
         Act::Make(_)
         | Act::Length(_)
         | Act::Put(_, _)
         | Act::Run(_)
         | Act::IntoAreas
         | Act::Queue(_, _)
-        | Act::Case(_) => {}
+        | Act::Case(_) => Ok(()),
     }
 }
 
 /// The file behind these acts, which begin with an empty one.
-pub fn file_behind(rt: &impl Abort, alloc: Global, acts: &[Act]) -> Vec<u8> {
+pub fn file_behind(alloc: Global, acts: &[Act]) -> Result<Vec<u8>, Amiss> {
     let mut file = Vec::new(alloc);
     for act in acts {
-        change(rt, alloc, &mut file, act);
+        change(alloc, &mut file, act)?;
     }
-    file
+    Ok(file)
 }
 
 /// Does these acts, beginning with an empty file.
-pub fn play(rt: &impl Abort, alloc: Global, acts: &[Act]) {
-    let _ = file_behind(rt, alloc, acts);
+pub fn play(alloc: Global, acts: &[Act]) -> Result<(), Amiss> {
+    let _ = file_behind(alloc, acts)?;
+    Ok(())
 }

@@ -1,8 +1,9 @@
 //! A queue that is long, and one that is full.
-use crate::acts::{Act, Made, file_behind, play};
-use crate::long::push_firings;
-use crate::trial::{Case, run, run_case};
 use ode_host::Status;
+use ode_trials::acts::{Act, Made, file_behind, play};
+use ode_trials::amiss::AMISS;
+use ode_trials::long::push_firings;
+use ode_trials::trial::{Case, MEMORY, run, run_case};
 use std::alloc::Global;
 use std::process::Abort;
 
@@ -47,7 +48,7 @@ const FULL: &[Act] = &[
 
 #[test]
 fn a_full_queue_takes_one_firing_for_the_one_that_runs(rt: HostRuntime) {
-    play(&rt, rt.alloc(), FULL);
+    play(rt.alloc(), FULL).expect(&rt, AMISS);
 }
 
 const REFUSED: Case = Case {
@@ -67,7 +68,7 @@ const OVERFULL: &[Act] = &[
 
 #[test]
 fn a_file_with_an_entry_too_much_is_bad(rt: HostRuntime) {
-    play(&rt, rt.alloc(), OVERFULL);
+    play(rt.alloc(), OVERFULL).expect(&rt, AMISS);
 }
 
 // A full one has as many transactions as entries too, which would take a minute.
@@ -88,15 +89,16 @@ static BEHIND: Case = Case {
 // What the opening prints.
 fn drained(rt: &impl Abort, alloc: Global) -> String {
     let mut text = String::new(alloc);
-    push_firings(rt, alloc, &mut text, 3, 300);
+    push_firings(alloc, &mut text, 3, 300).expect(rt, MEMORY);
     text
 }
 
 #[test]
 fn a_long_queue_is_drained_whole_at_the_opening(rt: HostRuntime) {
-    let image = file_behind(&rt, rt.alloc(), LONG);
-    let ran = run(&rt, rt.alloc(), &image, "");
+    let image = file_behind(rt.alloc(), LONG).expect(&rt, AMISS);
+    let ran = run(rt.alloc(), &image, "").expect(&rt, MEMORY);
     let text = drained(&rt, rt.alloc());
-    ran.is_long(&rt, text.as_str(), Status::Ok, "a long queue");
-    run_case(&rt, rt.alloc(), ran.host.image(), &BEHIND);
+    ran.is_long(rt.alloc(), text.as_str(), Status::Ok, "a long queue")
+        .expect(&rt, AMISS);
+    run_case(rt.alloc(), ran.host.image(), &BEHIND).expect(&rt, AMISS);
 }

@@ -1,7 +1,8 @@
 //! A `gen` that is cut leaves what some first statements of its script make.
 use crate::cut_runs::{Course, Cut, Part, Step, TEARS, course_of, goes_on};
-use crate::trial::{MEMORY, call, equal, holds, source};
+use crate::equal::{equal, holds};
 use ode_host::{Status, Torn};
+use ode_trials::trial::{MEMORY, call, source};
 use std::alloc::Global;
 use std::process::Abort;
 
@@ -36,9 +37,9 @@ fn is_of_first_steps(rt: &impl Abort, alloc: Global, course: &Course, image: &[u
 // A `gen` on a new file, cut so: it prints its line as a whole, behind all steps, or nothing. Whether it was cut.
 fn is_cut(rt: &impl Abort, alloc: Global, course: &Course, cut: Cut) -> bool {
     let name = format!(in alloc; "{cut:?}").expect(rt, MEMORY);
-    let none = source(rt, alloc, "", &[], 1);
+    let none = source(alloc, "", &[], 1).expect(rt, MEMORY);
     let plan = cut.plan(rt, alloc);
-    let ran = call(rt, alloc, &["gen", "f", "2"], none, &course.file, plan);
+    let ran = call(alloc, &["gen", "f", "2"], none, &course.file, plan).expect(rt, MEMORY);
     let is_cut = ran.status != Status::Ok;
     let is_well = if is_cut { cut.ends(ran.status) } else { true };
     holds(rt, is_well, name.as_str());
@@ -48,7 +49,7 @@ fn is_cut(rt: &impl Abort, alloc: Global, course: &Course, cut: Cut) -> bool {
         if is_cut { "" } else { LINE },
         name.as_str(),
     );
-    let image = ran.after_stop(rt, alloc);
+    let image = ran.after_stop(alloc).expect(rt, MEMORY);
     let is_kept = if is_cut {
         is_of_first_steps(rt, alloc, course, &image)
     } else {

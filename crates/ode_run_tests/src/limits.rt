@@ -1,8 +1,9 @@
 //! Limits of numbers and of what a transaction prints.
-use crate::acts::{Act, Made, play};
-use crate::long::{push_firings, times};
-use crate::trial::{Case, MEMORY, new_file, run};
 use ode_host::Status;
+use ode_trials::acts::{Act, Made, play};
+use ode_trials::amiss::AMISS;
+use ode_trials::long::{push_firings, times};
+use ode_trials::trial::{Case, MEMORY, new_file, run};
 use std::alloc::Global;
 use std::process::Abort;
 
@@ -32,7 +33,7 @@ const OBJECTS: &[Act] = &[
 
 #[test]
 fn an_object_without_a_number_aborts(rt: HostRuntime) {
-    play(&rt, rt.alloc(), OBJECTS);
+    play(rt.alloc(), OBJECTS).expect(&rt, AMISS);
 }
 
 const LAST_TRANSACTION: Case = Case {
@@ -69,7 +70,7 @@ const TRANSACTIONS: &[Act] = &[
 
 #[test]
 fn no_transaction_is_begun_without_a_number(rt: HostRuntime) {
-    play(&rt, rt.alloc(), TRANSACTIONS);
+    play(rt.alloc(), TRANSACTIONS).expect(&rt, AMISS);
 }
 
 // The place of an object's last version number in the first script's file.
@@ -90,7 +91,7 @@ const VERSIONS: &[Act] = &[
 
 #[test]
 fn a_version_without_a_number_aborts(rt: HostRuntime) {
-    play(&rt, rt.alloc(), VERSIONS);
+    play(rt.alloc(), VERSIONS).expect(&rt, AMISS);
 }
 
 const SAYS: &str =
@@ -114,20 +115,22 @@ fn saying(rt: &impl Abort, alloc: Global, text: &str) -> String {
 
 fn said(rt: &impl Abort, alloc: Global, text: &str) -> String {
     let line = format!(in alloc; "said {text}\n").expect(rt, MEMORY);
-    let lines = times(rt, alloc, line.as_str(), 512);
+    let lines = times(alloc, line.as_str(), 512).expect(rt, MEMORY);
     format!(in alloc; "{BEFORE}{lines}{BEHIND_FIRST}{lines}{BEHIND_SECOND}").expect(rt, MEMORY)
 }
 
 // A run of this script on a new file prints this long text and ends so.
 fn prints_long(rt: &impl Abort, alloc: Global, script: &str, text: &str, status: Status) {
-    let ran = run(rt, alloc, &new_file(rt, alloc), script);
-    ran.is_long(rt, text, status, "a run that prints much");
+    let file = new_file(alloc).expect(rt, MEMORY);
+    let ran = run(alloc, &file, script).expect(rt, MEMORY);
+    ran.is_long(alloc, text, status, "a run that prints much")
+        .expect(rt, AMISS);
 }
 
 // 512 lines of 2,048 bytes are 1,048,576, the most that a transaction prints.
 #[test]
 fn a_transaction_prints_so_much_and_no_more(rt: HostRuntime) {
-    let text = times(&rt, rt.alloc(), "x", 2042);
+    let text = times(rt.alloc(), "x", 2042).expect(&rt, MEMORY);
     let script = saying(&rt, rt.alloc(), text.as_str());
     let expected = said(&rt, rt.alloc(), text.as_str());
     prints_long(
@@ -213,7 +216,7 @@ const ENTRIES: &[Act] = &[
 
 #[test]
 fn a_firing_without_a_number_is_dropped(rt: HostRuntime) {
-    play(&rt, rt.alloc(), ENTRIES);
+    play(rt.alloc(), ENTRIES).expect(&rt, AMISS);
 }
 
 // A transaction with 4,097 firings.
@@ -229,11 +232,11 @@ const FIRINGS: u64 = 4097;
 const QUEUED: u64 = 1022;
 
 fn firings(rt: &impl Abort, alloc: Global) -> String {
-    let dropped = times(rt, alloc, "dropped t on #1\n", FIRINGS - QUEUED);
+    let dropped = times(alloc, "dropped t on #1\n", FIRINGS - QUEUED).expect(rt, MEMORY);
     let before = "class P\ntx 1 committed\nnew #1\nactive 2\ntx 2 committed\n";
     let text = format!(in alloc; "{before}{dropped}tx 3 committed\n");
     let mut text = text.expect(rt, MEMORY);
-    push_firings(rt, alloc, &mut text, 4, QUEUED);
+    push_firings(alloc, &mut text, 4, QUEUED).expect(rt, MEMORY);
     text
 }
 
