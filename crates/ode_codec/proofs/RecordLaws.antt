@@ -1,21 +1,20 @@
 -- Each record has one spelling, and what is read is spelled so.
 use Rattle.std.proofs.Common.{◌≡◌, ℕ, ℤ, ◌+◌, ◌*◌, ◌/◌, ◌%◌, ◌^◌, ◌<◌, ◌≤◌, zero, suc, Bool, true, false, not, cond, List, [], ◌∷◌, ◌++◌, length, Option, Some, None, refl, sym, ap, subst, ◌∙◌, arith}
-use Rattle.std.specs.Prelude.{FitsSigned, pos, nat_lt, nat_le, ◌==◌, ◌&&◌, ◌||◌, position, if◌then◌else◌}
+use Rattle.std.specs.Prelude.{FitsSigned, nat_lt, nat_le, ◌==◌, ◌&&◌, position, if◌then◌else◌}
 use Rattle.std.specs.Int.{w64}
 use Rattle.std.specs.Option.{is_none}
-use Rattle.std.specs.Ordering.{int_eq}
-use Rattle.std.proofs.lemmas.Bool.Decides.{Decides-int_eq, nat_tests}
+use Rattle.std.proofs.lemmas.Bool.Decides.{nat_tests}
 use Rattle.std.proofs.lemmas.List.{append-nil}
 use Rattle.ode_value.specs.Keys.{key, counters_kind, class_head_kind, class_piece_kind, table_head_kind, table_piece_kind, object_kind, version_kind, activation_kind, entry_kind, added_kind}
-use Rattle.ode_value.specs.Limits.{name_limit, number_limit, transaction_limit, value_limit}
+use Rattle.ode_value.specs.Limits.{name_limit, value_limit}
 use Rattle.ode_value.specs.Records.{spelled_value, stamp_bytes}
 use Rattle.ode_value.specs.Text.{IsName, is_name, is_name_byte}
 use Rattle.ode_value.specs.declared.key.Key.{Key}
 use Rattle.ode_value.specs.declared.value.Value.{Value}
 use Rattle.ode_codec.specs.Formats.{◌>>=◌, both, byte_in, ended, fit, holding, int_in, is_sort, some_in, truth_in}
 use Rattle.ode_codec.specs.Reading
-use Rattle.ode_codec.specs.Reading.{added_count_in, clock_in, is_clock, is_counters, is_next, is_piece, made_counters, name_in, u16_in, u32_in, u64_in}
-use Rattle.ode_codec.specs.Rules.{HasRanges, IsClock, IsKept, IsKeptCounters, IsNext, IsPiece, IsRecord}
+use Rattle.ode_codec.specs.Reading.{added_count_in, clock_in, is_counters, is_piece, made_counters, name_in, u16_in, u32_in, u64_in}
+use Rattle.ode_codec.specs.Rules.{HasRanges, IsKept, IsPiece, IsRecord}
 use Rattle.ode_codec.specs.Spelling.{key_of, spelled, truth, u16, u32, u64, value_of}
 use Rattle.ode_codec.specs.Values.{args_in, fields_in, value_in}
 use Rattle.ode_codec.specs.declared.record.Activation.{Activation}
@@ -23,6 +22,7 @@ use Rattle.ode_codec.specs.declared.record.Counters.{Counters}
 use Rattle.ode_codec.specs.declared.record.Entry.{Entry}
 use Rattle.ode_codec.specs.declared.record.Record.{Record}
 use Rattle.ode_codec.specs.declared.record.Record.TheVariants as of
+use Rattle.ode_codec.proofs.CounterLaws.{counters_are, counters_pass, is_zero}
 use Rattle.ode_codec.proofs.FormatLaws.{IsBytes, IsFormat, bind_some, both_format, fit_again, fit_is, format8, format16, format32, format64, held, int_format, none_left, same, some_format, spell_byte, spell_int, stamp_some, truth_format, whole_again, whole_takes}
 use Rattle.ode_codec.proofs.ValueLaws.{FitArgs, FitFields, FitsValue, are_kept, args_format, both_true, fields_format, fit_values, in_range, none_there, part_format, spell_args, spell_fields, value_format}
 use Rattle.ode_codec.specs.declared.record.TheConstants.{TABLE_PLACES}
@@ -37,12 +37,6 @@ pub record Spells (kind : ℕ) (k : Key) (bytes : List ℕ) (r : Record) : Type 
   pub rules : IsRecord r
   pub key : key kind k.a k.b ≡ key_of r
   pub value : bytes ≡ value_of r
-
-is_zero : (n : ℕ) → (n == 0) ≡ true → n ≡ 0
-is_zero n h = grind (arith, nat_tests)
-
-zero_is : (n : ℕ) → n ≡ 0 → (n == 0) ≡ true
-zero_is n h = grind (arith, nat_tests)
 
 held_again : (b : Bool) → b ≡ true → holding b ≡ Some tt
 held_again b h = ap holding h
@@ -446,52 +440,6 @@ made p added = made_counters p.0 p.1.0 p.1.1.0 p.1.1.1 added
 
 abbrev checked : Nexts → ℕ → Option Record
 checked p added = holding (is_counters (made p added)) >>= λ _. Some (of.Counters (made p added))
-
-next_is : (limit n : ℕ) → is_next limit n ≡ true → IsNext limit n
-next_is limit n h =
-    let parts = both_true (nat_le 1 n) (nat_le n limit) h in
-    let some : nat_le 1 n ≡ true = parts.0 in
-    let few : nat_le n limit ≡ true = parts.1 in
-    (grind (arith, nat_tests), grind (arith, nat_tests))
-
-next_passes : (limit n : ℕ) → IsNext limit n → is_next limit n ≡ true
-next_passes limit n is = let some : 1 ≤ n = is.0 in let few : n ≤ limit = is.1 in grind (arith, nat_tests)
-
-int_zero : (n : ℤ) → int_eq n (pos 0) ≡ true → n ≡ pos 0
-int_zero n h = (Decides-int_eq n (pos 0)).0 h
-
-clock_is : (b : Bool) (n : ℤ) (object place : ℕ) → (b || (int_eq n (pos 0) && (object == 0 && place == 0))) ≡ true → IsClock b n object place
-clock_is true n object place h = tt
-clock_is false n object place h =
-    let a = both_true (int_eq n (pos 0)) (object == 0 && place == 0) h in
-    let b = both_true (object == 0) (place == 0) a.1 in
-    (int_zero n a.0, is_zero object b.0, is_zero place b.1)
-
-clock_passes : (b : Bool) (n : ℤ) (object place : ℕ) → IsClock b n object place → (b || (int_eq n (pos 0) && (object == 0 && place == 0))) ≡ true
-clock_passes true n object place is = refl
-clock_passes false n object place is =
-    ap (λ b. b && (object == 0 && place == 0)) ((Decides-int_eq n (pos 0)).1 is.0) ∙ ap (λ b. b && place == 0) (zero_is object is.1) ∙ zero_is place is.2
-
-counters_are : (c : Counters) → is_counters c ≡ true → IsKeptCounters c
-unfolding is_counters
-counters_are c h =
-    let a = both_true (is_next number_limit c.next_number) (is_next transaction_limit c.next_transaction && (is_next number_limit c.next_entry && is_clock c)) h in
-    let b = both_true (is_next transaction_limit c.next_transaction) (is_next number_limit c.next_entry && is_clock c) a.1 in
-    let d = both_true (is_next number_limit c.next_entry) (is_clock c) b.1 in
-    record {
-      next_number = next_is number_limit c.next_number a.0;
-      next_transaction = next_is transaction_limit c.next_transaction b.0;
-      next_entry = next_is number_limit c.next_entry d.0;
-      clock = clock_is c.clock_set c.instant c.object c.place d.1;
-    }
-
-counters_pass : (c : Counters) → IsKeptCounters c → is_counters c ≡ true
-unfolding is_counters
-counters_pass c is =
-    ap (λ b. b && (is_next transaction_limit c.next_transaction && (is_next number_limit c.next_entry && is_clock c))) (next_passes number_limit c.next_number is.next_number)
-    ∙ ap (λ b. b && (is_next number_limit c.next_entry && is_clock c)) (next_passes transaction_limit c.next_transaction is.next_transaction)
-    ∙ ap (λ b. b && is_clock c) (next_passes number_limit c.next_entry is.next_entry)
-    ∙ clock_passes c.clock_set c.instant c.object c.place is.clock
 
 counters_found : (k : Key) (bytes : List ℕ) (r : Record) → IsKey k → IsBytes bytes → Reading.counters_under k bytes ≡ Some r → Spells counters_kind k bytes r
 unfolding Reading.counters_under key_of value_of IsKept HasRanges

@@ -1,6 +1,7 @@
 pub mod FirstFormat
 pub mod Formats
 pub mod Values
+pub mod Sorts
 pub mod Spelling
 pub mod Rules
 pub mod Reading

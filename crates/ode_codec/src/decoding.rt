@@ -64,8 +64,9 @@ fn is_clock(counters: &Counters) -> bool
     counters.clock_set || counters.instant == 0 && counters.object == 0 && counters.place == 0
 }
 
+/// Whether counters lie within their limits, and their clock is one that is spelled.
 #[tactic(auto, unfolding(crate::specs::Reading::is_counters))]
-fn is_counters(counters: &Counters) -> bool
+pub fn is_counters(counters: &Counters) -> bool
     ensures { result ≡ is_counters counters.now }
 {
     is_next(NUMBER_LIMIT, counters.next_number)

@@ -10,10 +10,11 @@ mod passing;
 mod reading;
 mod record;
 mod skipping;
+mod sorts;
 mod stored;
 mod values;
 
-pub use decoding::{decode, is_record};
+pub use decoding::{decode, is_counters, is_record};
 pub use encoding::encode;
 pub use laws::one_spelling;
 pub use lengths::{TABLE_HEAD_LEN, value_length, values_fit};
@@ -22,4 +23,5 @@ pub use record::{
     Activation, BOOL_SORT, Counters, Entry, INT_SORT, REFERENCE_SORT, Record, TABLE_PLACES,
     TEXT_SORT,
 };
+pub use sorts::has_sort;
 pub use stored::{fresh_databases_are_counters, held_worlds_are_good, stored_lengths_are_counts};

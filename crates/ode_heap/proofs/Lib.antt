@@ -9,6 +9,6 @@ mod Literals
 mod Stored
 mod StoredVersions
 mod StoredQueue
-mod Sorts
+pub mod Sorts
 mod Passing
 mod Own

@@ -1,12 +1,12 @@
 -- The activations of an object.
 use Rattle.std.specs.Prelude.{ℕ, List, [], ◌∷◌, Bool, true, false, cond, ◌==◌, ◌&&◌, Option, Some, None}
 use Rattle.std.specs.List.{filter, slice_get}
+use Rattle.ode_codec.specs.Sorts.{has_sort}
 use Rattle.ode_codec.specs.declared.record.Activation.{Activation}
 use Rattle.ode_codec.specs.declared.record.Record.{Record}
 use Rattle.ode_codec.specs.declared.record.Record.TheVariants as of
 use Rattle.ode_heap.specs.Answers.{Found}
 use Rattle.ode_heap.specs.Answers.{There, Broken}
-use Rattle.ode_heap.specs.Looking.{has_sort}
 use Rattle.ode_heap.specs.Walking.{block}
 use Rattle.ode_keep.specs.Entries.{Entries}
 use Rattle.ode_types.specs.Families.{class_numbered}

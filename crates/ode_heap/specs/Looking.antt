@@ -4,6 +4,7 @@ use Rattle.std.specs.List.{enumerate_from, find, insert}
 use Rattle.std.specs.Map.{keys_of}
 use Rattle.std.specs.Option.{option_map, option_map_or}
 use Rattle.ode_codec.specs.Reading.{record_under}
+use Rattle.ode_codec.specs.Sorts.{has_sort}
 use Rattle.ode_codec.specs.declared.record.Counters.{Counters}
 use Rattle.ode_codec.specs.declared.record.Entry.{Entry}
 use Rattle.ode_codec.specs.declared.record.Record.{Record}
@@ -19,10 +20,7 @@ use Rattle.ode_value.specs.Keys.{counters_key, entry_kind, object_kind, version_
 use Rattle.ode_value.specs.declared.class.Class.{Class}
 use Rattle.ode_value.specs.declared.class.Field.{Field}
 use Rattle.ode_value.specs.declared.key.Key.{Key}
-use Rattle.ode_value.specs.declared.statement.Sort.{Sort}
-use Rattle.ode_value.specs.declared.statement.Sort.TheVariants as sort
 use Rattle.ode_value.specs.declared.value.Value.{Value}
-use Rattle.ode_value.specs.declared.value.Value.TheVariants as value
 
 -- ---- records by their keys
 
@@ -69,13 +67,6 @@ as_version k (of.Version object number parent stamp fields) = There (record { nu
 as_version k _ = Broken k
 
 -- the values have the sorts, one for each
-abbrev pub has_sort : Sort → Value → Bool
-has_sort sort.Int (value.Int n) = true
-has_sort sort.Bool (value.Bool b) = true
-has_sort sort.Text (value.Text t) = true
-has_sort (sort.Reference class) (value.Reference r) = true
-has_sort _ _ = false
-
 abbrev pub fit_fields : List Field → List Value → Bool
 fit_fields [] [] = true
 fit_fields (f ∷ fs) (v ∷ vs) = has_sort f.sort v && fit_fields fs vs

@@ -9,9 +9,8 @@ ghost use Rattle.ode_heap.specs.Staging.{OnTooLarge};
 ghost use Rattle.ode_value.specs.Keys.{activation_kind};
 
 use crate::error::HeapError;
-use crate::fitting::has_sort;
 use crate::object::next_record;
-use ode_codec::{Activation, Record};
+use ode_codec::{Activation, Record, has_sort};
 use ode_host::Host;
 use ode_keep::Keep;
 use ode_types::Classes;

@@ -6,13 +6,15 @@ use Rattle.std.specs.Option.{IfSome, IsSome, is_some, option_and_then, option_ma
 use Rattle.std.proofs.lemmas.Bool.Decides.{nat_tests}
 use Rattle.ode_codec.specs.Rules.{IsRecord}
 use Rattle.ode_codec.specs.declared.record.Record.{Record}
+use Rattle.ode_codec.specs.Sorts.{has_sort}
 use Rattle.ode_codec.specs.StoredRows.{object_row, version_rows}
+use Rattle.ode_heap.proofs.Sorts.{sort_of}
 use Rattle.ode_heap.specs.Answering.{IsReadableObject, IsReadableVersion}
 use Rattle.ode_keep.specs.Entries.{Entries}
 use Rattle.ode_opening_laws.specs.Holding.{class_of}
 use Rattle.ode_opening_laws.proofs.Decoding.{Again}
 use Rattle.ode_opening_laws.proofs.Each.{all_then}
-use Rattle.ode_opening_objects.specs.Fitting.{fit_references, fits_object, fits_reference, fits_sort, has_sort, have_sorts, inherits, is_drawn}
+use Rattle.ode_opening_objects.specs.Fitting.{fit_references, fits_object, fits_reference, fits_sort, have_sorts, inherits, is_drawn}
 use Rattle.ode_opening_objects.specs.Heads.{has_version, head_in, of_object}
 use Rattle.ode_opening_objects.specs.Objects.{fields_fit, fits_head, object_fits, object_keeps, references_fit, references_in, references_keep, version_fits, version_keeps}
 use Rattle.ode_opening_objects.specs.declared.head.Head.{Head}
@@ -90,28 +92,6 @@ numbered_all P (p ∷ ps) id o all is = by (λ there. numbered_all P ps id o all
     by rest false there = rest there
 
 -- ---- values
-
-pub sort_of : (b : Bones) (s : Sort) (v : Value) → FitsSort b s v → has_sort s v ≡ true
-sort_of b sort.Int (value.Int n) fits = refl
-sort_of b sort.Bool (value.Bool t) fits = refl
-sort_of b sort.Text (value.Text t) fits = refl
-sort_of b (sort.Reference class) (value.Reference r) fits = refl
-sort_of b sort.Int (value.Bool t) fits = absurd fits
-sort_of b sort.Int (value.Text t) fits = absurd fits
-sort_of b sort.Int (value.Reference r) fits = absurd fits
-sort_of b sort.Bool (value.Int n) fits = absurd fits
-sort_of b sort.Bool (value.Text t) fits = absurd fits
-sort_of b sort.Bool (value.Reference r) fits = absurd fits
-sort_of b sort.Text (value.Int n) fits = absurd fits
-sort_of b sort.Text (value.Bool t) fits = absurd fits
-sort_of b sort.Text (value.Reference r) fits = absurd fits
-sort_of b (sort.Reference class) (value.Int n) fits = absurd fits
-sort_of b (sort.Reference class) (value.Bool t) fits = absurd fits
-sort_of b (sort.Reference class) (value.Text t) fits = absurd fits
-sort_of b sort.Void (value.Int n) fits = absurd fits
-sort_of b sort.Void (value.Bool t) fits = absurd fits
-sort_of b sort.Void (value.Text t) fits = absurd fits
-sort_of b sort.Void (value.Reference r) fits = absurd fits
 
 -- a field that came later has no value in the record
 sorts_skip : (stamp : ℕ) (f : Field) (fs : List Field) (vs : List Value) → is_born stamp f ≡ false → have_sorts stamp (f ∷ fs) vs ≡ have_sorts stamp fs vs

@@ -4,13 +4,15 @@ use Rattle.std.specs.Prelude.{◌==◌, ◌||◌, nat_le, slice_get}
 use Rattle.std.specs.List.{AllByRecursion, AllZip, enumerate_from, find, list_any}
 use Rattle.std.specs.Option.{option_and_then, option_map, option_map_or}
 use Rattle.std.proofs.lemmas.Bool.Decides.{nat_tests}
+use Rattle.ode_codec.specs.Sorts.{has_sort}
 use Rattle.ode_codec.specs.StoredRows.{object_row}
+use Rattle.ode_heap.proofs.Sorts.{sort_of}
 use Rattle.ode_heap.specs.Answering.{IsReadableObject}
 use Rattle.ode_laws.proofs.Numbers.{IsPlaced, triggers_placed}
 use Rattle.ode_opening_laws.specs.Holding.{class_of}
 use Rattle.ode_opening_laws.proofs.Decoding.{Again}
 use Rattle.ode_opening_laws.proofs.Each.{all_flat, all_then}
-use Rattle.ode_opening_objects.specs.Fitting.{born_param, descends, fits_sort, has_sort, is_numbered, match_sorts, of_param, refer}
+use Rattle.ode_opening_objects.specs.Fitting.{born_param, descends, fits_sort, is_numbered, match_sorts, of_param, refer}
 use Rattle.ode_opening_objects.specs.Heads.{head_in}
 use Rattle.ode_opening_objects.specs.Objects.{args_refer}
 use Rattle.ode_opening_objects.specs.Triggers.{fit_trigger, have_trigger, trigger_under}
@@ -31,7 +33,7 @@ use Rattle.ode_value.specs.declared.member.TriggerDecl.{TriggerDecl}
 use Rattle.ode_value.specs.declared.binding.Param.{Param}
 use Rattle.ode_value.specs.declared.value.Value.{Value}
 use Rattle.ode_opened_laws.proofs.Climbing.{all_reverse, is_descended}
-use Rattle.ode_opened_laws.proofs.Keeping.{both, same_numbered, sort_of, upto, value_fits}
+use Rattle.ode_opened_laws.proofs.Keeping.{both, same_numbered, upto, value_fits}
 
 -- ---- the class that declares a trigger
 

@@ -2,6 +2,7 @@
 use Rattle.std.specs.Prelude.{ℕ, zero, suc, List, [], ◌∷◌, length, Bool, true, false, cond, nat_le, nat_lt, ◌==◌, ◌&&◌, ◌||◌, Option, Some, None}
 use Rattle.std.specs.Option.{option_map_or, unwrap_or}
 use Rattle.std.specs.Str.{bytes_eq}
+use Rattle.ode_codec.specs.Sorts.{has_sort}
 use Rattle.ode_types.specs.Families.{class_numbered}
 use Rattle.ode_value.specs.declared.binding.Param.{Param}
 use Rattle.ode_value.specs.declared.class.Class.{Class}
@@ -27,14 +28,6 @@ born_field f = f.birth
 
 abbrev pub born_param : Param → ℕ
 born_param p = 0
-
--- a value has a sort
-abbrev pub has_sort : Sort → Value → Bool
-has_sort sort.Int (value.Int n) = true
-has_sort sort.Bool (value.Bool b) = true
-has_sort sort.Text (value.Text t) = true
-has_sort (sort.Reference class) (value.Reference r) = true
-has_sort _ _ = false
 
 -- a value for each member that was there at a stamp, of its sort
 abbrev pub match_sorts : {M : Type 0} → ℕ → (M → ℕ) → (M → Sort) → List M → List Value → Bool

@@ -1,12 +1,13 @@
 //! Which values fit the fields of a class or the parameters of a trigger.
 ghost use Rattle.std.specs.Prelude.{◌≡◌, ℕ};
 ghost use Rattle.ode_value.specs.declared.statement.Sort.{Sort as OfSort};
-ghost use Rattle.ode_opening_objects.specs.Fitting.{fits_object, fits_reference, fits_sort, has_sort, is_drawn, match_sorts, refer};
+ghost use Rattle.ode_opening_objects.specs.Fitting.{fits_object, fits_reference, fits_sort, is_drawn, match_sorts, refer};
 ghost use Rattle.ode_opening_objects.specs.Numbers.{at};
 
 use crate::climbing::climbs;
 use crate::head::Head;
 use crate::scene::Scene;
+use ode_codec::has_sort;
 use ode_types::Classes;
 use ode_value::{Field, Name, Param, Ref, Sort, Value};
 
@@ -56,18 +57,6 @@ impl Sorted for Param {
 
     fn birth(&self) -> u32 {
         0
-    }
-}
-
-fn has_sort(sort: &Sort, value: &Value) -> bool
-    ensures { result ≡ has_sort sort.now value.now }
-{
-    match sort {
-        Sort::Int => matches!(value, Value::Int(_)),
-        Sort::Bool => matches!(value, Value::Bool(_)),
-        Sort::Text => matches!(value, Value::Text(_)),
-        Sort::Reference(_) => matches!(value, Value::Reference(_)),
-        Sort::Void => false,
     }
 }
 
