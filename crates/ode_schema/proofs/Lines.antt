@@ -3,11 +3,11 @@ use Rattle.std.proofs.Common.{◌≡◌, ◌≤◌, ◌<◌, ℕ, zero, suc, ◌
 use Rattle.std.specs.Prelude.{◌==◌, slice_get}
 use Rattle.std.specs.Option.{unwrap_or}
 use Rattle.std.proofs.Math.Seq.{take-length}
-use Rattle.std.proofs.lemmas.List.{length-reverse, reverse-append}
+use Rattle.std.proofs.lemmas.List.{append-nil, length-reverse, reverse-append}
 use Rattle.std.proofs.lemmas.Option.{slice_get_within}
 use Rattle.ode_value.specs.declared.class.Class.{Class}
 use Rattle.ode_types.specs.Checked.{AreChecked}
-use Rattle.ode_types.specs.Families.{class_numbered, upward}
+use Rattle.ode_types.specs.Families.{class_numbered, line_of, upward}
 use Rattle.ode_types.proofs.LineLaws.{upward-above, upward-from, upward-zero}
 use Rattle.ode_types.proofs.Places.{numbered-at}
 use Rattle.ode_schema.specs.Cursors.{headed}
@@ -58,6 +58,10 @@ module _ (cs : List Class) (checked : AreChecked cs) where
       ap (λ m. upward m (reverse cs)) at.1 ∙ whole (suc p)
       ∙ upward-from cs (are_numbered cs checked) (length cs) p (Some c) at.2 within
       ∙ ap (λ (l : List Class). c ∷ l) (line_below (unwrap_or c.parent 0) p low (omega arith))
+
+  -- the line of a class, behind those that are known
+  pub line_known : (n : ℕ) (c : Class) (known : List Class) → known ≡ cs ++ [] → class_numbered cs n ≡ Some c → line_of known c ≡ upward n (reverse cs)
+  line_known n c known is found = ap (λ (l : List Class). line_of l c) (is ∙ append-nil cs) ∙ sym (line_goes n c found)
 
   pub line_short : (n : ℕ) → length (upward n (reverse cs)) ≤ length cs
   line_short n = let short : length (upward n (reverse cs)) ≤ length (reverse cs) = upward_short n (reverse cs) in omega (arith, short, length-reverse cs)

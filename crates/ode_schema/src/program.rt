@@ -1,5 +1,5 @@
 //! The declared classes of a running transaction.
-ghost use Rattle.std.specs.Prelude.{◌≡◌, [], ◌∷◌, IfOk, IfSome, List as Items, Some, map, reverse, slice_get};
+ghost use Rattle.std.specs.Prelude.{◌≡◌, IfOk, IfSome, List as Items, Some, map, reverse, slice_get};
 ghost use Rattle.std.specs.List.{list_any};
 ghost use Rattle.std.specs.Option.{IsSome, option_and_then, option_copied, option_map};
 ghost use Rattle.std.specs.Str.{bytes_eq};
@@ -14,12 +14,13 @@ ghost use Rattle.ode_interpreter.specs.Seen.{trigger as seen};
 ghost use Rattle.ode_schema.specs.Parts.{AreFit, family_in, table_place, trigger_of, trigger_under};
 
 use crate::constraints::Constraints;
-use crate::line::{Family, Line};
+use crate::line::Family;
 use crate::triggers::{initial_of, named_of};
 use ode_interpreter::Trigger;
 use ode_symbols::Alphabet;
 use ode_table::Table;
-use ode_types::Classes;
+use ode_types::families::{is_a, method_named};
+use ode_types::{Classes, Known};
 use ode_value::{Class, Kind, List, Method, Name, TriggerDecl};
 use std::alloc::{AllocError, Global};
 use std::marker::Model;
@@ -49,47 +50,35 @@ impl<'a> Model for Program<'a> {
     ghost invariant = { λ p. AreChecked p.classes.now × AreFit (record { classes = p.classes.now; tables = p.tables.now; alphabets = p.alphabets.now; maps = p.maps.now }) };
 }
 
-// The method of a name that a class itself has.
-fn own_method<'a>(class: &'a Class, name: &Name) -> Option<&'a Method>
-    ensures { option_copied result ≡ method_named (class.now ∷ []) name.now }
+// The nearest method of a name, of the class of a number and its ancestors.
+fn method_of<'a>(classes: &'a Classes, class: u32, name: &Name) -> Option<&'a Method>
+    ensures { option_copied result ≡ method_named (upward class (reverse classes.now)) name.now }
 {
-    class
-        .methods
-        .as_slice()
-        .iter()
-        .find(|method| method.name.same(name))
+    // Read, so that they are known as checked.
+    let _checked = classes.as_slice();
+    match classes.class(class) {
+        Some(class) => method_named(&Known::new(classes, None), class, name),
+        None => None,
+    }
 }
 
-// The nearest method of a name in a line.
-#[tactic(auto, using(ode_types::proofs::FamilyLaws::named_along))]
-fn nearest_method<'a>(line: &mut Line<'a>, name: &Name) -> Option<&'a Method>
-    ensures { option_copied result ≡ method_named line.old name.now }
+// Whether the class of a number or an ancestor has a name.
+fn has_name(classes: &Classes, class: u32, name: &Name) -> bool
+    ensures { result ≡ list_any (λ (c : Checked). bytes_eq c.name name.now) (upward class (reverse classes.now)) }
 {
-    while let Some(class) = line.next() {
-        if let Some(method) = own_method(class, name) {
-            return Some(method);
-        }
+    // Read, so that they are known as checked.
+    let _checked = classes.as_slice();
+    match classes.class(class) {
+        Some(class) => is_a(&Known::new(classes, None), class, name),
+        None => false,
     }
-    None
-}
-
-// Whether a class of a line has a name.
-fn has_name(line: &mut Line, name: &Name) -> bool
-    ensures { result ≡ list_any (λ (c : Checked). bytes_eq c.name name.now) line.old }
-{
-    while let Some(class) = line.next() {
-        if class.name.same(name) {
-            return true;
-        }
-    }
-    false
 }
 
 /// Whether the class of a number has a name, or inherits from the class that has it.
 pub fn inherits(classes: &Classes, class: u32, name: &Name) -> bool
     ensures { (declared : Items Declared) → checked declared ≡ classes.now → result ≡ machine.is_a declared class name.now }
 {
-    has_name(&mut Line::new(classes, class), name)
+    has_name(classes, class, name)
 }
 
 // The trigger at a place of a class, where the class is there.
@@ -173,7 +162,7 @@ impl<'a> Program<'a> {
     pub(crate) fn nearest(&self, class: u32, name: &Name) -> Option<&'a Method>
         ensures { option_copied result ≡ method_named (upward class (reverse self.now.classes)) name.now }
     {
-        nearest_method(&mut Line::new(self.classes, class), name)
+        method_of(self.classes, class, name)
     }
 
     /// The soft constraints of a class, or the hard ones, ancestors' first.

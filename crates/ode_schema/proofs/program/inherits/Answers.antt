@@ -8,4 +8,4 @@ use Rattle.ode_schema.proofs.program.inherits.Goals as goal
 pub returns : goal.returns
 returns c = λ classes are.
     c.has_name.ensures
-    ∙ ap (λ (line : List Class). list_any (λ (d : Class). bytes_eq d.name c.args.name.now) line) (c.new.ensures ∙ line_by c.args.classes.now classes are c.args.class)
+    ∙ ap (λ (line : List Class). list_any (λ (d : Class). bytes_eq d.name c.args.name.now) line) (line_by c.args.classes.now classes are c.args.class)
