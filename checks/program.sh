@@ -743,6 +743,16 @@ if [ -d /dev/shm ] && [ -w /dev/shm ]; then
     printed 'a full database' 0 full.out
     rm "$large/full.db"
 
+    # Files of either layout with more records than its keeper takes: their size is told behind all other rules.
+    for layout in areas pages; do
+        for kind in whole ungiven; do
+            python3 "$here/checks/heavy.py" "$layout" "$kind" "$large/heavy.db" > heavy.out
+            run check "$large/heavy.db" < /dev/null
+            printed "more records than a keeper takes: $layout, $kind" 3 heavy.out
+        done
+    done
+    rm "$large/heavy.db"
+
     # The length of the first record of a snapshot, one too low.
     cp areas.before damaged.db
     printf '\x2C' | dd of=damaged.db bs=1 seek=$((4096 + 18)) conv=notrunc 2> errors

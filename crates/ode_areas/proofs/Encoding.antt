@@ -1,11 +1,10 @@
 -- What is added to a frame bit by bit.
-use Rattle.std.proofs.Common.{◌≡◌, ◌≤◌, ℕ, ◌+◌, ◌-◌, List, [], ◌++◌, length, ap, ◌∙◌, arith, append_assoc, length-append}
+use Rattle.std.proofs.Common.{◌≡◌, ◌<◌, ◌≤◌, ℕ, ◌-◌, List, [], ◌++◌, length, ap, ◌∙◌, arith, append_assoc, length-append}
 use Rattle.ode_gate.specs.declared.places.TheConstants.{AREA_LEN}
 use Rattle.ode_journal.specs.Filling.{Filling, filled_by}
-use Rattle.ode_journal.specs.declared.frame.TheConstants.{FRAME_BYTES}
 use Rattle.ode_value.specs.Records.{snapshot}
 use Rattle.ode_keep.specs.Entries.{Entries, record_bytes}
-use Rattle.ode_keep.specs.declared.limits.TheConstants.{MAX_PAYLOAD_LEN, MAX_RECORD_BYTES}
+use Rattle.ode_keep.specs.declared.limits.TheConstants.{MAX_RECORD_BYTES}
 use Rattle.ode_keep.proofs.Lengths.{keys_count, length-snapshot}
 
 -- two pieces that are added one after the other
@@ -25,6 +24,6 @@ started_frame f g head bytes rest n first second is long =
     second ∙ ap (λ (l : List ℕ). filled_by f l) is ∙ ap (λ (k : Filling). filled_by k head) first in
     (ap (λ (k : Filling). k.payload ++ rest) whole, ap (λ (k : Filling). k.spare) whole ∙ (let same : n - length head ≡ length rest = omega (arith, long, length-append head rest) in same))
 
--- a snapshot of records within the limit leaves room for a frame in its area
-pub frame_fits : (es : Entries) (payload : ℕ) → record_bytes es ≤ MAX_RECORD_BYTES → payload ≤ MAX_PAYLOAD_LEN → length (snapshot es) + payload + FRAME_BYTES ≤ AREA_LEN
-frame_fits es payload within short = omega (arith, length-snapshot es, keys_count es)
+-- a snapshot of records within the limit leaves room in its area
+pub snapshot_fits : (es : Entries) → record_bytes es ≤ MAX_RECORD_BYTES → length (snapshot es) < AREA_LEN
+snapshot_fits es within = omega (arith, length-snapshot es, keys_count es)

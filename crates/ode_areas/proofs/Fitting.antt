@@ -12,7 +12,7 @@ use Rattle.ode_gate.specs.declared.header.Header.{Header}
 use Rattle.ode_journal.specs.Histories.{ArePayloads, in_turn}
 use Rattle.ode_keep.specs.Entries.{Changes, Entries, applied, changed}
 use Rattle.ode_value.specs.Keys.{key_cmp}
-use Rattle.ode_keep.proofs.Applying.{applied_rising}
+use Rattle.ode_keep.proofs.Applying.{changed_rising}
 use Rattle.ode_areas.specs.Image.{HasMap}
 use Rattle.ode_keep.specs.Payloads.{FitsChange, IsPayload}
 use Rattle.ode_keep.specs.Snapshots.{FitsRow, FitsSnapshot}
@@ -38,20 +38,25 @@ put_fits : (k : Key) (v : List ℕ) (es : Entries) → FitsRow (k, v) → AllFit
 put_fits k v [] fits all = (fits, tt)
 put_fits k v (e ∷ es) fits all = put_at k v e es (insert_entry key_cmp es k v) fits all (put_fits k v es fits all.1) (key_cmp k e.0)
 
-changed_fits : (es : Entries) (k : Key) (w : Option (List ℕ)) → FitsChange (k, w) → AllFit es → AllFit (changed es k w)
-changed_fits es k None fits all = kept (λ e. not (is_at (key_cmp k) e.0)) es all
-changed_fits es k (Some v) fits all = put_fits k v es (record { key = fits.key; value = fits.value }) all
+pub rows_changed : (es : Entries) (k : Key) (w : Option (List ℕ)) → FitsChange (k, w) → AllFit es → AllFit (changed es k w)
+rows_changed es k None fits all = kept (λ e. not (is_at (key_cmp k) e.0)) es all
+rows_changed es k (Some v) fits all = put_fits k v es (record { key = fits.key; value = fits.value }) all
 
-pub applied_fits : (cs : Changes) (es : Entries) → AllByRecursion FitsChange cs → AllByRecursion FitsRow es → AllByRecursion FitsRow (applied cs es)
-applied_fits [] es each all = all
-applied_fits (c ∷ cs) es each all = applied_fits cs (changed es c.0 c.1) each.1 (changed_fits es c.0 c.1 each.0 all)
+-- a change that fits leaves records that fit
+pub changed_fits : (es : Entries) (k : Key) (w : Option (List ℕ)) → FitsChange (k, w) → FitsSnapshot es → FitsSnapshot (changed es k w)
+changed_fits es k w change fits = record { rows = rows_changed es k w change fits.rows; rising = changed_rising es k w fits.rising }
+
+-- and so do changes of which each fits
+pub applied_fits : (cs : Changes) (es : Entries) → AllByRecursion FitsChange cs → FitsSnapshot es → FitsSnapshot (applied cs es)
+applied_fits [] es each fits = fits
+applied_fits (c ∷ cs) es each fits = applied_fits cs (changed es c.0 c.1) each.1 (changed_fits es c.0 c.1 each.0 fits)
 
 replayed_fits : (batches : List Changes) (frames : List (List ℕ)) (es : Entries) → ArePayloads IsPayload batches frames → FitsSnapshot es → FitsSnapshot (in_turn applied batches es)
 replayed_fits [] [] es are fits = fits
 replayed_fits [] (f ∷ fs) es are fits = absurd are
 replayed_fits (b ∷ bs) [] es are fits = absurd are
 replayed_fits (b ∷ bs) (f ∷ fs) es are fits =
-    replayed_fits bs fs (applied b es) are.1 (record { rows = applied_fits b es are.0.each fits.rows; rising = applied_rising b es fits.rising })
+    replayed_fits bs fs (applied b es) are.1 (applied_fits b es are.0.each fits)
 
 -- the records of a file fit a snapshot
 pub map_fits : (h : Header) (file : List ℕ) (entries : Entries) → HasMap h file entries → FitsSnapshot entries

@@ -5,6 +5,7 @@ pub mod Encoding
 pub mod Splitting
 pub mod Windows
 pub mod Fitting
+pub mod Sizes
 pub mod Moving
 pub mod Above
 pub mod Committing

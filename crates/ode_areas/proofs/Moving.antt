@@ -21,18 +21,20 @@ use Rattle.ode_keep.specs.Keeping.{LeavesOldOrNew}
 use Rattle.ode_value.specs.Records.{snapshot}
 use Rattle.ode_areas.specs.Image.{AreasMean, HasMap}
 use Rattle.ode_keep.specs.Payloads.{IsPayload}
-use Rattle.ode_keep.specs.Snapshots.{IsSnapshot}
+use Rattle.ode_keep.specs.Snapshots.{FitsSnapshot, IsSnapshot}
 use Rattle.ode_areas.specs.Steps.{LeavesMap, MovesOver, StandUnder, empty_under}
-use Rattle.ode_areas.proofs.Fitting.{map_fits}
 use Rattle.ode_journal.proofs.Windows.{journal_spelled}
 use Rattle.ode_areas.proofs.Windows.{has_window, has_window-frames, still_counts, still_has, wide}
 
 area_of : (h : Header) → IsOfAreas h → (h.body_at ≡ AREA_0) ⊎ (h.body_at ≡ AREA_1)
 area_of h areas = ⊎_elim (λ first. inl first.0) (λ second. inr second.0) areas.area
 
--- A snapshot in the other area, and the header's change.
-module _ (older h : Header) (place : Journal) (entries : Entries) (bytes : List ℕ) (old : View)
-    (stand : StandUnder older place entries old) (moves : MovesOver older entries h bytes) where
+-- A snapshot of the records behind some changes, in the other area, and the header's change.
+module _ (older h : Header) (place : Journal) (entries : Entries) (changes : Changes) (bytes : List ℕ) (old : View)
+    (stand : StandUnder older place entries old) (fits : FitsSnapshot (applied changes entries)) (moves : MovesOver older (applied changes entries) h bytes) where
+  abbrev behind : Entries
+  behind = applied changes entries
+
   abbrev file : List ℕ
   file = stand.file
 
@@ -43,7 +45,7 @@ module _ (older h : Header) (place : Journal) (entries : Entries) (bytes : List 
   rest = drop (h.body_at + length bytes) file
 
   size : length bytes ≡ h.body_len + 1
-  size = omega (arith, ap length moves.spelled, length-append (snapshot entries) (0 ∷ []), moves.long)
+  size = omega (arith, ap length moves.spelled, length-append (snapshot behind) (0 ∷ []), moves.long)
 
   short : length bytes ≤ AREA_LEN
   short = omega (arith, size, moves.follows.areas.journal, moves.follows.areas.room, moves.follows.areas.area)
@@ -57,8 +59,8 @@ module _ (older h : Header) (place : Journal) (entries : Entries) (bytes : List 
   }
 
   -- while the snapshot is written the old header counts
-  pub snapshot_leaves : (c o : List ℕ) → LeavesTorn h.body_at (length bytes) file old c o → LeavesMap entries old c o
-  snapshot_leaves c o left = record { means = torn_means c left.0; text = left.1 }
+  pub snapshot_leaves : (c o : List ℕ) → LeavesTorn h.body_at (length bytes) file old c o → LeavesOldOrNew AreasMean entries changes old c o
+  snapshot_leaves c o left = record { whole = inl (torn_means c left.0); text = left.1 }
 
   staged_torn : Torn h.body_at (length bytes) file staged
   staged_torn = written-torn h.body_at bytes file
@@ -69,27 +71,27 @@ module _ (older h : Header) (place : Journal) (entries : Entries) (bytes : List 
   pub staged_old : HasMap older staged entries
   staged_old = still_has older stand.areas file staged entries stand.has stand.counts h.body_at (length bytes) moves.follows.other (area_of h moves.follows.areas) short staged_torn
 
-  staged_at : drop h.body_at staged ≡ snapshot entries ++ 0 ∷ rest
+  staged_at : drop h.body_at staged ≡ snapshot behind ++ 0 ∷ rest
   staged_at =
       wrote_here h.body_at bytes file ∙ ap (λ (l : List ℕ). l ++ rest) moves.spelled
-      ∙ append_assoc (snapshot entries) (0 ∷ []) rest
+      ∙ append_assoc (snapshot behind) (0 ∷ []) rest
 
-  staged_body : take h.body_len (drop h.body_at staged) ≡ snapshot entries
-  staged_body = ap (λ (l : List ℕ). take h.body_len l) staged_at ∙ take_at (snapshot entries) (0 ∷ rest) h.body_len (sym moves.long)
+  staged_body : take h.body_len (drop h.body_at staged) ≡ snapshot behind
+  staged_body = ap (λ (l : List ℕ). take h.body_len l) staged_at ∙ take_at (snapshot behind) (0 ∷ rest) h.body_len (sym moves.long)
 
   staged_gate : drop h.journal_at staged ≡ 0 ∷ rest
   staged_gate =
       ap (λ (k : ℕ). drop k staged) moves.follows.areas.journal ∙ sym (drop-drop h.body_len h.body_at staged)
-      ∙ ap (λ (l : List ℕ). drop h.body_len l) staged_at ∙ drop_at (snapshot entries) (0 ∷ rest) h.body_len (sym moves.long)
+      ∙ ap (λ (l : List ℕ). drop h.body_len l) staged_at ∙ drop_at (snapshot behind) (0 ∷ rest) h.body_len (sym moves.long)
 
   shut_zero : 0 ≢ OPEN
   shut_zero = omega arith
 
-  -- under the new header the snapshot has the same records
-  pub staged_new : HasMap h staged entries
+  -- under the new header the snapshot has the records behind the changes
+  pub staged_new : HasMap h staged behind
   staged_new = record {
-    body = entries;
-    snapshot = record { spelled = staged_body; fits = map_fits older file entries stand.has };
+    body = behind;
+    snapshot = record { spelled = staged_body; fits = fits };
     frames = [];
     journal = journal_spelled h.journal_at h.journal_end [] 0 rest staged staged_gate tt shut_zero (omega (arith, moves.follows.areas.room));
     batches = [];
@@ -120,36 +122,36 @@ module _ (older h : Header) (place : Journal) (entries : Entries) (bytes : List 
       has_window older stand.areas staged c entries staged_old
       (ap (λ (l : List ℕ). take (wide older stand.areas staged c entries staged_old) l) (same_from c older.body_at (omega (arith, area_of older stand.areas)) same))
 
-  new_still : (c : List ℕ) → IsSameBehind staged c → HasMap h c entries
+  new_still : (c : List ℕ) → IsSameBehind staged c → HasMap h c behind
   new_still c same =
-      has_window h moves.follows.areas staged c entries staged_new
-      (ap (λ (l : List ℕ). take (wide h moves.follows.areas staged c entries staged_new) l) (same_from c h.body_at (omega (arith, area_of h moves.follows.areas)) same))
+      has_window h moves.follows.areas staged c behind staged_new
+      (ap (λ (l : List ℕ). take (wide h moves.follows.areas staged c behind staged_new) l) (same_from c h.body_at (omega (arith, area_of h moves.follows.areas)) same))
 
   no_frames : (c : List ℕ) (same : IsSameBehind staged c) → (new_still c same).frames ≡ []
   unfolding new_still staged_new
   no_frames c same =
-      has_window-frames h moves.follows.areas staged c entries staged_new
-      (ap (λ (l : List ℕ). take (wide h moves.follows.areas staged c entries staged_new) l) (same_from c h.body_at (omega (arith, area_of h moves.follows.areas)) same))
+      has_window-frames h moves.follows.areas staged c behind staged_new
+      (ap (λ (l : List ℕ). take (wide h moves.follows.areas staged c behind staged_new) l) (same_from c h.body_at (omega (arith, area_of h moves.follows.areas)) same))
 
-  -- while the header is changed either counts, and both have the same records
-  pub header_leaves : (mid : View) → mid.text ≡ old.text → (c o : List ℕ) → LeavesHeader staged older h mid c o → LeavesMap entries old c o
+  -- while the header is changed either counts
+  pub header_leaves : (mid : View) → mid.text ≡ old.text → (c o : List ℕ) → LeavesHeader staged older h mid c o → LeavesOldOrNew AreasMean entries changes old c o
   header_leaves mid same c o left = record {
-    means = ⊎_elim
-        (λ (was : Counts c older). let m : AreasMean c entries = record { header = older; counts = was; areas = stand.areas; has = old_still c left.same } in m)
-        (λ (now : Counts c h). let m : AreasMean c entries = record { header = h; counts = now; areas = moves.follows.areas; has = new_still c left.same } in m)
+    whole = ⊎_elim
+        (λ (was : Counts c older). let m : AreasMean c entries = record { header = older; counts = was; areas = stand.areas; has = old_still c left.same } in inl m)
+        (λ (now : Counts c h). let m : AreasMean c behind = record { header = h; counts = now; areas = moves.follows.areas; has = new_still c left.same } in inr m)
         left.counts;
     text = sym same ∙ left.text;
   }
 
-  -- so a stop leaves the records while the snapshot is written and in the change
+  -- so a stop leaves the records before or those behind while the snapshot is written and in the change
   pub move_leaves : (mid new : View) → mid.text ≡ old.text → LeavesOnly old mid (LeavesTorn h.body_at (length bytes) file old) → LeavesOnly mid new (LeavesHeader staged older h mid)
-      → LeavesOnly old new (LeavesMap entries old)
+      → LeavesOnly old new (LeavesOldOrNew AreasMean entries changes old)
   move_leaves mid new same write change =
-      joined old mid new (LeavesMap entries old) (weaker old mid (LeavesTorn h.body_at (length bytes) file old) (LeavesMap entries old) snapshot_leaves write)
-      (weaker mid new (LeavesHeader staged older h mid) (LeavesMap entries old) (header_leaves mid same) change)
+      joined old mid new (LeavesOldOrNew AreasMean entries changes old) (weaker old mid (LeavesTorn h.body_at (length bytes) file old) (LeavesOldOrNew AreasMean entries changes old) snapshot_leaves write)
+      (weaker mid new (LeavesHeader staged older h mid) (LeavesOldOrNew AreasMean entries changes old) (header_leaves mid same) change)
 
   -- and then the new one does
-  pub moved_over : (new : View) (next : List ℕ) → Stands next new → IsChanged staged h next → StandUnder h (empty_under h) entries new
+  pub moved_over : (new : View) (next : List ℕ) → Stands next new → IsChanged staged h next → StandUnder h (empty_under h) behind new
   moved_over new next stands changed = record {
     file = next;
     counts = changed.counts;
@@ -226,9 +228,13 @@ module _ (h : Header) (place : Journal) (entries : Entries) (changes : Changes) 
         end = ends;
       }
 
--- what leaves one map leaves the old or the new
-pub old_left : (entries : Entries) (changes : Changes) (old : View) (c o : List ℕ) → LeavesMap entries old c o → LeavesOldOrNew AreasMean entries changes old c o
-old_left entries changes old c o left = record { whole = inl left.means; text = left.text }
+-- without changes the same records are left
+pub same_left : (entries : Entries) (old : View) (c o : List ℕ) → LeavesOldOrNew AreasMean entries [] old c o → LeavesMap entries old c o
+same_left entries old c o left = record { means = ⊎_elim (λ (m : AreasMean c entries). m) (λ (m : AreasMean c entries). m) left.whole; text = left.text }
+
+-- and so the old or the new
+pub old_left : (entries : Entries) (changes : Changes) (old : View) (c o : List ℕ) → LeavesOldOrNew AreasMean entries [] old c o → LeavesOldOrNew AreasMean entries changes old c o
+old_left entries changes old c o left = record { whole = inl (same_left entries old c o left).means; text = left.text }
 
 -- and so it is where the text was the same before
 pub text_back : (entries : Entries) (changes : Changes) (old mid : View) → mid.text ≡ old.text → (c o : List ℕ) → LeavesOldOrNew AreasMean entries changes mid c o

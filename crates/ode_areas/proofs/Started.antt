@@ -1,5 +1,5 @@
 -- What a keeper has that was started, and that its answer is decided by the file.
-use Rattle.std.proofs.Common.{◌≡◌, ◌≤◌, ⊎_elim, ℕ, List, Result, IfOk, IsErrOf, refl, sym, ap, subst, arith}
+use Rattle.std.proofs.Common.{◌≡◌, ⊎_elim, ℕ, List, Result, IfOk, IsErrOf, refl, sym, ap, subst, arith}
 use Rattle.std.proofs.lemmas.Result.{IfOk-weaker}
 use Rattle.ode_gate.specs.declared.header.Header.{Header}
 use Rattle.ode_gate.specs.Headers.{IsHeader, IsOfAreas, IsOfPages}
@@ -9,7 +9,7 @@ use Rattle.ode_host.specs.Host.{Stands}
 use Rattle.ode_journal.specs.declared.journal.Journal.{Journal}
 use Rattle.ode_journal.specs.Frames.{IsJournal}
 use Rattle.ode_journal.specs.Histories.{IsReplayed}
-use Rattle.ode_keep.specs.Entries.{Entries, applied, record_bytes}
+use Rattle.ode_keep.specs.Entries.{Entries, applied}
 use Rattle.ode_keep.specs.Payloads.{IsPayload}
 use Rattle.ode_areas.specs.declared.areas.Areas.{Areas}
 use Rattle.ode_keep.specs.declared.error.StartError.{StartError}
@@ -18,7 +18,6 @@ use Rattle.ode_areas.specs.Holding.{AreasHold}
 use Rattle.ode_areas.specs.Image.{HasMap, IsBadAt, body_of}
 use Rattle.ode_areas.specs.OneMap.{never_both, one_has, one_place}
 use Rattle.ode_keep.specs.Snapshots.{IsSnapshot}
-use Rattle.ode_keep.specs.declared.limits.TheConstants.{MAX_RECORD_BYTES}
 use Rattle.ode_keep.specs.Starting.{Refuses, Starts}
 use Rattle.ode_keep.proofs.Starting.{refuses_journal, starts}
 
@@ -40,8 +39,8 @@ has_map header file body map journal snapshot after = record {
 
 pub holds_map : (keeper : Areas) (file : List ℕ) (body entries : Entries) (view : View) → IsOfAreas keeper.header → Stands file view → Counts file keeper.header
     → IsSnapshot body (body_of keeper.header file) → IsReplayed IsPayload applied keeper.header.journal_at keeper.header.journal_end body keeper.map keeper.journal file
-    → HasMap keeper.header file entries → record_bytes entries ≤ MAX_RECORD_BYTES → AreasHold keeper view entries
-holds_map keeper file body entries view areas stands counts snapshot after has within =
+    → HasMap keeper.header file entries → AreasHold keeper view entries
+holds_map keeper file body entries view areas stands counts snapshot after has =
     let own = has_map keeper.header file body keeper.map keeper.journal snapshot after in
     let same : keeper.map ≡ entries = one_has keeper.header file keeper.map entries own has in
     subst (λ (l : Entries). AreasHold keeper view l) same (record {
@@ -56,7 +55,6 @@ holds_map keeper file body entries view areas stands counts snapshot after has w
       };
       end = ap (λ (j : Journal). j.end) after.behind;
       map = refl;
-      within = subst (λ (l : Entries). record_bytes l ≤ MAX_RECORD_BYTES) (sym same) within;
     })
 
 -- What is true of the file is answered, where the answers are true and at most one of them can be.

@@ -41,7 +41,7 @@ abbrev pub FitsJournal : Areas → Changes → Type 0
 FitsJournal keeper changes = need_of (payload_of changes) ≤ room_of keeper.journal
 
 -- It holds these records: a file stands on the disk in which its header counts, and that has them under this header. It
--- has them in memory too, and knows where the journal ends. They aren't above the limit.
+-- has them in memory too, and knows where the journal ends.
 pub record AreasHold (keeper : Areas) (view : View) (entries : Entries) : Type 0 where
   pub file : List ℕ
   pub counts : Counts file keeper.header
@@ -50,4 +50,3 @@ pub record AreasHold (keeper : Areas) (view : View) (entries : Entries) : Type 0
   pub journal : JournalStands keeper.header.journal_at has.frames file keeper.journal view
   pub end : keeper.journal.end ≡ keeper.header.journal_end
   pub map : keeper.map ≡ entries
-  pub within : record_bytes entries ≤ MAX_RECORD_BYTES

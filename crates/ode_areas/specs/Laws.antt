@@ -26,7 +26,6 @@ stays_law keeper old new entries h still = record {
   journal = record { stands = still h.file h.journal.stands; has = h.journal.has; place = h.journal.place };
   end = h.end;
   map = h.map;
-  within = h.within;
 }
 
 -- the keys of an image's records rise

@@ -1,13 +1,14 @@
 -- What the writes of a commit need and leave.
-use Rattle.std.specs.Prelude.{◌≡◌, ◌≢◌, ◌+◌, ℕ, List, [], ◌∷◌, ◌++◌, length, Option, Some, None}
+use Rattle.std.specs.Prelude.{◌≡◌, ◌≢◌, ◌+◌, ◌<◌, ◌≤◌, ◌⊎◌, ℕ, List, [], ◌∷◌, ◌++◌, length, Option, Some, None}
 use Rattle.ode_gate.specs.declared.header.Header.{Header}
 use Rattle.ode_gate.specs.Changes.{header_change_length}
 use Rattle.ode_gate.specs.Headers.{IsHeader, IsOfAreas, next_generation}
 use Rattle.ode_gate.specs.Slots.{Counts, IsSlot}
 use Rattle.ode_gate.specs.declared.gate.TheConstants.{SHUT}
+use Rattle.ode_gate.specs.declared.places.TheConstants.{AREA_LEN}
 use Rattle.ode_host.specs.View.{View}
 use Rattle.ode_journal.specs.declared.journal.Journal.{Journal}
-use Rattle.ode_journal.specs.Appends.{JournalStands}
+use Rattle.ode_journal.specs.Appends.{JournalStands, room_of}
 use Rattle.ode_keep.specs.Entries.{Entries}
 use Rattle.ode_value.specs.Records.{snapshot}
 use Rattle.ode_areas.specs.declared.plan.Checkpoint.{Checkpoint}
@@ -54,3 +55,11 @@ bytes_before (Some c) = length c.bytes.items + header_change_length
 -- a checkpoint of these records
 abbrev pub checkpoint_length : Entries → ℕ
 checkpoint_length entries = length (snapshot entries) + 1 + header_change_length
+
+-- a frame that takes so many bytes fits its journal, or an area behind a snapshot of these records
+abbrev pub HasPlace : Journal → Entries → ℕ → Type 0
+HasPlace place entries need = (need ≤ room_of place) ⊎ (length (snapshot entries) + need ≤ AREA_LEN)
+
+-- and it fits neither
+abbrev pub HasNoPlace : Journal → Entries → ℕ → Type 0
+HasNoPlace place entries need = (room_of place < need) × (AREA_LEN < length (snapshot entries) + need)

@@ -1,11 +1,13 @@
 //! A batch is made in the records in memory, or not at all.
 ghost use Rattle.std.specs.Prelude.{◌≡◌, ◌+◌, ◌≤◌, ◌<◌, ◌^◌, ◌-◌, ◌++◌, [], ◌∷◌, length, min, reverse, None, IsSome, OnErr, OnOk};
 ghost use Rattle.std.specs.BTreeMap.{insert_entry};
+ghost use Rattle.std.specs.List.{AllByRecursion};
 ghost use Rattle.std.specs.Option.{IfSome, option_copied};
 ghost use Rattle.ode_keep.specs.ShortValues.{HasShortValues};
 ghost use Rattle.ode_keep.specs.Entries.{Entries, HasRisingKeys, applied, changed, count_of_kind, record_bytes, value_under};
 ghost use Rattle.ode_value.specs.Keys.{entry_kind, key_cmp};
 ghost use Rattle.ode_keep.specs.Growth.{bytes_of};
+ghost use Rattle.ode_keep.specs.Payloads.{FitsChange};
 ghost use Rattle.ode_areas.specs.Puts.{LeadBack, NeedNoRoom, puts, removals};
 
 use crate::map::{Map, one_queued};
@@ -156,7 +158,8 @@ impl Map {
         batch: &Batch,
         total: u64,
     ) -> Result<(), AllocError>
-        requires { total ≡ record_bytes (applied batch.now self.old) }
+        requires total { total ≡ record_bytes (applied batch.now self.old) }
+        requires fits { AllByRecursion FitsChange batch.now }
         ensures ok { OnOk result (self.new ≡ applied batch.now self.old) }
         ensures err { OnErr result (self.new ≡ self.old) }
     {

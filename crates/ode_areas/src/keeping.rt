@@ -1,27 +1,43 @@
 //! The keeper of two areas keeps records: their changes are written before they are answered.
 ghost use Rattle.std.specs.Prelude.{◌≡◌, ◌+◌, ◌≤◌, ◌<◌, length, IfOk, IsErrOf, IsTrue, OnErr, OnOk};
+ghost use Rattle.std.specs.List.{AllByRecursion};
+ghost use Rattle.ode_gate.specs.declared.places.TheConstants.{AREA_LEN};
 ghost use Rattle.ode_keep.specs.ShortValues.{HasShortValues};
 ghost use Rattle.ode_keep.specs.Entries.{applied, record_bytes};
 ghost use Rattle.ode_keep.specs.Keeping.{OnDamaged, OnDiskFault, OnTooLarge};
+ghost use Rattle.ode_keep.specs.Payloads.{FitsChange};
 
 use crate::areas::Areas;
 use crate::encode::frame_of;
-use crate::plan::{Checkpoint, checkpoint_for};
-use crate::steps::write_changes;
+use crate::plan::{Checkpoint, Ready, checkpoint_for, checkpoint_of, has_place};
+use crate::snapshot::{copy_of, snapshot_length};
+use crate::steps::write_ready;
 use ode_host::Host;
-use ode_journal::Frame;
+use ode_journal::FRAME_BYTES;
 use ode_keep::{Batch, Keep, KeepError, MAX_CHANGES, MAX_RECORD_BYTES, Rows, payload_length};
 use ode_value::{Key, List};
-
-/// What a commit writes: a frame, and before it a checkpoint where one is due.
-#[derive(Drop)]
-struct Ready {
-    frame: Frame,
-    due: Option<Checkpoint>,
-}
+use std::alloc::AllocError;
 
 impl Areas {
     ghost use Rattle.ode_areas.specs.Ready.{IsReady};
+    ghost use Rattle.ode_areas.specs.Steps.{MovesOver};
+
+    // Makes the changes of a batch in memory, and a checkpoint of the records behind it. At an error nothing changed.
+    fn prepare_moved(&mut self, batch: &Batch, total: u64) -> Result<Checkpoint, AllocError>
+        requires total { total ≡ record_bytes (applied batch.now self.old.map) }
+        requires within { total ≤ MAX_RECORD_BYTES }
+        requires each { AllByRecursion FitsChange batch.now }
+        ensures moves { IfOk result (λ c. MovesOver self.old.header (applied batch.now self.old.map) c.header c.bytes.items) }
+        ensures changed { OnOk result (self.new ≡ record self.old { map = applied batch.now self.old.map }) }
+        ensures unchanged { OnErr result (self.new ≡ self.old) }
+    {
+        let mut map = copy_of(self.alloc, &self.map)?;
+        map.apply(self.alloc, batch, total)?;
+        let length = snapshot_length(&map);
+        let checkpoint = checkpoint_of(self.alloc, &self.header, &map, length)?;
+        self.map = map;
+        Ok(checkpoint)
+    }
 
     // Makes the changes of a batch in memory, and what is to be written. At an error nothing changed.
     fn prepare(&mut self, batch: &Batch) -> Result<Ready, KeepError>
@@ -31,7 +47,7 @@ impl Areas {
         ensures changed { OnOk result (self.new ≡ record self.old { map = applied batch.now self.old.map }) }
         ensures within { OnOk result (record_bytes (applied batch.now self.old.map) ≤ MAX_RECORD_BYTES) }
         ensures unchanged { OnErr result (self.new ≡ self.old) }
-        ensures too_large { OnTooLarge result (λ total. record_bytes self.old.map ≤ MAX_RECORD_BYTES
+        ensures too_large { OnTooLarge result (λ total. record_bytes self.old.map ≤ AREA_LEN
             → (total ≡ record_bytes (applied batch.now self.old.map)) × (MAX_RECORD_BYTES < total)) }
         ensures no_fault { OnDiskFault result ⊥ }
         ensures not_damaged { OnDamaged result ⊥ }
@@ -41,10 +57,14 @@ impl Areas {
             return Err(KeepError::TooLarge { total });
         }
         let frame = frame_of(self.alloc, batch)?;
-        let length = payload_length(batch);
-        let due = checkpoint_for(self.alloc, &self.header, &self.journal, &self.map, length)?;
+        let need = u64::from(payload_length(batch)) + FRAME_BYTES as u64;
+        if !has_place(&self.journal, &self.map, need) {
+            let checkpoint = self.prepare_moved(batch, total)?;
+            return Ok(Ready::Moved { checkpoint });
+        }
+        let due = checkpoint_for(self.alloc, &self.header, &self.journal, &self.map, need)?;
         self.map.apply(self.alloc, batch, total)?;
-        Ok(Ready { frame, due })
+        Ok(Ready::Framed { frame, due })
     }
 }
 
@@ -118,15 +138,15 @@ impl<H: Host> Keep<H> for Areas {
         ensures usable { is_live self.new ≡ is_usable result }
         ensures damaged { OnDamaged result ((entries : Entries) → AreasHold self.old (H.view host.old) entries → ⊥) }
 
-        // Where the frame fits its journal it is all that is written. Else a checkpoint of the records stands in front of it.
+        // Where the frame fits its journal it is all that is written. Else a checkpoint of the records stands in front of it,
+        // or, where it has no place behind that either, one of the records behind the batch is all that is written.
         ensures frame { OnOk result (FitsJournal self.old batch.now
             → Puts (need_of (payload_of batch.now)) (H.view host.old) (H.view host.new)) }
         ensures checkpoint { OnOk result ((entries : Entries) → AreasHold self.old (H.view host.old) entries
             → WritesAtMost (checkpoint_length entries + need_of (payload_of batch.now)) (H.view host.old) (H.view host.new)) }
     {
         let ready = self.prepare(batch)?;
-        let due = ready.due.as_ref();
-        match write_changes(host, &mut self.header, &mut self.journal, due, &ready.frame) {
+        match write_ready(host, &mut self.header, &mut self.journal, &ready) {
             Ok(()) => Ok(()),
             Err(_) => {
                 self.is_live = false;

@@ -1,8 +1,9 @@
 //! The records of a keeper, in memory.
-ghost use Rattle.std.specs.Prelude.{◌≡◌, ◌+◌, ◌==◌, [], Some, None, cond, IfOk, OnErr, OnOk};
+ghost use Rattle.std.specs.Prelude.{◌≡◌, ◌+◌, ◌<◌, ◌==◌, ◌^◌, [], Some, None, cond, length, IfOk, OnErr, OnOk};
 ghost use Rattle.std.specs.Option.{option_copied};
 ghost use Rattle.ode_keep.specs.Entries.{Entries, HasRisingKeys, StartsOf, changed, count_of_kind, entries_from, least_from, record_bytes, value_under};
 ghost use Rattle.ode_keep.specs.Growth.{one_of_kind};
+ghost use Rattle.ode_keep.specs.Snapshots.{FitsSnapshot};
 ghost use Rattle.ode_value.specs.Keys.{entry_kind};
 
 use ode_keep::{KEY_LEN, Rows};
@@ -11,7 +12,7 @@ use ode_value::{Key, List};
 use std::alloc::{AllocError, Global};
 use std::marker::Model;
 
-/// Records in rising order of their keys, how many bytes they count, and how many are entries of the queue.
+/// Records that fit a snapshot, how many bytes they count, and how many are entries of the queue.
 #[derive(Drop)]
 pub(crate) struct Map {
     pub(crate) records: Records,
@@ -25,7 +26,7 @@ impl Model for Map {
     ghost view = { λ map. map.records };
 
     ghost invariant = { λ map. (map.bytes ≡ record_bytes map.records)
-        × (map.queued ≡ count_of_kind entry_kind map.records) × HasRisingKeys map.records };
+        × (map.queued ≡ count_of_kind entry_kind map.records) × FitsSnapshot map.records };
 }
 
 // How many entries of the queue a record is, if there is one.
@@ -62,6 +63,7 @@ impl Map {
 
     /// This value stands under the key from now on. The map stays as it was where there is no memory.
     pub(crate) fn put(&mut self, key: Key, value: List<u8>) -> Result<(), AllocError>
+        requires { length value < 2 ^ 16 }
         ensures ok { OnOk result (self.new ≡ changed self.old key (Some value)) }
         ensures err { OnErr result (self.new ≡ self.old) }
     {

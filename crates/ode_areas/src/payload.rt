@@ -3,7 +3,7 @@ ghost use Rattle.std.specs.Prelude.{◌≡◌, IfOk, OnOk};
 ghost use Rattle.std.specs.Bool.{OnFalse, OnTrue};
 ghost use Rattle.std.specs.Option.{option_map};
 ghost use Rattle.ode_keep.specs.Entries.{Changes, applied, changed};
-ghost use Rattle.ode_keep.specs.Payloads.{IsPayload};
+ghost use Rattle.ode_keep.specs.Payloads.{FitsChange, IsPayload};
 
 use crate::map::Map;
 use ode_host::take_u32;
@@ -13,6 +13,7 @@ use std::alloc::{AllocError, Global};
 
 // Makes a change.
 fn make(alloc: Global, change: FirstChange<'_>, map: &mut Map) -> Result<(), AllocError>
+    requires { FitsChange (change.key, option_map (λ v. v.now) change.value) }
     ensures ok { OnOk result (map.new ≡ changed map.old change.entry.key (option_map (λ v. v.now) change.entry.value)) }
 {
     match change.value {

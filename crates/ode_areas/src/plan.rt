@@ -1,21 +1,18 @@
 //! What a commit writes before its frame.
-ghost use Rattle.std.specs.Prelude.{◌≡◌, ◌+◌, ◌<◌, ◌≤◌, ◌++◌, [], ◌∷◌, length, IfOk, MatchOption};
-ghost use Rattle.std.specs.List.{AllByRecursion};
+ghost use Rattle.std.specs.Prelude.{◌≡◌, ◌<◌, ◌≤◌, ◌++◌, [], ◌∷◌, IfOk, MatchOption};
+ghost use Rattle.std.specs.Bool.{OnFalse, OnTrue};
 ghost use Rattle.std.specs.Option.{IfSome};
 ghost use Rattle.ode_gate.specs.Slots.{IsSlot};
 ghost use Rattle.ode_journal.specs.Appends.{room_of};
-ghost use Rattle.ode_keep.specs.Keeping.{OnDamaged, OnDiskFault, OnTooLarge};
 ghost use Rattle.ode_value.specs.Records.{snapshot};
-ghost use Rattle.ode_keep.specs.Snapshots.{FitsRow};
-ghost use Rattle.ode_areas.specs.Steps.{IsNext, MovesOver, empty_under};
+ghost use Rattle.ode_areas.specs.Steps.{HasNoPlace, HasPlace, IsNext, MovesOver, empty_under};
 
 use crate::map::Map;
 use crate::snapshot::{shut_snapshot, snapshot_length};
 use ode_gate::{
     AREA_0, AREA_1, AREA_LEN, AREAS_END, FIRST_FORMAT, Header, SHUT, TWO_AREAS, next_generation,
 };
-use ode_journal::{FRAME_BYTES, Journal};
-use ode_keep::{KeepError, MAX_PAYLOAD_LEN};
+use ode_journal::{Frame, Journal};
 use std::alloc::{AllocError, Global};
 
 /// A snapshot for the other area, with a shut gate behind it, and the header that is to follow.
@@ -23,6 +20,20 @@ use std::alloc::{AllocError, Global};
 pub(crate) struct Checkpoint {
     pub(crate) header: Header,
     pub(crate) bytes: Vec<u8>,
+}
+
+/// What a commit writes.
+#[derive(Drop)]
+pub(crate) enum Ready {
+    /// A frame, and before it a checkpoint where one is due.
+    Framed {
+        frame: Frame,
+        due: Option<Checkpoint>,
+    },
+    /// A checkpoint of the records behind the batch, where its frame has no place.
+    Moved {
+        checkpoint: Checkpoint,
+    },
 }
 
 // The header of the other area, in the other slot, over a snapshot of this length.
@@ -59,42 +70,47 @@ pub(crate) fn checkpoint_of(
     requires { size < AREA_LEN }
     ensures follows { IfOk result (λ c. IsNext header.now c.header) }
     ensures long { IfOk result (λ c. c.header.body_len ≡ size) }
-    ensures spelled { IfOk result (λ c. AllByRecursion FitsRow map.now → c.bytes.items ≡ snapshot map.now ++ SHUT ∷ []) }
+    ensures spelled { IfOk result (λ c. c.bytes.items ≡ snapshot map.now ++ SHUT ∷ []) }
 {
     let bytes = shut_snapshot(alloc, map, size as usize)?;
     let header = next_header(header, size);
     Ok(Checkpoint { header, bytes })
 }
 
-/// The checkpoint that is due before a frame whose payload has this length, and none where the frame fits its journal.
-/// It is `TooLarge` where it wouldn't fit behind the snapshot either.
+// Whether a journal has room for a frame that takes so many bytes.
+fn has_room(journal: &Journal, need: u64) -> bool
+    ensures fits { OnTrue result (need ≤ room_of journal.now) }
+    ensures full { OnFalse result (room_of journal.now < need) }
+{
+    need <= journal.end.saturating_sub(journal.at)
+}
+
+/// Whether a frame that takes so many bytes fits its journal, or an area behind a snapshot of these records.
+pub(crate) fn has_place(journal: &Journal, map: &Map, need: u64) -> bool
+    ensures place { OnTrue result (HasPlace journal.now map.now need) }
+    ensures none { OnFalse result (HasNoPlace journal.now map.now need) }
+{
+    has_room(journal, need) || snapshot_length(map).saturating_add(need) <= AREA_LEN
+}
+
+/// The checkpoint that is due before a frame that takes so many bytes, and none where the frame fits its journal.
 pub(crate) fn checkpoint_for(
     alloc: Global,
     header: &Header,
     journal: &Journal,
     map: &Map,
-    payload: u32,
-) -> Result<Option<Checkpoint>, KeepError>
-    requires { payload ≤ MAX_PAYLOAD_LEN }
-    ensures room { IfOk result (λ due. MatchOption due (payload + FRAME_BYTES ≤ room_of journal.now)
-        (λ c. payload + FRAME_BYTES ≤ room_of (empty_under c.header))) }
-    ensures needed { IfOk result (λ due. IfSome due (λ c. room_of journal.now < payload + FRAME_BYTES)) }
-    ensures moves { IfOk result (λ due. IfSome due (λ c. AllByRecursion FitsRow map.now
-        → MovesOver header.now map.now c.header c.bytes.items)) }
+    need: u64,
+) -> Result<Option<Checkpoint>, AllocError>
+    requires { HasPlace journal.now map.now need }
+    ensures room { IfOk result (λ due. MatchOption due (need ≤ room_of journal.now)
+        (λ c. need ≤ room_of (empty_under c.header))) }
+    ensures needed { IfOk result (λ due. IfSome due (λ c. room_of journal.now < need)) }
+    ensures moves { IfOk result (λ due. IfSome due (λ c. MovesOver header.now map.now c.header c.bytes.items)) }
     ensures slot { IfOk result (λ due. IfSome due (λ c. IsSlot c.header.slot)) }
-    ensures too_large { OnTooLarge result (λ total. AREA_LEN < length (snapshot map.now) + payload + FRAME_BYTES) }
-    ensures no_fault { OnDiskFault result ⊥ }
-    ensures not_damaged { OnDamaged result ⊥ }
 {
-    let need = u64::from(payload) + FRAME_BYTES as u64;
-    if need <= journal.end.saturating_sub(journal.at) {
+    if has_room(journal, need) {
         return Ok(None);
     }
-    let length = snapshot_length(map);
-    if AREA_LEN - need < length {
-        let total = map.bytes();
-        return Err(KeepError::TooLarge { total });
-    }
-    let checkpoint = checkpoint_of(alloc, header, map, length)?;
+    let checkpoint = checkpoint_of(alloc, header, map, snapshot_length(map))?;
     Ok(Some(checkpoint))
 }

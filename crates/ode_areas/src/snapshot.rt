@@ -1,8 +1,7 @@
 //! Records are spelled as a snapshot, and read from its bytes.
 ghost use Rattle.std.specs.Prelude.{◌≡◌, ◌-◌, ◌<◌, ◌≤◌, ◌^◌, ◌++◌, [], ◌∷◌, IfOk, length, min};
-ghost use Rattle.std.specs.List.{AllByRecursion};
 ghost use Rattle.std.specs.Option.{IfNone, IfSome};
-ghost use Rattle.ode_keep.specs.Snapshots.{FitsRow, IsBrokenSnapshot, IsSnapshot};
+ghost use Rattle.ode_keep.specs.Snapshots.{IsBrokenSnapshot, IsSnapshot};
 ghost use Rattle.ode_value.specs.Records.{snapshot};
 
 use crate::map::Map;
@@ -23,7 +22,7 @@ pub(crate) fn snapshot_length(map: &Map) -> u64
 
 /// The snapshot of these records.
 pub(crate) fn snapshot_of(alloc: Global, map: &Map) -> Result<Vec<u8>, AllocError>
-    ensures { IfOk result (λ bytes. AllByRecursion FitsRow map.now → bytes.items ≡ snapshot map.now) }
+    ensures { IfOk result (λ bytes. IsSnapshot map.now bytes.items) }
 {
     let mut bytes = Vec::new(alloc);
     map.records.put_rows(&mut bytes)?;
@@ -33,7 +32,7 @@ pub(crate) fn snapshot_of(alloc: Global, map: &Map) -> Result<Vec<u8>, AllocErro
 /// The snapshot of these records, of this length in bytes, and one shut gate behind it.
 pub(crate) fn shut_snapshot(alloc: Global, map: &Map, length: usize) -> Result<Vec<u8>, AllocError>
     requires { length < 2 ^ 63 }
-    ensures { IfOk result (λ bytes. AllByRecursion FitsRow map.now → bytes.items ≡ snapshot map.now ++ SHUT ∷ []) }
+    ensures { IfOk result (λ bytes. bytes.items ≡ snapshot map.now ++ SHUT ∷ []) }
 {
     let mut bytes = Vec::with_capacity(alloc, length + 1)?;
     map.records.put_rows(&mut bytes)?;
@@ -68,4 +67,16 @@ pub(crate) fn load_rows(
         at = bytes.len() - rest.len();
     }
     Ok(None)
+}
+
+/// A map of the same records.
+pub(crate) fn copy_of(alloc: Global, map: &Map) -> Result<Map, AllocError>
+    ensures { IfOk result (λ copy. copy ≡ map.now) }
+{
+    let bytes = snapshot_of(alloc, map)?;
+    let mut copy = Map::new(alloc);
+    match load_rows(alloc, &bytes, bytes.len(), &mut copy)? {
+        None => Ok(copy),
+        Some(_) => unreachable!(),
+    }
 }

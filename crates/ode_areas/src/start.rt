@@ -1,5 +1,5 @@
 //! A keeper is started over a file.
-ghost use Rattle.std.specs.Prelude.{◌≡◌, ◌≤◌, [], IfOk, IsErrOf, IsTrue, List, OnOk, length, ℕ};
+ghost use Rattle.std.specs.Prelude.{◌≡◌, [], IfOk, IsErrOf, IsTrue, List, OnOk, length, ℕ};
 ghost use Rattle.ode_gate.specs.Headers.{IsHeader, IsOfAreas};
 ghost use Rattle.ode_gate.specs.Slots.{Counts};
 ghost use Rattle.ode_host.specs.Causes.{RoseIf};
@@ -16,7 +16,7 @@ use crate::map::Map;
 use crate::snapshot::load_rows;
 use ode_gate::{Header, TWO_AREAS};
 use ode_host::{Host, read_whole};
-use ode_keep::{MAX_RECORD_BYTES, StartError};
+use ode_keep::StartError;
 use std::alloc::Global;
 
 // Puts the records of the snapshot into an empty map.
@@ -56,8 +56,7 @@ impl Areas {
         ensures found { IfOk result (λ _. (file : List ℕ) → Tells (H.view host.old) file
             → (entries : Entries) × HasMap h.now file entries) }
         ensures holds { IfOk result (λ keeper. (file : List ℕ) (entries : Entries) → Stands file (H.view host.old)
-            → Counts file h.now → HasMap h.now file entries → record_bytes entries ≤ MAX_RECORD_BYTES
-            → AreasHold keeper (H.view host.new) entries) }
+            → Counts file h.now → HasMap h.now file entries → AreasHold keeper (H.view host.new) entries) }
         ensures bytes { IfOk result (λ keeper. (file : List ℕ) (entries : Entries) → Tells (H.view host.old) file
             → HasMap h.now file entries → held_bytes keeper ≡ record_bytes entries) }
         ensures live { IfOk result (λ keeper. IsTrue (is_live keeper)) }

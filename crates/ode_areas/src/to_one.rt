@@ -4,7 +4,7 @@ ghost use Rattle.ode_gate.specs.Changes.{WritesAtMost};
 ghost use Rattle.ode_host.specs.Host.{DiskCalls, LeavesOnly, Looks};
 ghost use Rattle.ode_keep.specs.Entries.{Entries};
 ghost use Rattle.ode_keep.specs.Keeping.{OnDamaged, OnRefusal, OnTooLarge, is_usable};
-ghost use Rattle.ode_keep.specs.Snapshots.{FitsSnapshot, IsSnapshot};
+ghost use Rattle.ode_keep.specs.Snapshots.{IsSnapshot};
 ghost use Rattle.ode_areas.specs.Holding.{AreasHold, IsInOne, header_of, held, held_bytes, is_live};
 ghost use Rattle.ode_areas.specs.Steps.{LeavesMap, checkpoint_length};
 
@@ -14,7 +14,6 @@ use crate::snapshot::{snapshot_length, snapshot_of};
 use crate::steps::move_over;
 use ode_gate::{AREA_0, Header};
 use ode_host::Host;
-use ode_journal::Journal;
 use ode_keep::{KeepError, MAX_RECORD_BYTES};
 use std::alloc::{AllocError, Global};
 
@@ -39,15 +38,8 @@ impl Areas {
     {
         let length = snapshot_length(&self.map);
         let checkpoint = checkpoint_of(self.alloc, &self.header, &self.map, length)?;
-        match move_over(host, &checkpoint) {
-            Ok(()) => {
-                self.header = checkpoint.header;
-                self.journal = Journal {
-                    at: self.header.journal_at,
-                    end: self.header.journal_end,
-                };
-                Ok(())
-            }
+        match move_over(host, &mut self.header, &mut self.journal, &checkpoint) {
+            Ok(()) => Ok(()),
             Err(_) => {
                 self.is_live = false;
                 Err(KeepError::DiskFault)
@@ -87,9 +79,9 @@ impl Areas {
         &self.header
     }
 
-    /// The snapshot of its records, where they fit one.
+    /// The snapshot of its records.
     pub fn snapshot(&self, alloc: Global) -> Result<Vec<u8>, AllocError>
-        ensures { IfOk result (λ bytes. FitsSnapshot (held self.now) → IsSnapshot (held self.now) bytes.items) }
+        ensures { IfOk result (λ bytes. IsSnapshot (held self.now) bytes.items) }
     {
         snapshot_of(alloc, &self.map)
     }

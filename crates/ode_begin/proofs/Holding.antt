@@ -1,30 +1,27 @@
 -- What an image holds, by its format.
-use Rattle.std.proofs.Common.{◌≡◌, ◌∙◌, ◌<◌, ◌≤◌, ◌+◌, ⊎_elim, inl, inr, ℕ, List, Bool, true, false, Some, ap, refl, sym, subst, arith}
+use Rattle.std.proofs.Common.{◌≡◌, ◌∙◌, ◌<◌, ◌≤◌, ⊎_elim, inl, inr, ℕ, List, Bool, true, false, Some, ap, refl, sym, subst, arith}
 use Rattle.std.proofs.lemmas.Bool.{cases_lt}
 use Rattle.std.proofs.lemmas.Bool.Decides.{nat_tests}
 use Rattle.std.specs.Prelude.{◌==◌}
 use Rattle.ode_codec.specs.Standing.{HoldsWorld}
 use Rattle.ode_cutting.specs.Cutting.{FitFrame}
-use Rattle.ode_ends.proofs.RecordLaws.{queue_room, records_weigh}
+use Rattle.ode_ends.proofs.RecordLaws.{records_weigh}
 use Rattle.ode_ends.specs.Resting.{DiskHas}
 use Rattle.ode_file_laws.specs.Fitting.{FitsFile, FitsFirst}
 use Rattle.ode_gate.proofs.Counting.{one_counts}
 use Rattle.ode_gate.specs.Headers.{IsOfAreas, IsOfPages}
-use Rattle.ode_gate.specs.Slots.{Counts}
 use Rattle.ode_gate.specs.declared.header.Header.{Header}
 use Rattle.ode_gate.specs.declared.places.TheConstants.{FIRST_FORMAT, FORMAT}
 use Rattle.ode_host.proofs.Moments.{stands_looks}
 use Rattle.ode_host.specs.Host.{Looks, Stands, Tells}
 use Rattle.ode_host.specs.View.{View}
-use Rattle.ode_keep.specs.Entries.{Entries, record_bytes}
-use Rattle.ode_keeper.proofs.Started.{areas_most, pages_most}
-use Rattle.ode_keeper.specs.Files.{FileMeans, most_under}
+use Rattle.ode_keep.specs.Entries.{Entries}
+use Rattle.ode_keeper.specs.Files.{FileMeans}
 use Rattle.ode_language.specs.Languages.{ode}
 use Rattle.ode_migrate.specs.Migrating.{IsMigratedTo, LeavesRecords}
 use Rattle.ode_open.specs.Opening.{HasFormat}
 use Rattle.ode_paging.specs.Meaning.{PagesMeanIn}
 use Rattle.ode_value.specs.Language.{ListWorld}
-use Rattle.ode_value.specs.Weights.{weight}
 use Rattle.ode_begin.specs.Holds.{Holds, HoldsInPages, IsOfFirst}
 use Rattle.ode_begin.specs.Opening.{StandsInFirst}
 use Rattle.ode_begin.specs.Stops.{StaysIn}
@@ -127,27 +124,9 @@ same_format : (n : ℕ) → (n == FIRST_FORMAT) ≡ true → n ≡ FIRST_FORMAT
 same_format n is = grind (arith, nat_tests)
 
 module _ (image : List ℕ) (w : ListWorld) (holds : Holds image w) where
-  abbrev es : Entries
-  es = holds.held.entries
-
-  weighs : record_bytes es ≤ weight w.bones + queue_room
-  weighs = records_weigh ode es w holds.held.world
-
-  within : (header : Header) → Counts image header → record_bytes es ≤ most_under header
-  within header counts = ⊎_elim
-      (λ (areas : IsOfAreas header).
-      let first = holds.format header counts areas.format in
-      subst (λ (n : ℕ). record_bytes es ≤ n) (sym (areas_most header areas.layout)) (omega (arith, weighs, first.light)))
-      (λ (pages : IsOfPages header).
-      subst (λ (n : ℕ). record_bytes es ≤ n) (sym (pages_most header pages)) (omega (arith, weighs, holds.held.world.good.bones.light)))
-      counts.leads.holds.rules.layout
-
-  fits_first : (header : Header) → Counts image header → FitsFirst (header.format == FIRST_FORMAT) w.bones
-  fits_first header counts = by (header.format == FIRST_FORMAT) refl
+  pub fits_file : FitsFile image w.bones
+  fits_file header counts = by (header.format == FIRST_FORMAT) refl
     where
       by : (first : Bool) → (header.format == FIRST_FORMAT) ≡ first → FitsFirst first w.bones
       by true is = let first = holds.format header counts (same_format header.format is) in (first.none, first.light)
       by false is = tt
-
-  pub fits_file : FitsFile image es w.bones
-  fits_file = record { within = within; format = fits_first }

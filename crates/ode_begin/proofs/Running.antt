@@ -47,7 +47,7 @@ breaks_none image o only breaks = ⊎_elim (λ (none : ⊥). none) (λ is. cc (i
 
 -- the law of such files
 abbrev pub Unbroken : Type 0
-Unbroken = (image : List ℕ) (entries : Entries) (w : ListWorld) → FileMeans image entries → HoldsWorld ode entries w → AreFromOne w.bones → FitsFile image entries w.bones
+Unbroken = (image : List ℕ) (entries : Entries) (w : ListWorld) → FileMeans image entries → HoldsWorld ode entries w → AreFromOne w.bones → FitsFile image w.bones
     → (error : OpenError) → IsOpenedTo image (Err error) → ⊥
 
 pub held_unbroken : Unbroken → (image : List ℕ) (w : ListWorld) → Holds image w → (error : OpenError) → IsOpenedTo image (Err error) → ⊥

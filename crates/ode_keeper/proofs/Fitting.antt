@@ -17,7 +17,7 @@ joined_fits : (entries page : Entries) → AllFit entries → AllFit page → Al
 joined_fits entries [] all more = all
 joined_fits entries (e ∷ page) all more =
     let one : AllFit (changed entries e.0 (Some e.1))
-    = of_areas.applied_fits ((e.0, Some e.1) ∷ []) entries (record { key = more.0.key; value = more.0.value }, tt) all in
+    = of_areas.rows_changed entries e.0 (Some e.1) (record { key = more.0.key; value = more.0.value }) all in
     joined_fits (changed entries e.0 (Some e.1)) page one more.1
 
 gathered_fits : (header : Header) (images : List Image) (file : List ℕ) (page : ℕ) (entries : Entries) (pages : List Entries) → HavePages header images file page pages → AllFit entries

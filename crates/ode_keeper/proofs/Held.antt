@@ -1,15 +1,15 @@
 -- What stands for records under a header that counts, and that a keeper holds the records of one map alone.
-use Rattle.std.proofs.Common.{◌≡◌, ◌≤◌, ◌∙◌, ⊎_elim, inl, inr, ℕ, List, Some, ap, subst, sym}
+use Rattle.std.proofs.Common.{◌≡◌, ◌∙◌, ⊎_elim, inl, inr, ℕ, List, Some, ap, subst, sym}
 use Rattle.ode_gate.specs.Slots.{Counts}
 use Rattle.ode_gate.specs.declared.header.Header.{Header}
 use Rattle.ode_gate.specs.declared.places.TheConstants.{FORMAT}
 use Rattle.ode_gate.proofs.Counting.{one_counts}
 use Rattle.ode_host.specs.Host.{Stands, Tells}
 use Rattle.ode_host.specs.View.{View}
-use Rattle.ode_keep.specs.Entries.{Changes, Entries, applied, record_bytes}
+use Rattle.ode_keep.specs.Entries.{Changes, Entries, applied}
 use Rattle.ode_keep.specs.Keeping.{LeavesOldOrNew}
 use Rattle.ode_keeper.specs.Files.{FileMeans, HasMap}
-use Rattle.ode_keeper.specs.Holding.{HoldsLast, KeeperHolds, most}
+use Rattle.ode_keeper.specs.Holding.{HoldsLast, KeeperHolds}
 use Rattle.ode_keeper.specs.Laws.{stands_law}
 use Rattle.ode_keeper.specs.OneMap.{never_two, one_map}
 use Rattle.ode_keeper.specs.declared.keeper.Keeper.{Keeper}
@@ -35,11 +35,6 @@ one_held keeper view entries others first second =
     let a = stands_law keeper view entries first in
     let b = stands_law keeper view others second in
     one_map b.0 entries others (subst (λ (file : List ℕ). FileMeans file entries) (one_file view a.0 b.0 a.1.tells b.1.tells) a.2) b.2
-
--- and they aren't above the limit
-pub held_within : (keeper : Keeper) (view : View) (entries : Entries) → KeeperHolds keeper view entries → record_bytes entries ≤ most keeper
-held_within (Areas keeper) view entries h = h.within
-held_within (Pages keeper) view entries h = h.within
 
 -- over a file of the last format they stand in pages
 pub held_last : (image : List ℕ) (own : Entries) → PagesMeanIn FORMAT image own → (keeper : Keeper) (view : View) (entries : Entries) → Stands image view → KeeperHolds keeper view entries

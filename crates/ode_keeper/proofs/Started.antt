@@ -1,14 +1,12 @@
 -- What the layout of a header says, and that the answer of a start is decided by the file.
-use Rattle.std.proofs.Common.{◌≡◌, ◌≤◌, inl, inr, ⊎_elim, ℕ, List, Result, IfOk, IsErrOf, ap, subst, arith}
-use Rattle.std.specs.Prelude.{◌==◌, if◌then◌else◌}
+use Rattle.std.proofs.Common.{◌≡◌, inl, inr, ⊎_elim, ℕ, List, Result, IfOk, IsErrOf, arith}
 use Rattle.std.proofs.lemmas.Result.{IfOk-weaker}
 use Rattle.ode_areas.specs.Image as areas_image
 use Rattle.ode_gate.specs.Headers.{IsHeader, IsOfAreas, IsOfPages}
 use Rattle.ode_gate.specs.declared.header.Header.{Header}
 use Rattle.ode_gate.specs.declared.places.TheConstants.{PAGES, TWO_AREAS}
-use Rattle.ode_keep.specs.Entries.{Entries, record_bytes}
-use Rattle.ode_keep.specs.declared.limits.TheConstants.{MAX_PAGED_BYTES, MAX_RECORD_BYTES}
-use Rattle.ode_keeper.specs.Files.{HasMap, IsBadJournal, IsBadPage, most_under}
+use Rattle.ode_keep.specs.Entries.{Entries}
+use Rattle.ode_keeper.specs.Files.{HasMap, IsBadJournal, IsBadPage}
 use Rattle.ode_keeper.specs.OneMap.{has_not_bad_journal, has_not_bad_page, one_bad_journal, one_bad_page, page_not_bad_journal, two_layouts}
 use Rattle.ode_keep.specs.Starting.{Refuses, Starts}
 use Rattle.ode_keep.proofs.Starting.{refuses_journal, refuses_page, starts}
@@ -37,24 +35,6 @@ areas_map h file entries areas (inr x) = absurd (two_layouts h file areas x.0)
 pub pages_map : (h : Header) (file : List ℕ) (entries : Entries) → IsOfPages h → HasMap h file entries → pages_image.HasMap h file entries
 pages_map h file entries pages (inl x) = absurd (two_layouts h file x.0 pages)
 pages_map h file entries pages (inr x) = x.1
-
--- ---- the limit
-
--- by its layout
-abbrev most_of : ℕ → ℕ
-most_of layout = if layout == TWO_AREAS then MAX_RECORD_BYTES else MAX_PAGED_BYTES
-
-pub areas_most : (h : Header) → h.layout ≡ TWO_AREAS → most_under h ≡ MAX_RECORD_BYTES
-areas_most h is = ap most_of is
-
-pub pages_most : (h : Header) → IsOfPages h → most_under h ≡ MAX_PAGED_BYTES
-pages_most h pages = ap most_of pages.layout
-
-pub areas_within : (h : Header) (entries : Entries) → h.layout ≡ TWO_AREAS → record_bytes entries ≤ most_under h → record_bytes entries ≤ MAX_RECORD_BYTES
-areas_within h entries is within = subst (λ (n : ℕ). record_bytes entries ≤ n) (areas_most h is) within
-
-pub pages_within : (h : Header) (entries : Entries) → IsOfPages h → record_bytes entries ≤ most_under h → record_bytes entries ≤ MAX_PAGED_BYTES
-pages_within h entries pages within = subst (λ (n : ℕ). record_bytes entries ≤ n) (pages_most h pages) within
 
 -- ---- the answer
 

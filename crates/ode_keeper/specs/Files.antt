@@ -1,12 +1,10 @@
 -- What a file of either layout stands for, and where it is bad.
-use Rattle.std.specs.Prelude.{◌⊎◌, ◌==◌, ℕ, List, if◌then◌else◌}
+use Rattle.std.specs.Prelude.{◌⊎◌, ℕ, List}
 use Rattle.ode_areas.specs.Image as of_areas
 use Rattle.ode_areas.specs.Image.{AreasMean}
 use Rattle.ode_gate.specs.Headers.{IsOfAreas, IsOfPages}
 use Rattle.ode_gate.specs.declared.header.Header.{Header}
-use Rattle.ode_gate.specs.declared.places.TheConstants.{TWO_AREAS}
 use Rattle.ode_keep.specs.Entries.{Entries}
-use Rattle.ode_keep.specs.declared.limits.TheConstants.{MAX_PAGED_BYTES, MAX_RECORD_BYTES}
 use Rattle.ode_paging.specs.Meaning as of_pages
 use Rattle.ode_paging.specs.Meaning.{PagesMean}
 
@@ -21,10 +19,6 @@ IsBadJournal header file at = (IsOfAreas header × of_areas.IsBadAt header file 
 -- under this header: this is the first page that is bad, behind a journal that is whole
 abbrev pub IsBadPage : Header → List ℕ → ℕ → Type 0
 IsBadPage header file page = IsOfPages header × of_pages.IsBadPage header file page
-
--- how many bytes its records may have, by its layout
-abbrev pub most_under : Header → ℕ
-most_under header = if header.layout == TWO_AREAS then MAX_RECORD_BYTES else MAX_PAGED_BYTES
 
 -- the image stands for these records, in one layout or the other
 abbrev pub FileMeans : List ℕ → Entries → Type 0

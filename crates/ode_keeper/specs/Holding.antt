@@ -17,11 +17,6 @@ abbrev pub most : Keeper → ℕ
 most (Areas keeper) = of_areas.most keeper
 most (Pages keeper) = of_pages.most keeper
 
--- the bytes of the keys and values of the records that it has
-abbrev pub held_bytes : Keeper → ℕ
-held_bytes (Areas keeper) = of_areas.held_bytes keeper
-held_bytes (Pages keeper) = of_pages.bytes keeper
-
 -- it holds these records, as a keeper of its layout does
 abbrev pub KeeperHolds : Keeper → View → Entries → Type 0
 KeeperHolds (Areas keeper) view entries = of_areas.AreasHold keeper view entries

@@ -1,12 +1,12 @@
 //! A keeper of either layout is started.
-ghost use Rattle.std.specs.Prelude.{◌≡◌, ◌≤◌, IfOk, IsErrOf, IsTrue, List, ℕ};
+ghost use Rattle.std.specs.Prelude.{IfOk, IsErrOf, IsTrue, List, ℕ};
 ghost use Rattle.ode_gate.specs.Headers.{IsHeader};
 ghost use Rattle.ode_gate.specs.Slots.{Counts};
 ghost use Rattle.ode_host.specs.Causes.{RoseIf};
 ghost use Rattle.ode_host.specs.Host.{Looks, Stands, Tells};
-ghost use Rattle.ode_keep.specs.Entries.{Entries, record_bytes};
-ghost use Rattle.ode_keeper.specs.Files.{HasMap, IsBadJournal, IsBadPage, most_under};
-ghost use Rattle.ode_keeper.specs.Holding.{KeeperHolds, held_bytes, is_live, most};
+ghost use Rattle.ode_keep.specs.Entries.{Entries};
+ghost use Rattle.ode_keeper.specs.Files.{HasMap, IsBadJournal, IsBadPage};
+ghost use Rattle.ode_keeper.specs.Holding.{KeeperHolds, is_live};
 ghost use Rattle.ode_keep.specs.Starting.{Refuses, Starts};
 
 use crate::keeper::{CACHE_PAGES, Keeper};
@@ -24,11 +24,7 @@ impl Keeper {
         ensures found { IfOk result (λ _. (file : List ℕ) → Tells (H.view host.old) file
             → (entries : Entries) × HasMap header.now file entries) }
         ensures holds { IfOk result (λ keeper. (file : List ℕ) (entries : Entries) → Stands file (H.view host.old)
-            → Counts file header.now → HasMap header.now file entries → record_bytes entries ≤ most_under header.now
-            → KeeperHolds keeper (H.view host.new) entries) }
-        ensures bytes { IfOk result (λ keeper. (file : List ℕ) (entries : Entries) → Tells (H.view host.old) file
-            → HasMap header.now file entries → held_bytes keeper ≡ record_bytes entries) }
-        ensures limit { IfOk result (λ keeper. most keeper ≡ most_under header.now) }
+            → Counts file header.now → HasMap header.now file entries → KeeperHolds keeper (H.view host.new) entries) }
         ensures live { IfOk result (λ keeper. IsTrue (is_live keeper)) }
         ensures bad_journal { (at : ℕ) → IsErrOf result (StartError.BadJournal at)
             → (file : List ℕ) → Tells (H.view host.old) file → IsBadJournal header.now file at }
@@ -59,11 +55,7 @@ impl Keeper {
         ensures found { IfOk result (λ _. (file : List ℕ) → Tells (H.view host.old) file
             → (entries : Entries) × HasMap header.now file entries) }
         ensures holds { IfOk result (λ keeper. (file : List ℕ) (entries : Entries) → Stands file (H.view host.old)
-            → Counts file header.now → HasMap header.now file entries → record_bytes entries ≤ most_under header.now
-            → KeeperHolds keeper (H.view host.new) entries) }
-        ensures bytes { IfOk result (λ keeper. (file : List ℕ) (entries : Entries) → Tells (H.view host.old) file
-            → HasMap header.now file entries → held_bytes keeper ≡ record_bytes entries) }
-        ensures limit { IfOk result (λ keeper. most keeper ≡ most_under header.now) }
+            → Counts file header.now → HasMap header.now file entries → KeeperHolds keeper (H.view host.new) entries) }
         ensures live { IfOk result (λ keeper. IsTrue (is_live keeper)) }
         ensures bad_journal { (at : ℕ) → IsErrOf result (StartError.BadJournal at)
             → (file : List ℕ) → Tells (H.view host.old) file → IsBadJournal header.now file at }

@@ -1,10 +1,9 @@
 -- What a file stands for, read and moved, and what the errors of the parts are never.
-use Rattle.std.proofs.Common.{◌≡◌, ◌≤◌, arith, inl, inr, ⊎_elim, ℕ, List, Err, Ok, Result, Some, ap, sym, ◌∙◌, subst}
+use Rattle.std.proofs.Common.{◌≡◌, arith, inl, inr, ⊎_elim, ℕ, List, Err, Ok, Result, Some, ap, sym, ◌∙◌, subst}
 use Rattle.std.specs.Prelude.{◌⊎◌, IsErrOf}
 use Rattle.ode_areas.specs.declared.areas.Areas.{Areas}
 use Rattle.ode_areas.specs.Holding.{AreasHold, IsInOne, header_of, held}
 use Rattle.ode_areas.specs.Steps.{LeavesMap}
-use Rattle.ode_areas.proofs.Fitting.{map_fits}
 use Rattle.ode_gate.specs.declared.error.GateError.{GateError}
 use Rattle.ode_gate.specs.declared.error.GateError.TheVariants as gate
 use Rattle.ode_gate.specs.declared.header.Header.{Header}
@@ -15,10 +14,8 @@ use Rattle.ode_gate.proofs.Counting.{one_counts}
 use Rattle.ode_host.specs.Host.{LeavesOnly, Looks, Stands}
 use Rattle.ode_host.specs.View.{View}
 use Rattle.ode_host.proofs.Moments.{looks_on, started}
-use Rattle.ode_keep.specs.Entries.{Entries, record_bytes}
-use Rattle.ode_keep.specs.declared.limits.TheConstants.{MAX_RECORD_BYTES}
-use Rattle.ode_cutting.specs.declared.framing.TheConstants.{MAX_MOVED_BYTES}
-use Rattle.ode_keep.specs.Snapshots.{FitsSnapshot, IsSnapshot}
+use Rattle.ode_keep.specs.Entries.{Entries}
+use Rattle.ode_keep.specs.Snapshots.{IsSnapshot}
 use Rattle.ode_keep.specs.Starting.{Starts}
 use Rattle.ode_keep.specs.declared.error.KeepError.{KeepError}
 use Rattle.ode_keep.specs.declared.error.KeepError.TheVariants as keep
@@ -31,10 +28,6 @@ use Rattle.ode_areas.specs.Image as of_areas
 use Rattle.ode_paging.specs.Meaning as of_pages
 use Rattle.ode_migrate.specs.Migrating.{IsMigratedTo, LeavesRecords, StandInOne, gate_error, keep_error, start_error}
 use Rattle.ode_migrate.specs.declared.error.MigrateError.TheVariants.{Changed, DiskFault}
-
--- records that one frame has room for are no more than each keeper takes
-pub few_held : (entries : Entries) (bytes held : ℕ) → bytes ≡ held → held ≡ record_bytes entries → bytes ≤ MAX_MOVED_BYTES → record_bytes entries ≤ MAX_RECORD_BYTES
-few_held entries bytes held is counts few = omega (arith, is, counts, few)
 
 -- while the disk is left alone a stop leaves the records
 pub looks_leave : (old new : View) (file : List ℕ) (entries : Entries) → ((c o : List ℕ) → old.left old.moment c o → old.text ≡ Some o) → Stands file old → FileMeans file entries → Looks old new
@@ -52,9 +45,8 @@ pub held_in_one : (keeper : Areas) (view : View) (entries : Entries) → AreasHo
 held_in_one keeper view entries h one = record { file = h.file; stands = h.journal.stands; counts = h.counts; areas = h.areas; in_one = one; has = h.has }
 
 -- the snapshot of what it has in memory is that of these records
-pub held_spelled : (keeper : Areas) (view : View) (entries : Entries) (bytes : List ℕ) → AreasHold keeper view entries → (FitsSnapshot (held keeper) → IsSnapshot (held keeper) bytes) → IsSnapshot entries bytes
-held_spelled keeper view entries bytes h spelled =
-    subst (λ (l : Entries). IsSnapshot l bytes) h.map (spelled (subst FitsSnapshot (sym h.map) (map_fits (header_of keeper) h.file entries h.has)))
+pub held_spelled : (keeper : Areas) (view : View) (entries : Entries) (bytes : List ℕ) → AreasHold keeper view entries → IsSnapshot (held keeper) bytes → IsSnapshot entries bytes
+held_spelled keeper view entries bytes h spelled = subst (λ (l : Entries). IsSnapshot l bytes) h.map spelled
 
 -- a start that nothing but the outside keeps back isn't told as a change
 pub never_changed : {T : Type 0} (e : StartError) → Starts {T = T} (Err e) → (at : ℕ) → start_error e ≡ Changed at → ⊥

@@ -1,5 +1,5 @@
 -- A file is opened to one thing alone.
-use Rattle.std.proofs.Common.{◌≡◌, inl, inr, ℕ, ◌<◌, ◌≤◌, List, Bool, Result, Ok, Err, sym, ap, subst, ◌∙◌, arith}
+use Rattle.std.proofs.Common.{◌≡◌, inl, inr, ℕ, List, Bool, Result, Ok, Err, sym, ap, subst, ◌∙◌}
 use Rattle.std.specs.Prelude.{◌==◌}
 use Rattle.ode_gate.specs.Readings.{Says}
 use Rattle.ode_gate.specs.Slots.{Counts}
@@ -7,12 +7,12 @@ use Rattle.ode_gate.specs.declared.error.GateError.{GateError}
 use Rattle.ode_gate.specs.declared.header.Header.{Header}
 use Rattle.ode_gate.specs.declared.places.TheConstants.{FIRST_FORMAT}
 use Rattle.ode_gate.proofs.Counting.{one_counts, says_counts, says_one}
-use Rattle.ode_keep.specs.Entries.{Entries, record_bytes}
-use Rattle.ode_keeper.specs.Files.{HasMap, IsBadJournal, IsBadPage, most_under}
+use Rattle.ode_keep.specs.Entries.{Entries}
+use Rattle.ode_keeper.specs.Files.{HasMap, IsBadJournal, IsBadPage}
 use Rattle.ode_keeper.specs.OneMap.{has_not_bad_journal, has_not_bad_page, one_bad_journal, one_bad_page, one_has, page_not_bad_journal}
 use Rattle.ode_language.specs.Languages.{ode}
 use Rattle.ode_passes.specs.declared.cause.Cause.TheVariants as cause
-use Rattle.ode_open.specs.Opening.{Found, HasBadPage, HasRecords, IsBroken, IsHeaderless, IsHeavy, IsOpenedTo, found_of, gate_error}
+use Rattle.ode_open.specs.Opening.{Found, HasBadPage, HasRecords, IsBroken, IsHeaderless, IsOpenedTo, found_of, gate_error}
 use Rattle.ode_opening_records.specs.Reading.{AreOpened}
 use Rattle.ode_opening_records.specs.declared.base.Base.{Base}
 use Rattle.ode_passes.specs.Rules.{Ruled}
@@ -54,8 +54,7 @@ module _ (once : OpenedOnce) (image : List ℕ) where
       error_of (Err e) = Err (gate_error e)
   headerless_one a b x (inr (inl y)) = absurd (no_header x.error y.header x.says y.counts)
   headerless_one a b x (inr (inr (inl y))) = absurd (no_header x.error y.header x.says y.counts)
-  headerless_one a b x (inr (inr (inr (inl y)))) = absurd (no_header x.error y.header x.says y.counts)
-  headerless_one a b x (inr (inr (inr (inr y)))) = absurd (no_header x.error y.header x.says y.counts)
+  headerless_one a b x (inr (inr (inr y))) = absurd (no_header x.error y.header x.says y.counts)
 
   broken_one : (a b : Found) → IsBroken image a → IsOpenedTo image b → a ≡ b
   broken_one a b x (inl y) = absurd (no_header y.error x.header y.says x.counts)
@@ -63,8 +62,7 @@ module _ (once : OpenedOnce) (image : List ℕ) where
       let at : x.at ≡ y.at = one_bad_journal y.header image x.at y.at (subst (λ (k : Header). IsBadJournal k image x.at) (same x.header y.header x.counts y.counts) x.bad) y.bad in
       x.is ∙ ap (λ (n : ℕ). Err (BadFile (cause.Journal n))) at ∙ sym y.is
   broken_one a b x (inr (inr (inl y))) = absurd (page_and_journal y.header x.header y.page x.at y.counts x.counts y.bad x.bad)
-  broken_one a b x (inr (inr (inr (inl y)))) = absurd (bad_and_map x.header y.header x.at y.entries x.counts y.counts x.bad y.has)
-  broken_one a b x (inr (inr (inr (inr y)))) = absurd (bad_and_map x.header y.header x.at y.entries x.counts y.counts x.bad y.has)
+  broken_one a b x (inr (inr (inr y))) = absurd (bad_and_map x.header y.header x.at y.entries x.counts y.counts x.bad y.has)
 
   page_one : (a b : Found) → HasBadPage image a → IsOpenedTo image b → a ≡ b
   page_one a b x (inl y) = absurd (no_header y.error x.header y.says x.counts)
@@ -73,31 +71,13 @@ module _ (once : OpenedOnce) (image : List ℕ) where
       let page : x.page ≡ y.page
       = one_bad_page y.header image x.page y.page (subst (λ (k : Header). IsBadPage k image x.page) (same x.header y.header x.counts y.counts) x.bad) y.bad in
       x.is ∙ ap (λ (n : ℕ). Err (BadFile (cause.Page n))) page ∙ sym y.is
-  page_one a b x (inr (inr (inr (inl y)))) = absurd (page_and_map x.header y.header x.page y.entries x.counts y.counts x.bad y.has)
-  page_one a b x (inr (inr (inr (inr y)))) = absurd (page_and_map x.header y.header x.page y.entries x.counts y.counts x.bad y.has)
-
-  no_size : (g h : Header) (es ds : Entries) → g ≡ h → es ≡ ds → most_under g < record_bytes es → record_bytes ds ≤ most_under h → ⊥
-  no_size g h es ds under one heavy within =
-      let most : most_under g ≡ most_under h = ap most_under under in
-      let bytes : record_bytes es ≡ record_bytes ds = ap record_bytes one in
-      omega (arith, most, bytes, heavy, within)
-
-  heavy_one : (a b : Found) → IsHeavy image a → IsOpenedTo image b → a ≡ b
-  heavy_one a b x (inl y) = absurd (no_header y.error x.header y.says x.counts)
-  heavy_one a b x (inr (inl y)) = absurd (bad_and_map y.header x.header y.at x.entries y.counts x.counts y.bad x.has)
-  heavy_one a b x (inr (inr (inl y))) = absurd (page_and_map y.header x.header y.page x.entries y.counts x.counts y.bad x.has)
-  heavy_one a b x (inr (inr (inr (inl y)))) =
-      x.is ∙ ap (λ (es : Entries). Err (BadFile (cause.Size (record_bytes es)))) (one_entries x.header y.header x.entries y.entries x.counts y.counts x.has y.has) ∙ sym y.is
-  heavy_one a b x (inr (inr (inr (inr y)))) =
-      absurd (no_size x.header y.header x.entries y.entries (same x.header y.header x.counts y.counts) (one_entries x.header y.header x.entries y.entries x.counts y.counts x.has y.has) x.heavy y.within)
+  page_one a b x (inr (inr (inr y))) = absurd (page_and_map x.header y.header x.page y.entries x.counts y.counts x.bad y.has)
 
   records_one : (a b : Found) → HasRecords image a → IsOpenedTo image b → a ≡ b
   records_one a b x (inl y) = absurd (no_header y.error x.header y.says x.counts)
   records_one a b x (inr (inl y)) = absurd (bad_and_map y.header x.header y.at x.entries y.counts x.counts y.bad x.has)
   records_one a b x (inr (inr (inl y))) = absurd (page_and_map y.header x.header y.page x.entries y.counts x.counts y.bad x.has)
-  records_one a b x (inr (inr (inr (inl y)))) =
-      absurd (no_size y.header x.header y.entries x.entries (same y.header x.header y.counts x.counts) (one_entries y.header x.header y.entries x.entries y.counts x.counts y.has x.has) y.heavy x.within)
-  records_one a b x (inr (inr (inr (inr y)))) =
+  records_one a b x (inr (inr (inr y))) =
       let here = subst (λ (es : Entries). AreOpened (x.header.format == FIRST_FORMAT) ode es x.opened) (one_entries x.header y.header x.entries y.entries x.counts y.counts x.has y.has) x.are in
       let there = subst (λ (h : Header). AreOpened (h.format == FIRST_FORMAT) ode y.entries x.opened) (same x.header y.header x.counts y.counts) here in
       x.is ∙ ap found_of (once (y.header.format == FIRST_FORMAT) ode y.entries x.opened y.opened there y.are) ∙ sym y.is
@@ -106,5 +86,4 @@ module _ (once : OpenedOnce) (image : List ℕ) where
   one_opening a b (inl x) y = headerless_one a b x y
   one_opening a b (inr (inl x)) y = broken_one a b x y
   one_opening a b (inr (inr (inl x))) y = page_one a b x y
-  one_opening a b (inr (inr (inr (inl x)))) y = heavy_one a b x y
-  one_opening a b (inr (inr (inr (inr x)))) y = records_one a b x y
+  one_opening a b (inr (inr (inr x))) y = records_one a b x y

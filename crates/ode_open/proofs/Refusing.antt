@@ -1,5 +1,5 @@
 -- Why a file isn't opened, part by part.
-use Rattle.std.proofs.Common.{◌≡◌, ◌⊎◌, inl, inr, ⊎_elim, ℕ, ◌<◌, ◌≤◌, List, Result, Ok, Err, refl, ap, subst, arith}
+use Rattle.std.proofs.Common.{◌≡◌, ◌⊎◌, inl, inr, ⊎_elim, ℕ, List, Result, Ok, Err, refl, subst}
 use Rattle.std.specs.Prelude.{◌==◌, IfOk, IsErrOf}
 use Rattle.ode_gate.specs.Readings.{Says}
 use Rattle.ode_gate.specs.Slots.{Counts}
@@ -7,13 +7,12 @@ use Rattle.ode_gate.specs.declared.error.GateError.{GateError}
 use Rattle.ode_gate.specs.declared.error.GateError.TheVariants as gate
 use Rattle.ode_gate.specs.declared.header.Header.{Header}
 use Rattle.ode_gate.specs.declared.places.TheConstants.{FIRST_FORMAT}
-use Rattle.ode_keep.specs.Entries.{Entries, record_bytes}
-use Rattle.ode_keeper.specs.Files.{HasMap, IsBadJournal, IsBadPage, most_under}
+use Rattle.ode_keep.specs.Entries.{Entries}
+use Rattle.ode_keeper.specs.Files.{HasMap, IsBadJournal, IsBadPage}
 use Rattle.ode_keep.specs.declared.error.StartError.{StartError}
 use Rattle.ode_keep.specs.declared.error.StartError.TheVariants as start
 use Rattle.ode_language.specs.Languages.{ode}
 use Rattle.ode_passes.specs.Rules.{Ruled}
-use Rattle.ode_passes.specs.declared.cause.Cause.TheVariants as cause
 use Rattle.ode_passes.specs.declared.error.OpenError.{OpenError as ReadError}
 use Rattle.ode_passes.specs.declared.error.OpenError.TheVariants as read
 use Rattle.ode_open.specs.Opening.{IsFromOutside, IsOpenedTo, found_of, gate_error, read_error, start_error}
@@ -21,7 +20,6 @@ use Rattle.ode_opening_records.specs.Answers.{Opens}
 use Rattle.ode_opening_records.specs.Reading.{AreOpened}
 use Rattle.ode_opening_records.specs.declared.base.Base.{Base}
 use Rattle.ode_open.specs.declared.error.OpenError.{OpenError}
-use Rattle.ode_open.specs.declared.error.OpenError.TheVariants.{BadFile}
 
 -- an error that the file has, or that the outside brought
 abbrev pub IsWhy : List ℕ → OpenError → Type 0
@@ -44,31 +42,19 @@ module _ (image : List ℕ) (h : Header) (counts : Counts image h) where
   why_start (start.BadJournal at) bad worse = inr (inr (inl (record { header = h; counts = counts; at = at; bad = bad at refl; is = refl })))
   why_start (start.BadPage page) bad worse = inr (inr (inr (inl (record { header = h; counts = counts; page = page; bad = worse page refl; is = refl }))))
 
+  -- ---- the records
+
   module _ (entries : Entries) (has : HasMap h image entries) where
-    pub why_heavy : (bytes : ℕ) → bytes ≡ record_bytes entries → most_under h < bytes → IsWhy image (BadFile (cause.Size bytes))
-    why_heavy bytes is heavy =
-        inr (inr (inr (inr (inl (record {
-          header = h;
-          counts = counts;
-          entries = entries;
-          has = has;
-          heavy = omega (arith, is, heavy);
-          is = ap (λ (n : ℕ). Err (BadFile (cause.Size n))) is;
-        })))))
+    opened : (to : Ruled Base) → AreOpened (h.format == FIRST_FORMAT) ode entries to → IsOpenedTo image (found_of to)
+    opened to are = inr (inr (inr (record { header = h; counts = counts; entries = entries; has = has; opened = to; are = are; is = refl })))
 
-    -- ---- the records
+    pub why_records : (e : ReadError) → Opens (h.format == FIRST_FORMAT) ode entries (Err e) → IsWhy image (read_error e)
+    why_records read.Memory answers = inl tt
+    why_records read.DiskFault answers = inl tt
+    why_records (read.BadFile why) answers = inr (opened (Err why) answers)
 
-    module _ (within : record_bytes entries ≤ most_under h) where
-      opened : (to : Ruled Base) → AreOpened (h.format == FIRST_FORMAT) ode entries to → IsOpenedTo image (found_of to)
-      opened to are = inr (inr (inr (inr (record { header = h; counts = counts; entries = entries; has = has; within = within; opened = to; are = are; is = refl }))))
-
-      pub why_records : (e : ReadError) → Opens (h.format == FIRST_FORMAT) ode entries (Err e) → IsWhy image (read_error e)
-      why_records read.Memory answers = inl tt
-      why_records read.DiskFault answers = inl tt
-      why_records (read.BadFile why) answers = inr (opened (Err why) answers)
-
-      pub is_opened : (base : Base) → AreOpened (h.format == FIRST_FORMAT) ode entries (Ok base) → IsOpenedTo image (Ok base)
-      is_opened base answers = opened (Ok base) answers
+    pub is_opened : (base : Base) → AreOpened (h.format == FIRST_FORMAT) ode entries (Ok base) → IsOpenedTo image (Ok base)
+    is_opened base answers = opened (Ok base) answers
 
 -- what holds at an answer, by what held there
 pub at_ok : {X E : Type 0} {P Q : X → Type 0} (r : Result X E) → ((x : X) → P x → Q x) → IfOk r P → IfOk r Q

@@ -1,13 +1,13 @@
 -- What a file is opened to, and what the opening answers.
-use Rattle.std.specs.Prelude.{◌≡◌, ◌<◌, ◌≤◌, ◌⊎◌, ◌==◌, ℕ, List, Result, Ok, Err}
+use Rattle.std.specs.Prelude.{◌≡◌, ◌⊎◌, ◌==◌, ℕ, List, Result, Ok, Err}
 use Rattle.ode_gate.specs.Readings.{Says}
 use Rattle.ode_gate.specs.Slots.{Counts}
 use Rattle.ode_gate.specs.declared.error.GateError.{GateError}
 use Rattle.ode_gate.specs.declared.error.GateError.TheVariants as gate
 use Rattle.ode_gate.specs.declared.header.Header.{Header}
 use Rattle.ode_gate.specs.declared.places.TheConstants.{FIRST_FORMAT}
-use Rattle.ode_keep.specs.Entries.{Entries, record_bytes}
-use Rattle.ode_keeper.specs.Files.{HasMap, IsBadJournal, IsBadPage, most_under}
+use Rattle.ode_keep.specs.Entries.{Entries}
+use Rattle.ode_keeper.specs.Files.{HasMap, IsBadJournal, IsBadPage}
 use Rattle.ode_keep.specs.declared.error.StartError.{StartError}
 use Rattle.ode_keep.specs.declared.error.StartError.TheVariants as start
 use Rattle.ode_language.specs.Languages.{ode}
@@ -76,29 +76,19 @@ pub record HasBadPage (image : List ℕ) (found : Found) : Type 0 where
   pub bad : IsBadPage header image page
   pub is : found ≡ Err (BadFile (cause.Page page))
 
--- it has more records than a keeper holds
-pub record IsHeavy (image : List ℕ) (found : Found) : Type 0 where
-  pub header : Header
-  pub counts : Counts image header
-  pub entries : Entries
-  pub has : HasMap header image entries
-  pub heavy : most_under header < record_bytes entries
-  pub is : found ≡ Err (BadFile (cause.Size (record_bytes entries)))
-
 -- it has records, which are opened or break a rule
 pub record HasRecords (image : List ℕ) (found : Found) : Type 0 where
   pub header : Header
   pub counts : Counts image header
   pub entries : Entries
   pub has : HasMap header image entries
-  pub within : record_bytes entries ≤ most_under header
   pub opened : Ruled Base
   pub are : AreOpened (header.format == FIRST_FORMAT) ode entries opened
   pub is : found ≡ found_of opened
 
 abbrev pub IsOpenedTo : List ℕ → Found → Type 0
 IsOpenedTo image found =
-    IsHeaderless image found ⊎ (IsBroken image found ⊎ (HasBadPage image found ⊎ (IsHeavy image found ⊎ HasRecords image found)))
+    IsHeaderless image found ⊎ (IsBroken image found ⊎ (HasBadPage image found ⊎ HasRecords image found))
 
 -- ---- what is answered
 

@@ -1,47 +1,23 @@
 //! A file is opened to what a run needs.
 ghost use Rattle.std.specs.Prelude.{◌≡◌, ◌⊎◌, ◌==◌, List as Items, ℕ, length, IfOk, IsErrOf, IsTrue, Ok, Some};
-ghost use Rattle.ode_gate.specs.Headers.{IsHeader};
-ghost use Rattle.ode_gate.specs.Slots.{Counts};
 ghost use Rattle.ode_host.specs.Causes.{RoseIf};
 ghost use Rattle.ode_host.specs.FirstSync.{SyncedRun};
 ghost use Rattle.ode_host.specs.Host.{Looks, Only, Stands, Tells};
 ghost use Rattle.ode_keep.specs.Entries.{AreBytes, Entries};
-ghost use Rattle.ode_keeper.specs.Files.{FileMeans, HasMap, most_under};
-ghost use Rattle.ode_keeper.specs.Holding.{KeeperHolds, is_live, most};
+ghost use Rattle.ode_keeper.specs.Files.{FileMeans};
+ghost use Rattle.ode_keeper.specs.Holding.{KeeperHolds, is_live};
 ghost use Rattle.ode_language.specs.Languages.{ode};
-ghost use Rattle.ode_open.specs.Opening.{Found, HasFormat, HasOutsideFailed, IsOpenedTo, IsRefused, Stays, base_in, program_of, seen};
+ghost use Rattle.ode_open.specs.Opening.{Found, HasFormat, HasOutsideFailed, IsOpenedTo, Stays, base_in, program_of, seen};
 ghost use Rattle.ode_opening_records.specs.Reading.{AreOpened};
 ghost use Rattle.ode_schema.specs.Parts.{AreFit, places_from, trigger_count};
 
 use crate::error::OpenError;
-use ode_gate::{FIRST_FORMAT, Header, SLOT_LEN, read_header};
+use ode_gate::{FIRST_FORMAT, SLOT_LEN, read_header};
 use ode_host::Host;
 use ode_keeper::Keeper;
 use ode_opened::Opened;
 use ode_opening_records::{Base, open_records, records_are_opened_to_one_thing};
-use ode_passes::Cause;
 use std::alloc::Global;
-
-// The keeper of the file under a header.
-fn start_keeper<H: Host>(alloc: Global, host: &mut H, header: &Header) -> Result<Keeper, OpenError>
-    requires { IsHeader header.now }
-    ensures holds { IfOk result (λ keeper. (image : Items ℕ) → Stands image (H.view host.old) → Counts image header.now
-        → (entries : Entries) × HasMap header.now image entries × KeeperHolds keeper (H.view host.new) entries) }
-    ensures limit { IfOk result (λ keeper. most keeper ≡ most_under header.now) }
-    ensures live { IfOk result (λ keeper. IsTrue (is_live keeper)) }
-    ensures answer { (image : Items ℕ) → Tells (H.view host.old) image → Counts image header.now
-        → IsRefused image result }
-    ensures looks { Looks (H.view host.old) (H.view host.new) }
-    ensures cause { RoseIf (IsErrOf result OpenError.DiskFault) (H.view host.old).disk_faults (H.view host.new).disk_faults }
-{
-    let keeper = Keeper::start(alloc, host, header)?;
-    let bytes = keeper.bytes();
-    let most = keeper.most();
-    if bytes > most {
-        return Err(OpenError::BadFile(Cause::Size(bytes)));
-    }
-    Ok(keeper)
-}
 
 // Opens a file that was synced.
 fn open_file<H: Host>(alloc: Global, host: &mut H) -> Result<Opened<Keeper>, OpenError>
@@ -60,7 +36,7 @@ fn open_file<H: Host>(alloc: Global, host: &mut H) -> Result<Opened<Keeper>, Ope
     ensures cause { RoseIf (IsErrOf result OpenError.DiskFault) (H.view host.old).disk_faults (H.view host.new).disk_faults }
 {
     let header = read_header(host, &mut [0; SLOT_LEN])?;
-    let mut keeper = start_keeper(alloc, host, &header)?;
+    let mut keeper = Keeper::start(alloc, host, &header)?;
     let base = open_records(alloc, &mut keeper, host, header.format == FIRST_FORMAT)?;
     let Base {
         classes,

@@ -44,7 +44,6 @@ knows_still keeper now images pages entries is same knows = record {
   bytes = ap (λ (o : Opened). o.bytes) is ∙ knows.bytes;
   queued = ap (λ (o : Opened). o.queued) is ∙ knows.queued;
   cached = subst (λ (l : List (ℕ × Entries)). AllByRecursion (λ e. slice_get pages e.0 ≡ Some e.1) l) (sym same) knows.cached;
-  within = knows.within;
 }
 
 -- pages that stand on the disk, and of which this is known, are held
@@ -69,7 +68,6 @@ holds_of keeper images pages entries view stand knows =
       };
       journal = journal_stands keeper.header keeper.opened.journal images pages view stand;
       cached = subst (λ (l : List Image). AllByRecursion (λ (e : ℕ × Entries). HasPage keeper.header l stand.file e.0 e.1) keeper.cache.pages.entries) (sym knows.images_are) there;
-      within = knows.within;
     }
 
 if_lent : {A : Type 0} (lent : Option (Bor A)) (P : A → Type 0) → IfSome (option_copied lent) P → IfSome lent (λ x. P x.now)

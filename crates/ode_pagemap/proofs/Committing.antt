@@ -81,7 +81,6 @@ module _ (keeper : PageMap) (view : View) (entries : Entries) (h : PagesHold kee
       opens = h.opens;
       journal = record { stands = stands_looks h.file view now looks h.journal.stands; has = h.journal.has; place = h.journal.place };
       cached = h.cached;
-      within = h.within;
     };
     planned = planned;
     counted = subst (λ (l : Entries). IsCountOf plan.counts (applied changes l)) (sym h.opens.has.map) counted;
@@ -148,8 +147,8 @@ module _ (keeper now : PageMap) (plan : Plan) (due : Option Checkpoint) (opened 
                 (subst (λ (l : List (ℕ × Entries)). AllByRecursion (λ e. HasPage keeper.header keeper.opened.images holds.file e.0 e.1) l) (sym rest) stood) gone
                 (λ e stands none. new.others e.0 none ∙ page_here keeper.header keeper.opened.journal keeper.opened.images pages holds.file old e.0 e.1 stands))
                 (pages_among plan.images pages later new plan.pages.entries formed.pages formed.payload.rising);
-            within = subst (λ (n : ℕ). n ≤ MAX_PAGED_BYTES) planned.counted.bytes formed.within;
           };
+          within = subst (λ (n : ℕ). n ≤ MAX_PAGED_BYTES) planned.counted.bytes formed.within;
         }
 
 -- a plan that isn't taken over
@@ -164,7 +163,6 @@ record HoldsBy (header : Header) (opened : Opened) (held : List (ℕ × Entries)
   opens : OpensAs header file opened entries
   journal : JournalStands header.journal_at opens.has.over.frames file opened.journal view
   cached : AllByRecursion (λ e. HasPage header opened.images file e.0 e.1) held
-  within : record_bytes entries ≤ MAX_PAGED_BYTES
 
 pub still_holds : (keeper now : PageMap) (old new : View) (entries : Entries) (images : List Image) → now.header ≡ keeper.header → now.opened ≡ keeper.opened
     → now.cache.pages.entries ≡ without images keeper.cache.pages.entries → Looks old new → PagesHold keeper old entries → PagesHold now new entries
@@ -176,10 +174,9 @@ still_holds keeper now old new entries images header_is opened_is rest looks h =
       opens = h.opens;
       journal = record { stands = stands_looks h.file old new looks h.journal.stands; has = h.journal.has; place = h.journal.place };
       cached = all_without (λ e. HasPage keeper.header keeper.opened.images h.file e.0 e.1) images keeper.cache.pages.entries h.cached;
-      within = h.within;
     } in
     let there : HoldsBy now.header now.opened now.cache.pages.entries new entries =
     subst (λ (hd : Header). HoldsBy hd now.opened now.cache.pages.entries new entries) (sym header_is)
     (subst (λ (o : Opened). HoldsBy keeper.header o now.cache.pages.entries new entries) (sym opened_is)
     (subst (λ (l : List (ℕ × Entries)). HoldsBy keeper.header keeper.opened l new entries) (sym rest) by)) in
-    record { file = there.file; counts = there.counts; pages = there.pages; opens = there.opens; journal = there.journal; cached = there.cached; within = there.within }
+    record { file = there.file; counts = there.counts; pages = there.pages; opens = there.opens; journal = there.journal; cached = there.cached }

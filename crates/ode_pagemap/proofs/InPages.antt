@@ -44,7 +44,6 @@ module _ (keeper : PageMap) (view : View) (entries : Entries) (h : PagesHold kee
     opens = h.opens;
     journal = record { stands = stands_looks h.file view now looks h.journal.stands; has = h.journal.has; place = h.journal.place };
     cached = cached;
-    within = h.within;
   }
 
   -- the keys that lead to pages are those of the records

@@ -1,5 +1,5 @@
 -- What a keeper has that was started.
-use Rattle.std.proofs.Common.{◌≡◌, ◌≤◌, inl, inr, ⊎_elim, ℕ, List, [], Err, refl, sym, ap, subst}
+use Rattle.std.proofs.Common.{◌≡◌, inl, inr, ⊎_elim, ℕ, List, [], Err, refl, sym, ap, subst}
 use Rattle.std.specs.Prelude.{◌⊎◌}
 use Rattle.std.specs.List.{AllByRecursion}
 use Rattle.ode_gate.specs.Headers.{IsOfPages}
@@ -8,8 +8,7 @@ use Rattle.ode_host.specs.Host.{Stands}
 use Rattle.ode_host.specs.View.{View}
 use Rattle.ode_journal.specs.declared.journal.Journal.{Journal}
 use Rattle.ode_journal.specs.Frames.{IsJournal}
-use Rattle.ode_keep.specs.Entries.{Entries, record_bytes}
-use Rattle.ode_keep.specs.declared.limits.TheConstants.{MAX_PAGED_BYTES}
+use Rattle.ode_keep.specs.Entries.{Entries}
 use Rattle.ode_keep.specs.declared.error.StartError.{StartError}
 use Rattle.ode_keep.specs.declared.error.StartError.TheVariants.{Memory, DiskFault}
 use Rattle.ode_paging.specs.Meaning.{HasMap}
@@ -21,8 +20,8 @@ use Rattle.ode_pagemap.specs.declared.map.PageMap.{PageMap}
 use Rattle.ode_pagemap.specs.Holding.{PagesHold}
 
 pub holds_map : (keeper : PageMap) (file : List ℕ) (own entries : Entries) (view : View) → IsOfPages keeper.header → Stands file view → Counts file keeper.header
-    → OpensAs keeper.header file keeper.opened own → keeper.cache.pages.entries ≡ [] → HasMap keeper.header file entries → record_bytes entries ≤ MAX_PAGED_BYTES → PagesHold keeper view entries
-holds_map keeper file own entries view pages stands counts opens empty has within =
+    → OpensAs keeper.header file keeper.opened own → keeper.cache.pages.entries ≡ [] → HasMap keeper.header file entries → PagesHold keeper view entries
+holds_map keeper file own entries view pages stands counts opens empty has =
     let same : own ≡ entries = one_has keeper.header file own entries opens.has has in
     subst (λ (l : Entries). PagesHold keeper view l) same (record {
       file = file;
@@ -35,7 +34,6 @@ holds_map keeper file own entries view pages stands counts opens empty has withi
         place = ap (λ (j : Journal). j.at) opens.journal;
       };
       cached = subst (λ (l : List (ℕ × Entries)). AllByRecursion (λ e. HasPage keeper.header keeper.opened.images file e.0 e.1) l) (sym empty) tt;
-      within = subst (λ (l : Entries). record_bytes l ≤ MAX_PAGED_BYTES) (sym same) within;
     })
 
 from_outside : {T : Type 0} (e : StartError) → Starts {T = T} (Err e) → (e ≡ Memory) ⊎ (e ≡ DiskFault)

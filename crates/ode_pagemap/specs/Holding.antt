@@ -1,5 +1,5 @@
 -- What a keeper of pages holds on a host.
-use Rattle.std.specs.Prelude.{◌≡◌, ◌≤◌, ℕ, List, Bool}
+use Rattle.std.specs.Prelude.{◌≡◌, ℕ, List, Bool}
 use Rattle.std.specs.List.{AllByRecursion}
 use Rattle.std.specs.Map.{keys_of}
 use Rattle.ode_gate.specs.declared.places.TheConstants.{FORMAT}
@@ -7,7 +7,7 @@ use Rattle.ode_gate.specs.Headers.{IsOfPages}
 use Rattle.ode_gate.specs.Slots.{Counts}
 use Rattle.ode_host.specs.View.{View}
 use Rattle.ode_journal.specs.Appends.{JournalStands}
-use Rattle.ode_keep.specs.Entries.{Entries, record_bytes}
+use Rattle.ode_keep.specs.Entries.{Entries}
 use Rattle.ode_keep.specs.declared.limits.TheConstants.{MAX_PAGED_BYTES}
 use Rattle.ode_paging.specs.Indexing.{Leads}
 use Rattle.ode_paging.specs.Opening.{OpensAs}
@@ -53,7 +53,6 @@ pub record PagesHold (keeper : PageMap) (view : View) (entries : Entries) : Type
   pub opens : OpensAs keeper.header file keeper.opened entries
   pub journal : JournalStands keeper.header.journal_at opens.has.over.frames file keeper.opened.journal view
   pub cached : AllByRecursion (λ e. HasPage keeper.header keeper.opened.images file e.0 e.1) keeper.cache.pages.entries
-  pub within : record_bytes entries ≤ MAX_PAGED_BYTES
 
 -- and the file has the last format
 pub record LastHold (keeper : PageMap) (view : View) (entries : Entries) : Type 0 where

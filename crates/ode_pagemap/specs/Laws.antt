@@ -28,7 +28,6 @@ stays_law keeper old new entries h still = record {
   opens = h.opens;
   journal = record { stands = still h.file h.journal.stands; has = h.journal.has; place = h.journal.place };
   cached = h.cached;
-  within = h.within;
 }
 
 -- so it is over a file of the last format

@@ -79,10 +79,9 @@ pub record Knows (keeper : PageMap) (images : List Image) (pages : List Entries)
   pub bytes : keeper.opened.bytes ≡ record_bytes entries
   pub queued : keeper.opened.queued ≡ count_of_kind entry_kind entries
   pub cached : AreAmong pages keeper.cache.pages.entries
-  pub within : record_bytes entries ≤ MAX_PAGED_BYTES
 
 -- These records still stand on the disk. A frame is at hand that makes the changes, and a checkpoint of them where one is
--- due. In memory the changes are made.
+-- due. In memory the changes are made, behind which the records are within the limit.
 pub record IsReady (keeper : PageMap) (view : View) (changes : Changes) (entries : Entries) (ready : Ready) : Type 0 where
   pub images : List Image
   pub over : List Image
@@ -93,3 +92,4 @@ pub record IsReady (keeper : PageMap) (view : View) (changes : Changes) (entries
   pub of : IfSome ready.due (λ c. IsOf images pages c)
   pub makes : Makes changes over ready.frame.payload pages later
   pub knows : Knows keeper (images_after ready.due over images) later (applied changes entries)
+  pub within : record_bytes (applied changes entries) ≤ MAX_PAGED_BYTES

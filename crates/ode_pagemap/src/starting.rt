@@ -1,5 +1,5 @@
 //! A keeper is started.
-ghost use Rattle.std.specs.Prelude.{◌≡◌, ◌≤◌, [], IfOk, IsErrOf, IsTrue, List, ℕ};
+ghost use Rattle.std.specs.Prelude.{◌≡◌, [], IfOk, IsErrOf, IsTrue, List, ℕ};
 ghost use Rattle.std.specs.Map.{keys_of};
 ghost use Rattle.ode_gate.specs.Headers.{IsOfPages};
 ghost use Rattle.ode_gate.specs.Slots.{Counts};
@@ -14,7 +14,7 @@ use crate::cache::Cache;
 use crate::map::PageMap;
 use ode_gate::Header;
 use ode_host::Host;
-use ode_keep::{MAX_PAGED_BYTES, StartError};
+use ode_keep::StartError;
 use ode_paging::{Opened, Rooms};
 use std::alloc::Global;
 
@@ -31,8 +31,7 @@ impl PageMap {
     ) -> Result<PageMap, StartError>
         requires { IsOfPages h.now }
         ensures holds { IfOk result (λ keeper. (file : List ℕ) (entries : Entries) → Stands file (H.view host.old)
-            → Counts file h.now → HasMap h.now file entries → record_bytes entries ≤ MAX_PAGED_BYTES
-            → PagesHold keeper (H.view host.new) entries) }
+            → Counts file h.now → HasMap h.now file entries → PagesHold keeper (H.view host.new) entries) }
         ensures found { IfOk result (λ _. (file : List ℕ) → Tells (H.view host.old) file
             → (entries : Entries) × HasMap h.now file entries) }
         ensures keys { IfOk result (λ keeper. (file : List ℕ) (entries : Entries) → Tells (H.view host.old) file

@@ -29,6 +29,22 @@ fn new_file(alloc: Global) -> Result<Vec<u8>, AllocError> {
     Ok(image)
 }
 
+// A file made by hand: the first 516 records of kind 9 fill its first area up to 4,628 bytes behind their snapshot.
+fn full_file(alloc: Global) -> Result<Vec<u8>, AllocError> {
+    let mut image = vec![in alloc; 0; 33_553_901]?;
+    crate::disk::patch(&mut image, 0, SLOT);
+    crate::disk::patch(&mut image, 33, &33_549_804_u64.to_be_bytes());
+    crate::disk::patch(&mut image, 41, &33_553_900_u64.to_be_bytes());
+    let mut at = 4_096_usize;
+    for a in 0..516_u64 {
+        crate::disk::patch(&mut image, at, &[9]);
+        crate::disk::patch(&mut image, at.saturating_add(1), &a.to_be_bytes());
+        crate::disk::patch(&mut image, at.saturating_add(17), &65_000_u16.to_be_bytes());
+        at = at.saturating_add(65_019);
+    }
+    Ok(image)
+}
+
 fn key(kind: u8, a: u64) -> Key {
     Key { kind, a, b: 0 }
 }
@@ -49,6 +65,17 @@ fn removing(alloc: Global, key: Key) -> Result<Batch, AllocError>
 {
     let mut batch = Batch::new(alloc);
     batch.remove(key)?;
+    Ok(batch)
+}
+
+// A batch that removes what stands under so many keys.
+fn removing_many(alloc: Global, count: u64) -> Result<Batch, AllocError>
+    ensures { IfOk result (λ batch. HasShortValues batch) }
+{
+    let mut batch = Batch::new(alloc);
+    for a in 0..count {
+        batch.remove(key(9, a))?;
+    }
     Ok(batch)
 }
 
@@ -368,6 +395,23 @@ fn records_go_over_to_the_other_area_and_back(rt: HostRuntime) -> Result<(), Fai
     equal(&rt, &store.first_byte(1023), &Ok(Some(16)));
     equal(&rt, &store.least_from(9, 1024), &Ok(None));
     equal(&rt, &store.least_from(0, 0), &Ok(Some(key(1, 0))));
+    Ok(())
+}
+
+// The frame of 300 removals takes 5,410 bytes, so it has a place neither in the journal nor behind a snapshot of what is
+// there. The records that it leaves stand in a snapshot then.
+#[test]
+fn a_frame_without_a_place_comes_in_as_a_snapshot(rt: HostRuntime) -> Result<(), Fail> {
+    let image = full_file(rt.alloc())?;
+    let mut store = Store::on(rt.alloc(), smooth(rt.alloc(), &image)?)?;
+    let batch = removing_many(rt.alloc(), 300)?;
+    equal(&rt, &store.commit(&batch), &Ok(()));
+    equal(&rt, &store.counting(), &Some((1, 2, 33_558_528)));
+    equal(&rt, &store.least_from(9, 0), &Ok(Some(key(9, 300))));
+    equal(&rt, &store.reopens(), &true);
+    equal(&rt, &store.least_from(9, 0), &Ok(Some(key(9, 300))));
+    equal(&rt, &store.put(0, 7), &Ok(()));
+    equal(&rt, &store.first_byte(0), &Ok(Some(7)));
     Ok(())
 }
 

@@ -9,18 +9,17 @@ use Rattle.ode_file_laws.proofs.files_of_worlds_are_opened.Goals as goal
 pub returns-clause-opened : goal.returns-clause-opened
 returns-clause-opened c = λ image entries w means holds ones fits.
     let under = meant_map image entries means in
-    inr (inr (inr (inr (record {
+    inr (inr (inr (record {
       header = under.0;
       counts = under.1;
       entries = entries;
       has = under.2;
-      within = fits.within under.0 under.1;
       opened = Ok (world_base holds.stored.tables w.bones);
       are =
           c.held_worlds_are_opened.ensures (under.0.format == FIRST_FORMAT) entries w
-          (record { world = holds; few = c.read_classes_have_few_parts.ensures w.bones.added w.bones.classes holds.good.bones.classes }) ones (fits.format under.0 under.1);
+          (record { world = holds; few = c.read_classes_have_few_parts.ensures w.bones.added w.bones.classes holds.good.bones.classes }) ones (fits under.0 under.1);
       is = refl;
-    }))))
+    })))
 
 pub returns-clause-unbroken : goal.returns-clause-unbroken
 returns-clause-unbroken c = λ image entries w means holds ones fits error to.

@@ -4,7 +4,7 @@ use Rattle.ode_gate.specs.declared.header.Header.{Header}
 use Rattle.ode_host.proofs.Moments.{joined, weaker}
 use Rattle.ode_keep.specs.Snapshots.{IsSnapshot}
 use Rattle.ode_migrate.specs.Migrating.{StandInOne}
-use Rattle.ode_migrate.proofs.Migrating.{areas_leave, few_held, held_in_one, held_spelled, looks_leave, never_changed, not_kept}
+use Rattle.ode_migrate.proofs.Migrating.{areas_leave, held_in_one, held_spelled, looks_leave, never_changed, not_kept}
 use Rattle.ode_migrate.proofs.Staging.{text_back}
 use Rattle.ode_migrate.proofs.to_last.migrate_areas.Goals as goal
 
@@ -54,8 +54,7 @@ returns-then-bytes-gt-MAX_MOVED_BYTES-clause-same g c at is file entries stands 
 
 pub returns-in_default-clause-same : goal.returns-in_default-clause-same
 returns-in_default-clause-same g c at is file entries stands counts has fit =
-    let few = few_held entries c.bytes-bytes.result _ c.bytes-bytes.ensures (c.in_ok-areas.ensures.bytes file entries stands.tells has) c.if-bytes-gt-MAX_MOVED_BYTES.false in
-    let holds = c.in_ok-areas.ensures.holds file entries stands counts has few in
+    let holds = c.in_ok-areas.ensures.holds file entries stands counts has in
     let spelled = subst (λ (l : List ℕ). IsSnapshot entries l) (sym c.deref.ensures.value) (held_spelled c.in_ok-areas.areas (g.H.Host.view c.start.new.host) entries c.in_ok-snapshot.snapshot.items holds c.in_ok-snapshot.ensures) in
     (rw c.in_default.is at c.in_ok-frame.ensures.long) entries spelled fit
 
@@ -65,8 +64,7 @@ pub returns-in_err-move_to_one-clause-any_moment : goal.returns-in_err-move_to_o
 returns-in_err-move_to_one-clause-any_moment g c file entries stands counts has =
     let old = g.H.Host.view c.args.host.now in
     let mid = g.H.Host.view c.start.new.host in
-    let few = few_held entries c.bytes-bytes.result _ c.bytes-bytes.ensures (c.in_ok-areas.ensures.bytes file entries stands.tells has) c.if-bytes-gt-MAX_MOVED_BYTES.false in
-    let holds = c.in_ok-areas.ensures.holds file entries stands counts has few in
+    let holds = c.in_ok-areas.ensures.holds file entries stands counts has in
     joined _ _ _ _
     (looks_leave old mid file entries (g.met.H.Host.text_stands c.args.host.now) stands (inl (record { header = c.args.header.now; counts = counts; areas = c.requires.areas; has = has })) c.start.ensures.looks)
     (weaker _ _ _ _ (areas_leave entries old mid c.start.ensures.looks.text) (c.move_to_one.ensures.any_moment entries holds))
@@ -83,8 +81,7 @@ returns-in_err-move_to_pages-clause-any_moment g c file entries stands counts ha
     let old = g.H.Host.view c.args.host.now in
     let mid = g.H.Host.view c.start.new.host in
     let far = g.H.Host.view c.move_to_one.new.host in
-    let few = few_held entries c.bytes-bytes.result _ c.bytes-bytes.ensures (c.in_ok-areas.ensures.bytes file entries stands.tells has) c.if-bytes-gt-MAX_MOVED_BYTES.false in
-    let holds = c.in_ok-areas.ensures.holds file entries stands counts has few in
+    let holds = c.in_ok-areas.ensures.holds file entries stands counts has in
     let spelled = subst (λ (l : List ℕ). IsSnapshot entries l) (sym c.deref.ensures.value) (held_spelled c.in_ok-areas.areas mid entries c.in_ok-snapshot.snapshot.items holds c.in_ok-snapshot.ensures) in
     let cut = (rw c.in-Some.is at c.in_ok-frame.ensures.pages) entries spelled in
     let moved = c.in_ok-move_to_one.ensures.moved entries holds in
@@ -99,8 +96,7 @@ returns-clause-any_moment g c file entries stands counts has =
     let old = g.H.Host.view c.args.host.now in
     let mid = g.H.Host.view c.start.new.host in
     let far = g.H.Host.view c.move_to_one.new.host in
-    let few = few_held entries c.bytes-bytes.result _ c.bytes-bytes.ensures (c.in_ok-areas.ensures.bytes file entries stands.tells has) c.if-bytes-gt-MAX_MOVED_BYTES.false in
-    let holds = c.in_ok-areas.ensures.holds file entries stands counts has few in
+    let holds = c.in_ok-areas.ensures.holds file entries stands counts has in
     let spelled = subst (λ (l : List ℕ). IsSnapshot entries l) (sym c.deref.ensures.value) (held_spelled c.in_ok-areas.areas mid entries c.in_ok-snapshot.snapshot.items holds c.in_ok-snapshot.ensures) in
     let cut = (rw c.in-Some.is at c.in_ok-frame.ensures.pages) entries spelled in
     let moved = c.in_ok-move_to_one.ensures.moved entries holds in
@@ -114,8 +110,7 @@ pub returns-clause-migrated : goal.returns-clause-migrated
 returns-clause-migrated g c file entries stands counts has =
     let mid = g.H.Host.view c.start.new.host in
     let far = g.H.Host.view c.move_to_one.new.host in
-    let few = few_held entries c.bytes-bytes.result _ c.bytes-bytes.ensures (c.in_ok-areas.ensures.bytes file entries stands.tells has) c.if-bytes-gt-MAX_MOVED_BYTES.false in
-    let holds = c.in_ok-areas.ensures.holds file entries stands counts has few in
+    let holds = c.in_ok-areas.ensures.holds file entries stands counts has in
     let spelled = subst (λ (l : List ℕ). IsSnapshot entries l) (sym c.deref.ensures.value) (held_spelled c.in_ok-areas.areas mid entries c.in_ok-snapshot.snapshot.items holds c.in_ok-snapshot.ensures) in
     let cut = (rw c.in-Some.is at c.in_ok-frame.ensures.pages) entries spelled in
     let moved = c.in_ok-move_to_one.ensures.moved entries holds in

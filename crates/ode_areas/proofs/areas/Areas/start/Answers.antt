@@ -70,13 +70,13 @@ returns-clause-found g c file tells = (
 )
 
 pub returns-clause-holds : goal.returns-clause-holds
-returns-clause-holds g c file entries stands counts has within =
+returns-clause-holds g c file entries stands counts has =
     holds_map (record { header = c.args.h.now; journal = c.in_ok-journal.journal; map = c.replay_frames.new.map; is_live = true; alloc = c.args.alloc })
     file c.load_body.new.map entries _ (of_areas c.args.h.now c.requires.rules c.requires.areas)
     (stands_looks file _ _ (looks_joined _ _ _ c.load_body.ensures.looks c.replay_frames.ensures.looks) stands) counts
     (c.in_ok-load_body.ensures.found file stands.tells).0
     (c.in_ok-journal.ensures.found file (tells_looks file _ _ c.load_body.ensures.looks stands.tells))
-    has within
+    has
 
 pub returns-clause-bytes : goal.returns-clause-bytes
 unfolding returns-clause-found

@@ -4,4 +4,4 @@ use Rattle.ode_areas.proofs.map.Map.new.Goals as goal
 
 pub invariant_of-result : goal.invariant_of-result
 unfolding IsStrictlySortedBy
-invariant_of-result c = rw c.new.ensures (refl, refl, tt)
+invariant_of-result c = rw c.new.ensures (refl, refl, record { rows = tt; rising = tt })

@@ -1,7 +1,7 @@
-use Rattle.std.proofs.Common.{◌≡◌, inl, inr, Err, ap, sym}
+use Rattle.std.proofs.Common.{◌≡◌, inl, inr, Err, ap}
 use Rattle.std.proofs.lemmas.Result.{err_from_is_err_and}
 use Rattle.ode_keep.specs.declared.error.StartError.TheVariants.{BadJournal, BadPage}
-use Rattle.ode_keeper.proofs.Started.{are_areas, are_pages, areas_map, areas_most, areas_within, pages_map, pages_most, pages_within}
+use Rattle.ode_keeper.proofs.Started.{are_areas, are_pages, areas_map, pages_map}
 use Rattle.ode_keeper.proofs.keeper.Keeper.read.Goals as goal
 
 -- ---- in two areas
@@ -26,17 +26,9 @@ returns-in_ok-areas-clause-found g c file tells =
     (found.0, inl (are_areas c.args.header.now c.requires c.if-header-eq-TWO_AREAS.true, found.1))
 
 pub returns-in_ok-areas-clause-holds : goal.returns-in_ok-areas-clause-holds
-returns-in_ok-areas-clause-holds g c file entries stands counts has within =
+returns-in_ok-areas-clause-holds g c file entries stands counts has =
     let areas = are_areas c.args.header.now c.requires c.if-header-eq-TWO_AREAS.true in
-    c.in_ok-areas.ensures.holds file entries stands counts (areas_map c.args.header.now file entries areas has) (areas_within c.args.header.now entries c.if-header-eq-TWO_AREAS.true within)
-
-pub returns-in_ok-areas-clause-bytes : goal.returns-in_ok-areas-clause-bytes
-returns-in_ok-areas-clause-bytes g c file entries tells has =
-    let areas = are_areas c.args.header.now c.requires c.if-header-eq-TWO_AREAS.true in
-    c.in_ok-areas.ensures.bytes file entries tells (areas_map c.args.header.now file entries areas has)
-
-pub returns-in_ok-areas-clause-limit : goal.returns-in_ok-areas-clause-limit
-returns-in_ok-areas-clause-limit g c = sym (areas_most c.args.header.now c.if-header-eq-TWO_AREAS.true)
+    c.in_ok-areas.ensures.holds file entries stands counts (areas_map c.args.header.now file entries areas has)
 
 -- ---- in pages
 
@@ -63,14 +55,6 @@ returns-in_ok-pages-clause-found g c file tells =
     (found.0, inr (are_pages c.args.header.now c.requires c.if-header-eq-TWO_AREAS.false, found.1))
 
 pub returns-in_ok-pages-clause-holds : goal.returns-in_ok-pages-clause-holds
-returns-in_ok-pages-clause-holds g c file entries stands counts has within =
+returns-in_ok-pages-clause-holds g c file entries stands counts has =
     let pages = are_pages c.args.header.now c.requires c.if-header-eq-TWO_AREAS.false in
-    c.in_ok-pages.ensures.holds file entries stands counts (pages_map c.args.header.now file entries pages has) (pages_within c.args.header.now entries pages within)
-
-pub returns-in_ok-pages-clause-bytes : goal.returns-in_ok-pages-clause-bytes
-returns-in_ok-pages-clause-bytes g c file entries tells has =
-    let pages = are_pages c.args.header.now c.requires c.if-header-eq-TWO_AREAS.false in
-    c.in_ok-pages.ensures.bytes file entries tells (pages_map c.args.header.now file entries pages has)
-
-pub returns-in_ok-pages-clause-limit : goal.returns-in_ok-pages-clause-limit
-returns-in_ok-pages-clause-limit g c = sym (pages_most c.args.header.now (are_pages c.args.header.now c.requires c.if-header-eq-TWO_AREAS.false))
+    c.in_ok-pages.ensures.holds file entries stands counts (pages_map c.args.header.now file entries pages has)

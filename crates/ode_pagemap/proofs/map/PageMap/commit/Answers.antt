@@ -1,4 +1,5 @@
 use Rattle.std.proofs.Common.{ℕ, subst}
+use Rattle.std.proofs.lemmas.Result.{on_ok_weaker}
 use Rattle.ode_host.proofs.Moments.{joined, weaker}
 use Rattle.ode_host.specs.Host.{LeavesOnly}
 use Rattle.ode_keep.specs.Keeping.{LeavesOldOrNew}
@@ -9,6 +10,9 @@ use Rattle.ode_pagemap.proofs.Committed.{looked}
 use Rattle.ode_pagemap.proofs.Framing.{text_back}
 use Rattle.ode_pagemap.proofs.Least.{all_least}
 use Rattle.ode_pagemap.proofs.map.PageMap.commit.Goals as goal
+
+pub returns-in-Ok-clause-fits : goal.returns-in-Ok-clause-fits
+returns-in-Ok-clause-fits g c = on_ok_weaker c.write_out.result (λ done entries h. (c.in-Ok.ensures.ready entries h).within) c.write_out.ensures.done
 
 pub returns-in-Ok-clause-any_moment : goal.returns-in-Ok-clause-any_moment
 returns-in-Ok-clause-any_moment g c entries h =

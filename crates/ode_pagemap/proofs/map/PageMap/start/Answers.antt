@@ -24,10 +24,10 @@ returns-in_err-opened-clause-broken_page g c =
     rw (p.1, p.2) (λ file page tells is. same_refuses c.in_err-opened.field-0.0 (BadPage page) (c.in_err-opened.ensures.broken_page file page tells is))
 
 pub returns-clause-holds : goal.returns-clause-holds
-returns-clause-holds g c file entries stands counts has within =
+returns-clause-holds g c file entries stands counts has =
     let own = c.in_ok-opened.ensures.found file stands.tells in
     holds_map (record { header = c.args.h.now; opened = c.in_ok-opened.opened; cache = c.in_ok-cache.cache; rooms = c.open.new.rooms; is_live = true; alloc = c.args.alloc; form = c.result-2-1.given.0 })
-    file own.0 entries (g.H.Host.view c.open.new.host) c.requires (stands_looks file _ _ c.open.ensures.looks stands) counts own.1 c.in_ok-cache.ensures.empty has within
+    file own.0 entries (g.H.Host.view c.open.new.host) c.requires (stands_looks file _ _ c.open.ensures.looks stands) counts own.1 c.in_ok-cache.ensures.empty has
 
 pub returns-clause-bytes : goal.returns-clause-bytes
 returns-clause-bytes g c file entries tells has =
