@@ -3,16 +3,14 @@ use crate::equal::equal;
 use crate::gates::ACCOUNT_RUN;
 use ode_host::{Status, Torn};
 use ode_trials::amiss::AMISS;
-use ode_trials::images::{first_file, in_areas, patched};
+use ode_trials::images::{FORMAT, first_file, in_areas, patched};
 use ode_trials::trial::{
     Case, MEMORY, Trial, call, calls_of, new_file, run_case, run_stopped, smooth, source,
 };
 use std::alloc::Global;
 use std::process::Abort;
 
-// Where the format and the layout of a slot stand, as far as they aren't 0.
-const FORMAT: usize = 12;
-
+// Where the layout stands in the first slot, as far as it isn't 0.
 const LAYOUT: usize = 16;
 
 static MORE: Case = Case {

@@ -1,6 +1,9 @@
 //! Sessions that look at the same object, or draw a number both.
-use crate::trial::{TWO, call, call_sessions, equal, file_of, new_file, says, sessions};
+use crate::trial::{TWO, call_sessions, file_of, says, says_on};
 use ode_host::Status;
+use ode_trials::amiss::{AMISS, agree};
+use ode_trials::images::{FORMAT, first_format};
+use ode_trials::trial::{Case, MEMORY, new_file, run_case, smooth};
 use std::alloc::Global;
 use std::process::Abort;
 
@@ -74,40 +77,40 @@ fn sessions_that_are_open_at_the_end_are_aborted(rt: HostRuntime) {
 
 #[test]
 fn an_empty_script_changes_nothing(rt: HostRuntime) {
-    let file = new_file(&rt, rt.alloc());
-    let ran = sessions(&rt, rt.alloc(), "", &file, None);
-    ran.is(&rt, "", Status::Ok, "an empty script");
-    let image = ran.image(&rt, rt.alloc());
-    equal(&rt, image.as_slice(), file.as_slice(), "the file");
+    let file = new_file(rt.alloc()).expect(&rt, MEMORY);
+    says_on(&rt, rt.alloc(), &file, "", "", Status::Ok)
+        .leaves(rt.alloc(), &file, "an empty script")
+        .expect(&rt, AMISS);
 }
-
-// The first slot of a file says its format here.
-const FORMAT: usize = 12;
 
 // A migration puts the last format here, into the other slot.
 const OTHER_FORMAT: usize = 2048 + FORMAT;
 
 #[test]
 fn a_file_of_the_first_format_is_migrated(rt: HostRuntime) {
-    let mut file = new_file(&rt, rt.alloc());
-    if let Some(format) = file.get_mut(FORMAT) {
-        *format = 1;
-    }
-    let ran = sessions(&rt, rt.alloc(), "1: class Q { int n; };", &file, None);
-    ran.is(
+    let file = first_format(rt.alloc()).expect(&rt, MEMORY);
+    let ran = says_on(
         &rt,
+        rt.alloc(),
+        &file,
+        "1: class Q { int n; };",
         "class Q\ntx 1 committed\n",
         Status::Ok,
-        "a file of the first format",
     );
-    let image = ran.image(&rt, rt.alloc());
-    equal(&rt, image.get(OTHER_FORMAT).copied(), Some(2), "the format");
+    let format = ran.host.image().get(OTHER_FORMAT).copied();
+    agree(rt.alloc(), format, Some(2), "the format").expect(&rt, AMISS);
 }
 
 // These words are answered with the line of the usage.
 fn are_wrong(rt: &impl Abort, alloc: Global, words: &[&str]) {
-    let ran = call_sessions(rt, alloc, words, "1: ;", &[], None);
-    ran.is(rt, "usage: ode_multi FILE\n", Status::Usage, "wrong words");
+    call_sessions(rt, alloc, words, "1: ;", &[], smooth(alloc))
+        .is(
+            alloc,
+            "usage: ode_multi FILE\n",
+            Status::Usage,
+            "wrong words",
+        )
+        .expect(rt, AMISS);
 }
 
 #[test]
@@ -127,36 +130,26 @@ pnew Log(); pnew P(); pnew P(); activate #2.told(#1); activate #3.told(#1);";
 #[test]
 fn the_queue_that_another_session_met_is_busy(rt: HostRuntime) {
     let file = file_of(&rt, rt.alloc(), NOTES);
-    let ran = sessions(
+    says_on(
         &rt,
         rt.alloc(),
-        "1: begin;\n2: begin;\n1: #2.a();\n2: #3.a();\n2: show #3.n;\n1: commit;\n2: #3.a();\n",
         &file,
-        None,
-    );
-    ran.is(
-        &rt,
+        "1: begin;\n2: begin;\n1: #2.a();\n2: #3.a();\n2: show #3.n;\n1: commit;\n2: #3.a();\n",
         "busy 4 session 1 on queue\ntx 8 committed\nvalue 0\ntx 9 aborted end\nfired told on #2\ntx 10 committed\n",
         Status::Refused,
-        "two sessions that meet the queue",
     );
 }
+
+static SETTLED: Case = Case {
+    name: "a run behind sessions",
+    script: "show #1.n; show #2.n;",
+    text: "value 2\ntx 8 committed\nvalue 1\ntx 9 committed\n",
+    status: Status::Ok,
+};
 
 #[test]
 fn what_sessions_settle_is_there_for_a_run(rt: HostRuntime) {
     let file = file_of(&rt, rt.alloc(), TWO);
-    let ran = sessions(&rt, rt.alloc(), BUSY, &file, None);
-    let after = call(
-        &rt,
-        rt.alloc(),
-        "run",
-        "show #1.n; show #2.n;",
-        ran.host.image(),
-    );
-    after.is(
-        &rt,
-        "value 2\ntx 8 committed\nvalue 1\ntx 9 committed\n",
-        Status::Ok,
-        "a run behind sessions",
-    );
+    let ran = says_on(&rt, rt.alloc(), &file, BUSY, BUSY_TEXT, Status::Refused);
+    run_case(rt.alloc(), ran.host.image(), &SETTLED).expect(&rt, AMISS);
 }

@@ -1,6 +1,9 @@
 //! What a primary ships, and what a standby says of it.
-use crate::trial::{bytes_of, call, equal, follows, is_there, new_file, shipped, shipped_from};
+use crate::trial::{follows, fresh, is_there, shipped, shipped_from, ships};
 use ode_host::Status;
+use ode_trials::amiss::{AMISS, agree, is_so};
+use ode_trials::images::first_format;
+use ode_trials::trial::MEMORY;
 use std::alloc::Global;
 use std::process::Abort;
 
@@ -21,17 +24,17 @@ fn behind(stream: &[u8]) -> &[u8] {
 fn a_standby_takes_what_its_primary_ships(rt: HostRuntime) {
     let stream = shipped(&rt, rt.alloc());
     let second = behind(&stream);
-    equal(&rt, second.is_empty(), false, "a second frame");
-    equal(&rt, behind(second).is_empty(), true, "no third frame");
+    is_so(rt.alloc(), !second.is_empty(), "a second frame").expect(&rt, AMISS);
+    is_so(rt.alloc(), behind(second).is_empty(), "no third frame").expect(&rt, AMISS);
     let standby = follows(
         &rt,
         rt.alloc(),
         &stream,
-        &new_file(&rt, rt.alloc()),
+        &fresh(&rt, rt.alloc()),
         "followed 2 skipped 0 rest 0\n",
         Status::Ok,
     );
-    is_there(&rt, rt.alloc(), &standby);
+    is_there(&rt, rt.alloc(), standby.host.image());
 }
 
 #[test]
@@ -43,7 +46,7 @@ fn a_standby_skips_what_it_has(rt: HostRuntime) {
         &rt,
         rt.alloc(),
         front,
-        &new_file(&rt, rt.alloc()),
+        &fresh(&rt, rt.alloc()),
         "followed 1 skipped 0 rest 3\n",
         Status::Ok,
     );
@@ -51,18 +54,19 @@ fn a_standby_skips_what_it_has(rt: HostRuntime) {
         &rt,
         rt.alloc(),
         &stream,
-        &standby,
+        standby.host.image(),
         "followed 1 skipped 1 rest 0\n",
         Status::Ok,
     );
-    is_there(&rt, rt.alloc(), &standby);
+    is_there(&rt, rt.alloc(), standby.host.image());
 }
 
 // A new file doesn't take this stream, and stays as it was.
 fn is_refused(rt: &impl Abort, alloc: Global, stream: &[u8], text: &str) {
-    let file = new_file(rt, alloc);
-    let left = follows(rt, alloc, stream, &file, text, Status::Refused);
-    equal(rt, left.as_slice(), file.as_slice(), text);
+    let file = fresh(rt, alloc);
+    follows(rt, alloc, stream, &file, text, Status::Refused)
+        .leaves(alloc, &file, text)
+        .expect(rt, AMISS);
 }
 
 #[test]
@@ -72,22 +76,18 @@ fn a_stream_may_have_what_no_standby_takes(rt: HostRuntime) {
     is_refused(&rt, rt.alloc(), &[0, 0, 0, 0], "bad frame 0\n");
 }
 
-// The first slot of a file says its format here.
-const FORMAT: usize = 12;
-
 #[test]
 fn both_make_the_last_format_of_a_file(rt: HostRuntime) {
-    let mut older = new_file(&rt, rt.alloc());
-    if let Some(format) = older.get_mut(FORMAT) {
-        *format = 1;
-    }
+    let older = first_format(rt.alloc()).expect(&rt, MEMORY);
     let stream = shipped_from(&rt, rt.alloc(), &older);
-    equal(
-        &rt,
+    let same = shipped(&rt, rt.alloc());
+    agree(
+        rt.alloc(),
         stream.as_slice(),
-        shipped(&rt, rt.alloc()).as_slice(),
+        same.as_slice(),
         "what is shipped",
-    );
+    )
+    .expect(&rt, AMISS);
     let standby = follows(
         &rt,
         rt.alloc(),
@@ -96,14 +96,14 @@ fn both_make_the_last_format_of_a_file(rt: HostRuntime) {
         "followed 2 skipped 0 rest 0\n",
         Status::Ok,
     );
-    is_there(&rt, rt.alloc(), &standby);
+    is_there(&rt, rt.alloc(), standby.host.image());
 }
 
 #[test]
 fn what_is_refused_is_not_shipped(rt: HostRuntime) {
-    let file = new_file(&rt, rt.alloc());
-    let ran = call(&rt, rt.alloc(), "ship", b"show #1.n; abort;", &file, None);
-    ran.is(&rt, "", Status::Refused, "refusals");
-    let image = bytes_of(&rt, rt.alloc(), ran.host.image());
-    equal(&rt, image.as_slice(), file.as_slice(), "the file");
+    let file = fresh(&rt, rt.alloc());
+    let ran = ships(&rt, rt.alloc(), "show #1.n; abort;", &file);
+    ran.is(rt.alloc(), "", Status::Refused, "refusals")
+        .expect(&rt, AMISS);
+    ran.leaves(rt.alloc(), &file, "refusals").expect(&rt, AMISS);
 }

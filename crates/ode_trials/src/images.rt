@@ -227,6 +227,15 @@ pub fn class_file(alloc: Global, text: &str) -> Result<Vec<u8>, AllocError> {
     file_of(alloc, &body)
 }
 
+/// Where the number of the format stands in the first slot, as far as it isn't 0.
+pub const FORMAT: usize = 12;
+
+/// A new file of pages that says the first format.
+pub fn first_format(alloc: Global) -> Result<Vec<u8>, AllocError> {
+    let file = new_file(alloc)?;
+    patched(alloc, &file, FORMAT, &[1])
+}
+
 // A class of two texts.
 const TEXTS: &str = "class P { text a; text b; }";
 
