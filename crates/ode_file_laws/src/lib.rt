@@ -16,8 +16,8 @@ ghost use Rattle.ode_value.specs.Language.{ListWorld};
 use ode_opening_records::records_are_opened_to_one_thing;
 use ode_resting_laws::{held_worlds_are_opened, read_classes_have_few_parts};
 
-/// A file whose records hold a world with versions from 1 on, which has a form in the file's format, is opened to the world's classes, the tables of their triggers and its weight,
-/// so it breaks no rule.
+/// A file whose records hold a world with versions from 1 on, which has a form in the file's format, is opened to the world's classes, the
+/// tables of their triggers and its weight, so it breaks no rule.
 pub fn files_of_worlds_are_opened()
     ensures opened { (image : Items ℕ) (entries : Entries) (w : ListWorld) → FileMeans image entries → (is : HoldsWorld ode entries w) → AreFromOne w.bones → FitsFile image w.bones
         → IsOpenedTo image (Ok (world_base is.stored.tables w.bones)) }

@@ -11,7 +11,7 @@ ghost use Rattle.ode_keep.specs.Keeping.{LeavesOldOrNew, OnDamaged, OnRefusal, O
 ghost use Rattle.ode_keep.specs.ShortValues.{HasShortValues};
 ghost use Rattle.ode_paging.specs.Images.{Image};
 ghost use Rattle.ode_paging.specs.Meaning.{PagesMeanIn};
-ghost use Rattle.ode_pagemap.specs.Holding.{LastHold, PagesHold, format_of, is_live};
+ghost use Rattle.ode_pagemap.specs.Holding.{LastHold, PagesHold, format_of, is_live, room};
 ghost use Rattle.ode_pagemap.specs.Ready.{IsFormed, IsLeast, IsPlannedFor, IsReady, WritesLeast};
 ghost use Rattle.ode_pagemap.specs.Steps.{ChangesRegion, StandUnder, bytes_before};
 
@@ -72,6 +72,7 @@ impl PageMap {
         ensures least { IfOk result (λ r. IsLeast self.old batch.now r) }
         ensures stay { OnOk result ((self.new.header ≡ self.old.header) × (self.new.opened.journal ≡ self.old.opened.journal)) }
         ensures format { format_of self.new ≡ format_of self.old }
+        ensures cache { room self.new ≡ room self.old }
         ensures refused { OnErr result ((entries : Entries) → PagesHold self.old (H.view host.old) entries
             → PagesHold self.new (H.view host.new) entries) }
         ensures too_large { OnTooLarge result (λ total. (entries : Entries) → PagesHold self.old (H.view host.old) entries
@@ -118,6 +119,7 @@ impl PageMap {
         ensures most { OnOk result (WritesAtMost (bytes_before ready.now.due + need_of ready.now.frame.payload) (H.view host.old) (H.view host.new)) }
         ensures kind { IfErr result (λ e. e ≡ KeepError.DiskFault) }
         ensures format { format_of self.new ≡ format_of self.old }
+        ensures cache { room self.new ≡ room self.old }
         ensures leaves { DiskCalls (IsErrOf result KeepError.DiskFault) (H.view host.old) (H.view host.new) }
         ensures usable { is_live self.new ≡ is_usable result }
     {
@@ -152,6 +154,7 @@ impl PageMap {
         ensures leaves { DiskCalls (IsErrOf result KeepError.DiskFault) (H.view host.old) (H.view host.new) }
         ensures damaged { OnDamaged result ((entries : Entries) → PagesHold self.old (H.view host.old) entries → ⊥) }
         ensures format { format_of self.new ≡ format_of self.old }
+        ensures room { room self.new ≡ room self.old }
 
         // Where the frame fits its journal it is all that is written. Else a checkpoint stands in front of it.
         ensures writes { OnOk result (WritesLeast self.old batch.now (H.view host.old) (H.view host.new)) }

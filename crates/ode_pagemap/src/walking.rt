@@ -9,7 +9,7 @@ ghost use Rattle.ode_value.specs.Keys.{entry_kind, key_cmp};
 ghost use Rattle.ode_keep.specs.Entries.{Entries, StartsOf, count_of_kind, entries_from, least_from, value_under};
 ghost use Rattle.ode_keep.specs.Keeping.{OnDamaged, OnTooLarge, UnlessFault, is_usable};
 ghost use Rattle.ode_paging.specs.Indexing.{Leads};
-ghost use Rattle.ode_pagemap.specs.Holding.{PagesHold, format_of, index, is_live};
+ghost use Rattle.ode_pagemap.specs.Holding.{PagesHold, format_of, index, is_live, room};
 ghost use Rattle.ode_pagemap.specs.Running.{MayRunOn, Runs};
 
 use crate::map::PageMap;
@@ -123,6 +123,7 @@ impl PageMap {
         ensures damaged { OnDamaged result ((entries : Entries) → PagesHold self.old (H.view host.old) entries → ⊥) }
         ensures too_large { OnTooLarge result (λ _. ⊥) }
         ensures fetched { FetchedAtMost PAGE_SIZE (H.view host.old) (H.view host.new) }
+        ensures room { room self.new ≡ room self.old }
         ensures index { index self.new ≡ index self.old }
         ensures format { format_of self.new ≡ format_of self.old }
     {
