@@ -15,6 +15,10 @@ PROGRAM = "ode"
 MODES = ("ode_top", "running")
 # Of these crates of the kit the program takes what stands in a part, which a try reads in less time than the whole.
 PARTS = {"jiff": "jiff_core"}
+# Lines that guide the proofs, and what a file says of itself, which has no place in a module.
+GUIDES = re.compile(r"^(?:#!\[.*\]|//!.*| *#\[tactic\(.*\)\])\n", re.M)
+# A name that a path begins with.
+HEAD = re.compile(r"(?<![\w.:$])(\w+)(?=::)")
 
 
 def needs():
@@ -23,49 +27,51 @@ def needs():
     return {name.strip(): row.split() for name, _, row in (line.partition(":") for line in lines)}
 
 
-def files_of(name):
-    """The files of a crate that are wanted, its first one included."""
+def texts_of(name):
+    """The texts of a crate's files that are wanted, by the files' names."""
     folder = TOP / "crates" / name / "src"
-    return [folder / f"{MODES[1]}.rt"] if name == MODES[0] else sorted(folder.glob("*.rt"))
+    files = [folder / f"{MODES[1]}.rt"] if name == MODES[0] else sorted(folder.glob("*.rt"))
+    return {file.name: GUIDES.sub("", file.read_text()) for file in files}
 
 
 def reached(rows):
-    """The crates whose code the modes reach, and the crates of the kit that these name."""
-    found, left = set(), [MODES[0]]
+    """The texts of the crates whose code the modes reach, and the crates of the kit that these name."""
+    found, kit, left = {}, set(), [MODES[0]]
     while left:
         name = left.pop()
-        if name not in found:
-            found.add(name)
-            text = "\n".join(file.read_text() for file in files_of(name)) if name in rows else ""
-            left += [other for other in rows.get(name, []) if re.search(rf"(?<![\w.]){other}::", text)]
-    return found
+        if name not in rows:
+            kit.add(PARTS.get(name, name))
+        elif name not in found:
+            found[name] = texts_of(name)
+            named = {head for text in found[name].values() for head in HEAD.findall(text)}
+            left += [other for other in rows[name] if other in named]
+    return found, kit
 
 
 def joined(text, names, own):
     """A file's text as it stands in a module of the crate's name."""
-    text = re.sub(r"^(#!\[.*\]|//!.*|\s*#\[tactic\(.*\)\])\n", "", text, flags=re.M)
-    text = re.sub(r"(?<![\w$])crate::", f"crate::{own}::" if own else "crate::", text)
-    text = re.sub(rf"\b({'|'.join(PARTS)})::", lambda found: f"{PARTS[found[1]]}::", text)
-    return re.sub(rf"(?<![\w:])({'|'.join(names)})::", r"crate::\1::", text)
+
+    def path(found):
+        head = PARTS.get(found[1], found[1])
+        return f"crate::{head}" if head in names else f"crate::{own}" if head == "crate" and own else head
+
+    return HEAD.sub(path, text)
 
 
 def main():
-    rows = needs()
-    found = reached(rows)
-    names = sorted(found & rows.keys())
+    found, kit = reached(needs())
     target = Path(sys.argv[1])
     source = target / "crates" / PROGRAM / "src"
     source.mkdir(parents=True)
-    for name in names:
+    for name, texts in found.items():
         (source / name).mkdir()
-        for file in files_of(name):
-            place = source / f"{name}.rt" if file.name == "lib.rt" else source / name / file.name
-            place.write_text(joined(file.read_text(), names, name))
+        for file, text in texts.items():
+            place = source / f"{name}.rt" if file == "lib.rt" else source / name / file
+            place.write_text(joined(text, found, name))
     (source / f"{MODES[0]}.rt").write_text(f"pub mod {MODES[1]};\n")
-    modules = "".join(f"mod {name};\n" for name in names)
-    (source / "main.rt").write_text(modules + joined((TOP / "checks" / "first.main").read_text(), names, ""))
-    kit = sorted(PARTS.get(name, name) for name in found - rows.keys())
-    (target / "crates.txt").write_text(f"{PROGRAM}: {' '.join(kit)}\n")
+    modules = "".join(f"mod {name};\n" for name in sorted(found))
+    (source / "main.rt").write_text(modules + joined(GUIDES.sub("", (TOP / "checks" / "first.main").read_text()), found, ""))
+    (target / "crates.txt").write_text(f"{PROGRAM}: {' '.join(sorted(kit))}\n")
 
 
 main()
